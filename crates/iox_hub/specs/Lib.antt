@@ -1,0 +1,7 @@
+pub mod Mailbox
+pub mod Connection
+pub mod Domain
+pub mod ErrorText
+pub mod Agreement
+pub mod Service
+pub mod Machine

@@ -1,0 +1,46 @@
+-- What is written for what is read.
+use Rattle.std.specs.Prelude.{◌≡◌, ℕ, ◌+◌, ◌≤◌, Bool, true, false, List, [], ◌∷◌, ◌++◌, Option, None, Some, codes, length, nat_lt}
+use Rattle.iox_hub.specs.Machine.{HubState, Step, at_start, total}
+use Rattle.iox_hub.specs.declared.hub.HubConfig.{HubConfig}
+use Rattle.iox_hub.specs.declared.command.Command.{Command}
+use Rattle.iox_hub.specs.declared.command.Reply.{Reply}
+use Rattle.iox_script.specs.CommandText.{command_of}
+use Rattle.iox_script.specs.ReplyText.{reply_text}
+use Rattle.iox_script.specs.Lines.{heard}
+
+-- a command is answered by a step of the machine; a line that spells none is faulty and changes nothing
+abbrev pub AnswersCommand : HubState ℕ ℕ → Option (Command ℕ) → List ℕ → HubState ℕ ℕ → Type 0
+AnswersCommand old None text new = (text ≡ codes "err faulty line") × (new ≡ old)
+AnswersCommand old (Some command) text new = (reply : Reply ℕ) × Step old command reply new × (text ≡ reply_text reply)
+
+-- a line of more than 1,024 bytes is too long and changes nothing
+abbrev pub AnswersLine : HubState ℕ ℕ → Bool → List ℕ → List ℕ → HubState ℕ ℕ → Type 0
+AnswersLine old true line text new = (text ≡ codes "err line too long") × (new ≡ old)
+AnswersLine old false line text new = AnswersCommand old (command_of line) text new
+
+-- these bytes answer these lines, one line for each, in order
+abbrev pub Served : HubState ℕ ℕ → List (List ℕ) → List ℕ → HubState ℕ ℕ → Type 0
+Served old [] out new = (out ≡ []) × (new ≡ old)
+Served old (line ∷ lines) out new = (text : List ℕ) × (rest : List ℕ) × (mid : HubState ℕ ℕ)
+    × AnswersLine old (nat_lt 1024 (length line)) line text mid × Served mid lines rest new × (out ≡ text ++ (10 ∷ rest))
+
+-- the output answers each line of the input, on a new hub
+abbrev pub IsConversation : HubConfig → List ℕ → List ℕ → Type 0
+IsConversation config input out = (final : HubState ℕ ℕ) × Served (at_start config 0) (heard input) out final
+
+-- a conversation under way: the hub, and what was heard of the line that isn't whole yet
+pub record SessionState : Type 0 where
+  pub hub : HubState ℕ ℕ
+  pub line : List ℕ
+
+-- these bytes came, and those answer each line that is whole by them, whatever comes next
+pub record Advances (old : SessionState) (bytes out : List ℕ) (new : SessionState) : Type 0 where
+  pub done : List (List ℕ)
+  pub served : Served old.hub done out new.hub
+  pub lines : (rest : List ℕ) → heard (old.line ++ (bytes ++ rest)) ≡ done ++ heard (new.line ++ rest)
+  pub counts : total new.hub ≤ total old.hub + length bytes
+
+-- these bytes came last, and those answer each line
+pub record Ends (old : SessionState) (bytes out : List ℕ) : Type 0 where
+  pub final : HubState ℕ ℕ
+  pub served : Served old.hub (heard (old.line ++ bytes)) out final

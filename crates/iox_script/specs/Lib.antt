@@ -1,0 +1,5 @@
+pub mod Words
+pub mod CommandText
+pub mod ReplyText
+pub mod Lines
+pub mod Conversation

@@ -1,0 +1,4 @@
+//! Lines in, lines out.
+#![tactic(auto)]
+
+mod words;
