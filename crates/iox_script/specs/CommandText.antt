@@ -33,18 +33,18 @@ three_words verb by value =
 abbrev pub four_words : List ℕ → List ℕ → List ℕ → List ℕ → Option (Command ℕ)
 four_words verb by pattern name =
     if same pattern (codes "ps") then
-      (if same verb (codes "create") then both (λ node name. command.Create node name None) (tagged 110 by) (name_of name)
-       else if same verb (codes "open") then both (λ node name. command.Open node name) (tagged 110 by) (name_of name)
-       else None)
+    (if same verb (codes "create") then both (λ node name. command.Create node name None) (tagged 110 by) (name_of name)
+    else if same verb (codes "open") then both (λ node name. command.Open node name) (tagged 110 by) (name_of name)
+    else None)
     else None
 
 -- create nK ps NAME buffer=N
 abbrev pub five_words : List ℕ → List ℕ → List ℕ → List ℕ → List ℕ → Option (Command ℕ)
 five_words verb by pattern name buffer =
     if same pattern (codes "ps") then
-      (if same verb (codes "create") then
-        both (λ made size. made (Some size)) (both (λ node name. command.Create node name) (tagged 110 by) (name_of name)) (buffer_of buffer)
-       else None)
+    (if same verb (codes "create") then
+    both (λ made size. made (Some size)) (both (λ node name. command.Create node name) (tagged 110 by) (name_of name)) (buffer_of buffer)
+    else None)
     else None
 
 -- the command that these words spell

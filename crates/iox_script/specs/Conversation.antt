@@ -1,5 +1,6 @@
 -- What is written for what is read.
 use Rattle.std.specs.Prelude.{◌≡◌, ℕ, ◌+◌, ◌≤◌, Bool, true, false, List, [], ◌∷◌, ◌++◌, Option, None, Some, codes, length, nat_lt}
+use Rattle.std.specs.Io.KnownBytes.{Consumes, Appends, IsAtEnd}
 use Rattle.iox_hub.specs.Machine.{HubState, Step, at_start, total}
 use Rattle.iox_hub.specs.declared.hub.HubConfig.{HubConfig}
 use Rattle.iox_hub.specs.declared.command.Command.{Command}
@@ -44,3 +45,15 @@ pub record Advances (old : SessionState) (bytes out : List ℕ) (new : SessionSt
 pub record Ends (old : SessionState) (bytes out : List ℕ) : Type 0 where
   pub final : HubState ℕ ℕ
   pub served : Served old.hub (heard (old.line ++ bytes)) out final
+
+-- A conversation from here to the end of the input: what was left was read to its end, and what was written answers it.
+pub record Converses (old : SessionState) (left leaves held holds : Option (List ℕ)) : Type 0 where
+  pub bytes : List ℕ
+  pub text : List ℕ
+  pub last : List ℕ
+  pub mid : SessionState
+  pub consumed : Consumes left leaves bytes
+  pub all : IsAtEnd leaves
+  pub written : Appends held holds (text ++ last)
+  pub advances : Advances old bytes text mid
+  pub ends : Ends mid [] last

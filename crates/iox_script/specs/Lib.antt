@@ -3,3 +3,4 @@ pub mod CommandText
 pub mod ReplyText
 pub mod Lines
 pub mod Conversation
+pub mod Input

@@ -24,7 +24,7 @@ is_digit b = nat_le 48 b && nat_le b 57
 -- the number that digits spell, where those before them spell `front`; None if one is no digit
 abbrev pub digits_from : ℕ → List ℕ → Option ℕ
 digits_from front [] = Some front
-digits_from front (b ∷ bs) = if is_digit b then digits_from (10 * front + (b - 48)) bs else None
+digits_from front (b ∷ bs) = if is_digit b then digits_from (front * 10 + (b - 48)) bs else None
 
 -- the number, if it is below 2^64
 abbrev pub below_limit : Option ℕ → Option ℕ

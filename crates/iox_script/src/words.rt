@@ -1,6 +1,6 @@
 //! The words of a line, and what single words spell.
-ghost use Rattle.std.specs.Prelude.{◌≡◌, ◌+◌, ◌∷◌, [], length, codes, MatchOption};
-ghost use Rattle.iox_script.specs.Words.{words_of, same, below_limit, digits_from, number_of, tagged, is_name_byte, name_of, buffer_of};
+ghost use Rattle.std.specs.Prelude.{◌≡◌, ◌+◌, ◌∷◌, [], ◌≤◌, ◌↔◌, IsTrue, MatchOption};
+ghost use Rattle.iox_script.specs.Words.{words_of, same, is_digit, below_limit, digits_from, number_of, tagged, is_name_byte, name_of, buffer_of};
 ghost use Rattle.std.specs.List.{list_all};
 
 use iox_container::StaticString;
@@ -41,14 +41,25 @@ fn digits(word: &[u8]) -> Option<u64>
 {
     let mut value: u64 = 0;
     for &digit in word {
-        if !digit.is_ascii_digit() {
+        if !is_digit(digit) {
             return None;
         }
-        value = value
-            .checked_mul(10)?
-            .checked_add(u64::from(digit - b'0'))?;
+        let Some(tens) = value.checked_mul(10) else {
+            return None;
+        };
+        let Some(next) = tens.checked_add(u64::from(digit - b'0')) else {
+            return None;
+        };
+        value = next;
     }
     Some(value)
+}
+
+fn is_digit(byte: u8) -> bool
+    ensures value { result ≡ is_digit byte }
+    ensures range { IsTrue result ↔ ((48 ≤ byte) × (byte ≤ 57)) }
+{
+    48 <= byte && byte <= 57
 }
 
 /// The number of a made value: the letter of its kind, then a number.
@@ -56,13 +67,7 @@ pub(crate) fn numbered(letter: u8, word: &[u8]) -> Option<u64>
     ensures { result ≡ tagged letter word.now }
 {
     match word {
-        [first, rest @ ..] => {
-            if *first == letter {
-                number(rest)
-            } else {
-                None
-            }
-        }
+        [first, rest @ ..] => { if *first == letter { number(rest) } else { None } }
         [] => None,
     }
 }

@@ -1,0 +1,4 @@
+pub mod WordLemmas
+pub mod WordCount
+pub mod LineLemmas
+pub mod Advancing

@@ -1,0 +1,7 @@
+use Rattle.std.proofs.Common.{◌≡◌, ◌++◌, List, ℕ, take}
+use Rattle.iox_script.specs.Conversation.{Advances}
+use Rattle.iox_script.proofs.session.Session.take_bytes.Given as goal
+
+abbrev pub invariant-loop-byte : goal.invariant-loop-byte
+invariant-loop-byte l = (text : List ℕ) × (l.out.items ≡ l.initial.out.items ++ text)
+    × Advances l.initial.self (take l.byte-index l.bytes) text l.self

@@ -1,0 +1,104 @@
+//! Bytes in, bytes out.
+ghost use Rattle.std.specs.Prelude.{◌≡◌, ℕ, List, [], ◌⊎◌, ◌+◌, ◌<◌, ◌^◌, true, OnOk, IfSome, length};
+ghost use Rattle.std.specs.Io.KnownBytes.{Appends};
+ghost use Rattle.iox_hub.specs.Machine.{total};
+ghost use Rattle.iox_script.specs.Conversation.{IsConversation, Converses};
+
+use crate::input::{Input, Output};
+use crate::session::Session;
+use iox_hub::HubConfig;
+use std::alloc::Global;
+use std::io::{Read, Write};
+use thiserror::Error;
+
+/// How many read calls a conversation makes at most.
+pub const READ_CALLS: u64 = 1 << 20;
+
+/// How many bytes one read call asks for.
+const PIECE: usize = 65536;
+
+/// Why a conversation ended before its input did.
+#[derive(Clone, Copy, Debug, PartialEq, Eq, Hash, Error)]
+pub enum ServeError {
+    /// A read call failed, or 2^20 read calls were made.
+    #[error("read fault")]
+    ReadFault,
+    /// A write call failed, or took no bytes.
+    #[error("write fault")]
+    WriteFault,
+    /// No memory was found for a reply.
+    #[error("out of memory")]
+    OutOfMemory,
+}
+
+/// Answers each line of the input by one line of output, on a new hub, until a read gives no bytes.
+///
+/// A line that spells a command is answered by the reply to it, another line by `err faulty line`, and a line of more
+/// than 1,024 bytes by `err line too long`. A last line without a newline counts if it isn't empty. The lines of one
+/// read are answered before the next read, and their replies are written together.
+pub fn serve<R: Read, W: Write>(
+    alloc: Global,
+    config: HubConfig,
+    input: &mut Input<R>,
+    output: &mut Output<W>,
+) -> Result<(), ServeError>
+    requires { input.old.calls + READ_CALLS < 2 ^ 64 }
+    // The premise is that the reader tells the bytes that it has left.
+    ensures conversation { OnOk result (IfSome (R.remaining input.old.reader) (λ bytes.
+        (text : List ℕ) × Appends (W.contents output.old.writer) (W.contents output.new.writer) text
+        × IsConversation config bytes text)) }
+    ensures ended { OnOk result (input.new.ended ≡ true) }
+    ensures read_fault { result ≡ Err ServeError.ReadFault → (input.new.failed ≡ true) ⊎ (input.new.calls ≡ input.old.calls + READ_CALLS) }
+    ensures write_fault { result ≡ Err ServeError.WriteFault → output.new.failed ≡ true }
+{
+    let Ok(mut session) = Session::new(alloc, config) else {
+        return Err(ServeError::OutOfMemory);
+    };
+    let Ok(mut piece) = vec![in alloc; 0u8; PIECE] else {
+        return Err(ServeError::OutOfMemory);
+    };
+    let mut out = Vec::new(alloc);
+    converse(alloc, &mut session, &mut piece, &mut out, input, output)
+}
+
+fn converse<R: Read, W: Write>(
+    alloc: Global,
+    session: &mut Session,
+    piece: &mut [u8],
+    out: &mut Vec<u8>,
+    input: &mut Input<R>,
+    output: &mut Output<W>,
+) -> Result<(), ServeError>
+    requires empty { out.old.items ≡ [] }
+    requires piece { length piece.old ≡ PIECE }
+    requires fresh { total session.old.hub ≡ 0 }
+    requires calls { input.old.calls + READ_CALLS < 2 ^ 64 }
+    ensures conversation { OnOk result (Converses session.old (R.remaining input.old.reader) (R.remaining input.new.reader)
+        (W.contents output.old.writer) (W.contents output.new.writer)) }
+    ensures ended { OnOk result (input.new.ended ≡ true) }
+    ensures read_fault { result ≡ Err ServeError.ReadFault → (input.new.failed ≡ true) ⊎ (input.new.calls ≡ input.old.calls + READ_CALLS) }
+    ensures write_fault { result ≡ Err ServeError.WriteFault → output.new.failed ≡ true }
+{
+    for turn in 0..READ_CALLS {
+        let Some(count) = input.read(piece) else {
+            return Err(ServeError::ReadFault);
+        };
+        if count == 0 {
+            let Ok(()) = session.finish(alloc, out) else {
+                return Err(ServeError::OutOfMemory);
+            };
+            if !output.write_all(out) {
+                return Err(ServeError::WriteFault);
+            }
+            return Ok(());
+        }
+        let Ok(()) = session.take_bytes(alloc, &piece[..count], out) else {
+            return Err(ServeError::OutOfMemory);
+        };
+        if !output.write_all(out) {
+            return Err(ServeError::WriteFault);
+        }
+        out.clear();
+    }
+    Err(ServeError::ReadFault)
+}
