@@ -1,1 +1,4 @@
+pub mod Retains
 pub mod TextRows
+pub mod Texts
+pub mod VectorLemmas

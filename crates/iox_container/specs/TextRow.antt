@@ -18,3 +18,8 @@ pub text_then_zeros : (capacity len : ℕ) (cells : List ℕ) → IsTextRow capa
     → take len cells ++ replicate (capacity - length (take len cells)) 0 ≡ cells
 text_then_zeros capacity len cells row =
     rw (length-text capacity len cells row, ← row.zeros) (take-append-drop len cells)
+
+-- a row of cells that holds just this text, in its first `len` cells
+pub record HoldsText (capacity len : ℕ) (text cells : List ℕ) : Type 0 where
+  pub row : IsTextRow capacity len cells
+  pub reads : take len cells ≡ text

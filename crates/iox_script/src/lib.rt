@@ -1,4 +1,18 @@
-//! Lines in, lines out.
+//! The hub over bytes: one command a line in, one reply a line out.
+//!
+//! The contract of `serve` says that, for any reader and writer that tell their bytes, what was written are the reply
+//! lines, in order, of the lines read, and that those of commands are a run of the hub's machine:
+//! `specs/Conversation.antt`. Which bytes spell a command is in `specs/CommandText.antt`, the bytes of each reply in
+//! `specs/ReplyText.antt`.
+//!
+//! | Module | What it has |
+//! |---|---|
+//! | `words` | the words of a line, and what single words spell |
+//! | `read` | from a line to its command |
+//! | `print` | from a reply to its line |
+//! | `input` | a reader and a writer, with what their calls answered |
+//! | `session` | one hub, and the line that isn't whole yet |
+//! | `conversation` | all lines of an input |
 #![tactic(auto)]
 
 mod conversation;

@@ -8,8 +8,10 @@ ghost use Rattle.std.specs.Cmp.{partial_equiv_from_equiv};
 ghost use Rattle.std.specs.Cmp.Lexicographic.{pointwise, slice_cmp, nat_list_eq_equiv, nat_list_cmp_total, texts_po, texts_ties};
 ghost use Rattle.iox_container.specs.StringBytes.{IsStringBytes};
 
-use crate::string::{StringModificationError, are_string_bytes};
+use crate::string::row::replace_in_row;
+use crate::string::{String, StringModificationError, are_string_bytes};
 use std::cmp::Ordering;
+use std::fmt;
 use std::hash::{Hash, Hasher};
 use std::marker::Model;
 
@@ -132,6 +134,49 @@ impl<const CAPACITY: usize> Hash for StaticString<CAPACITY> {
 
     fn hash<H: Hasher>(&self, state: &mut H) {
         self.as_bytes().hash(state);
+    }
+}
+
+impl<const CAPACITY: usize> String for StaticString<CAPACITY> {
+    ghost text = { λ s. s };
+
+    ghost room = { λ _. CAPACITY };
+
+    fn as_bytes(&self) -> &[u8] {
+        self.as_bytes()
+    }
+
+    fn capacity(&self) -> usize {
+        CAPACITY
+    }
+
+    fn replace_range(&mut self, from: usize, to: usize, bytes: &[u8]) {
+        self.len = replace_in_row(&mut self.cells, self.len, from, to, bytes);
+    }
+
+    fn set_byte(&mut self, idx: usize, byte: u8) {
+        self.cells[idx] = byte;
+    }
+
+    ghost equality_of_bytes = { λ _ _. refl };
+
+    ghost order_of_bytes = { λ _ _. refl };
+
+    ghost hash_of_bytes = { λ _. refl };
+}
+
+impl<const CAPACITY: usize> fmt::Debug for StaticString<CAPACITY> {
+    fn fmt<W: fmt::Write>(&self, f: &mut fmt::Formatter<W>) -> fmt::Result {
+        fmt::Debug::fmt(&self.as_str(), f)
+    }
+}
+
+/// The text.
+impl<const CAPACITY: usize> fmt::Display for StaticString<CAPACITY> {
+    ghost output = { λ s. Some s };
+
+    fn fmt<W: fmt::Write>(&self, f: &mut fmt::Formatter<W>) -> fmt::Result {
+        f.pad(self.as_str())
     }
 }
 

@@ -1,0 +1,6 @@
+use Rattle.std.specs.Prelude.{ℕ, List}
+
+-- a text and how many bytes it may have
+pub record BoundedText : Type 0 where
+  pub text : List ℕ
+  pub capacity : ℕ

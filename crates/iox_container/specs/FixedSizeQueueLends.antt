@@ -1,0 +1,8 @@
+use Rattle.std.specs.Prelude.{List, Option, slice_set}
+use Rattle.std.specs.Borrow.{Fml, LendsIf, MutBor, RattleType}
+use Rattle.iox_container.specs.contracts.queue.fixed_size_queue.FixedSizeQueue.{the_row}
+
+module _ (T CAPACITY : RattleType) where
+  -- the queue ends with the last value behind the reference as its oldest item, or as it was if it has none
+  abbrev pub LendsOldest : MutBor (List T.Denot) → Option (MutBor T.Denot) → Fml
+  LendsOldest queue answer = LendsIf (the_row T CAPACITY) T queue answer (slice_set queue.now 0) queue.now

@@ -1,0 +1,25 @@
+use Rattle.std.specs.Prelude.{ℕ, ◌≡◌, ◌+◌, ◌<◌, ◌≤◌, ◌↔◌, List, [], ◌∷◌, drop, length, Result, Err, IsOk}
+use Rattle.std.specs.List.{refill}
+use Rattle.std.proofs.lemmas.List.{take_at}
+use Rattle.iox_container.specs.declared.vector.error.VectorModificationError.{VectorModificationError}
+use Rattle.iox_container.specs.declared.vector.error.VectorModificationError.TheVariants.{InsertWouldExceedCapacity, OutOfBounds}
+
+-- the answer to a change that would leave `len` items
+pub record AnswersGrowth (capacity len : ℕ) (answer : Result (Unit {0}) VectorModificationError) : Type 0 where
+  pub accepted : IsOk answer ↔ (len ≤ capacity)
+  pub too_long : (answer ≡ Err InsertWouldExceedCapacity) ↔ (capacity < len)
+
+-- the answer to an item that is to go to `index`: the capacity is tested first, then the index
+pub record AnswersInsertionAt (capacity len index : ℕ) (answer : Result (Unit {0}) VectorModificationError) : Type 0 where
+  pub accepted : IsOk answer ↔ ((len < capacity) × (index ≤ len))
+  pub too_long : (answer ≡ Err InsertWouldExceedCapacity) ↔ (capacity < len + 1)
+  pub out_of_bounds : (answer ≡ Err OutOfBounds) ↔ ((len < capacity) × (len < index))
+
+-- the items that calls with 0, 1, 2 and so on give, one call after another
+abbrev pub MakesInTurn : {F X : Type 0} → (F → ℕ → X → F → Type 0) → F → ℕ → List X → F → Type 0
+MakesInTurn step first at [] last = first ≡ last
+MakesInTurn {F} step first at (x ∷ xs) last = (next : F) × step first at x next × MakesInTurn step next (at + 1) xs last
+
+-- items written over as many others are the items
+pub refill_same : {X : Type 0} (xs ws : List X) → length ws ≡ length xs → refill (length xs) xs ws ≡ ws
+refill_same xs ws same = take_at ws (drop (length ws) xs) (length xs) same

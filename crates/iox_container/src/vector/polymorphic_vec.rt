@@ -1,0 +1,148 @@
+//! A vector whose capacity is chosen when it is made.
+ghost use Rattle.std.specs.Prelude.{◌≡◌, ℕ, ◌<◌, ◌≤◌, [], ◌∷◌, ◌++◌, length, IfOk, refl};
+ghost use Rattle.std.specs.List.{refill};
+ghost use Rattle.std.specs.Cmp.{on_equiv, on_per};
+ghost use Rattle.std.specs.Cmp.Lexicographic.{pointwise, lists_equiv, lists_per};
+ghost use Rattle.iox_container.specs.Vectors.{MakesInTurn, refill_same};
+
+use crate::vector::Vector;
+use std::alloc::{AllocError, Allocator};
+use std::marker::Model;
+
+/// A vector whose capacity is chosen by `new`, which takes all its memory.
+///
+/// Contracts see it as its `items` and its `capacity`.
+///
+/// Ported from `iceoryx2_bb_container::vector::PolymorphicVec`.
+pub struct PolymorphicVec<T, A: Allocator> {
+    places: Vec<T, A>,
+    capacity: usize,
+}
+
+impl<T, A: Allocator> Model for PolymorphicVec<T, A> {
+    ghost use Rattle.std.specs.Prelude.{◌≤◌, vec_capacity, vec_len};
+    ghost use Rattle.iox_container.specs.BoundedList.{BoundedList};
+
+    ghost Value = { BoundedList T };
+
+    ghost view = { λ v. record { items = v.places.items; capacity = v.capacity } };
+
+    ghost invariant = { λ v. (vec_len v.places ≤ v.capacity) × (v.capacity ≤ vec_capacity v.places) };
+}
+
+impl<T, A: Allocator> PolymorphicVec<T, A> {
+    /// An empty vector of this capacity. It fails only where memory is wanting.
+    pub fn new(alloc: A, capacity: usize) -> Result<Self, AllocError>
+        ensures empty { IfOk result (λ v. v.items ≡ []) }
+        ensures capacity { IfOk result (λ v. v.capacity ≡ capacity) }
+    {
+        Ok(PolymorphicVec {
+            places: Vec::with_capacity(alloc, capacity)?,
+            capacity,
+        })
+    }
+
+    /// A full vector of what `make` returns at 0, 1 and so on, call by call. It fails only where memory is wanting;
+    /// `make` is then not called.
+    pub fn from_fn<F: FnMut(usize) -> T>(
+        alloc: A,
+        capacity: usize,
+        mut make: F,
+    ) -> Result<Self, AllocError>
+        requires { F.IsAlwaysCallable make }
+        ensures made { IfOk result (λ v. (last : F) × MakesInTurn (λ p i x q. F.step p i x q) make 0 v.items last) }
+        ensures full { IfOk result (λ v. length v.items ≡ capacity) }
+        ensures capacity { IfOk result (λ v. v.capacity ≡ capacity) }
+    {
+        let mut places = Vec::with_capacity(alloc, capacity)?;
+        for i in 0..capacity {
+            places.push_reserved(make(i));
+        }
+        Ok(PolymorphicVec { places, capacity })
+    }
+}
+
+impl<T: Clone + Drop, A: Allocator + Clone> PolymorphicVec<T, A> {
+    /// A copy with the same items and capacity. It fails only where memory is wanting, or the clone of an item fails.
+    pub fn try_clone(&self) -> Result<Self, AllocError>
+        requires clones_equal { (x y : T) → T.is_clone x y → y ≡ x }
+        ensures { IfOk result (λ v. v ≡ self.now) }
+    {
+        let mut places = Vec::with_capacity(self.places.allocator().clone()?, self.capacity)?;
+        places.extend_with_clones(self.places.as_slice())?;
+        Ok(PolymorphicVec {
+            places,
+            capacity: self.capacity,
+        })
+    }
+}
+
+impl<T: Drop, A: Allocator> Vector<T> for PolymorphicVec<T, A> {
+    ghost items = { λ v. v.items };
+
+    ghost room = { λ v. v.capacity };
+
+    ghost with_items = { λ v ws. record { items = refill (length v.items) v.items ws; capacity = v.capacity } };
+
+    fn as_slice(&self) -> &[T] {
+        self.places.as_slice()
+    }
+
+    fn as_mut_slice(&mut self) -> &mut [T] {
+        self.places.as_mut_slice()
+    }
+
+    fn capacity(&self) -> usize {
+        self.capacity
+    }
+
+    fn push_reserved(&mut self, value: T) {
+        self.places.push_reserved(value);
+    }
+
+    fn insert_reserved(&mut self, index: usize, element: T) {
+        let _ = self.places.insert(index, element);
+    }
+
+    fn remove(&mut self, index: usize) -> Option<T> {
+        if index < self.places.len() {
+            Some(self.places.remove(index))
+        } else {
+            None
+        }
+    }
+
+    fn pop(&mut self) -> Option<T> {
+        self.places.pop()
+    }
+
+    ghost items_of_changed = { λ v xs same. refill_same v.items xs same };
+
+    ghost room_of_changed = { λ _ _. refl };
+}
+
+/// The items go one by one, the last first.
+impl<T: Drop, A: Allocator> Drop for PolymorphicVec<T, A> {
+    fn drop(mut self) {
+        self.clear();
+        let PolymorphicVec {
+            places: _,
+            capacity: _,
+        } = self;
+    }
+}
+
+/// Vectors are equal where their items are, in order.
+impl<T: PartialEq, A: Allocator> PartialEq for PolymorphicVec<T, A> {
+    ghost eq = { λ v w. pointwise T.eq v.items w.items };
+
+    ghost laws = { on_per (λ v. v.items) (lists_per T.laws) };
+
+    fn eq(&self, other: &Self) -> bool {
+        self.places == other.places
+    }
+}
+
+impl<T: Eq, A: Allocator> Eq for PolymorphicVec<T, A> {
+    ghost laws = { on_equiv (λ v. v.items) (lists_equiv T.Eq.laws) };
+}

@@ -1,0 +1,95 @@
+//! A vector whose capacity is part of its type.
+ghost use Rattle.std.specs.Prelude.{◌≡◌, ℕ, ◌<◌, ◌≤◌, [], ◌∷◌, ◌++◌, length, IfOk, refl};
+ghost use Rattle.std.specs.List.{refill};
+ghost use Rattle.std.specs.Cmp.Lexicographic.{pointwise, lists_equiv, lists_per};
+ghost use Rattle.iox_container.specs.Vectors.{refill_same};
+
+use crate::vector::{PolymorphicVec, Vector};
+use std::alloc::{AllocError, Global};
+use std::marker::Model;
+
+/// A vector of at most `CAPACITY` items. `new` takes all its memory, and no other call takes any.
+///
+/// Contracts see it as the list of its items.
+///
+/// Ported from `iceoryx2_bb_container::vector::StaticVec`.
+#[derive(Drop)]
+pub struct StaticVec<T, const CAPACITY: usize> {
+    vec: PolymorphicVec<T, Global>,
+}
+
+impl<T, const CAPACITY: usize> Model for StaticVec<T, CAPACITY> {
+    ghost use Rattle.std.specs.Prelude.{◌≡◌, List};
+
+    ghost Value = { List T };
+
+    ghost view = { λ v. v.vec.items };
+
+    ghost invariant = { λ v. v.vec.capacity ≡ CAPACITY };
+}
+
+impl<T, const CAPACITY: usize> StaticVec<T, CAPACITY> {
+    /// An empty vector. It fails only where memory is wanting.
+    pub fn new(alloc: Global) -> Result<Self, AllocError>
+        ensures { IfOk result (λ v. v ≡ []) }
+    {
+        Ok(StaticVec {
+            vec: PolymorphicVec::new(alloc, CAPACITY)?,
+        })
+    }
+}
+
+impl<T: Drop, const CAPACITY: usize> Vector<T> for StaticVec<T, CAPACITY> {
+    ghost items = { λ v. v };
+
+    ghost room = { λ _. CAPACITY };
+
+    ghost with_items = { λ v ws. refill (length v) v ws };
+
+    fn as_slice(&self) -> &[T] {
+        self.vec.as_slice()
+    }
+
+    fn as_mut_slice(&mut self) -> &mut [T] {
+        self.vec.as_mut_slice()
+    }
+
+    fn capacity(&self) -> usize {
+        CAPACITY
+    }
+
+    fn push_reserved(&mut self, value: T) {
+        self.vec.push_reserved(value);
+    }
+
+    fn insert_reserved(&mut self, index: usize, element: T) {
+        self.vec.insert_reserved(index, element);
+    }
+
+    fn remove(&mut self, index: usize) -> Option<T> {
+        self.vec.remove(index)
+    }
+
+    fn pop(&mut self) -> Option<T> {
+        self.vec.pop()
+    }
+
+    ghost items_of_changed = { λ v xs same. refill_same v xs same };
+
+    ghost room_of_changed = { λ _ _. refl };
+}
+
+/// Vectors are equal where their items are, in order.
+impl<T: PartialEq, const CAPACITY: usize> PartialEq for StaticVec<T, CAPACITY> {
+    ghost eq = { λ v w. pointwise T.eq v w };
+
+    ghost laws = { lists_per T.laws };
+
+    fn eq(&self, other: &Self) -> bool {
+        self.vec == other.vec
+    }
+}
+
+impl<T: Eq, const CAPACITY: usize> Eq for StaticVec<T, CAPACITY> {
+    ghost laws = { lists_equiv T.Eq.laws };
+}

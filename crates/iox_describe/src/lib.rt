@@ -1,0 +1,27 @@
+//! The description of a service as one line of exact JSON, and all that a description speaks of.
+//!
+//! | Module | What it has |
+//! |---|---|
+//! | `writer` | a description as its one line |
+//! | `reader` | the description of a line, if the line is spelled as `encode` spells it |
+//! | `error` | why a line was not read |
+//!
+//! The types stand in `iox_describe_base`, whose items are named again here.
+#![tactic(auto)]
+
+pub mod error;
+pub mod reader;
+pub mod writer;
+
+pub use error::DescriptionError;
+pub use iox_describe_base::{
+    Attribute, AttributeKey, AttributeSpecifier, AttributeValue, AttributeVerifier, Description,
+    Header, LimitError, MessageTypeDetails, MessagingPattern, ServiceHash, ServiceName, Settings,
+    TypeDetail, TypeVariant, ZeroCopySend, event, publish_subscribe, request_response, requirement,
+    service_hash,
+};
+pub use reader::decode;
+pub use writer::encode;
+
+#[cfg(test)]
+mod tests;

@@ -1,0 +1,19 @@
+-- How a type lies in memory.
+use Rattle.std.specs.Prelude.{ℕ, ◌≤◌, List}
+use Rattle.iox_describe_base.specs.declared.type_detail.TypeVariant.{TypeVariant}
+use Rattle.iox_describe_base.specs.Limits.{IsText}
+
+-- one value or a slice, and the name, size and alignment of an element
+pub record Detail : Type 0 where
+  pub variant : TypeVariant
+  pub name : List ℕ
+  pub size : ℕ
+  pub alignment : ℕ
+
+-- a detail, by its parts
+abbrev pub detail : TypeVariant → List ℕ → ℕ → ℕ → Detail
+detail variant name size alignment = record { variant = variant; name = name; size = size; alignment = alignment }
+
+-- the name has 1 to 255 bytes of 1 to 127, and the alignment is at least 1
+abbrev pub IsDetail : Detail → Type 0
+IsDetail d = IsText 1 255 d.name × (1 ≤ d.alignment)

@@ -1,0 +1,13 @@
+pub mod Limits
+pub mod Detail
+pub mod Compatible
+pub mod Hash
+pub mod Attributes
+pub mod PublishSubscribe
+pub mod Event
+pub mod RequestResponse
+pub mod Agreement
+pub mod Verdict
+pub mod PublishSubscribeClauses
+pub mod EventClauses
+pub mod RequestResponseClauses

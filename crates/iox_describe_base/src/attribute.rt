@@ -1,0 +1,122 @@
+//! Attributes: pairs of texts that tell services of one name apart.
+ghost use Rattle.std.specs.Prelude.{◌≡◌, ◌<◌, ◌↔◌, [], ◌∷◌, ◌++◌, length, IsOk, IfOk, OnOk, OnErr};
+ghost use Rattle.iox_describe_base.specs.Limits.{IsText};
+ghost use Rattle.iox_describe_base.specs.Attributes.{IsAttribute};
+
+use crate::limits::{
+    LimitError, MAX_ATTRIBUTE_KEY_LENGTH, MAX_ATTRIBUTE_VALUE_LENGTH, MAX_ATTRIBUTES,
+};
+use iox_container::StaticString;
+use std::alloc::{AllocError, Global};
+use std::marker::Model;
+
+/// The key of an attribute: 1 to 64 bytes of 1..=127.
+pub type AttributeKey = StaticString<MAX_ATTRIBUTE_KEY_LENGTH>;
+
+/// The value of an attribute: 0 to 256 bytes of 1..=127.
+pub type AttributeValue = StaticString<MAX_ATTRIBUTE_VALUE_LENGTH>;
+
+/// A key and its value.
+///
+/// Ported from `iceoryx2::service::attribute::Attribute`.
+#[derive(Clone, Copy, PartialEq, Eq)]
+pub struct Attribute {
+    /// The key.
+    pub key: AttributeKey,
+    /// The value.
+    pub value: AttributeValue,
+}
+
+/// The attributes that a service is created with, in the order in which they were defined; at most 8.
+/// The same key, and the same pair, may stand several times.
+/// Contracts see it as the list of its pairs.
+///
+/// Ported from `iceoryx2::service::attribute::AttributeSpecifier`.
+#[derive(Drop)]
+pub struct AttributeSpecifier {
+    pairs: Vec<Attribute>,
+}
+
+impl Model for AttributeSpecifier {
+    ghost use Rattle.std.specs.Prelude.{List, ◌≤◌, vec_capacity};
+    ghost use Rattle.iox_describe_base.specs.declared.attribute.Attribute.{Attribute};
+    ghost use Rattle.iox_describe_base.specs.Attributes.{AreAttributes};
+
+    ghost Value = { List Attribute };
+
+    ghost view = { λ s. s.pairs.items };
+
+    ghost invariant = { λ s. AreAttributes s.pairs.items × (8 ≤ vec_capacity s.pairs) };
+}
+
+impl AttributeSpecifier {
+    ghost use Rattle.iox_describe_base.specs.Attributes.{AreAttributes, attribute};
+
+    /// No attributes, with the room for all that may be defined. Refused only for want of memory.
+    pub fn new(alloc: Global) -> Result<Self, AllocError>
+        ensures { IfOk result (λ attributes. attributes ≡ []) }
+    {
+        Ok(AttributeSpecifier {
+            pairs: Vec::with_capacity(alloc, MAX_ATTRIBUTES)?,
+        })
+    }
+
+    /// Appends a pair.
+    ///
+    /// Refused with `OutsideLimits`, and nothing changes, if there are 8 pairs, if the key has no bytes
+    /// or more than 64, the value more than 256, or if a byte of either lies outside 1..=127.
+    pub fn define(&mut self, key: &[u8], value: &[u8]) -> Result<(), LimitError>
+        ensures accepted { IsOk result ↔ ((length self.old < 8) × IsText 1 64 key.now × IsText 0 256 value.now) }
+        ensures ok { OnOk result (self.new ≡ self.old ++ attribute key.now value.now ∷ []) }
+        ensures err { OnErr result (self.new ≡ self.old) }
+    {
+        if self.pairs.len() >= MAX_ATTRIBUTES {
+            return Err(LimitError::OutsideLimits);
+        }
+        let attribute = attribute_of(key, value)?;
+        self.pairs.push_reserved(attribute);
+        Ok(())
+    }
+
+    /// The same attributes, in memory of their own. Refused only for want of memory.
+    pub fn try_clone(&self, alloc: Global) -> Result<Self, AllocError>
+        ensures { IfOk result (λ attributes. attributes ≡ self.now) }
+    {
+        let mut pairs = Vec::with_capacity(alloc, MAX_ATTRIBUTES)?;
+        pairs.extend_from_slice(self.pairs.as_slice())?;
+        Ok(AttributeSpecifier { pairs })
+    }
+
+    /// The pairs, in the order in which they were defined.
+    pub fn as_slice(&self) -> &[Attribute]
+        ensures value { result.now ≡ self.now }
+        ensures within { AreAttributes self.now }
+    {
+        self.pairs.as_slice()
+    }
+}
+
+/// The key with these bytes.
+pub(crate) fn key_of(key: &[u8]) -> Result<AttributeKey, LimitError>
+    ensures accepted { IsOk result ↔ IsText 1 64 key.now }
+    ensures value { IfOk result (λ k. k ≡ key.now) }
+{
+    if key.is_empty() {
+        return Err(LimitError::OutsideLimits);
+    }
+    StaticString::from_bytes(key).map_err(|_| LimitError::OutsideLimits)
+}
+
+/// The pair with these bytes.
+fn attribute_of(key: &[u8], value: &[u8]) -> Result<Attribute, LimitError>
+    ensures accepted { IsOk result ↔ (IsText 1 64 key.now × IsText 0 256 value.now) }
+    ensures key { IfOk result (λ a. a.key ≡ key.now) }
+    ensures value { IfOk result (λ a. a.value ≡ value.now) }
+    ensures within { IfOk result (λ a. IsAttribute a) }
+{
+    let key = key_of(key)?;
+    match StaticString::from_bytes(value) {
+        Ok(value) => Ok(Attribute { key, value }),
+        Err(_) => Err(LimitError::OutsideLimits),
+    }
+}

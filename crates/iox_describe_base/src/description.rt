@@ -1,0 +1,137 @@
+//! The description of a service: what its nodes agree on.
+ghost use Rattle.std.specs.Prelude.{◌≡◌, ◌↔◌, IfOk, IsTrue};
+
+use crate::attribute::AttributeSpecifier;
+use crate::hash::{ServiceHash, service_hash};
+use crate::name::ServiceName;
+use crate::pattern::MessagingPattern;
+use crate::static_config::Settings;
+use std::alloc::{AllocError, Global};
+use std::marker::Model;
+
+/// What the nodes of a service agree on: its name, its hash, its settings and its attributes.
+/// Contracts see it as the record `Agreement` of these four.
+///
+/// Ported from `iceoryx2::service::static_config::StaticConfig`.
+#[derive(Drop)]
+pub struct Description {
+    name: ServiceName,
+    service_hash: ServiceHash,
+    settings: Settings,
+    attributes: AttributeSpecifier,
+}
+
+impl Model for Description {
+    ghost use Rattle.iox_describe_base.specs.Agreement.{Agreement, agreement};
+
+    ghost Value = { Agreement };
+
+    ghost view = { λ d. agreement d.name d.service_hash d.settings d.attributes };
+}
+
+impl Description {
+    ghost use Rattle.iox_describe_base.specs.Agreement.{agreement, pattern_of, max_nodes_of, AreWithinLimits};
+    ghost use Rattle.iox_describe_base.specs.Hash.{hash_text, service_hash_text};
+
+    /// The version of the format that descriptions are written in.
+    pub const VERSION: u64 = 1;
+
+    /// The description of a service of this name, with the hash that belongs to its pattern and name.
+    pub fn new(name: ServiceName, settings: Settings, attributes: AttributeSpecifier) -> Self
+        ensures parts { result ≡ agreement name result.service_hash settings attributes }
+        ensures hash { hash_text result.service_hash ≡ service_hash_text (pattern_of settings) name }
+    {
+        let service_hash = service_hash(settings.pattern(), &name);
+        Description {
+            name,
+            service_hash,
+            settings,
+            attributes,
+        }
+    }
+
+    /// The description of these parts, whatever its hash.
+    pub fn of_parts(
+        name: ServiceName,
+        service_hash: ServiceHash,
+        settings: Settings,
+        attributes: AttributeSpecifier,
+    ) -> Self
+        ensures { result ≡ agreement name service_hash settings attributes }
+    {
+        Description {
+            name,
+            service_hash,
+            settings,
+            attributes,
+        }
+    }
+
+    /// The same description, in memory of its own. Refused only for want of memory.
+    pub fn try_clone(&self, alloc: Global) -> Result<Self, AllocError>
+        ensures { IfOk result (λ description. description ≡ self.now) }
+    {
+        Ok(Description {
+            name: self.name,
+            service_hash: self.service_hash,
+            settings: self.settings,
+            attributes: self.attributes.try_clone(alloc)?,
+        })
+    }
+
+    /// The name of the service.
+    pub fn name(&self) -> &ServiceName
+        ensures { result.now ≡ self.now.name }
+    {
+        &self.name
+    }
+
+    /// The messaging pattern of the service.
+    pub fn pattern(&self) -> MessagingPattern
+        ensures { result ≡ pattern_of self.now.settings }
+    {
+        self.settings.pattern()
+    }
+
+    /// The hash that the description tells, under which the service is to be found.
+    pub fn service_hash(&self) -> &ServiceHash
+        ensures { result.now ≡ self.now.service_hash }
+    {
+        &self.service_hash
+    }
+
+    /// The settings of the service.
+    pub fn settings(&self) -> &Settings
+        ensures { result.now ≡ self.now.settings }
+    {
+        &self.settings
+    }
+
+    /// The attributes of the service.
+    pub fn attributes(&self) -> &AttributeSpecifier
+        ensures { result.now ≡ self.now.attributes }
+    {
+        &self.attributes
+    }
+
+    /// The version of the description's format.
+    pub fn version(&self) -> u64
+        ensures { result ≡ 1 }
+    {
+        Self::VERSION
+    }
+
+    /// How many nodes may be in the service.
+    pub fn max_nodes(&self) -> u64
+        ensures { result ≡ max_nodes_of self.now.settings }
+    {
+        self.settings.max_nodes()
+    }
+
+    /// Whether the numbers of the settings are within the limits of a description.
+    pub fn is_within_limits(&self) -> bool
+        ensures { IsTrue result ↔ AreWithinLimits self.now.settings }
+    {
+        self.settings.are_within_limits()
+    }
+}

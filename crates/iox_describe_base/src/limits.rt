@@ -1,0 +1,32 @@
+//! How long texts may be, and the refusal of what is past a limit.
+use thiserror::Error;
+
+/// The most bytes of a service's name.
+pub const MAX_SERVICE_NAME_LENGTH: usize = 255;
+
+/// The most bytes of a type's name.
+pub const MAX_TYPE_NAME_LENGTH: usize = 255;
+
+/// The most bytes of an attribute's key.
+pub const MAX_ATTRIBUTE_KEY_LENGTH: usize = 64;
+
+/// The most bytes of an attribute's value.
+pub const MAX_ATTRIBUTE_VALUE_LENGTH: usize = 256;
+
+/// The most attributes of a service, and the most pairs and the most keys that an opener requires.
+pub const MAX_ATTRIBUTES: usize = 8;
+
+/// A text or a number is outside the limits of a description.
+#[derive(Clone, Copy, Debug, PartialEq, Eq, Error)]
+pub enum LimitError {
+    /// The text is too long, empty where it may not be, or has a byte outside 1..=127; the alignment
+    /// is 0; or there are eight attributes already.
+    #[error("LimitError::OutsideLimits")]
+    OutsideLimits,
+}
+
+/// The numbers of nodes, publishers and subscribers stay below this one.
+pub const NUMBER_OF_PORTS_END: u64 = 16_777_216;
+
+/// The sizes of buffers, borrows and histories stay below this one.
+pub const NUMBER_OF_SAMPLES_END: u64 = 4_294_967_296;

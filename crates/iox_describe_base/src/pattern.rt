@@ -1,0 +1,14 @@
+//! How the ports of a service talk to each other.
+
+/// The messaging pattern of a service.
+///
+/// Ported from `iceoryx2::service::messaging_pattern::MessagingPattern`.
+#[derive(Clone, Copy, Debug, PartialEq, Eq, Hash)]
+pub enum MessagingPattern {
+    /// Clients send requests, and servers answer them.
+    RequestResponse,
+    /// Publishers send messages to subscribers.
+    PublishSubscribe,
+    /// Notifiers wake listeners.
+    Event,
+}

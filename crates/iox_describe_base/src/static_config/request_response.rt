@@ -1,0 +1,96 @@
+//! What is agreed for a request-response service.
+ghost use Rattle.std.specs.Prelude.{◌≡◌, ◌↔◌, IsTrue};
+
+use crate::limits::NUMBER_OF_PORTS_END;
+use crate::message_type::MessageTypeDetails;
+
+/// The settings of a request-response service.
+///
+/// Ported from `iceoryx2::service::static_config::request_response::StaticConfig`.
+#[derive(Clone, Copy, PartialEq, Eq)]
+pub struct StaticConfig {
+    /// Whether a client may send requests and let go of their responses.
+    pub enable_fire_and_forget_requests: bool,
+    /// Whether a full buffer of requests drops its oldest.
+    pub enable_safe_overflow_for_requests: bool,
+    /// Whether a full buffer of responses drops its oldest.
+    pub enable_safe_overflow_for_responses: bool,
+    /// How many requests of one client may be open.
+    pub max_active_requests_per_client: u64,
+    /// How many responses to one request a client may hold.
+    pub max_borrowed_responses_per_pending_response: u64,
+    /// How many clients the service may have.
+    pub max_clients: u64,
+    /// How many requests a client may have on loan.
+    pub max_loaned_requests: u64,
+    /// How many nodes may be in the service.
+    pub max_nodes: u64,
+    /// How many responses to one request may wait.
+    pub max_response_buffer_size: u64,
+    /// How many servers the service may have.
+    pub max_servers: u64,
+    /// The types of the requests.
+    pub request_types: MessageTypeDetails,
+    /// The types of the responses.
+    pub response_types: MessageTypeDetails,
+}
+
+impl StaticConfig {
+    ghost use Rattle.iox_describe_base.specs.RequestResponse.{defaults, adjusted, IsWithinLimits};
+
+    /// The default settings, for these types.
+    pub fn new(request_types: MessageTypeDetails, response_types: MessageTypeDetails) -> Self
+        ensures { result ≡ defaults request_types response_types }
+    {
+        StaticConfig {
+            enable_fire_and_forget_requests: true,
+            enable_safe_overflow_for_requests: true,
+            enable_safe_overflow_for_responses: true,
+            max_active_requests_per_client: 4,
+            max_borrowed_responses_per_pending_response: 2,
+            max_clients: 8,
+            max_loaned_requests: 2,
+            max_nodes: 20,
+            max_response_buffer_size: 2,
+            max_servers: 2,
+            request_types,
+            response_types,
+        }
+    }
+
+    /// The settings that `create` makes of these: a 0 that can't serve becomes 1.
+    pub fn adjusted(self) -> Self
+        ensures { result ≡ adjusted self }
+    {
+        StaticConfig {
+            enable_fire_and_forget_requests: self.enable_fire_and_forget_requests,
+            enable_safe_overflow_for_requests: self.enable_safe_overflow_for_requests,
+            enable_safe_overflow_for_responses: self.enable_safe_overflow_for_responses,
+            max_active_requests_per_client: self.max_active_requests_per_client.max(1),
+            max_borrowed_responses_per_pending_response: self
+                .max_borrowed_responses_per_pending_response
+                .max(1),
+            max_clients: self.max_clients.max(1),
+            max_loaned_requests: self.max_loaned_requests.max(1),
+            max_nodes: self.max_nodes.max(1),
+            max_response_buffer_size: self.max_response_buffer_size.max(1),
+            max_servers: self.max_servers.max(1),
+            request_types: self.request_types,
+            response_types: self.response_types,
+        }
+    }
+
+    /// Whether the numbers are within the limits of a description.
+    pub fn is_within_limits(&self) -> bool
+        ensures { IsTrue result ↔ IsWithinLimits self.now }
+    {
+        1 <= self.max_active_requests_per_client
+            && 1 <= self.max_borrowed_responses_per_pending_response
+            && 1 <= self.max_clients
+            && 1 <= self.max_loaned_requests
+            && 1 <= self.max_nodes
+            && self.max_nodes < NUMBER_OF_PORTS_END
+            && 1 <= self.max_response_buffer_size
+            && 1 <= self.max_servers
+    }
+}

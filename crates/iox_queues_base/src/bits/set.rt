@@ -1,0 +1,187 @@
+ghost use Rattle.std.specs.Prelude.{◌≡◌, ◌+◌, ◌-◌, ◌<◌, ◌≤◌, ◌^◌, ℕ, true, false, not, length, replicate, set, slice_index_or, slice_set, IfOk, MatchOption, IfSome, IfNone};
+ghost use Rattle.std.specs.List.{FoldsTo};
+ghost use Rattle.iox_queues_base.specs.Bits.{BitList, IsNext, AreClear, members};
+
+use std::alloc::{AllocError, Global};
+use std::marker::Model;
+
+/// A set of numbers below a capacity that is set when it is made.
+#[derive(Debug, Drop)]
+pub struct BitSet {
+    bits: Vec<bool>,
+    next: usize,
+}
+
+impl Model for BitSet {
+    ghost use Rattle.std.specs.Prelude.{◌≤◌, length};
+    ghost use Rattle.iox_queues_base.specs.Bits.{BitList};
+
+    ghost Value = { BitList };
+
+    ghost view = { λ s. record { bits = s.bits.items; next = s.next } };
+
+    ghost invariant = { λ s. s.next ≤ length s.bits.items };
+}
+
+impl BitSet {
+    /// The empty set of numbers below `capacity`, with its memory.
+    pub fn new(alloc: Global, capacity: usize) -> Result<BitSet, AllocError>
+        ensures { IfOk result (λ s. s ≡ record { bits = replicate capacity false; next = 0 }) }
+    {
+        Ok(BitSet {
+            bits: vec![in alloc; false; capacity]?,
+            next: 0,
+        })
+    }
+
+    /// Puts the number into the set; true if it was not there before.
+    pub fn set(&mut self, id: usize) -> bool
+        requires { id < length self.old.bits }
+        ensures answer { result ≡ not (slice_index_or self.old.bits id false) }
+        ensures after { self.new ≡ record self.old { bits = set self.old.bits id true } }
+    {
+        let was_clear = !self.bits[id];
+        self.bits[id] = true;
+        was_clear
+    }
+
+    /// Takes the next member out; None if the set is empty. The search begins behind the number
+    /// that the last call took out, and goes round once.
+    pub fn reset_next(&mut self) -> Option<usize>
+        ensures none { IfNone result (AreClear self.old.bits 0 (length self.old.bits) × (self.new ≡ self.old)) }
+        ensures next { IfSome result (IsNext self.old.bits self.old.next) }
+        ensures after { IfSome result (λ i. self.new ≡ record { bits = set self.old.bits i false; next = i + 1 }) }
+    {
+        let id = next_set(self.bits.as_slice(), self.next)?;
+        self.bits[id] = false;
+        self.next = id + 1;
+        Some(id)
+    }
+
+    /// Takes all members out, and calls `callback` with each of them, rising.
+    pub fn reset_all<F: FnMut(usize)>(&mut self, callback: F)
+        requires { F.IsAlwaysCallable callback }
+        ensures calls { (last : F) × FoldsTo (λ p x q. F.step p x tt q) callback (members self.old.bits) last }
+        ensures after { self.new ≡ record self.old { bits = replicate (length self.old.bits) false } }
+    {
+        call_members(callback, self.bits.as_slice());
+        self.bits.fill(false);
+    }
+
+    /// All numbers of the set are below this.
+    pub fn capacity(&self) -> usize
+        ensures { result ≡ length self.now.bits }
+    {
+        self.bits.len()
+    }
+}
+
+// The first place from `from` up to `to` that is set.
+fn first_set(bits: &[bool], from: usize, to: usize) -> Option<usize>
+    requires { to ≤ length bits.now }
+    ensures none { IfNone result (AreClear bits.now from to) }
+    ensures some { IfSome result (λ i. (from ≤ i) × (i < to) × (slice_index_or bits.now i false ≡ true) × AreClear bits.now from i) }
+{
+    for i in from..to {
+        if bits[i] {
+            return Some(i);
+        }
+    }
+    None
+}
+
+// The first set place from `from` on, going round once.
+fn next_set(bits: &[bool], from: usize) -> Option<usize>
+    requires { from ≤ length bits.now }
+    ensures none { IfNone result (AreClear bits.now 0 (length bits.now)) }
+    ensures within { IfSome result (λ i. i < length bits.now) }
+    ensures next { IfSome result (IsNext bits.now from) }
+{
+    match first_set(bits, from, bits.len()) {
+        Some(id) => Some(id),
+        None => first_set(bits, 0, from),
+    }
+}
+
+// Calls `callback` with each set place, rising.
+fn call_members<F: FnMut(usize)>(mut callback: F, bits: &[bool])
+    requires { F.IsAlwaysCallable callback }
+    ensures { (last : F) × FoldsTo (λ p x q. F.step p x tt q) callback (members bits.now) last }
+{
+    let mut rest = bits;
+    let mut at = 0usize;
+    while let Some((is_set, tail)) = rest.split_first() {
+        let place = at;
+        at += 1;
+        rest = tail;
+        if !*is_set {
+            continue;
+        }
+        callback(place);
+    }
+}
+
+/// A set of numbers below `CAPACITY`.
+#[derive(Debug, Drop)]
+pub struct FixedSizeBitSet<const CAPACITY: usize> {
+    set: BitSet,
+}
+
+impl<const CAPACITY: usize> Model for FixedSizeBitSet<CAPACITY> {
+    ghost use Rattle.std.specs.Prelude.{◌≡◌, length};
+    ghost use Rattle.iox_queues_base.specs.Bits.{BitList};
+
+    ghost Value = { BitList };
+
+    ghost view = { λ s. s.set };
+
+    ghost invariant = { λ s. length s.set.bits ≡ CAPACITY };
+}
+
+impl<const CAPACITY: usize> FixedSizeBitSet<CAPACITY> {
+    /// The empty set, with its memory.
+    pub fn new(alloc: Global) -> Result<FixedSizeBitSet<CAPACITY>, AllocError>
+        ensures { IfOk result (λ s. s ≡ record { bits = replicate CAPACITY false; next = 0 }) }
+    {
+        Ok(FixedSizeBitSet {
+            set: BitSet::new(alloc, CAPACITY)?,
+        })
+    }
+
+    /// Puts the number into the set; true if it was not there before.
+    pub fn set(&mut self, id: usize) -> bool
+        requires { id < CAPACITY }
+        ensures answer { result ≡ not (slice_index_or self.old.bits id false) }
+        ensures after { self.new ≡ record self.old { bits = set self.old.bits id true } }
+    {
+        let _ = &self.set;
+        self.set.set(id)
+    }
+
+    /// Takes the next member out; None if the set is empty. The search begins behind the number
+    /// that the last call took out, and goes round once.
+    pub fn reset_next(&mut self) -> Option<usize>
+        ensures none { IfNone result (AreClear self.old.bits 0 CAPACITY × (self.new ≡ self.old)) }
+        ensures next { IfSome result (IsNext self.old.bits self.old.next) }
+        ensures after { IfSome result (λ i. self.new ≡ record { bits = set self.old.bits i false; next = i + 1 }) }
+    {
+        self.set.reset_next()
+    }
+
+    /// Takes all members out, and calls `callback` with each of them, rising.
+    pub fn reset_all<F: FnMut(usize)>(&mut self, callback: F)
+        requires { F.IsAlwaysCallable callback }
+        ensures calls { (last : F) × FoldsTo (λ p x q. F.step p x tt q) callback (members self.old.bits) last }
+        ensures after { self.new ≡ record self.old { bits = replicate CAPACITY false } }
+    {
+        self.set.reset_all(callback);
+    }
+
+    /// All numbers of the set are below this.
+    pub fn capacity(&self) -> usize
+        ensures capacity { result ≡ CAPACITY }
+        ensures places { length self.now.bits ≡ CAPACITY }
+    {
+        self.set.capacity()
+    }
+}

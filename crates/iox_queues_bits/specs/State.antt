@@ -1,0 +1,6 @@
+-- The fields of a set's machine, as lists and numbers.
+use Rattle.iox_queues_bits.specs.Machine.{SetMachine}
+use Rattle.iox_queues_bits.specs.declared.state.State.{State}
+
+abbrev pub machine_of : State → SetMachine
+machine_of s = record { max = s.max; words = s.ring; calls = s.calls.items; events = s.events.items }

@@ -1,0 +1,2 @@
+pub mod BoundedSteps
+pub mod BoundedRuns

@@ -1,0 +1,5 @@
+pub mod Held
+pub mod OverflowingPush
+pub mod OverflowingPop
+pub mod Orders
+pub mod OverflowingRuns

@@ -1,0 +1,44 @@
+-- The shared words of a ring, and one access to one of them.
+use Rattle.std.specs.Prelude.{ℕ, ◌+◌, ◌-◌, ◌^◌, ◌%◌, min, List, length, set, slice_index, if◌then◌else◌, ◌==◌}
+use Rattle.iox_queues_steps.specs.declared.access.Word.{Word}
+use Rattle.iox_queues_steps.specs.declared.access.Word.TheVariants.{Write, Read, Cell}
+use Rattle.iox_queues_steps.specs.declared.access.Access.{Access}
+use Rattle.iox_queues_steps.specs.declared.access.Access.TheVariants.{Load, Store, Exchange, Local}
+
+-- two positions that only grow, and the cells that they go round
+pub record Words : Type 0 where
+  pub cells : List ℕ
+  pub write : ℕ
+  pub read : ℕ
+
+-- what a word holds
+abbrev pub word_of : Words → Word → ℕ
+word_of words Write = words.write
+word_of words Read = words.read
+word_of words (Cell position) = slice_index words.cells (position % length words.cells)
+
+-- the words after a store
+abbrev pub after_store : Words → Word → ℕ → Words
+after_store words Write value = record words { write = value }
+after_store words Read value = record words { read = value }
+after_store words (Cell position) value =
+    record words { cells = set words.cells (position % length words.cells) value }
+
+-- the answer of an access
+abbrev pub answer_of : Words → Access → ℕ
+answer_of words (Load word) = word_of words word
+answer_of words (Store word value) = 0
+answer_of words (Exchange word old new) = word_of words word
+answer_of words Local = 0
+
+-- the words after an access
+abbrev pub after_access : Words → Access → Words
+after_access words (Load word) = words
+after_access words (Store word value) = after_store words word value
+after_access words (Exchange word old new) =
+    if word_of words word == old then after_store words word new else words
+after_access words Local = words
+
+-- the next position; positions stop at the largest number
+abbrev pub successor : ℕ → ℕ
+successor position = min (position + 1) (2 ^ 64 - 1)

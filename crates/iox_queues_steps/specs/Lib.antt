@@ -1,0 +1,9 @@
+pub mod Access
+pub mod Schedule
+pub mod Order
+pub mod Recorded
+pub mod Kept
+pub mod Overflowing
+pub mod OverflowingRing
+pub mod OverflowingMachine
+pub mod OverflowingState

@@ -1,0 +1,142 @@
+-- The order of puts, takes and looks on a ring, against a bounded list.
+use Rattle.std.specs.Prelude.{ℕ, ◌≡◌, ◌≤◌, ◌+◌, Bool, List, [], ◌∷◌, ◌++◌, length, drop, map, if◌then◌else◌, nat_lt, slice_get, slice_index}
+use Rattle.iox_queues_base.specs.Waiting.{put, put_over}
+use Rattle.iox_queues_steps.specs.declared.order.PushAnswer.{PushAnswer}
+use Rattle.iox_queues_steps.specs.declared.order.PushAnswer.TheVariants.{Kept, LeftOut, Refused}
+use Rattle.iox_queues_steps.specs.declared.order.PopAnswer.{PopAnswer}
+use Rattle.iox_queues_steps.specs.declared.order.PopAnswer.TheVariants.{Got, Saw}
+use Rattle.iox_queues_steps.specs.declared.order.Act.{Act}
+use Rattle.iox_queues_steps.specs.declared.order.Act.TheVariants.{Put, Take}
+use Rattle.iox_queues_steps.specs.declared.order.Placed.{Placed}
+use Rattle.iox_queues_steps.specs.declared.order.PushCall.{PushCall}
+use Rattle.iox_queues_steps.specs.declared.order.PopCall.{PopCall}
+use Rattle.iox_queues_steps.specs.declared.schedule.Event.{Event}
+
+-- what a put answers: on a full list the oldest leaves if the queue overflows, else the put is refused
+abbrev pub put_answer : Bool → ℕ → List ℕ → ℕ → PushAnswer
+put_answer overflows limit waiting value =
+    if nat_lt (length waiting) limit
+    then Kept
+    else (if overflows then LeftOut (slice_index (waiting ++ value ∷ []) 0) else Refused)
+
+-- the list after a put
+abbrev pub after_put : Bool → ℕ → List ℕ → ℕ → List ℕ
+after_put overflows limit waiting value =
+    if overflows then put_over limit waiting value else put limit waiting value
+
+-- a take gives the oldest, if one waits; a look tells whether one waits
+abbrev pub IsTaken : List ℕ → PopAnswer → Type 0
+IsTaken waiting (Got got) = got ≡ slice_get waiting 0
+IsTaken waiting (Saw some) = some ≡ nat_lt 0 (length waiting)
+
+-- the list after a take or a look
+abbrev pub after_take : List ℕ → PopAnswer → List ℕ
+after_take waiting (Got got) = drop 1 waiting
+after_take waiting (Saw some) = waiting
+
+-- the answer of one act is that of the bounded list
+abbrev pub IsAnswered : Bool → ℕ → List ℕ → Act → Type 0
+IsAnswered overflows limit waiting (Put value answer) = answer ≡ put_answer overflows limit waiting value
+IsAnswered overflows limit waiting (Take answer) = IsTaken waiting answer
+
+-- the list after one act
+abbrev pub after_act : Bool → ℕ → List ℕ → Act → List ℕ
+after_act overflows limit waiting (Put value answer) = after_put overflows limit waiting value
+after_act overflows limit waiting (Take answer) = after_take waiting answer
+
+-- each act of the order answers as the bounded list does, one after the other
+abbrev pub Acts : Bool → ℕ → List ℕ → List Act → Type 0
+Acts overflows limit waiting [] = Unit {0}
+Acts overflows limit waiting (act ∷ acts) =
+    IsAnswered overflows limit waiting act × Acts overflows limit (after_act overflows limit waiting act) acts
+
+-- the list after the order
+abbrev pub after_acts : Bool → ℕ → List ℕ → List Act → List ℕ
+after_acts overflows limit waiting [] = waiting
+after_acts overflows limit waiting (act ∷ acts) =
+    after_acts overflows limit (after_act overflows limit waiting act) acts
+
+-- the acts of an order, without their moments
+abbrev pub acts_of : List Placed → List Act
+acts_of [] = []
+acts_of (placed ∷ order) = placed.act ∷ acts_of order
+
+-- acts that stand at one moment
+abbrev pub at : ℕ → List Act → List Placed
+at moment [] = []
+at moment (act ∷ acts) = record { act = act; moment = moment } ∷ at moment acts
+
+-- moments never fall, and lie between two numbers
+abbrev pub Rises : ℕ → List Placed → ℕ → Type 0
+Rises low [] high = low ≤ high
+Rises low (placed ∷ order) high = (low ≤ placed.moment) × Rises placed.moment order high
+
+-- a put with its answer, without a moment
+pub record PutNow : Type 0 where
+  pub value : ℕ
+  pub answer : PushAnswer
+
+-- the puts of one act
+abbrev pub put_of : Act → List PutNow
+put_of (Put value answer) = record { value = value; answer = answer } ∷ []
+put_of (Take answer) = []
+
+-- the answers of takes and looks of one act
+abbrev pub take_of : Act → List PopAnswer
+take_of (Put value answer) = []
+take_of (Take answer) = answer ∷ []
+
+-- the puts of some acts
+abbrev pub put_values : List Act → List PutNow
+put_values [] = []
+put_values (act ∷ acts) = put_of act ++ put_values acts
+
+-- the answers of takes and looks of some acts
+abbrev pub take_values : List Act → List PopAnswer
+take_values [] = []
+take_values (act ∷ acts) = take_of act ++ take_values acts
+
+-- a push with a first and a last moment
+abbrev pub push_call : ℕ → ℕ → PutNow → PushCall
+push_call first last put = record { value = put.value; answer = put.answer; first = first; last = last }
+
+-- a pop with a first and a last moment
+abbrev pub pop_call : ℕ → ℕ → PopAnswer → PopCall
+pop_call first last answer = record { answer = answer; first = first; last = last }
+
+-- the puts of an order as calls of one moment
+abbrev pub puts : List Placed → List PushCall
+puts [] = []
+puts (placed ∷ order) = map (push_call placed.moment placed.moment) (put_of placed.act) ++ puts order
+
+-- the takes and looks of an order as calls of one moment
+abbrev pub takes : List Placed → List PopCall
+takes [] = []
+takes (placed ∷ order) = map (pop_call placed.moment placed.moment) (take_of placed.act) ++ takes order
+
+-- a put stands inside its push, with the push's answer
+pub record PutInside (call : PushCall) (put : PushCall) : Type 0 where
+  pub same_value : call.value ≡ put.value
+  pub same_answer : call.answer ≡ put.answer
+  pub begun : call.first ≤ put.first
+  pub not_ended : put.first ≤ call.last
+
+-- a take or a look stands inside its call, with the call's answer
+pub record TakeInside (call : PopCall) (take : PopCall) : Type 0 where
+  pub same_answer : call.answer ≡ take.answer
+  pub begun : call.first ≤ take.first
+  pub not_ended : take.first ≤ call.last
+
+-- what a machine has recorded: the order, the steps made, and how many
+pub record Log : Type 0 where
+  pub order : List Placed
+  pub events : List Event
+  pub moments : ℕ
+
+-- one more step, with what stands at it
+abbrev pub logged : Log → Event → List Act → Log
+logged log event acts = record {
+  order = log.order ++ at log.moments acts;
+  events = log.events ++ event ∷ [];
+  moments = log.moments + 1;
+}

@@ -1,0 +1,42 @@
+//! One conversation, from the bytes in to the bytes out.
+use iox_hub::HubConfig;
+use iox_script::{Input, Output, ServeError, serve};
+use std::alloc::{AllocError, Global};
+use std::process::Abort;
+use std::test::Fail;
+
+pub(crate) const CONFIG: HubConfig = HubConfig {
+    expired_connection_buffer: 128,
+    id: 0,
+};
+
+/// What `serve` writes in answer to these bytes.
+pub(crate) fn answer(alloc: Global, bytes: &[u8]) -> Result<Vec<u8>, ServeError> {
+    let mut input = Input::new(bytes);
+    let mut output = Output::new(Vec::new(alloc));
+    serve(alloc, CONFIG, &mut input, &mut output)?;
+    Ok(output.writer)
+}
+
+/// The lines in and the lines out of a script in which each line reads `LINE -> REPLY`.
+pub(crate) fn both_sides(alloc: Global, script: &str) -> Result<(String, String), AllocError> {
+    let mut lines = String::new(alloc);
+    let mut replies = String::new(alloc);
+    for exchange in script.lines() {
+        if let Some((line, reply)) = exchange.split_once(" -> ") {
+            lines.push_str(line)?;
+            lines.push('\n')?;
+            replies.push_str(reply)?;
+            replies.push('\n')?;
+        }
+    }
+    Ok((lines, replies))
+}
+
+/// Holds a script's replies against those of `serve`.
+pub(crate) fn check(rt: &impl Abort, alloc: Global, title: &str, script: &str) -> Result<(), Fail> {
+    let (lines, replies) = both_sides(alloc, script)?;
+    let answer = answer(alloc, lines.as_bytes())?;
+    assert_eq!(rt; str::from_utf8(&answer)?, replies.as_str(), "{title}");
+    Ok(())
+}
