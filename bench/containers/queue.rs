@@ -1,0 +1,140 @@
+//! `FixedSizeQueue` beside a plain ring of the same capacity, in one run.
+use std::alloc::{Layout, alloc, dealloc};
+use std::time::Instant;
+
+unsafe extern "C" {
+    fn queue_rounds(rounds: u64) -> u64;
+    fn queue_overflows(rounds: u64) -> u64;
+}
+
+/// What an allocation answers to a Rattle library.
+#[repr(C)]
+struct Tried {
+    ok: bool,
+    block: *mut u8,
+}
+
+const HEADER: usize = 16;
+
+/// A Rattle library leaves its memory to the host. A block keeps its size before it, since it is freed without one.
+#[unsafe(no_mangle)]
+extern "C" fn rattle_alloc(size: usize, _align: usize) -> Tried {
+    let Ok(layout) = Layout::from_size_align(size + HEADER, HEADER) else {
+        return Tried { ok: false, block: std::ptr::null_mut() };
+    };
+    unsafe {
+        let start = alloc(layout);
+        if start.is_null() {
+            return Tried { ok: false, block: start };
+        }
+        start.cast::<usize>().write(size);
+        Tried { ok: true, block: start.add(HEADER) }
+    }
+}
+
+#[unsafe(no_mangle)]
+unsafe extern "C" fn rattle_dealloc(block: *mut u8) {
+    unsafe {
+        let start = block.sub(HEADER);
+        let size = start.cast::<usize>().read();
+        dealloc(start, Layout::from_size_align_unchecked(size + HEADER, HEADER));
+    }
+}
+
+struct Ring {
+    places: Box<[u64]>,
+    head: usize,
+    len: usize,
+}
+
+impl Ring {
+    fn new(capacity: usize) -> Self {
+        Ring { places: vec![0; capacity].into_boxed_slice(), head: 0, len: 0 }
+    }
+
+    fn push(&mut self, item: u64) -> bool {
+        if self.len == self.places.len() {
+            return false;
+        }
+        let mut at = self.head + self.len;
+        if at >= self.places.len() {
+            at -= self.places.len();
+        }
+        self.places[at] = item;
+        self.len += 1;
+        true
+    }
+
+    fn pop(&mut self) -> Option<u64> {
+        if self.len == 0 {
+            return None;
+        }
+        let item = self.places[self.head];
+        self.head += 1;
+        if self.head == self.places.len() {
+            self.head = 0;
+        }
+        self.len -= 1;
+        Some(item)
+    }
+
+    fn push_with_overflow(&mut self, item: u64) -> Option<u64> {
+        let oldest = if self.len == self.places.len() { self.pop() } else { None };
+        self.push(item);
+        oldest
+    }
+}
+
+#[inline(never)]
+fn ring_rounds(rounds: u64) -> u64 {
+    let mut ring = Ring::new(std::hint::black_box(64));
+    for i in 0..32 {
+        ring.push(i);
+    }
+    let mut sum = 0u64;
+    for i in 0..rounds {
+        if let Some(item) = ring.pop() {
+            sum = sum.wrapping_add(item);
+        }
+        ring.push(i ^ sum);
+    }
+    sum
+}
+
+#[inline(never)]
+fn ring_overflows(rounds: u64) -> u64 {
+    let mut ring = Ring::new(std::hint::black_box(64));
+    let mut sum = 0u64;
+    for i in 0..rounds {
+        if let Some(item) = ring.push_with_overflow(i ^ sum) {
+            sum = sum.wrapping_add(item);
+        }
+    }
+    sum
+}
+
+/// Nanoseconds a round, and what came out.
+fn nanoseconds(run: impl Fn(u64) -> u64, rounds: u64) -> (f64, u64) {
+    let start = Instant::now();
+    let sum = run(rounds);
+    (start.elapsed().as_nanos() as f64 / rounds as f64, sum)
+}
+
+/// The two in turn, so that other load on the machine meets both; the best of 31 short runs counts.
+fn row(name: &str, queue: impl Fn(u64) -> u64, ring: impl Fn(u64) -> u64) {
+    let rounds = 2_000_000;
+    let (mut ours, mut plain) = (f64::MAX, f64::MAX);
+    for _ in 0..31 {
+        let (time, one) = nanoseconds(&ring, rounds);
+        plain = plain.min(time);
+        let (time, other) = nanoseconds(&queue, rounds);
+        ours = ours.min(time);
+        assert_eq!(one, other, "both give the same items");
+    }
+    println!("{name}: queue {ours:.2} ns, ring {plain:.2} ns, quotient {:.2}", ours / plain);
+}
+
+fn main() {
+    row("pop and push", |n| unsafe { queue_rounds(n) }, ring_rounds);
+    row("push with overflow", |n| unsafe { queue_overflows(n) }, ring_overflows);
+}
