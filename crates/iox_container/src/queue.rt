@@ -168,3 +168,6 @@ impl<T: PartialEq> PartialEq for Queue<T> {
 impl<T: Eq> Eq for Queue<T> {
     ghost laws = { on_equiv (λ q. q.items) (lists_equiv T.Eq.laws) };
 }
+
+#[cfg(test)]
+mod tests;

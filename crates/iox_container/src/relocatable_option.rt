@@ -69,11 +69,15 @@ impl<T> RelocatableOption<T> {
         RelocatableOption::from(self.as_option_ref())
     }
 
-    /// The value, if there is one, to be changed in its place. `as_option_mut` also says what it leaves.
+    /// The value, if there is one, to be changed in its place.
     pub fn as_mut(&mut self) -> RelocatableOption<&mut T>
-        ensures { option_copied_mut (option_of result) ≡ option_of self.old }
+        ensures* writes_back { sem 𝓛 (LendsValue T.row self.entry (option_of result)) }
+        ensures value { option_copied_mut (option_of result) ≡ option_of self.old }
     {
-        RelocatableOption::from(self.as_option_mut())
+        match self {
+            RelocatableOption::None => RelocatableOption::None,
+            RelocatableOption::Some(value) => RelocatableOption::Some(value),
+        }
     }
 
     /// What the value dereferences to, if there is a value.
@@ -89,6 +93,8 @@ impl<T> RelocatableOption<T> {
     }
 
     /// What the value dereferences to, to be changed in its place, if there is a value.
+    ///
+    /// The contract says what is shown. What a write through it leaves, `DerefMut` doesn't say of a type in general.
     pub fn as_deref_mut(&mut self) -> RelocatableOption<&mut T::Target>
     where
         T: DerefMut,

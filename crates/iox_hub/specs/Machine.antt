@@ -1,6 +1,7 @@
 -- The hub as a machine: its state, what it may answer to each command, and its runs.
 use Rattle.std.specs.Prelude.{◌≡◌, ℕ, ◌+◌, ◌-◌, ◌^◌, ◌<◌, ◌≤◌, Bool, true, false, ◌&&◌, List, [], ◌∷◌, ◌++◌, Option, None, Some, nat_lt, nat_le, length, count_by, slice_get, slice_set, if◌then◌else◌}
 use Rattle.std.specs.List.{list_any}
+use Rattle.iox_describe_base.specs.declared.pattern.MessagingPattern.TheVariants.{PublishSubscribe}
 use Rattle.iox_hub.specs.Agreement.{asked_buffer, agreement_with, slots_of}
 use Rattle.iox_hub.specs.Connection.{is_from, has_data_for, is_ready_for}
 use Rattle.iox_hub.specs.Domain.{DomainState, with_publisher, with_subscriber, delivered, Gives, lends_sample, without_sample}
@@ -62,36 +63,36 @@ NodeStep old (reply.NodeMade number) new = (number ≡ old.nodes + 1) × (new �
 NodeStep old (reply.Refused (refused.Node making.OutOfMemory)) new = new ≡ old
 NodeStep old answer new = ⊥
 
--- A service is created by a node (`found` tells whether there is that node), if the buffer size is within the limit
--- and no service has the name.
+-- A publish-subscribe service is created by a node (`found` tells whether there is that node), if the buffer size is within
+-- the limit and no such service has the name.
 abbrev pub CreateStep : {T U : Type 0} → HubState T U → Bool → ℕ → List ℕ → ℕ → Reply T → HubState T U → Type 0
 CreateStep old false node name buffer reply.Skipped new = new ≡ old
 CreateStep old true node name buffer (reply.Refused (refused.Create creating.InternalFailure)) new = (2 ^ 32 ≤ buffer) × (new ≡ old)
 CreateStep old true node name buffer (reply.Refused (refused.Create creating.AlreadyExists)) new =
-    (buffer < 2 ^ 32) × (list_any (λ service. is_named name service) old.services ≡ true) × (new ≡ old)
+    (buffer < 2 ^ 32) × (list_any (λ service. is_named PublishSubscribe name service) old.services ≡ true) × (new ≡ old)
 CreateStep old true node name buffer (reply.Refused (refused.Create creating.OutOfMemory)) new =
-    (buffer < 2 ^ 32) × (list_any (λ service. is_named name service) old.services ≡ false) × (new ≡ old)
+    (buffer < 2 ^ 32) × (list_any (λ service. is_named PublishSubscribe name service) old.services ≡ false) × (new ≡ old)
 CreateStep old true node name buffer (reply.FactoryMade number) new =
-    (buffer < 2 ^ 32) × (list_any (λ service. is_named name service) old.services ≡ false)
+    (buffer < 2 ^ 32) × (list_any (λ service. is_named PublishSubscribe name service) old.services ≡ false)
     × (number ≡ length old.factories + 1)
     × (new ≡ record old {
-      services = old.services ++ new_service name (agreement_with buffer) node ∷ [];
+      services = old.services ++ new_service PublishSubscribe name (agreement_with buffer) node ∷ [];
       factories = old.factories ++ (record { service = length old.services; agreement = agreement_with buffer }) ∷ [];
     })
 CreateStep old found node name buffer answer new = ⊥
 
--- some service has this name, and this holds of it and its place
+-- some publish-subscribe service has this name, and this holds of it and its place
 pub record FindsNamed {T U : Type 0} (name : List ℕ) (old : HubState T U) (P : ℕ → ServiceState T U → Type 0) : Type 0 where
   pub place : ℕ
   pub service : ServiceState T U
   pub there : slice_get old.services place ≡ Some service
-  pub named : is_named name service ≡ true
+  pub named : is_named PublishSubscribe name service ≡ true
   pub holds : P place service
 
--- The service of a name is opened by a node, if the node is in it already or there is room for one more.
+-- The publish-subscribe service of a name is opened by a node, if the node is in it already or there is room for one more.
 abbrev pub OpenNamed : {T U : Type 0} → HubState T U → ℕ → List ℕ → Reply T → HubState T U → Type 0
 OpenNamed old node name (reply.Refused (refused.Open opening.DoesNotExist)) new =
-    (list_any (λ service. is_named name service) old.services ≡ false) × (new ≡ old)
+    (list_any (λ service. is_named PublishSubscribe name service) old.services ≡ false) × (new ≡ old)
 OpenNamed old node name (reply.Refused (refused.Open opening.ExceedsMaxNumberOfNodes)) new =
     FindsNamed name old (λ place service. (may_enter node service ≡ false) × (new ≡ old))
 OpenNamed old node name (reply.Refused (refused.Open opening.OutOfMemory)) new =

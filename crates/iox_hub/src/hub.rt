@@ -15,6 +15,7 @@ use crate::error::{
 };
 use crate::message::Message;
 use crate::service::{Service, ServiceName};
+use iox_describe_base::MessagingPattern;
 use std::alloc::{AllocError, Global};
 use std::marker::Model;
 
@@ -204,7 +205,7 @@ impl<T: Copy, U: Copy> Hub<T, U> {
         let Some(agreement) = Agreement::with_buffer(buffer) else {
             return Reply::Refused(Refusal::Create(PublishSubscribeCreateError::InternalFailure));
         };
-        if any_named(&self.services, &name) {
+        if any_named(&self.services, MessagingPattern::PublishSubscribe, &name) {
             return Reply::Refused(Refusal::Create(PublishSubscribeCreateError::AlreadyExists));
         }
         let factory = Factory {
@@ -214,7 +215,13 @@ impl<T: Copy, U: Copy> Hub<T, U> {
         if self.factories.reserve(1).is_err() {
             return Reply::Refused(Refusal::Create(PublishSubscribeCreateError::OutOfMemory));
         }
-        let Ok(service) = Service::new(alloc, name, agreement, node) else {
+        let Ok(service) = Service::new(
+            alloc,
+            MessagingPattern::PublishSubscribe,
+            name,
+            agreement,
+            node,
+        ) else {
             return Reply::Refused(Refusal::Create(PublishSubscribeCreateError::OutOfMemory));
         };
         let Ok(()) = self.services.push(service) else {
@@ -238,7 +245,8 @@ impl<T: Copy, U: Copy> Hub<T, U> {
         ensures step { OpenNamed self.old node name.now result self.new }
         ensures counts { total self.new ≡ total self.old }
     {
-        let Some(place) = first_named(&self.services, name) else {
+        let Some(place) = first_named(&self.services, MessagingPattern::PublishSubscribe, name)
+        else {
             return Reply::Refused(Refusal::Open(PublishSubscribeOpenError::DoesNotExist));
         };
         let service = &self.services[place];
@@ -419,16 +427,28 @@ impl<T: Copy, U: Copy> Hub<T, U> {
     }
 }
 
-fn any_named<T: Copy, U: Copy>(services: &[Service<T, U>], name: &ServiceName) -> bool
-    ensures { result ≡ list_any (λ service. is_named name.now service) services.now }
+fn any_named<T: Copy, U: Copy>(
+    services: &[Service<T, U>],
+    pattern: MessagingPattern,
+    name: &ServiceName,
+) -> bool
+    ensures { result ≡ list_any (λ service. is_named pattern name.now service) services.now }
 {
-    services.iter().any(|service| service.is_named(name))
+    services
+        .iter()
+        .any(|service| service.is_named(pattern, name))
 }
 
-fn first_named<T: Copy, U: Copy>(services: &[Service<T, U>], name: &ServiceName) -> Option<usize>
-    ensures { result ≡ position (λ service. is_named name.now service) services.now }
+fn first_named<T: Copy, U: Copy>(
+    services: &[Service<T, U>],
+    pattern: MessagingPattern,
+    name: &ServiceName,
+) -> Option<usize>
+    ensures { result ≡ position (λ service. is_named pattern name.now service) services.now }
 {
-    services.iter().position(|service| service.is_named(name))
+    services
+        .iter()
+        .position(|service| service.is_named(pattern, name))
 }
 
 fn first_holding<T: Copy, U: Copy>(services: &[Service<T, U>], sample: u64) -> Option<usize>

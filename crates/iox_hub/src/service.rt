@@ -1,4 +1,4 @@
-//! An open service: its name, its agreement, the nodes in it, and its domain.
+//! An open service: its pattern and its name, its agreement, the nodes in it, and its domain.
 ghost use Rattle.std.specs.Prelude.{◌≡◌, ◌==◌, true, IfOk, OnOk, OnErr};
 ghost use Rattle.std.specs.List.{list_any};
 ghost use Rattle.iox_hub.specs.Service.{new_service, is_named, may_enter, entered};
@@ -6,6 +6,7 @@ ghost use Rattle.iox_hub.specs.Service.{new_service, is_named, may_enter, entere
 use crate::agreement::Agreement;
 use crate::domain::Domain;
 use iox_container::StaticString;
+use iox_describe_base::MessagingPattern;
 use std::alloc::{AllocError, Global};
 use std::marker::Model;
 
@@ -15,6 +16,7 @@ pub type ServiceName = StaticString<255>;
 /// An open service, and which nodes are in it.
 #[derive(Drop)]
 pub struct Service<T, U> {
+    pub(crate) pattern: MessagingPattern,
     pub(crate) name: ServiceName,
     pub(crate) agreement: Agreement,
     pub(crate) nodes: Vec<u64>,
@@ -27,6 +29,7 @@ impl<T, U> Model for Service<T, U> {
     ghost Value = { ServiceState T U };
 
     ghost view = { λ s. record {
+      pattern = s.pattern;
       name = s.name;
       agreement = s.agreement;
       nodes = s.nodes.items;
@@ -38,15 +41,17 @@ impl<T: Copy, U: Copy> Service<T, U> {
     /// A service that this node creates: the node alone is in it.
     pub fn new(
         alloc: Global,
+        pattern: MessagingPattern,
         name: ServiceName,
         agreement: Agreement,
         node: u64,
     ) -> Result<Self, AllocError>
-        ensures { IfOk result (λ service. service ≡ new_service name agreement node) }
+        ensures { IfOk result (λ service. service ≡ new_service pattern name agreement node) }
     {
         let mut nodes = Vec::with_capacity(alloc, 1)?;
         nodes.push_reserved(node);
         Ok(Service {
+            pattern,
             name,
             agreement,
             nodes,
@@ -54,11 +59,11 @@ impl<T: Copy, U: Copy> Service<T, U> {
         })
     }
 
-    /// Whether it has this name.
-    pub fn is_named(&self, name: &ServiceName) -> bool
-        ensures { result ≡ is_named name.now self.now }
+    /// Whether it has this pattern and this name.
+    pub fn is_named(&self, pattern: MessagingPattern, name: &ServiceName) -> bool
+        ensures { result ≡ is_named pattern name.now self.now }
     {
-        self.name == *name
+        self.pattern == pattern && self.name == *name
     }
 
     /// Whether this node is in it, or there is room for one more.

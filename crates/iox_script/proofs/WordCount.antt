@@ -1,5 +1,5 @@
 -- A line has some word, so six words or more spell nothing.
-use Rattle.std.proofs.Common.{◌≡◌, ℕ, ◌==◌, Bool, true, false, List, [], ◌∷◌, None, refl, cond, sym}
+use Rattle.std.proofs.Common.{◌≡◌, ℕ, ◌==◌, true, false, List, [], ◌∷◌, None, refl, cond, sym}
 use Rattle.iox_script.specs.Words.{words_of, onto_first}
 use Rattle.iox_script.specs.CommandText.{of_words}
 

@@ -1,9 +1,9 @@
 -- What a word without a space is in its line, and that numbers only grow with more digits.
-use Rattle.std.proofs.Common.{◌≡◌, ℕ, ◌+◌, ◌-◌, ◌*◌, ◌^◌, ◌≤◌, ◌==◌, Bool, true, false, not, ◌&&◌, List, [], ◌∷◌, ◌++◌, Option, None, Some, refl, arith, cond, ◌<◌, length, take, drop, get_or, sym, ap, ◌∙◌, suc, add-one, take-append-drop, drop-cons, length-drop}
+use Rattle.std.proofs.Common.{◌≡◌, ℕ, ◌+◌, ◌-◌, ◌*◌, ◌^◌, ◌≤◌, ◌==◌, true, false, not, List, [], ◌∷◌, ◌++◌, None, Some, refl, arith, cond, ◌<◌, length, take, drop, get_or, sym, ap, ◌∙◌, suc, add-one, take-append-drop, drop-cons, length-drop}
 use Rattle.std.proofs.lemmas.List.{take_all, drop_all}
 use Rattle.std.specs.List.{list_all}
 use Rattle.std.proofs.lemmas.Grind.{common_steps}
-use Rattle.iox_script.specs.Words.{words_of, onto_first, is_digit, digits_from, below_limit}
+use Rattle.iox_script.specs.Words.{words_of, is_digit, digits_from, below_limit}
 
 -- a word before a space is the first word
 pub words_of-separated : (xs ys : List ℕ) → list_all (λ b. not (b == 32)) xs ≡ true → words_of (xs ++ 32 ∷ ys) ≡ xs ∷ words_of ys

@@ -1,5 +1,5 @@
 -- What a read call answered.
-use Rattle.std.specs.Prelude.{ℕ, Bool, true, false, ◌==◌, Option, None, Some}
+use Rattle.std.specs.Prelude.{ℕ, Bool, false, ◌==◌, Option, None, Some}
 
 -- it gave no bytes
 abbrev pub is_end : Option ℕ → Bool

@@ -1,3 +1,6 @@
+ghost use Rattle.std.specs.Prelude.{◌≡◌, IfSome, IfNone, Some, None};
+ghost use Rattle.iox_container.specs.RelocatableOptions.{option_of};
+
 use super::*;
 use std::test::Fail;
 
@@ -44,5 +47,78 @@ fn goes_through_its_text_form(rt: HostRuntime) -> Result<(), Fail> {
         RelocatableOption::Some(7)
     );
     assert!(rt; serde_json::from_str::<RelocatableOption<u8>>(rt.alloc(), "\"x\"").is_err());
+    Ok(())
+}
+
+// A caller learns what its write leaves, by the contract alone.
+fn sets_to_seven(option: &mut RelocatableOption<u8>)
+    ensures some { IfSome (option_of option.old) (λ x. option_of option.new ≡ Some 7) }
+    ensures none { IfNone (option_of option.old) (option_of option.new ≡ None) }
+{
+    if let RelocatableOption::Some(value) = option.as_mut() {
+        *value = 7;
+    }
+}
+
+#[test]
+fn is_changed_in_its_place(rt: HostRuntime) -> Result<(), Fail> {
+    let mut number = RelocatableOption::Some(1u8);
+    sets_to_seven(&mut number);
+    assert_eq!(rt; number, RelocatableOption::Some(7));
+    if let Some(value) = number.as_option_mut() {
+        *value = 8;
+    }
+    assert_eq!(rt; number.as_option_ref().copied(), Some(8));
+    let mut nothing = RelocatableOption::None;
+    sets_to_seven(&mut nothing);
+    assert_eq!(rt; nothing, RelocatableOption::None);
+    Ok(())
+}
+
+#[test]
+fn shows_its_value(rt: HostRuntime) -> Result<(), Fail> {
+    let number = RelocatableOption::Some(7u8);
+    assert_eq!(rt;
+        number.as_ref().map(|value| *value),
+        RelocatableOption::Some(7)
+    );
+    assert_eq!(rt; number.unwrap(), 7);
+    assert_eq!(rt; number.expect("a value was put in above"), 7);
+    let word = RelocatableOption::Some("word");
+    assert_eq!(rt;
+        word.as_ref().map(|value| value.len()),
+        RelocatableOption::Some(4)
+    );
+    assert_eq!(rt; word.unwrap_or_else(|| "other"), "word");
+    assert_eq!(rt; RelocatableOption::None.unwrap_or_else(|| "other"), "other");
+    Ok(())
+}
+
+#[test]
+fn dereferences_its_value(rt: HostRuntime) -> Result<(), Fail> {
+    let mut byte = 7u8;
+    {
+        let mut behind = RelocatableOption::Some(&mut byte);
+        assert_eq!(rt;
+            behind.as_deref().map(|value| *value),
+            RelocatableOption::Some(7)
+        );
+        if let RelocatableOption::Some(value) = behind.as_deref_mut() {
+            *value = 9;
+        }
+    }
+    assert_eq!(rt; byte, 9);
+    Ok(())
+}
+
+#[test]
+fn calls_with_its_value(rt: HostRuntime) -> Result<(), Fail> {
+    let mut seen = 0;
+    let number = RelocatableOption::Some(7u8).inspect(|value| seen = *value);
+    assert_eq!(rt; seen, 7);
+    assert!(rt; number.is_some());
+    let nothing = RelocatableOption::<u8>::None.inspect(|value| seen = *value + 1);
+    assert_eq!(rt; seen, 7);
+    assert!(rt; nothing.is_none());
     Ok(())
 }

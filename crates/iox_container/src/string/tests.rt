@@ -40,3 +40,34 @@ fn a_clone_is_equal(rt: HostRuntime) -> Result<(), Fail> {
     assert_eq!(rt; format!(in rt.alloc(); "{text}")?.as_str(), "text");
     Ok(())
 }
+
+// Through the bound alone: `b` becomes `xyz`, and the first byte is written over.
+fn spliced<S: String>(text: &mut S) -> bool {
+    if text.len() == 3 && text.capacity() >= 5 {
+        text.replace_range(1, 2, b"xyz");
+    }
+    if text.len() == 0 {
+        return false;
+    }
+    text.set_byte(0, b'A');
+    true
+}
+
+#[test]
+fn both_strings_replace_a_range(rt: HostRuntime) -> Result<(), Fail> {
+    let mut inline = StaticString::<5>::from_bytes(b"abc")?;
+    assert!(rt; spliced(&mut inline));
+    assert_eq!(rt; inline.as_str(), "Axyzc");
+    let mut heap = PolymorphicString::new(rt.alloc(), 5)?;
+    assert!(rt; !spliced(&mut heap));
+    heap.push_bytes(b"abc")?;
+    assert!(rt; spliced(&mut heap));
+    assert_eq!(rt; heap.as_str(), "Axyzc");
+    Ok(())
+}
+
+#[test]
+fn takes_no_more_room_than_there_is(rt: HostRuntime) -> Result<(), Fail> {
+    assert!(rt; PolymorphicString::new(rt.alloc(), usize::MAX).is_err());
+    Ok(())
+}

@@ -32,10 +32,10 @@ impl<const CAPACITY: usize> DeserializeOwned for StaticString<CAPACITY> {
         match StaticString::from_bytes(read.as_bytes()) {
             Ok(string) => Ok(string),
             Err(StringModificationError::InsertWouldExceedCapacity) => {
-                Err(from.custom("the text is longer than the capacity of the string"))
+                Err(from.custom("text longer than capacity"))
             }
             Err(StringModificationError::InvalidCharacter) => {
-                Err(from.custom("the text has a byte outside 1..=127"))
+                Err(from.custom("text byte outside 1..=127"))
             }
         }
     }

@@ -35,7 +35,7 @@ impl<'de, T: Deserialize<'de> + Drop, const CAPACITY: usize> Deserialize<'de>
             let _ = items.push(item);
         }
         if from.next_item()? {
-            return Err(from.custom("the list has more items than the vector holds"));
+            return Err(from.custom("list longer than capacity"));
         }
         Ok(items)
     }

@@ -79,7 +79,10 @@ fn goes_through_its_list_form(rt: HostRuntime) -> Result<(), Fail> {
     vec.push(7)?;
     assert_eq!(rt; serde_json::to_string(rt.alloc(), &vec)?.as_str(), "[7]");
     assert!(rt; serde_json::from_str::<StaticVec<u8, 2>>(rt.alloc(), "[7]")? == vec);
-    assert!(rt; serde_json::from_str::<StaticVec<u8, 2>>(rt.alloc(), "[7,8,9]").is_err());
+    let Err(long) = serde_json::from_str::<StaticVec<u8, 2>>(rt.alloc(), "[7,8,9]") else {
+        return Err(Fail::new("a list of three items went into a vector of two"));
+    };
+    assert!(rt; format!(in rt.alloc(); "{long}")?.contains("list longer than capacity"));
     assert!(rt; serde_json::from_str::<StaticVec<u8, 2>>(rt.alloc(), "7").is_err());
     assert!(rt; serde_json::from_str::<StaticVec<u8, 2>>(rt.alloc(), "[300]").is_err());
     Ok(())
@@ -110,5 +113,28 @@ fn drops_the_last_item_first(rt: HostRuntime) -> Result<(), Fail> {
         assert!(rt; matches!(notes.try_borrow().as_deref(), Ok([0, 0, 3])));
     }
     assert!(rt; matches!(notes.try_borrow().as_deref(), Ok([3, 2, 1])));
+    Ok(())
+}
+
+#[test]
+fn takes_no_more_room_than_there_is(rt: HostRuntime) -> Result<(), Fail> {
+    assert!(rt; PolymorphicVec::<u64, _>::new(rt.alloc(), usize::MAX).is_err());
+    assert!(rt; StaticVec::<u64, { usize::MAX }>::new(rt.alloc()).is_err());
+    Ok(())
+}
+
+#[test]
+fn holds_words_as_well(rt: HostRuntime) -> Result<(), Fail> {
+    let mut words = StaticVec::<&str, 3>::new(rt.alloc())?;
+    words.resize(2, "a")?;
+    words.insert(1, "b")?;
+    assert_eq!(rt; words.as_slice(), ["a", "b", "a"].as_slice());
+    assert_eq!(rt; words.remove(0), Some("a"));
+    words.truncate(1);
+    words.extend_from_slice(&["c", "d"])?;
+    assert!(rt; words.is_full());
+    assert_eq!(rt; words.pop(), Some("d"));
+    let bits = PolymorphicVec::from_fn(rt.alloc(), 2, |i| i % 2)?;
+    assert_eq!(rt; bits.as_slice(), [0, 1].as_slice());
     Ok(())
 }

@@ -1,5 +1,6 @@
 use super::*;
 use crate::string::{as_escaped_string, strnlen};
+use std::alloc::Global;
 use std::hash::{BuildHasher, BuildHasherDefault, DefaultHasher};
 use std::test::Fail;
 
@@ -110,5 +111,26 @@ fn goes_through_its_text_form(rt: HostRuntime) -> Result<(), Fail> {
     assert!(rt; serde_json::from_str::<StaticString<4>>(rt.alloc(), "17").is_err());
     assert!(rt; serde_json::from_str::<StaticString<4>>(rt.alloc(), "\"names\"").is_err());
     assert!(rt; serde_json::from_str::<StaticString<4>>(rt.alloc(), "\"\\u0000\"").is_err());
+    Ok(())
+}
+
+// What the text form of a string of 4 bytes says of this input.
+fn refusal(alloc: Global, json: &str) -> Result<std::string::String, Fail> {
+    match serde_json::from_str::<StaticString<4>>(alloc, json) {
+        Ok(_) => Ok(std::string::String::new(alloc)),
+        Err(error) => Ok(format!(in alloc; "{error}")?),
+    }
+}
+
+#[test]
+fn says_why_a_text_is_refused(rt: HostRuntime) -> Result<(), Fail> {
+    let long = refusal(rt.alloc(), "\"names\"")?;
+    assert!(rt; long.contains("text longer than capacity"));
+    let zero = refusal(rt.alloc(), "\"\\u0000\"")?;
+    assert!(rt; zero.contains("text byte outside 1..=127"));
+    let high = refusal(rt.alloc(), "\"\u{e9}\"")?;
+    assert!(rt; high.contains("text byte outside 1..=127"));
+    assert!(rt; refusal(rt.alloc(), "\"name\"")?.is_empty());
+    assert!(rt; !refusal(rt.alloc(), "17")?.is_empty());
     Ok(())
 }

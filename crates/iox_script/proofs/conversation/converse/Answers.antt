@@ -1,4 +1,4 @@
-use Rattle.std.proofs.Common.{◌≡◌, ◌∙◌, ◌<◌, ◌++◌, [], Some, length, take, ap, inr, arith, length-append, length-take-le}
+use Rattle.std.proofs.Common.{◌∙◌, ◌<◌, ◌++◌, [], Some, length, take, ap, inr, arith, length-append, length-take-le}
 use Rattle.std.proofs.KnownBytes.{Consumes-nil, Appends-nil, Consumes-trans, Appends-trans}
 use Rattle.std.proofs.lemmas.List.{append-nil}
 use Rattle.iox_script.proofs.Advancing.{Advances-none, Advances-append}

@@ -1,17 +1,18 @@
 use Rattle.std.proofs.Common.{◌∙◌, sym, refl, arith}
+use Rattle.iox_describe_base.specs.declared.pattern.MessagingPattern.TheVariants.{PublishSubscribe}
 use Rattle.iox_hub.specs.Service.{ServiceState, is_named}
 use Rattle.iox_hub.proofs.Tests.{found_at, list_any-not_found}
 use Rattle.iox_hub.proofs.hub.Hub.open_named.Goals as goal
 
 pub returns-in_default-clause-step : goal.returns-in_default-clause-step
 returns-in_default-clause-step g c =
-    let none = list_any-not_found (λ (service : ServiceState g.row.T.Denot g.row.U.Denot). is_named c.args.name.now service)
+    let none = list_any-not_found (λ (service : ServiceState g.row.T.Denot g.row.U.Denot). is_named PublishSubscribe c.args.name.now service)
     c.deref.result.now (sym c.first_named.ensures ∙ c.in_default.is) in
     rw (← c.self.view_is) ((rw c.deref.ensures.value at none, refl))
 
 pub returns-then-not-may_enter-clause-step : goal.returns-then-not-may_enter-clause-step
 returns-then-not-may_enter-clause-step g c =
-    let found = found_at (λ (service : ServiceState g.row.T.Denot g.row.U.Denot). is_named c.args.name.now service)
+    let found = found_at (λ (service : ServiceState g.row.T.Denot g.row.U.Denot). is_named PublishSubscribe c.args.name.now service)
     c.deref.result.now _ c.in-Some.place c.index-service.result.now (sym c.first_named.ensures ∙ c.in-Some.is)
     c.deref.ensures.value c.index-service.ensures in
     rw (← c.self.view_is) (record {
@@ -24,7 +25,7 @@ returns-then-not-may_enter-clause-step g c =
 
 pub returns-in_default-reserve-clause-step : goal.returns-in_default-reserve-clause-step
 returns-in_default-reserve-clause-step g c =
-    let found = found_at (λ (service : ServiceState g.row.T.Denot g.row.U.Denot). is_named c.args.name.now service)
+    let found = found_at (λ (service : ServiceState g.row.T.Denot g.row.U.Denot). is_named PublishSubscribe c.args.name.now service)
     c.deref.result.now _ c.in-Some.place c.index-service.result.now (sym c.first_named.ensures ∙ c.in-Some.is)
     c.deref.ensures.value c.index-service.ensures in
     rw (← c.self.view_is) (record {
@@ -37,7 +38,7 @@ returns-in_default-reserve-clause-step g c =
 
 pub returns-in_default-enter_at-clause-step : goal.returns-in_default-enter_at-clause-step
 returns-in_default-enter_at-clause-step g c =
-    let found = found_at (λ (service : ServiceState g.row.T.Denot g.row.U.Denot). is_named c.args.name.now service)
+    let found = found_at (λ (service : ServiceState g.row.T.Denot g.row.U.Denot). is_named PublishSubscribe c.args.name.now service)
     c.deref.result.now _ c.in-Some.place c.index-service.result.now (sym c.first_named.ensures ∙ c.in-Some.is)
     c.deref.ensures.value c.index-service.ensures in
     rw (← c.self.view_is) (record {
@@ -50,7 +51,7 @@ returns-in_default-enter_at-clause-step g c =
 
 pub returns-clause-step : goal.returns-clause-step
 returns-clause-step g c =
-    let found = found_at (λ (service : ServiceState g.row.T.Denot g.row.U.Denot). is_named c.args.name.now service)
+    let found = found_at (λ (service : ServiceState g.row.T.Denot g.row.U.Denot). is_named PublishSubscribe c.args.name.now service)
     c.deref.result.now _ c.in-Some.place c.index-service.result.now (sym c.first_named.ensures ∙ c.in-Some.is)
     c.deref.ensures.value c.index-service.ensures in
     rw (← c.self.view_is) (record {
