@@ -1,0 +1,4 @@
+pub mod Fronts
+pub mod Numbers
+pub mod Escapes
+pub mod Halfway

@@ -1,1 +1,3 @@
 pub mod Line
+pub mod Reading
+pub mod Within

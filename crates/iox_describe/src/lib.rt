@@ -20,7 +20,7 @@ pub use iox_describe_base::{
     TypeDetail, TypeVariant, ZeroCopySend, event, publish_subscribe, request_response, requirement,
     service_hash,
 };
-pub use reader::decode;
+pub use reader::{decode, is_within_limits};
 pub use writer::encode;
 
 #[cfg(test)]

@@ -1,11 +1,14 @@
 //! Queues and bit sets: plain, shared among threads, and one word at a time.
 //!
-//! - [`shared`]: queues that two threads share, over atomics.
+//! - [`shared`]: queues and single values that threads share, over atomics.
 //! - The plain forms come from `iox_queues_base`, the steps of the overflowing ring from
-//!   `iox_queues_steps`, those of the ring that refuses from `iox_queues_bounded`, those of bit sets
-//!   from `iox_queues_bits`.
+//!   `iox_queues_steps` (here [`overflowing`]), those of the ring that refuses from
+//!   `iox_queues_bounded` (here [`refusing`]), those of bit sets from `iox_queues_bits` (here
+//!   [`sets`]).
 #![tactic(auto)]
 
+pub mod refusing;
+pub mod sets;
 pub mod shared;
 #[cfg(test)]
 mod tests;
@@ -15,9 +18,8 @@ pub use iox_queues_base::{
     FixedSizeIndexQueue, FixedSizeSafelyOverflowingIndexQueue, IndexQueue, Queue,
     SafelyOverflowingIndexQueue, UnrestrictedAtomic, Words,
 };
-pub use iox_queues_bits::{Answer, SetCall};
 pub use iox_queues_steps::{
     Access, Act, Call, Event, Move, Party, Placed, PopAnswer, PopCall, PushAnswer, PushCall, Ring,
-    Stepped, Word,
+    Stepped, Word, overflowing,
 };
 pub use shared::{Consumer, Producer, Share, Shared};

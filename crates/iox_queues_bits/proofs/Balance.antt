@@ -1,27 +1,15 @@
--- Every step of a set keeps the balance of each place.
-use Rattle.std.proofs.Common.{◌≡◌, ℕ, ◌+◌, ◌-◌, ◌%◌, ◌<◌, ◌≤◌, Bool, true, false, if◌then◌else◌, ◌==◌, ◌&&◌, nat_lt, List, [], ◌∷◌, ◌++◌, length, set, slice_index, replicate, refl, sym, ◌∙◌, ap, subst, arith, length-set}
+-- Every access of a call keeps the balance of each place.
+use Rattle.std.proofs.Common.{◌≡◌, ℕ, ◌+◌, ◌-◌, ◌%◌, ◌<◌, ◌≤◌, ◌^◌, Bool, true, false, if◌then◌else◌, ◌==◌, ◌&&◌, nat_lt, List, length, set, slice_index, refl, sym, subst, arith, length-set}
 use Rattle.std.proofs.Math.Seq.{get_or-set_same, get_or-set_other}
 use Rattle.std.proofs.lemmas.Bool.{ltb-true, ltb-false, eqb-true, eqb-false}
-use Rattle.std.proofs.lemmas.List.{length-replicate, get_or-replicate}
 use Rattle.std.proofs.lemmas.Nat.{mod_below}
 use Rattle.iox_queues_steps.specs.Access.{Words, successor, answer_of, after_access}
-use Rattle.iox_queues_steps.specs.declared.access.Access.TheVariants.{Local}
-use Rattle.iox_queues_steps.specs.declared.schedule.Stepped.{Stepped}
-use Rattle.iox_queues_steps.specs.declared.schedule.Stepped.TheVariants as answer
 use Rattle.iox_queues_bits.specs.Steps.{call_next}
-use Rattle.iox_queues_bits.specs.Machine.{SetMachine, IsKept, StepsTo, Begins, begun, went, start, stage_at, raised_by, taken_by, increments, taken_out}
-use Rattle.iox_queues_bits.specs.declared.call.Call.{Call}
+use Rattle.iox_queues_bits.specs.Sums.{raised_by, taken_by, cleared_by, hits}
+use Rattle.iox_queues_bits.specs.Kept.{Knows}
 use Rattle.iox_queues_bits.specs.declared.call.SetCall.{SetCall}
 use Rattle.iox_queues_bits.specs.declared.call.SetCall.TheVariants.{Idle, Add, Adding, Next, Sweep, Taking, Found, Done}
 use Rattle.iox_queues_bits.specs.declared.machine.Event.{Event}
-
-more_increments : (n i : ℕ) (events : List Event) (e : Event) → increments n i (events ++ e ∷ []) ≡ increments n i events + raised_by n i e.access e.answer
-more_increments n i [] e = omega arith
-more_increments n i (x ∷ events) e = omega (arith, more_increments n i events e)
-
-more_taken : (n i : ℕ) (events : List Event) (e : Event) → taken_out n i (events ++ e ∷ []) ≡ taken_out n i events + taken_by n i e.access e.answer
-more_taken n i [] e = omega arith
-more_taken n i (x ∷ events) e = omega (arith, more_taken n i events e)
 
 -- what one exchange does to one place
 exchanged : (words : Words) (j i old new : ℕ) → j < length words.cells → i < length words.cells → (old < new → new ≡ old + 1) → (b b2 b3 : Bool) → (slice_index words.cells j == old) ≡ b → (j == i) ≡ b2 → nat_lt old new ≡ b3
@@ -54,7 +42,7 @@ kept_length : (words : Words) (j new : ℕ) (b : Bool) → length (if b then rec
 kept_length words j new true = length-set words.cells j new
 kept_length words j new false = refl
 
-pub same_length : (words : Words) (call : SetCall) → length (after_access words (call_next call)).cells ≡ length words.cells
+pub same_length : (words : Words) (stage : SetCall) → length (after_access words (call_next stage)).cells ≡ length words.cells
 same_length words Idle = refl
 same_length words (Add place max) = refl
 same_length words (Adding place max count) = kept_length words (place % length words.cells) (successor count) (slice_index words.cells (place % length words.cells) == count)
@@ -62,11 +50,11 @@ same_length words (Next capacity) = refl
 same_length words (Sweep place left capacity all) = refl
 same_length words (Taking place left capacity all count) = kept_length words (place % length words.cells) 0 (slice_index words.cells (place % length words.cells) == count)
 same_length words (Found place after) = refl
-same_length words (Done answered) = refl
+same_length words (Done c answered) = refl
 
 -- what one step does to one place
-one_step : (words : Words) (call : SetCall) (i : ℕ) → 0 < length words.cells → i < length words.cells
-    → slice_index (after_access words (call_next call)).cells i + taken_by (length words.cells) i (call_next call) (answer_of words (call_next call)) ≡ slice_index words.cells i + raised_by (length words.cells) i (call_next call) (answer_of words (call_next call))
+pub one_step : (words : Words) (stage : SetCall) (i : ℕ) → 0 < length words.cells → i < length words.cells
+    → slice_index (after_access words (call_next stage)).cells i + taken_by (length words.cells) i (call_next stage) (answer_of words (call_next stage)) ≡ slice_index words.cells i + raised_by (length words.cells) i (call_next stage) (answer_of words (call_next stage))
 one_step words Idle i some there = refl
 one_step words (Add place max) i some there = refl
 one_step words (Adding place max count) i some there =
@@ -78,70 +66,64 @@ one_step words (Taking place left capacity all count) i some there =
     exchanged words (place % length words.cells) i count 0 (mod_below place (length words.cells) some) there (λ less. omega arith)
     (slice_index words.cells (place % length words.cells) == count) (place % length words.cells == i) (nat_lt count 0) refl refl refl
 one_step words (Found place after) i some there = refl
-one_step words (Done answered) i some there = refl
+one_step words (Done c answered) i some there = refl
 
-went_keeps : (m : SetMachine) (party : ℕ) → IsKept m → IsKept (went m party)
-went_keeps m party k =
-    let call : SetCall = stage_at m.calls party in
-    let size : length (after_access m.words (call_next (stage_at m.calls party))).cells ≡ length m.words.cells = same_length m.words (stage_at m.calls party) in
-    let event : Event = record { party = party; access = call_next (stage_at m.calls party); answer = answer_of m.words (call_next (stage_at m.calls party)) } in
-    record {
-      balanced = record {
-        each = λ i there.
-            let within : i < length m.words.cells = omega arith in
-            let before : increments (length m.words.cells) i m.events ≡ taken_out (length m.words.cells) i m.events + slice_index m.words.cells i = k.balanced.each i within in
-            let step : slice_index (after_access m.words (call_next (stage_at m.calls party))).cells i + taken_by (length m.words.cells) i (call_next (stage_at m.calls party)) (answer_of m.words (call_next (stage_at m.calls party))) ≡ slice_index m.words.cells i + raised_by (length m.words.cells) i (call_next (stage_at m.calls party)) (answer_of m.words (call_next (stage_at m.calls party))) =
-            one_step m.words (stage_at m.calls party) i k.some within in
-            let more : increments (length m.words.cells) i (went m party).events ≡ increments (length m.words.cells) i m.events + raised_by (length m.words.cells) i (call_next (stage_at m.calls party)) (answer_of m.words (call_next (stage_at m.calls party))) = more_increments (length m.words.cells) i m.events event in
-            let out : taken_out (length m.words.cells) i (went m party).events ≡ taken_out (length m.words.cells) i m.events + taken_by (length m.words.cells) i (call_next (stage_at m.calls party)) (answer_of m.words (call_next (stage_at m.calls party))) = more_taken (length m.words.cells) i m.events event in
-            subst (λ (n : ℕ). increments n i (went m party).events ≡ taken_out n i (went m party).events + slice_index (went m party).words.cells i) (sym size)
-            (omega arith);
-      };
-      some = omega (arith, k.some);
-    }
+-- no place passes the largest count
+stored : (cells : List ℕ) (j i new max : ℕ) → j < length cells → new ≤ max → ((k : ℕ) → k < length cells → slice_index cells k ≤ max) → i < length cells → (b : Bool) → (j == i) ≡ b → slice_index (set cells j new) i ≤ max
+stored cells j i new max at small within there true e =
+    let here : slice_index (set cells j new) i ≡ new = subst (λ (k : ℕ). slice_index (set cells j new) k ≡ new) (eqb-true j i e) (get_or-set_same cells j new 0 at) in
+    omega arith
+stored cells j i new max at small within there false e =
+    let other : slice_index (set cells j new) i ≡ slice_index cells i = get_or-set_other cells j i new 0 (λ same. eqb-false j i e (sym same)) in
+    omega (arith, within i there)
 
-begun_keeps : (m : SetMachine) (party : ℕ) (c : Call) → IsKept m → IsKept (begun m party c)
-begun_keeps m party c k = record {
-  balanced = record {
-    each = λ i there.
-        let before : increments (length m.words.cells) i m.events ≡ taken_out (length m.words.cells) i m.events + slice_index m.words.cells i = k.balanced.each i there in
-        let more : increments (length m.words.cells) i (begun m party c).events ≡ increments (length m.words.cells) i m.events + 0 = more_increments (length m.words.cells) i m.events (record { party = party; access = Local; answer = 0 }) in
-        let out : taken_out (length m.words.cells) i (begun m party c).events ≡ taken_out (length m.words.cells) i m.events + 0 = more_taken (length m.words.cells) i m.events (record { party = party; access = Local; answer = 0 }) in
-        omega arith;
-  };
-  some = k.some;
-}
+stored_if : (words : Words) (j i new max : ℕ) (b : Bool) → j < length words.cells → new ≤ max → ((k : ℕ) → k < length words.cells → slice_index words.cells k ≤ max) → i < length words.cells
+    → slice_index (if b then record words { cells = set words.cells j new } else words).cells i ≤ max
+stored_if words j i new max true at small within there = stored words.cells j i new max at small within there (j == i) refl
+stored_if words j i new max false at small within there = within i there
 
-pub steps_keep : (m : SetMachine) (party : ℕ) (r : Stepped) (n : SetMachine) → StepsTo m party r n → IsKept m → IsKept n
-steps_keep m party answer.Went n h k = subst IsKept (sym h.2) (went_keeps m party k)
-steps_keep m party answer.Finished n h k = subst IsKept (sym h.2) (went_keeps m party k)
-steps_keep m party answer.Skipped n h k = subst IsKept (sym h.1) k
-steps_keep m party answer.NoMemory n h k = subst IsKept (sym h.1) k
+pub keeps_within : (max : ℕ) (words : Words) (own : List Event) (stage : SetCall) (i : ℕ) → max < 2 ^ 64 → 0 < length words.cells → Knows max (length words.cells) own stage
+    → ((k : ℕ) → k < length words.cells → slice_index words.cells k ≤ max) → i < length words.cells → slice_index (after_access words (call_next stage)).cells i ≤ max
+keeps_within max words own Idle i small some k within there = within i there
+keeps_within max words own (Add place top) i small some k within there = within i there
+keeps_within max words own (Adding place top count) i small some k within there =
+    stored_if words (place % length words.cells) i (successor count) max (slice_index words.cells (place % length words.cells) == count) (mod_below place (length words.cells) some) (omega (arith, k.4)) within there
+keeps_within max words own (Next capacity) i small some k within there = within i there
+keeps_within max words own (Sweep place left capacity all) i small some k within there = within i there
+keeps_within max words own (Taking place left capacity all count) i small some k within there =
+    stored_if words (place % length words.cells) i 0 max (slice_index words.cells (place % length words.cells) == count) (mod_below place (length words.cells) some) (omega arith) within there
+keeps_within max words own (Found place after) i small some k within there = within i there
+keeps_within max words own (Done c answered) i small some k within there = within i there
 
-pub begins_keep : (m : SetMachine) (party : ℕ) (c : Call) (r : Stepped) (n : SetMachine) → Begins m party c r n → IsKept m → IsKept n
-begins_keep m party c answer.Went n h k = subst IsKept (sym h.1) (begun_keeps m party c k)
-begins_keep m party c answer.Finished n h k = absurd h
-begins_keep m party c answer.Skipped n h k = subst IsKept (sym h.1) k
-begins_keep m party c answer.NoMemory n h k = subst IsKept (sym h.1) k
+less_of : (k m : ℕ) (b : Bool) → k ≤ m → (if b then k else 0) ≤ m
+less_of k m true h = h
+less_of k m false h = omega arith
 
-pub steps_length : (m : SetMachine) (party : ℕ) (r : Stepped) (n : SetMachine) → StepsTo m party r n → length n.words.cells ≡ length m.words.cells
-steps_length m party answer.Went n h = ap (λ (x : SetMachine). length x.words.cells) h.2 ∙ same_length m.words (stage_at m.calls party)
-steps_length m party answer.Finished n h = ap (λ (x : SetMachine). length x.words.cells) h.2 ∙ same_length m.words (stage_at m.calls party)
-steps_length m party answer.Skipped n h = ap (λ (x : SetMachine). length x.words.cells) h.1
-steps_length m party answer.NoMemory n h = ap (λ (x : SetMachine). length x.words.cells) h.1
+won_below : (k count m : ℕ) (a b : Bool) → (k == count) ≡ b → k ≤ m → (if a && b then count - 0 else 0) ≤ m
+won_below k count m true true e h = let same : k ≡ count = eqb-true k count e in omega arith
+won_below k count m true false e h = omega arith
+won_below k count m false b e h = omega arith
 
-pub begins_length : (m : SetMachine) (party : ℕ) (c : Call) (r : Stepped) (n : SetMachine) → Begins m party c r n → length n.words.cells ≡ length m.words.cells
-begins_length m party c answer.Went n h = ap (λ (x : SetMachine). length x.words.cells) h.1
-begins_length m party c answer.Finished n h = absurd h
-begins_length m party c answer.Skipped n h = ap (λ (x : SetMachine). length x.words.cells) h.1
-begins_length m party c answer.NoMemory n h = ap (λ (x : SetMachine). length x.words.cells) h.1
+-- where no place passes 1, no step takes more
+takes_one : (words : Words) (own : List Event) (stage : SetCall) (i max : ℕ) → Knows max (length words.cells) own stage → max ≤ 1 → 0 < length words.cells → ((k : ℕ) → k < length words.cells → slice_index words.cells k ≤ max)
+    → taken_by (length words.cells) i (call_next stage) (answer_of words (call_next stage)) ≤ 1
+takes_one words own Idle i max k one some within = omega arith
+takes_one words own (Add place top) i max k one some within = omega arith
+takes_one words own (Adding place top count) i max k one some within =
+    less_of (count - successor count) 1 (hits (length words.cells) i place (slice_index words.cells (place % length words.cells)) count) (omega (arith, k.4, one))
+takes_one words own (Next capacity) i max k one some within = omega arith
+takes_one words own (Sweep place left capacity all) i max k one some within = omega arith
+takes_one words own (Taking place left capacity all count) i max k one some within =
+    won_below (slice_index words.cells (place % length words.cells)) count 1 (place % length words.cells == i) (slice_index words.cells (place % length words.cells) == count) refl
+    (omega (arith, within (place % length words.cells) (mod_below place (length words.cells) some)))
+takes_one words own (Found place after) i max k one some within = omega arith
+takes_one words own (Done c answered) i max k one some within = omega arith
 
-pub start_kept : (max capacity parties : ℕ) → 0 < capacity → IsKept (start max capacity parties)
-start_kept max capacity parties some = record {
-  balanced = record {
-    each = λ i there.
-        let zero_there : slice_index (replicate capacity 0) i ≡ 0 = get_or-replicate {A = ℕ} capacity i 0 0 (omega (arith, length-replicate {A = ℕ} capacity 0)) in
-        omega arith;
-  };
-  some = omega (arith, length-replicate {A = ℕ} capacity 0);
-}
+once : (k : ℕ) (b : Bool) → nat_lt 0 k ≡ b → k ≤ 1 → ◌≡◌ {A = ℕ} (if b then 1 else 0) k
+once k true e h = let lt : 0 < k = ltb-true 0 k e in omega arith
+once k false e h = let le : k ≤ 0 = ltb-false 0 k e in omega arith
+
+pub clears_once : (words : Words) (own : List Event) (stage : SetCall) (i max : ℕ) → Knows max (length words.cells) own stage → max ≤ 1 → 0 < length words.cells → ((k : ℕ) → k < length words.cells → slice_index words.cells k ≤ max)
+    → cleared_by (length words.cells) i (call_next stage) (answer_of words (call_next stage)) ≡ taken_by (length words.cells) i (call_next stage) (answer_of words (call_next stage))
+clears_once words own stage i max k one some within =
+    once (taken_by (length words.cells) i (call_next stage) (answer_of words (call_next stage))) (nat_lt 0 (taken_by (length words.cells) i (call_next stage) (answer_of words (call_next stage)))) refl (takes_one words own stage i max k one some within)

@@ -1,1 +1,3 @@
+pub mod Knowing
 pub mod Balance
+pub mod Runs

@@ -1,3 +1,6 @@
 pub mod Steps
+pub mod Sums
+pub mod Told
 pub mod Machine
+pub mod Kept
 pub mod State

@@ -3,4 +3,4 @@ use Rattle.iox_queues_bits.specs.Machine.{SetMachine}
 use Rattle.iox_queues_bits.specs.declared.state.State.{State}
 
 abbrev pub machine_of : State → SetMachine
-machine_of s = record { max = s.max; words = s.ring; calls = s.calls.items; events = s.events.items }
+machine_of s = record { max = s.max; words = s.ring; seats = s.seats.items; events = s.events.items; finished = s.finished.items }

@@ -25,17 +25,22 @@ call_next (Next capacity) = Load Read
 call_next (Sweep place left capacity all) = Load (Cell place)
 call_next (Taking place left capacity all count) = Exchange (Cell place) count 0
 call_next (Found place after) = Store Read after
-call_next (Done answer) = Local
+call_next (Done c answer) = Local
 
 -- one more, unless the count is the largest
 abbrev pub adding_at : ℕ → ℕ → ℕ → SetCall
-adding_at place max count = if nat_lt count max then Adding place max count else Done (Added false)
+adding_at place max count = if nat_lt count max then Adding place max count else Done (call.Set place) (Added false)
+
+-- no place is left
+abbrev pub swept_by : Bool → SetCall
+swept_by true = Done call.ResetAll Swept
+swept_by false = Done call.ResetNext (Taken None)
 
 -- to the next place, if one is left
 abbrev pub going_on_at : ℕ → ℕ → ℕ → Bool → SetCall
 going_on_at place left capacity all =
     if left == 0
-    then Done (if all then Swept else Taken None)
+    then swept_by all
     else Sweep (if nat_lt place capacity then place else 0) left capacity all
 
 -- a place that is 0 is passed over; another is to be taken out
@@ -53,13 +58,13 @@ abbrev pub call_take : SetCall → ℕ → SetCall
 call_take Idle answer = Idle
 call_take (Add place max) answer = adding_at place max answer
 call_take (Adding place max count) answer =
-    if answer == count then Done (Added true) else adding_at place max answer
+    if answer == count then Done (call.Set place) (Added true) else adding_at place max answer
 call_take (Next capacity) answer = going_on_at answer capacity capacity false
 call_take (Sweep place left capacity all) answer = sweeping_at place left capacity all answer
 call_take (Taking place left capacity all count) answer =
     if answer == count then found_at place left capacity all else sweeping_at place left capacity all answer
-call_take (Found place after) answer = Done (Taken (Some place))
-call_take (Done answered) answer = Idle
+call_take (Found place after) answer = Done call.ResetNext (Taken (Some place))
+call_take (Done c answered) answer = Idle
 
 abbrev pub call_is_idle : SetCall → Bool
 call_is_idle Idle = true
@@ -69,7 +74,7 @@ call_is_idle (Next capacity) = false
 call_is_idle (Sweep place left capacity all) = false
 call_is_idle (Taking place left capacity all count) = false
 call_is_idle (Found place after) = false
-call_is_idle (Done answer) = false
+call_is_idle (Done c answer) = false
 
 -- the next step of this call is its last
 abbrev pub call_is_over : SetCall → Bool
@@ -80,4 +85,4 @@ call_is_over (Next capacity) = false
 call_is_over (Sweep place left capacity all) = false
 call_is_over (Taking place left capacity all count) = false
 call_is_over (Found place after) = false
-call_is_over (Done answer) = true
+call_is_over (Done c answer) = true

@@ -1,6 +1,6 @@
 //! A call on a bit set, one access at a time.
 ghost use Rattle.std.specs.Prelude.{◌≡◌};
-ghost use Rattle.iox_queues_bits.specs.Steps.{call_next, call_take, call_is_idle, call_is_over, adding_at, going_on_at, sweeping_at, found_at, call_begun};
+ghost use Rattle.iox_queues_bits.specs.Steps.{call_next, call_take, call_is_idle, call_is_over, adding_at, going_on_at, sweeping_at, swept_by, found_at, call_begun};
 
 use iox_queues_steps::{Access, Word};
 
@@ -63,7 +63,11 @@ pub enum SetCall {
         place: u64,
         after: u64,
     },
-    Done(Answer),
+    /// The call answered; its last step is to come.
+    Done {
+        call: Call,
+        answer: Answer,
+    },
 }
 
 impl SetCall {
@@ -88,7 +92,7 @@ impl SetCall {
         ensures { result ≡ call_next self.now }
     {
         match *self {
-            SetCall::Idle | SetCall::Done(_) => Access::Local,
+            SetCall::Idle | SetCall::Done { .. } => Access::Local,
             SetCall::Add { place, .. } => Access::Load(Word::Cell(place)),
             SetCall::Adding { place, count, .. } => {
                 Access::Exchange(Word::Cell(place), count, count.saturating_add(1))
@@ -105,7 +109,7 @@ impl SetCall {
         ensures { result ≡ call_take self answer }
     {
         match self {
-            SetCall::Idle | SetCall::Done(_) => SetCall::Idle,
+            SetCall::Idle | SetCall::Done { .. } => SetCall::Idle,
             SetCall::Add { place, max } => adding(place, max, answer),
             SetCall::Adding {
                 place,
@@ -114,7 +118,10 @@ impl SetCall {
                 ..
             } => {
                 if answer == count {
-                    SetCall::Done(Answer::Added(true))
+                    SetCall::Done {
+                        call: Call::Set(place),
+                        answer: Answer::Added(true),
+                    }
                 } else {
                     adding(place, max, answer)
                 }
@@ -139,7 +146,10 @@ impl SetCall {
                     sweeping(place, left, capacity, all, answer)
                 }
             }
-            SetCall::Found { place, .. } => SetCall::Done(Answer::Taken(Some(place))),
+            SetCall::Found { place, .. } => SetCall::Done {
+                call: Call::ResetNext,
+                answer: Answer::Taken(Some(place)),
+            },
         }
     }
 
@@ -154,7 +164,7 @@ impl SetCall {
     pub fn is_over(&self) -> bool
         ensures { result ≡ call_is_over self.now }
     {
-        matches!(*self, SetCall::Done(_))
+        matches!(*self, SetCall::Done { .. })
     }
 }
 
@@ -165,7 +175,10 @@ fn adding(place: u64, max: u64, count: u64) -> SetCall
     if count < max {
         SetCall::Adding { place, max, count }
     } else {
-        SetCall::Done(Answer::Added(false))
+        SetCall::Done {
+            call: Call::Set(place),
+            answer: Answer::Added(false),
+        }
     }
 }
 
@@ -174,17 +187,30 @@ fn going_on(place: u64, left: u64, capacity: u64, all: bool) -> SetCall
     ensures { result ≡ going_on_at place left capacity all }
 {
     if left == 0 {
-        SetCall::Done(if all {
-            Answer::Swept
-        } else {
-            Answer::Taken(None)
-        })
+        swept(all)
     } else {
         SetCall::Sweep {
             place: if place < capacity { place } else { 0 },
             left,
             capacity,
             all,
+        }
+    }
+}
+
+// No place is left.
+fn swept(all: bool) -> SetCall
+    ensures { result ≡ swept_by all }
+{
+    if all {
+        SetCall::Done {
+            call: Call::ResetAll,
+            answer: Answer::Swept,
+        }
+    } else {
+        SetCall::Done {
+            call: Call::ResetNext,
+            answer: Answer::Taken(None),
         }
     }
 }

@@ -1,11 +1,18 @@
 //! The machine of a bit set or a counting bit set.
 ghost use Rattle.std.specs.Prelude.{◌≡◌, ◌+◌, ◌<◌, ◌≤◌, ◌^◌, IfOk, length, slice_index};
 
-use crate::call::{Call, SetCall};
+use crate::call::{Answer, Call, SetCall};
 use crate::state::State;
 use iox_queues_steps::{Access, Stepped};
 use std::alloc::{AllocError, Global};
 use std::marker::Model;
+
+/// One step: a party begins a call, or goes on inside one.
+#[derive(Clone, Copy, Debug, PartialEq, Eq)]
+pub enum Move {
+    Begin(usize, Call),
+    GoOn(usize),
+}
 
 /// A step that was made.
 #[derive(Clone, Copy, Debug, PartialEq, Eq)]
@@ -15,17 +22,28 @@ pub struct Event {
     pub answer: u64,
 }
 
+/// A call that ended: its first and its last step, by their number among the steps made.
+#[derive(Clone, Copy, Debug, PartialEq, Eq)]
+pub struct Finished {
+    pub party: usize,
+    pub call: Call,
+    pub answer: Answer,
+    pub first: u64,
+    pub last: u64,
+}
+
 /// A set whose parties go one step at a time, in any order that the caller wants.
 ///
 /// Any party may stop anywhere. For each place, what was counted in is what was taken out and what
-/// is there now.
+/// is there now; no count passes the largest. What a call that ended did is what it answered.
 #[derive(Debug, Drop)]
 pub struct Machine {
     state: State,
 }
 
 impl Model for Machine {
-    ghost use Rattle.iox_queues_bits.specs.Machine.{SetMachine, IsKept};
+    ghost use Rattle.iox_queues_bits.specs.Machine.{SetMachine};
+    ghost use Rattle.iox_queues_bits.specs.Kept.{IsKept};
 
     ghost Value = { SetMachine };
 
@@ -38,7 +56,7 @@ impl Model for Machine {
 }
 
 impl Machine {
-    ghost use Rattle.iox_queues_bits.specs.Machine.{IsBalanced, StepsTo, Begins, start, stage_at};
+    ghost use Rattle.iox_queues_bits.specs.Machine.{IsBalanced, IsTold, StepsTo, RunsTo, start, stage_at};
 
     /// An empty set of this capacity, with this many parties. No count passes `max`, which is 1 for
     /// a bit set.
@@ -56,20 +74,42 @@ impl Machine {
         })
     }
 
-    /// The party begins this call, if it is between calls.
-    pub fn begin(&mut self, party: usize, call: Call) -> Stepped
-        ensures steps { Begins self.old party call result self.new }
+    /// Begins a call, or goes on inside one.
+    pub fn step(&mut self, step: Move) -> Stepped
+        ensures steps { StepsTo self.old step result self.new }
         ensures balanced { IsBalanced self.new }
+        ensures told { IsTold self.new }
     {
-        self.state.begin(party, call)
+        self.state.step(step)
     }
 
-    /// The party goes on inside its call.
-    pub fn go_on(&mut self, party: usize) -> Stepped
-        ensures steps { StepsTo self.old party result self.new }
+    /// Makes these steps one after the other, leaves out those that do not fit, and stops where no
+    /// memory is found. The answer is how many were made.
+    pub fn run(&mut self, schedule: &[Move]) -> usize
+        ensures runs { RunsTo self.old schedule.now result self.new }
         ensures balanced { IsBalanced self.new }
+        ensures told { IsTold self.new }
     {
-        self.state.go_on(party)
+        self.keeps();
+        let mut made = 0;
+        let mut rest = schedule;
+        while let Some((step, tail)) = rest.split_first() {
+            let stepped = self.step(*step);
+            if stepped.is_stopped() {
+                return made;
+            }
+            made += stepped.count();
+            rest = tail;
+        }
+        made
+    }
+
+    // What every machine keeps.
+    fn keeps(&self)
+        ensures balanced { IsBalanced self.now }
+        ensures told { IsTold self.now }
+    {
+        let _ = &self.state;
     }
 
     /// The steps made so far.
@@ -78,6 +118,21 @@ impl Machine {
         ensures balanced { IsBalanced self.now }
     {
         self.state.events.as_slice()
+    }
+
+    /// The calls that ended, in their order.
+    pub fn finished(&self) -> &[Finished]
+        ensures value { result.now ≡ self.now.finished }
+        ensures told { IsTold self.now }
+    {
+        self.state.finished.as_slice()
+    }
+
+    /// How many places there are.
+    pub fn capacity(&self) -> u64
+        ensures { result ≡ length self.now.words.cells }
+    {
+        self.state.capacity
     }
 
     /// What the place holds.
@@ -91,7 +146,7 @@ impl Machine {
 
     /// Where the party stands; one that is not there is idle.
     pub fn stage(&self, party: usize) -> SetCall
-        ensures { result ≡ stage_at self.now.calls party }
+        ensures { result ≡ stage_at self.now.seats party }
     {
         self.state.stage(party)
     }

@@ -1,7 +1,11 @@
 -- The fields of the machine of the ring that refuses, as lists and numbers.
-use Rattle.std.specs.Prelude.{◌+◌, ◌≤◌, vec_len, vec_capacity}
+use Rattle.std.specs.Prelude.{ℕ, ◌+◌, ◌≤◌, length, vec_len, vec_capacity}
 use Rattle.iox_queues_bounded.specs.BoundedMachine.{Machine}
 use Rattle.iox_queues_steps.specs.Recorded.{log_of, HasRoom}
+use Rattle.iox_queues_bounded.specs.Bounded.{placed_by_push, placed_by_pop, push_ended, pop_ended}
+use Rattle.iox_queues_steps.specs.declared.schedule.Party.TheVariants.{Producer, Consumer}
+use Rattle.iox_queues_steps.specs.declared.schedule.Move.{Move}
+use Rattle.iox_queues_steps.specs.declared.schedule.Move.TheVariants.{Begin, GoOn}
 use Rattle.iox_queues_bounded.specs.declared.state.State.{State}
 
 abbrev pub machine_of : State → Machine
@@ -14,8 +18,26 @@ machine_of s = record {
   log = log_of s.log;
 }
 
--- room for one more step
-pub record StateRoom (s : State) : Type 0 where
-  pub log : HasRoom s.log
-  pub pushes : vec_len s.pushes + 1 ≤ vec_capacity s.pushes
-  pub pops : vec_len s.pops + 1 ≤ vec_capacity s.pops
+-- how many acts stand at a step
+abbrev pub new_acts : Machine → Move → ℕ
+new_acts m (Begin c) = 0
+new_acts m (GoOn Producer) = length (placed_by_push m.words.read m.producer.push)
+new_acts m (GoOn Consumer) = length (placed_by_pop m.words.write m.consumer.pop)
+
+-- how many pushes end with a step
+abbrev pub new_pushes : Machine → Move → ℕ
+new_pushes m (Begin c) = 0
+new_pushes m (GoOn Producer) = length (push_ended m.producer.push)
+new_pushes m (GoOn Consumer) = 0
+
+-- how many pops and looks end with a step
+abbrev pub new_pops : Machine → Move → ℕ
+new_pops m (Begin c) = 0
+new_pops m (GoOn Producer) = 0
+new_pops m (GoOn Consumer) = length (pop_ended m.consumer.pop)
+
+-- room for what a step appends
+pub record StateRoom (step : Move) (s : State) : Type 0 where
+  pub log : HasRoom (new_acts (machine_of s) step) s.log
+  pub pushes : vec_len s.pushes + new_pushes (machine_of s) step ≤ vec_capacity s.pushes
+  pub pops : vec_len s.pops + new_pops (machine_of s) step ≤ vec_capacity s.pops

@@ -8,7 +8,7 @@ ghost use Rattle.iox_queues_bounded.specs.BoundedMachine.{Machine, fits, ends, h
 use crate::{Pop, Push};
 use iox_queues_steps::log::Record;
 use iox_queues_steps::{
-    Access, Call, Event, Move, Party, PopAnswer, PopCall, PushCall, Ring, Stepped,
+    Access, Act, Call, Event, Move, Party, PopAnswer, PopCall, PushCall, Ring, Stepped,
 };
 use std::alloc::{AllocError, Global};
 
@@ -27,7 +27,8 @@ pub(crate) struct State {
 }
 
 impl State {
-    ghost use Rattle.iox_queues_bounded.specs.BoundedState.{machine_of, StateRoom};
+    ghost use Rattle.iox_queues_bounded.specs.BoundedState.{machine_of, StateRoom, new_acts, new_pushes, new_pops};
+    ghost use Rattle.iox_queues_steps.specs.Recorded.{HasRoom};
 
     /// Nothing was done yet: `initial` waits in the first cells.
     pub(crate) fn new(alloc: Global, limit: u64, initial: Vec<u64>, cells: Vec<u64>) -> State
@@ -70,17 +71,52 @@ impl State {
         }
     }
 
-    fn reserve(&mut self) -> Result<(), AllocError>
-        ensures same { machine_of self.new ≡ machine_of self.old }
-        ensures room { OnOk result (StateRoom self.new) }
+    // How many acts stand at this step.
+    fn acts(&self, step: Move) -> usize
+        ensures { result ≡ new_acts (machine_of self.now) step }
     {
-        self.pushes.reserve(1)?;
-        self.pops.reserve(1)?;
-        self.log.reserve()
+        match step {
+            Move::Begin(_) => 0,
+            Move::GoOn(Party::Producer) => { count_of(self.push.placed(self.ring.read())) }
+            Move::GoOn(Party::Consumer) => { count_of(self.pop.placed(self.ring.write())) }
+        }
+    }
+
+    // How many pushes end with this step.
+    fn ended_pushes(&self, step: Move) -> usize
+        ensures { result ≡ new_pushes (machine_of self.now) step }
+    {
+        match step {
+            Move::GoOn(Party::Producer) if self.push.is_over() => 1,
+            _ => 0,
+        }
+    }
+
+    // How many pops and looks end with this step.
+    fn ended_pops(&self, step: Move) -> usize
+        ensures { result ≡ new_pops (machine_of self.now) step }
+    {
+        match step {
+            Move::GoOn(Party::Consumer) if self.pop.is_over() => 1,
+            _ => 0,
+        }
+    }
+
+    // Room for what this step appends.
+    fn reserve(&mut self, step: Move) -> Result<(), AllocError>
+        ensures same { machine_of self.new ≡ machine_of self.old }
+        ensures room { OnOk result (StateRoom step self.new) }
+    {
+        let acts = self.acts(step);
+        let pushes = self.ended_pushes(step);
+        let pops = self.ended_pops(step);
+        self.pushes.reserve(pushes)?;
+        self.pops.reserve(pops)?;
+        self.log.reserve(acts)
     }
 
     fn begin_push(&mut self, value: u64)
-        requires room { StateRoom self.old }
+        requires room { HasRoom 0 self.old.log }
         requires few { self.old.log.moments < 2 ^ 63 }
         ensures { machine_of self.new ≡ push_begins (machine_of self.old) value }
     {
@@ -90,7 +126,7 @@ impl State {
     }
 
     fn begin_pop(&mut self, stage: Pop)
-        requires room { StateRoom self.old }
+        requires room { HasRoom 0 self.old.log }
         requires few { self.old.log.moments < 2 ^ 63 }
         ensures { machine_of self.new ≡ pop_begins (machine_of self.old) stage }
     {
@@ -100,7 +136,7 @@ impl State {
     }
 
     fn go_on_push(&mut self)
-        requires room { StateRoom self.old }
+        requires room { StateRoom (Move.GoOn Party.Producer) self.old }
         requires few { self.old.log.moments < 2 ^ 63 }
         requires cells { 0 < length self.old.ring.cells }
         ensures { machine_of self.new ≡ push_goes_on (machine_of self.old) }
@@ -124,7 +160,7 @@ impl State {
     }
 
     fn go_on_pop(&mut self)
-        requires room { StateRoom self.old }
+        requires room { StateRoom (Move.GoOn Party.Consumer) self.old }
         requires few { self.old.log.moments < 2 ^ 63 }
         requires cells { 0 < length self.old.ring.cells }
         ensures { machine_of self.new ≡ pop_goes_on (machine_of self.old) }
@@ -143,7 +179,7 @@ impl State {
     }
 
     fn happen(&mut self, step: Move)
-        requires room { StateRoom self.old }
+        requires room { StateRoom step self.old }
         requires few { self.old.log.moments < 2 ^ 63 }
         requires cells { 0 < length self.old.ring.cells }
         ensures { machine_of self.new ≡ happens (machine_of self.old) step }
@@ -167,7 +203,7 @@ impl State {
             return Stepped::Skipped;
         }
         let ends = self.ends(step);
-        if self.reserve().is_err() {
+        if self.reserve(step).is_err() {
             return Stepped::NoMemory;
         }
         self.happen(step);
@@ -190,7 +226,7 @@ fn local(party: Party) -> Event
 }
 
 fn end_push(pushes: &mut Vec<PushCall>, push: Push, first: u64, last: u64)
-    requires { vec_len pushes.old < vec_capacity pushes.old }
+    requires { vec_len pushes.old + length (push_ended push) ≤ vec_capacity pushes.old }
     ensures { pushes.new.items ≡ pushes.old.items ++ map (push_call first last) (push_ended push) }
 {
     if let Push::Pushed { value, answer } = push {
@@ -204,7 +240,7 @@ fn end_push(pushes: &mut Vec<PushCall>, push: Push, first: u64, last: u64)
 }
 
 fn end_pop(pops: &mut Vec<PopCall>, pop: Pop, first: u64, last: u64)
-    requires { vec_len pops.old < vec_capacity pops.old }
+    requires { vec_len pops.old + length (pop_ended pop) ≤ vec_capacity pops.old }
     ensures { pops.new.items ≡ pops.old.items ++ map (pop_call first last) (pop_ended pop) }
 {
     let answer = match pop {
@@ -217,4 +253,13 @@ fn end_pop(pops: &mut Vec<PopCall>, pop: Pop, first: u64, last: u64)
         first,
         last,
     });
+}
+
+fn count_of(act: Option<Act>) -> usize
+    ensures { result ≡ length (option_to_list act) }
+{
+    match act {
+        Some(_) => 1,
+        None => 0,
+    }
 }

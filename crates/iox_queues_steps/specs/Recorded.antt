@@ -1,12 +1,12 @@
 -- What a machine's vectors hold, as lists, and that they have room for one more step.
-use Rattle.std.specs.Prelude.{◌+◌, ◌≤◌, vec_len, vec_capacity}
+use Rattle.std.specs.Prelude.{ℕ, ◌+◌, ◌≤◌, vec_len, vec_capacity}
 use Rattle.iox_queues_steps.specs.Order.{Log}
 use Rattle.iox_queues_steps.specs.declared.log.Record.{Record}
 
 abbrev pub log_of : Record → Log
 log_of r = record { order = r.order.items; events = r.events.items; moments = r.moments }
 
--- one step places at most two acts, and is one event
-pub record HasRoom (r : Record) : Type 0 where
-  pub acts : vec_len r.order + 2 ≤ vec_capacity r.order
+-- room for one more step, at which so many acts stand
+pub record HasRoom (count : ℕ) (r : Record) : Type 0 where
+  pub acts : vec_len r.order + count ≤ vec_capacity r.order
   pub event : vec_len r.events + 1 ≤ vec_capacity r.events

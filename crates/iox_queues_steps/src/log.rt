@@ -27,18 +27,18 @@ impl Record {
         }
     }
 
-    /// Makes room for one more step.
-    pub fn reserve(&mut self) -> Result<(), AllocError>
+    /// Makes room for one more step, at which so many acts stand.
+    pub fn reserve(&mut self, acts: usize) -> Result<(), AllocError>
         ensures same { log_of self.new ≡ log_of self.old }
-        ensures room { OnOk result (HasRoom self.new) }
+        ensures room { OnOk result (HasRoom acts self.new) }
     {
-        self.order.reserve(2)?;
+        self.order.reserve(acts)?;
         self.events.reserve(1)
     }
 
     /// Records a step, with at most two acts that stand at it.
     pub fn add(&mut self, event: Event, first: Option<Act>, second: Option<Act>)
-        requires room { HasRoom self.old }
+        requires room { HasRoom (length (option_to_list first) + length (option_to_list second)) self.old }
         requires few { self.old.moments < 2 ^ 63 }
         ensures { log_of self.new ≡ logged (log_of self.old) event (option_to_list first ++ option_to_list second) }
     {
@@ -50,9 +50,9 @@ impl Record {
 }
 
 fn place(order: &mut Vec<Placed>, moment: u64, act: Option<Act>)
-    requires { vec_len order.old < vec_capacity order.old }
+    requires { vec_len order.old + length (option_to_list act) ≤ vec_capacity order.old }
     ensures items { order.new.items ≡ order.old.items ++ at moment (option_to_list act) }
-    ensures len { vec_len order.new ≤ vec_len order.old + 1 }
+    ensures len { vec_len order.new ≡ vec_len order.old + length (option_to_list act) }
     ensures capacity { vec_capacity order.new ≡ vec_capacity order.old }
 {
     if let Some(act) = act {

@@ -82,7 +82,11 @@ fn goes_through_its_list_form(rt: HostRuntime) -> Result<(), Fail> {
     let Err(long) = serde_json::from_str::<StaticVec<u8, 2>>(rt.alloc(), "[7,8,9]") else {
         return Err(Fail::new("a list of three items went into a vector of two"));
     };
-    assert!(rt; format!(in rt.alloc(); "{long}")?.contains("list longer than capacity"));
+    let long = format!(in rt.alloc(); "{long}")?;
+    if long.contains("out of memory") {
+        return Err(Fail::new("out of memory"));
+    }
+    assert!(rt; long.contains("list longer than capacity"));
     assert!(rt; serde_json::from_str::<StaticVec<u8, 2>>(rt.alloc(), "7").is_err());
     assert!(rt; serde_json::from_str::<StaticVec<u8, 2>>(rt.alloc(), "[300]").is_err());
     Ok(())

@@ -34,10 +34,13 @@ impl Machine {
     /// A ring where at most `limit` numbers wait, and these wait now.
     pub fn new(alloc: Global, limit: u64, waiting: &[u64]) -> Result<Machine, AllocError>
         requires some { 0 < limit }
-        requires small { limit < 2 ^ 62 }
         requires room { length waiting.now ≤ limit }
         ensures { IfOk result (λ m. m ≡ start limit waiting.now) }
     {
+        // No memory has room for so many cells.
+        if limit >= 1 << 62 {
+            return Err(AllocError);
+        }
         let initial = Vec::from_slice(alloc, waiting)?;
         let mut cells = Vec::from_slice(alloc, waiting)?;
         cells.resize(limit as usize + 1, 0)?;

@@ -118,7 +118,13 @@ fn goes_through_its_text_form(rt: HostRuntime) -> Result<(), Fail> {
 fn refusal(alloc: Global, json: &str) -> Result<std::string::String, Fail> {
     match serde_json::from_str::<StaticString<4>>(alloc, json) {
         Ok(_) => Ok(std::string::String::new(alloc)),
-        Err(error) => Ok(format!(in alloc; "{error}")?),
+        Err(error) => {
+            let text = format!(in alloc; "{error}")?;
+            if text.contains("out of memory") {
+                return Err(Fail::new("out of memory"));
+            }
+            Ok(text)
+        }
     }
 }
 

@@ -8,4 +8,4 @@ invariant_of-result c =
     let items : c.in_ok-initial.initial.items ≡ c.args.waiting.now = search rules in
     subst IsKept (sym c.new.ensures)
     (subst (λ (q : List ℕ). IsKept (start c.args.limit q)) (sym items)
-    (start_kept c.args.limit c.args.waiting.now c.requires.small c.requires.room))
+    (start_kept c.args.limit c.args.waiting.now c.if-limit.false c.requires.room))

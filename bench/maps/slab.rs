@@ -1,0 +1,152 @@
+//! `SlotMap` beside a plain slab, in one run.
+use std::alloc::{Layout, alloc, dealloc};
+use std::time::Instant;
+
+unsafe extern "C" {
+    fn slot_map_rounds(capacity: usize, rounds: u64) -> u64;
+    fn slot_map_pairs(capacity: usize, rounds: u64) -> u64;
+}
+
+/// What an allocation answers to a Rattle library.
+#[repr(C)]
+struct Tried {
+    ok: bool,
+    block: *mut u8,
+}
+
+const HEADER: usize = 16;
+
+/// A Rattle library leaves its memory to the host. A block keeps its size before it, since it is freed without one.
+#[unsafe(no_mangle)]
+extern "C" fn rattle_alloc(size: usize, _align: usize) -> Tried {
+    let Ok(layout) = Layout::from_size_align(size + HEADER, HEADER) else {
+        return Tried { ok: false, block: std::ptr::null_mut() };
+    };
+    unsafe {
+        let start = alloc(layout);
+        if start.is_null() {
+            return Tried { ok: false, block: start };
+        }
+        start.cast::<usize>().write(size);
+        Tried { ok: true, block: start.add(HEADER) }
+    }
+}
+
+#[unsafe(no_mangle)]
+unsafe extern "C" fn rattle_dealloc(block: *mut u8) {
+    unsafe {
+        let start = block.sub(HEADER);
+        let size = start.cast::<usize>().read();
+        dealloc(start, Layout::from_size_align_unchecked(size + HEADER, HEADER));
+    }
+}
+
+enum Entry {
+    Vacant(usize),
+    Occupied(u64),
+}
+
+/// A slab of fixed capacity with a list of free entries, as one writes it by hand.
+struct Slab {
+    entries: Vec<Entry>,
+    next: usize,
+}
+
+impl Slab {
+    fn new(capacity: usize) -> Self {
+        Slab { entries: (1..=capacity).map(Entry::Vacant).collect(), next: 0 }
+    }
+
+    fn insert(&mut self, value: u64) -> Option<usize> {
+        let key = self.next;
+        let entry = self.entries.get_mut(key)?;
+        if let Entry::Vacant(next) = *entry {
+            self.next = next;
+        }
+        *entry = Entry::Occupied(value);
+        Some(key)
+    }
+
+    fn remove(&mut self, key: usize) -> bool {
+        let Some(entry) = self.entries.get_mut(key) else {
+            return false;
+        };
+        if let Entry::Vacant(_) = entry {
+            return false;
+        }
+        *entry = Entry::Vacant(self.next);
+        self.next = key;
+        true
+    }
+}
+
+#[inline(never)]
+fn slab_rounds(capacity: usize, rounds: u64) -> u64 {
+    let mut slab = Slab::new(std::hint::black_box(capacity));
+    let half = capacity / 2;
+    for i in 0..half {
+        slab.insert(i as u64);
+    }
+    let (mut sum, mut key) = (0u64, 0);
+    for i in 0..rounds {
+        slab.remove(key);
+        if let Some(given) = slab.insert(i ^ sum) {
+            sum = sum.wrapping_add(given as u64);
+        }
+        key = if key + 1 < half { key + 1 } else { 0 };
+    }
+    sum
+}
+
+#[inline(never)]
+fn slab_pairs(capacity: usize, rounds: u64) -> u64 {
+    let mut slab = Slab::new(std::hint::black_box(capacity));
+    let half = capacity / 2;
+    for i in 0..half {
+        slab.insert(i as u64);
+    }
+    let (mut sum, mut key) = (0u64, 0);
+    for i in 0..rounds {
+        let next = if key + 1 < half { key + 1 } else { 0 };
+        slab.remove(key);
+        slab.remove(next);
+        if let Some(given) = slab.insert(i) {
+            sum = sum.wrapping_add(given as u64);
+        }
+        if let Some(given) = slab.insert(sum) {
+            sum = sum.wrapping_add(given as u64);
+        }
+        key = next;
+    }
+    sum
+}
+
+/// Nanoseconds a round, and what came out.
+fn nanoseconds(run: impl Fn(u64) -> u64, rounds: u64) -> (f64, u64) {
+    let start = Instant::now();
+    let sum = run(rounds);
+    (start.elapsed().as_nanos() as f64 / rounds as f64, sum)
+}
+
+/// The two in turn, so that other load on the machine meets both; the best of 31 short runs counts.
+fn row(name: &str, capacity: usize, map: impl Fn(u64) -> u64, slab: impl Fn(u64) -> u64) {
+    let rounds = 2_000_000;
+    let (mut ours, mut plain) = (f64::MAX, f64::MAX);
+    for _ in 0..31 {
+        let (time, one) = nanoseconds(&slab, rounds);
+        plain = plain.min(time);
+        let (time, other) = nanoseconds(&map, rounds);
+        ours = ours.min(time);
+        assert_eq!(one, other, "both give the same keys");
+    }
+    println!("{name}, capacity {capacity}: slot map {ours:.2} ns, slab {plain:.2} ns, quotient {:.2}", ours / plain);
+}
+
+fn main() {
+    for capacity in [16, 256, 4_096, 65_536] {
+        row("remove and insert", capacity, |n| unsafe { slot_map_rounds(capacity, n) }, |n| slab_rounds(capacity, n));
+    }
+    for capacity in [16, 256, 4_096, 65_536] {
+        row("two and two", capacity, |n| unsafe { slot_map_pairs(capacity, n) }, |n| slab_pairs(capacity, n));
+    }
+}

@@ -1,0 +1,2 @@
+pub mod ByteSteps
+pub mod Wide

@@ -1,0 +1,20 @@
+//! Descriptions and verdicts, held against rows from outside: what no contract of `iox_describe` can say.
+//!
+//! It has no items of its own, only tests: `lines` holds the one line of each pattern, `spellings` texts that are
+//! nearly such a line, `limits` what is just within the limits and one past it, `parts` the same of the calls that
+//! make the parts, `clauses` the order of the verdicts.
+//! `shared` is what they share.
+#![tactic(auto)]
+
+#[cfg(test)]
+mod clauses;
+#[cfg(test)]
+mod limits;
+#[cfg(test)]
+mod lines;
+#[cfg(test)]
+mod parts;
+#[cfg(test)]
+mod shared;
+#[cfg(test)]
+mod spellings;

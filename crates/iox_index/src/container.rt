@@ -1,0 +1,159 @@
+//! The container whose capacity its type fixes.
+ghost use Rattle.std.specs.Prelude.{◌≡◌, ◌↔◌, ◌+◌, ℕ, List, Option, true, false, length, not, nat_eq, IfOk, OnErr, IsErr};
+ghost use Rattle.iox_index_base.specs.declared.container.Member.{Member};
+ghost use Rattle.std.specs.Bool.{OnFalse};
+ghost use Rattle.std.specs.List.{FoldsTo};
+ghost use Rattle.iox_index_base.specs.Release.{state_of};
+ghost use Rattle.iox_index_base.specs.Container.{Contents, Copied, empty_container, count_members, lowest_free, handle_of, with_member, without_member, settled, owns, HasRoom, copy_of, may_update, IsCopyOf, members_of, Recovered};
+
+use iox_index_base::{
+    Container, ContainerAddFailure, ContainerHandle, ContainerRemoveError, ContainerState, OwnerId,
+    ReleaseMode, ReleaseState,
+};
+use iox_queues_base::Words;
+use std::alloc::{AllocError, Global};
+use std::marker::Model;
+
+/// `CAPACITY` places for members, each with its owner. New members get the lowest free index.
+///
+/// Ported from `iceoryx2_bb_lock_free::mpmc::container::FixedSizeContainer`.
+#[derive(Drop)]
+pub struct FixedSizeContainer<T: Words, const CAPACITY: usize> {
+    container: Container<T>,
+}
+
+impl<T: Words, const CAPACITY: usize> Model for FixedSizeContainer<T, CAPACITY> {
+    ghost use Rattle.std.specs.Prelude.{◌≡◌, length};
+    ghost use Rattle.iox_index_base.specs.Container.{Contents};
+
+    ghost Value = { Contents T };
+
+    ghost view = { λ c. c.container };
+
+    ghost invariant = { λ c. length c.container.members ≡ CAPACITY };
+}
+
+impl<T: Words, const CAPACITY: usize> FixedSizeContainer<T, CAPACITY> {
+    /// A container without members, which the id tells from others. It fails only where memory is wanting.
+    pub fn new(alloc: Global, id: u64) -> Result<Self, AllocError>
+        ensures { IfOk result (λ container. container ≡ empty_container id CAPACITY) }
+    {
+        Ok(FixedSizeContainer {
+            container: Container::new(alloc, id, CAPACITY)?,
+        })
+    }
+
+    /// Whether the members may change once more, which is so up to 2^64 - 2 changes: the condition of what changes them.
+    pub fn has_room(&self) -> bool
+        ensures { result ≡ true ↔ HasRoom self.now }
+    {
+        self.container.has_room()
+    }
+
+    /// Adds a member at the lowest free index, and answers its handle.
+    ///
+    /// Refused with `IsLocked` if the container is locked, else with `OutOfSpace` if it is full.
+    pub fn add(&mut self, value: T, owner: OwnerId) -> Result<ContainerHandle, ContainerAddFailure>
+        requires { HasRoom self.old }
+        ensures answer { result ≡ handle_of self.old.id (self.old.changes + 1) self.old.locked (lowest_free self.old) }
+        ensures ok { IfOk result (λ handle. self.new ≡ with_member handle.index (record { number = handle.number; owner = owner; value = value }) self.old) }
+        ensures err { OnErr result (self.new ≡ self.old) }
+    {
+        self.container.add(value, owner)
+    }
+
+    /// Removes the member of the handle. With `LockIfLastIndex`, the container is then locked for good if it has no member.
+    ///
+    /// Refused with `ContainerHandleNotOwnedByContainer` if the handle is of another container, or its member is gone.
+    pub fn remove(
+        &mut self,
+        handle: ContainerHandle,
+        mode: ReleaseMode,
+    ) -> Result<ReleaseState, ContainerRemoveError>
+        requires { HasRoom self.old }
+        ensures answer { IsErr result ↔ (owns handle self.old ≡ false) }
+        ensures ok { IfOk result (λ state. (self.new ≡ settled mode (without_member handle.index self.old)) × (state ≡ state_of self.new.locked)) }
+        ensures err { OnErr result (self.new ≡ self.old) }
+    {
+        self.container.remove(handle, mode)
+    }
+
+    /// Calls `callback` with the handle and the value of each member of the owner, by rising index.
+    pub fn find<F: FnMut(ContainerHandle, T)>(&self, owner: OwnerId, callback: F)
+        requires { F.IsAlwaysCallable callback }
+        ensures { (last : F) × FoldsTo (λ p x q. F.step p x.0 x.1 tt q) callback (members_of owner self.now.id self.now.members) last }
+    {
+        self.container.find(owner, callback);
+    }
+
+    /// Asks `decide` about each member of the owner, by rising index, and removes those for which it answers true. With
+    /// `LockIfLastIndex`, the container is then locked for good if it has no member. This counts as one change.
+    pub fn recover<F: FnMut(ContainerHandle, T) -> bool>(
+        &mut self,
+        owner: OwnerId,
+        mode: ReleaseMode,
+        decide: F,
+    ) -> ReleaseState
+        requires room { HasRoom self.old }
+        requires callable { F.IsAlwaysCallable decide }
+        ensures after { (members : List (Option (Member T))) × Recovered (λ p x answer q. F.step p x.0 x.1 answer q) owner self.old.id decide self.old.members members
+            × (self.new ≡ settled mode (record self.old { members = members; changes = self.old.changes + 1 })) }
+        ensures capacity { length self.new.members ≡ length self.old.members }
+        ensures answer { result ≡ state_of self.new.locked }
+    {
+        self.container.recover(owner, mode, decide)
+    }
+
+    /// A copy of the members as they are. It fails only where memory is wanting.
+    pub fn get_state(&self, alloc: Global) -> Result<ContainerState<T>, AllocError>
+        ensures { IfOk result (λ state. state ≡ copy_of self.now) }
+    {
+        self.container.get_state(alloc)
+    }
+
+    /// Whether the copy has the id and the capacity of this container: the condition of `update_state`.
+    pub fn is_state_of(&self, state: &ContainerState<T>) -> bool
+        ensures { result ≡ may_update self.now state.now }
+    {
+        self.container.is_state_of(state)
+    }
+
+    /// Brings a copy up to date, and answers whether the members changed since it was made; false leaves it as it was.
+    pub fn update_state(&self, state: &mut ContainerState<T>) -> bool
+        requires { may_update self.now state.old ≡ true }
+        ensures answer { result ≡ not (nat_eq state.old.changes self.now.changes) }
+        ensures whole { IsCopyOf self.now state.old → state.new ≡ copy_of self.now }
+        ensures changed { result ≡ true → state.new ≡ copy_of self.now }
+        ensures kept { OnFalse result (state.new ≡ state.old) }
+    {
+        self.container.update_state(state)
+    }
+
+    /// Whether the container is locked for good.
+    pub fn is_locked(&self) -> bool
+        ensures { result ≡ self.now.locked }
+    {
+        self.container.is_locked()
+    }
+
+    /// Whether the container has no member.
+    pub fn is_empty(&self) -> bool
+        ensures { result ≡ nat_eq (count_members self.now) 0 }
+    {
+        self.container.is_empty()
+    }
+
+    /// How many members the container has.
+    pub fn len(&self) -> usize
+        ensures { result ≡ count_members self.now }
+    {
+        self.container.len()
+    }
+
+    /// How many members fit, which is `CAPACITY`.
+    pub fn capacity(&self) -> usize
+        ensures { result ≡ CAPACITY }
+    {
+        CAPACITY
+    }
+}

@@ -1,0 +1,26 @@
+//! Who holds which place: sets of indices with holders, and a container of members, with capacities chosen at run time
+//! or fixed by their type.
+//!
+//! | Module | What it has |
+//! |---|---|
+//! | `unique` | `FixedSizeUniqueIndexSet`, which hands out the last released index first |
+//! | `robust` | `StaticRobustUniqueIndexSet`, which knows its holders |
+//! | `container` | `FixedSizeContainer`, members at indices |
+//!
+//! All else comes from `iox_index_base`.
+#![tactic(auto)]
+
+pub mod container;
+pub mod robust;
+#[cfg(test)]
+mod tests;
+pub mod unique;
+
+pub use container::FixedSizeContainer;
+pub use iox_index_base::{
+    Container, ContainerAddFailure, ContainerHandle, ContainerRemoveError, ContainerState,
+    HeadDetails, Member, OwnerId, OwnerIdNewError, ReleaseMode, ReleaseState, RobustUniqueIndexSet,
+    SharedIndexSet, UniqueIndex, UniqueIndexSet, UniqueIndexSetAcquireFailure,
+};
+pub use robust::StaticRobustUniqueIndexSet;
+pub use unique::FixedSizeUniqueIndexSet;

@@ -1,0 +1,105 @@
+//! The set of indices whose capacity its type bounds, and which hands out the last released first.
+ghost use Rattle.std.specs.Prelude.{◌≡◌, ◌≤◌, true, IfOk, OnErr};
+ghost use Rattle.iox_index_base.specs.Release.{state_of};
+ghost use Rattle.iox_index_base.specs.Unique.{UniqueSetState, new_unique_set, is_held, borrowed, answer_of, acquired, freed, settled, Takes};
+
+use iox_index_base::{
+    ReleaseMode, ReleaseState, SharedIndexSet, UniqueIndexSet, UniqueIndexSetAcquireFailure,
+};
+use std::alloc::{AllocError, Global};
+use std::marker::Model;
+
+/// A set of at most `CAPACITY` indices. They are handed out 0, 1, 2 and so on, and later the last released first.
+///
+/// Ported from `iceoryx2_bb_lock_free::mpmc::unique_index_set::FixedSizeUniqueIndexSet`.
+#[derive(Drop)]
+pub struct FixedSizeUniqueIndexSet<const CAPACITY: usize> {
+    set: UniqueIndexSet,
+}
+
+impl<const CAPACITY: usize> Model for FixedSizeUniqueIndexSet<CAPACITY> {
+    ghost use Rattle.std.specs.Prelude.{◌≤◌};
+    ghost use Rattle.iox_index_base.specs.Unique.{UniqueSetState};
+
+    ghost Value = { UniqueSetState };
+
+    ghost view = { λ s. s.set };
+
+    ghost invariant = { λ s. s.set.capacity ≤ CAPACITY };
+}
+
+impl<const CAPACITY: usize> FixedSizeUniqueIndexSet<CAPACITY> {
+    /// A set of the indices below `CAPACITY`, of which none is held. It fails only where memory is wanting.
+    pub fn new(alloc: Global) -> Result<Self, AllocError>
+        ensures { IfOk result (λ set. set ≡ new_unique_set CAPACITY) }
+    {
+        FixedSizeUniqueIndexSet::new_with_reduced_capacity(alloc, CAPACITY)
+    }
+
+    /// A set of the indices below `capacity`, which is at most `CAPACITY`. It fails only where memory is wanting.
+    pub fn new_with_reduced_capacity(alloc: Global, capacity: usize) -> Result<Self, AllocError>
+        requires { capacity ≤ CAPACITY }
+        ensures { IfOk result (λ set. set ≡ new_unique_set capacity) }
+    {
+        Ok(FixedSizeUniqueIndexSet {
+            set: UniqueIndexSet::new(alloc, capacity)?,
+        })
+    }
+
+    /// Hands out the next free index.
+    ///
+    /// Refused with `IsLocked` if the set is locked, else with `OutOfIndices` if each index is held.
+    pub fn acquire_raw_index(&mut self) -> Result<usize, UniqueIndexSetAcquireFailure>
+        ensures answer { result ≡ answer_of self.old.locked self.old.free }
+        ensures ok { IfOk result (λ index. self.new ≡ acquired self.old) }
+        ensures taken { IfOk result (λ index. Takes index self.old self.new) }
+        ensures err { OnErr result (self.new ≡ self.old) }
+    {
+        self.set.acquire_raw_index()
+    }
+
+    /// Whether the index is held: the condition of `release_raw_index`.
+    pub fn is_held(&self, index: usize) -> bool
+        ensures { result ≡ is_held index self.now }
+    {
+        self.set.is_held(index)
+    }
+
+    /// Frees an index that is held. With `LockIfLastIndex`, the set is then locked for good if no index is held any longer.
+    pub fn release_raw_index(&mut self, index: usize, mode: ReleaseMode) -> ReleaseState
+        requires { is_held index self.old ≡ true }
+        ensures after { self.new ≡ settled mode (freed index self.old) }
+        ensures taken { Takes index (freed index self.old) self.old }
+        ensures answer { result ≡ state_of self.new.locked }
+    {
+        self.set.release_raw_index(index, mode)
+    }
+
+    /// The set with its free indices as they are, to be shared by threads. It fails only where memory is wanting.
+    pub fn share(self, alloc: Global) -> Result<SharedIndexSet, AllocError> {
+        let FixedSizeUniqueIndexSet { set } = self;
+        set.share(alloc)
+    }
+
+    /// How many indices are held.
+    pub fn borrowed_indices(&self) -> usize
+        ensures { result ≡ borrowed self.now }
+    {
+        self.set.borrowed_indices()
+    }
+
+    /// Whether the set is locked for good.
+    pub fn is_locked(&self) -> bool
+        ensures { result ≡ self.now.locked }
+    {
+        self.set.is_locked()
+    }
+
+    /// All indices are below this, which is at most `CAPACITY`.
+    pub fn capacity(&self) -> usize
+        ensures value { result ≡ self.now.capacity }
+        ensures within { result ≤ CAPACITY }
+    {
+        self.set.capacity()
+    }
+}

@@ -1,0 +1,3 @@
+pub mod FreeLists
+pub mod Recovering
+pub mod Told

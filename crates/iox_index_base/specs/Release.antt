@@ -1,0 +1,16 @@
+-- What a release leaves.
+use Rattle.std.specs.Prelude.{ℕ, Bool, true, false, nat_eq}
+use Rattle.iox_index_base.specs.declared.release.ReleaseMode.{ReleaseMode}
+use Rattle.iox_index_base.specs.declared.release.ReleaseMode.TheVariants.{LockIfLastIndex, Default}
+use Rattle.iox_index_base.specs.declared.release.ReleaseState.{ReleaseState}
+use Rattle.iox_index_base.specs.declared.release.ReleaseState.TheVariants.{Locked, Unlocked}
+
+-- whether a release in this mode locks a set of which so many indices are held then
+abbrev pub locks : ReleaseMode → ℕ → Bool
+locks LockIfLastIndex held = nat_eq held 0
+locks Default held = false
+
+-- what is told of a set that is locked, or isn't
+abbrev pub state_of : Bool → ReleaseState
+state_of true = Locked
+state_of false = Unlocked

@@ -1,0 +1,396 @@
+//! Members at indices, each with its owner.
+ghost use Rattle.std.specs.Prelude.{◌≡◌, ◌≤◌, ◌<◌, ◌↔◌, ◌+◌, true, false, length, not, is_some, ℕ, List, Option, slice_get, nat_eq, IfOk, OnErr, IsErr, if◌then◌else◌};
+ghost use Rattle.std.specs.Bool.{OnFalse};
+ghost use Rattle.std.specs.List.{FoldsTo, position};
+ghost use Rattle.iox_index_base.specs.Recovery.{asked_from};
+ghost use Rattle.iox_index_base.specs.Release.{locks, state_of};
+ghost use Rattle.iox_index_base.specs.Container.{Contents, Copied, empty_container, count_members, lowest_free, handle_of, with_member, without_member, settled, owns, is_numbered, is_of, HasRoom, copy_of, may_update, IsCopyOf, value_of, told, told_of, members_of, Recovered, CallsUntilStop, all_members};
+
+use crate::error::{ContainerAddFailure, ContainerRemoveError};
+use crate::owner::OwnerId;
+use crate::release::{ReleaseMode, ReleaseState};
+use iox_container::CallbackProgression;
+use iox_queues_base::Words;
+use std::alloc::{AllocError, Global};
+use std::marker::Model;
+
+/// A value in a container, with its owner.
+#[derive(Clone, Copy, Debug)]
+pub struct Member<T> {
+    /// Tells it from every other member that the container had.
+    pub number: u64,
+    pub owner: OwnerId,
+    pub value: T,
+}
+
+/// Says which member of which container is meant.
+///
+/// Ported from `iceoryx2_bb_lock_free::mpmc::container::ContainerHandle`.
+#[derive(Clone, Copy, Debug, PartialEq, Eq)]
+pub struct ContainerHandle {
+    pub(crate) container: u64,
+    pub(crate) index: usize,
+    pub(crate) number: u64,
+}
+
+impl ContainerHandle {
+    /// The index of the member.
+    pub fn index(&self) -> usize
+        ensures { result ≡ self.now.index }
+    {
+        self.index
+    }
+}
+
+/// Members at the indices below a capacity, each with its owner. New members get the lowest free index.
+///
+/// Ported from `iceoryx2_bb_lock_free::mpmc::container::Container`.
+#[derive(Drop)]
+pub struct Container<T: Words> {
+    id: u64,
+    members: Vec<Option<Member<T>>>,
+    changes: u64,
+    locked: bool,
+}
+
+impl<T: Words> Model for Container<T> {
+    ghost use Rattle.iox_index_base.specs.Container.{Contents};
+
+    ghost Value = { Contents T };
+
+    ghost view = { λ c. record { id = c.id; members = c.members.items; changes = c.changes; locked = c.locked } };
+}
+
+/// What was copied of a container.
+///
+/// Ported from `iceoryx2_bb_lock_free::mpmc::container::ContainerState`.
+#[derive(Drop)]
+pub struct ContainerState<T: Words> {
+    id: u64,
+    members: Vec<Option<Member<T>>>,
+    changes: u64,
+}
+
+impl<T: Words> Model for ContainerState<T> {
+    ghost use Rattle.iox_index_base.specs.Container.{Copied};
+
+    ghost Value = { Copied T };
+
+    ghost view = { λ s. record { id = s.id; members = s.members.items; changes = s.changes } };
+}
+
+impl<T: Words> Container<T> {
+    /// A container without members, which the id tells from others. It fails only where memory is wanting.
+    pub fn new(alloc: Global, id: u64, capacity: usize) -> Result<Self, AllocError>
+        ensures { IfOk result (λ container. container ≡ empty_container id capacity) }
+    {
+        Ok(Container {
+            id,
+            members: vec![in alloc; None; capacity]?,
+            changes: 0,
+            locked: false,
+        })
+    }
+
+    /// Whether the members may change once more, which is so up to 2^64 - 2 changes: the condition of what changes them.
+    pub fn has_room(&self) -> bool
+        ensures { result ≡ true ↔ HasRoom self.now }
+    {
+        self.changes < u64::MAX
+    }
+
+    /// Adds a member at the lowest free index, and answers its handle.
+    ///
+    /// Refused with `IsLocked` if the container is locked, else with `OutOfSpace` if it is full.
+    pub fn add(&mut self, value: T, owner: OwnerId) -> Result<ContainerHandle, ContainerAddFailure>
+        requires { HasRoom self.old }
+        ensures answer { result ≡ handle_of self.old.id (self.old.changes + 1) self.old.locked (lowest_free self.old) }
+        ensures ok { IfOk result (λ handle. self.new ≡ with_member handle.index (record { number = handle.number; owner = owner; value = value }) self.old) }
+        ensures err { OnErr result (self.new ≡ self.old) }
+    {
+        if self.locked {
+            return Err(ContainerAddFailure::IsLocked);
+        }
+        let Some(index) = lowest_free(self.members.as_slice()) else {
+            return Err(ContainerAddFailure::OutOfSpace);
+        };
+        self.changes += 1;
+        let number = self.changes;
+        self.members[index] = Some(Member {
+            number,
+            owner,
+            value,
+        });
+        Ok(ContainerHandle {
+            container: self.id,
+            index,
+            number,
+        })
+    }
+
+    /// Removes the member of the handle. With `LockIfLastIndex`, the container is then locked for good if it has no member.
+    ///
+    /// Refused with `ContainerHandleNotOwnedByContainer` if the handle is of another container, or its member is gone.
+    pub fn remove(
+        &mut self,
+        handle: ContainerHandle,
+        mode: ReleaseMode,
+    ) -> Result<ReleaseState, ContainerRemoveError>
+        requires { HasRoom self.old }
+        ensures answer { IsErr result ↔ (owns handle self.old ≡ false) }
+        ensures ok { IfOk result (λ state. (self.new ≡ settled mode (without_member handle.index self.old)) × (state ≡ state_of self.new.locked)) }
+        ensures err { OnErr result (self.new ≡ self.old) }
+    {
+        if !self.owns(handle) {
+            return Err(ContainerRemoveError::ContainerHandleNotOwnedByContainer);
+        }
+        self.members[handle.index] = None;
+        self.changes += 1;
+        Ok(self.settle(mode))
+    }
+
+    // Whether the handle is of this container, and its member is still in.
+    fn owns(&self, handle: ContainerHandle) -> bool
+        ensures { result ≡ owns handle self.now }
+    {
+        if handle.container != self.id || handle.index >= self.members.len() {
+            return false;
+        }
+        match self.members[handle.index] {
+            None => false,
+            Some(member) => member.number == handle.number,
+        }
+    }
+
+    // Locks the container if this is how its last member left.
+    fn settle(&mut self, mode: ReleaseMode) -> ReleaseState
+        ensures after { self.new ≡ settled mode self.old }
+        ensures answer { result ≡ state_of self.new.locked }
+    {
+        if mode == ReleaseMode::LockIfLastIndex && self.len() == 0 {
+            self.locked = true;
+        }
+        if self.locked {
+            ReleaseState::Locked
+        } else {
+            ReleaseState::Unlocked
+        }
+    }
+
+    /// Calls `callback` with the handle and the value of each member of the owner, by rising index.
+    pub fn find<F: FnMut(ContainerHandle, T)>(&self, owner: OwnerId, callback: F)
+        requires { F.IsAlwaysCallable callback }
+        ensures { (last : F) × FoldsTo (λ p x q. F.step p x.0 x.1 tt q) callback (members_of owner self.now.id self.now.members) last }
+    {
+        call_members(callback, owner, self.id, self.members.as_slice());
+    }
+
+    /// Asks `decide` about each member of the owner, by rising index, and removes those for which it answers true. With
+    /// `LockIfLastIndex`, the container is then locked for good if it has no member. This counts as one change.
+    pub fn recover<F: FnMut(ContainerHandle, T) -> bool>(
+        &mut self,
+        owner: OwnerId,
+        mode: ReleaseMode,
+        decide: F,
+    ) -> ReleaseState
+        requires room { HasRoom self.old }
+        requires callable { F.IsAlwaysCallable decide }
+        ensures after { (members : List (Option (Member T))) × Recovered (λ p x answer q. F.step p x.0 x.1 answer q) owner self.old.id decide self.old.members members
+            × (self.new ≡ settled mode (record self.old { members = members; changes = self.old.changes + 1 })) }
+        ensures capacity { length self.new.members ≡ length self.old.members }
+        ensures answer { result ≡ state_of self.new.locked }
+    {
+        remove_where(decide, owner, self.id, &mut self.members);
+        self.changes += 1;
+        self.settle(mode)
+    }
+
+    /// A copy of the members as they are. It fails only where memory is wanting.
+    pub fn get_state(&self, alloc: Global) -> Result<ContainerState<T>, AllocError>
+        ensures copied { IfOk result (λ state. state ≡ copy_of self.now) }
+    {
+        let mut members = Vec::with_capacity(alloc, self.members.len())?;
+        members.extend_from_slice(self.members.as_slice())?;
+        Ok(ContainerState {
+            id: self.id,
+            members,
+            changes: self.changes,
+        })
+    }
+
+    /// Whether the copy has the id and the capacity of this container: the condition of `update_state`.
+    pub fn is_state_of(&self, state: &ContainerState<T>) -> bool
+        ensures { result ≡ may_update self.now state.now }
+    {
+        state.id == self.id && state.members.len() == self.members.len()
+    }
+
+    /// Brings a copy up to date, and answers whether the members changed since it was made; false leaves it as it was.
+    pub fn update_state(&self, state: &mut ContainerState<T>) -> bool
+        requires { may_update self.now state.old ≡ true }
+        ensures answer { result ≡ not (nat_eq state.old.changes self.now.changes) }
+        ensures whole { IsCopyOf self.now state.old → state.new ≡ copy_of self.now }
+        ensures changed { result ≡ true → state.new ≡ copy_of self.now }
+        ensures kept { OnFalse result (state.new ≡ state.old) }
+    {
+        if state.changes == self.changes {
+            return false;
+        }
+        state.members.copy_from_slice(self.members.as_slice());
+        state.changes = self.changes;
+        true
+    }
+
+    /// Whether the container is locked for good.
+    pub fn is_locked(&self) -> bool
+        ensures { result ≡ self.now.locked }
+    {
+        self.locked
+    }
+
+    /// Whether the container has no member.
+    pub fn is_empty(&self) -> bool
+        ensures { result ≡ nat_eq (count_members self.now) 0 }
+    {
+        self.len() == 0
+    }
+
+    /// How many members the container has.
+    pub fn len(&self) -> usize
+        ensures { result ≡ count_members self.now }
+    {
+        self.members
+            .iter()
+            .filter(|member| member.is_some())
+            .count()
+    }
+
+    /// How many members fit.
+    pub fn capacity(&self) -> usize
+        ensures { result ≡ length self.now.members }
+    {
+        self.members.len()
+    }
+}
+
+impl<T: Words> ContainerState<T> {
+    /// Calls `callback` with the handle and the value of each member, by rising index, up to and with the first that it
+    /// answers with `Stop`.
+    pub fn for_each<F: FnMut(ContainerHandle, T) -> CallbackProgression>(&self, callback: F)
+        requires { F.IsAlwaysCallable callback }
+        ensures { (last : F) × CallsUntilStop (λ p x answer q. F.step p x.0 x.1 answer q) callback (all_members self.now) last }
+    {
+        call_until_stop(callback, self.id, self.members.as_slice());
+    }
+
+    /// The value of the member at this index; `None` where there was no member, and past the capacity.
+    pub fn get(&self, index: usize) -> Option<T>
+        ensures { result ≡ value_of (slice_get self.now.members index) }
+    {
+        match self.members.get(index)? {
+            None => None,
+            Some(member) => Some(member.value),
+        }
+    }
+}
+
+// What is told of a member.
+fn told<T: Words>(id: u64, index: usize, member: Option<Member<T>>) -> Option<(ContainerHandle, T)>
+    ensures { result ≡ told id index member }
+{
+    let member = member?;
+    let handle = ContainerHandle {
+        container: id,
+        index,
+        number: member.number,
+    };
+    Some((handle, member.value))
+}
+
+// The same of a member of this owner alone.
+fn told_of<T: Words>(
+    owner: OwnerId,
+    id: u64,
+    index: usize,
+    member: Option<Member<T>>,
+) -> Option<(ContainerHandle, T)>
+    ensures { result ≡ told_of owner id index member }
+{
+    if member?.owner.value() != owner.value() {
+        return None;
+    }
+    told(id, index, member)
+}
+
+fn call_members<T: Words, F: FnMut(ContainerHandle, T)>(
+    mut callback: F,
+    owner: OwnerId,
+    id: u64,
+    members: &[Option<Member<T>>],
+)
+    requires { F.IsAlwaysCallable callback }
+    ensures { (last : F) × FoldsTo (λ p x q. F.step p x.0 x.1 tt q) callback (members_of owner id members.now) last }
+{
+    let mut rest = members;
+    let mut at = 0usize;
+    while let Some(split) = rest.split_first() {
+        let index = at;
+        at += 1;
+        rest = split.1;
+        let Some(found) = told_of(owner, id, index, *split.0) else {
+            continue;
+        };
+        callback(found.0, found.1);
+    }
+}
+
+fn call_until_stop<T: Words, F: FnMut(ContainerHandle, T) -> CallbackProgression>(
+    mut callback: F,
+    id: u64,
+    members: &[Option<Member<T>>],
+)
+    requires { F.IsAlwaysCallable callback }
+    ensures { (last : F) × CallsUntilStop (λ p x answer q. F.step p x.0 x.1 answer q) callback (asked_from (told id) 0 members.now) last }
+{
+    let mut rest = members;
+    let mut at = 0usize;
+    while let Some(split) = rest.split_first() {
+        let index = at;
+        at += 1;
+        rest = split.1;
+        let Some(found) = told(id, index, *split.0) else {
+            continue;
+        };
+        match callback(found.0, found.1) {
+            CallbackProgression::Continue => continue,
+            CallbackProgression::Stop => return,
+        }
+    }
+}
+
+// Removes each member of the owner for which `decide` answers true.
+fn remove_where<T: Words, F: FnMut(ContainerHandle, T) -> bool>(
+    mut decide: F,
+    owner: OwnerId,
+    id: u64,
+    members: &mut Vec<Option<Member<T>>>,
+)
+    requires { F.IsAlwaysCallable decide }
+    ensures removed { Recovered (λ p x answer q. F.step p x.0 x.1 answer q) owner id decide members.old.items members.new.items }
+    ensures capacity { length members.new.items ≡ length members.old.items }
+{
+    for index in 0..members.len() {
+        let Some(found) = told_of(owner, id, index, members[index]) else {
+            continue;
+        };
+        if decide(found.0, found.1) {
+            members[index] = None;
+        }
+    }
+}
+
+fn lowest_free<T: Words>(members: &[Option<Member<T>>]) -> Option<usize>
+    ensures { result ≡ position (λ member. not (is_some member)) members.now }
+{
+    members.iter().position(|member| !member.is_some())
+}

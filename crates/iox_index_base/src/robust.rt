@@ -1,0 +1,189 @@
+//! Sets that know their holders.
+ghost use Rattle.std.specs.Prelude.{◌≡◌, ◌≤◌, ℕ, List, Option, length, replicate, slice_set, is_some, Some, None, IfOk, IfErr, OnOk, OnErr, not, IsTrue, ◌↔◌, true, false};
+ghost use Rattle.std.specs.List.{FoldsTo, count_by, position};
+ghost use Rattle.iox_index_base.specs.Release.{locks, state_of};
+ghost use Rattle.iox_index_base.specs.Robust.{RobustSetState, new_robust_set, is_held, lowest_free, borrowed, answer_of, freed, settled, is_of, held_by, Recovered};
+
+use crate::error::UniqueIndexSetAcquireFailure;
+use crate::owner::OwnerId;
+use crate::release::{ReleaseMode, ReleaseState};
+use std::alloc::{AllocError, Global};
+use std::marker::Model;
+
+/// A set of the indices below a capacity, which are handed out lowest first and know their holders.
+///
+/// Ported from `iceoryx2_bb_lock_free::mpmc::robust_unique_index_set::RobustUniqueIndexSet`.
+#[derive(Drop)]
+pub struct RobustUniqueIndexSet {
+    // Who holds each index.
+    cells: Vec<Option<OwnerId>>,
+    locked: bool,
+}
+
+impl Model for RobustUniqueIndexSet {
+    ghost use Rattle.std.specs.Prelude.{◌≡◌, true};
+    ghost use Rattle.iox_index_base.specs.Release.{locks, state_of};
+    ghost use Rattle.iox_index_base.specs.Robust.{RobustSetState, borrowed};
+
+    ghost Value = { RobustSetState };
+
+    ghost view = { λ s. record { holders = s.cells.items; locked = s.locked } };
+}
+
+impl RobustUniqueIndexSet {
+    /// A set of the indices below `capacity`, of which none is held. It fails only where memory is wanting.
+    pub fn new(alloc: Global, capacity: usize) -> Result<Self, AllocError>
+        ensures { IfOk result (λ set. set ≡ new_robust_set capacity) }
+    {
+        Ok(RobustUniqueIndexSet {
+            cells: vec![in alloc; None; capacity]?,
+            locked: false,
+        })
+    }
+
+    /// Hands the lowest free index to the owner.
+    ///
+    /// Refused with `IsLocked` if the set is locked, else with `OutOfIndices` if each index is held.
+    pub fn acquire(&mut self, owner: OwnerId) -> Result<usize, UniqueIndexSetAcquireFailure>
+        ensures answer { result ≡ answer_of self.old.locked (lowest_free self.old) }
+        ensures ok { IfOk result (λ index. self.new ≡ record self.old { holders = slice_set self.old.holders index (Some owner) }) }
+        ensures err { OnErr result (self.new ≡ self.old) }
+    {
+        if self.locked {
+            return Err(UniqueIndexSetAcquireFailure::IsLocked);
+        }
+        let Some(index) = lowest_free(self.cells.as_slice()) else {
+            return Err(UniqueIndexSetAcquireFailure::OutOfIndices);
+        };
+        self.cells[index] = Some(owner);
+        Ok(index)
+    }
+
+    /// Whether the index is held: the condition of `release`.
+    pub fn is_held(&self, index: usize) -> bool
+        ensures { result ≡ is_held index self.now }
+    {
+        self.cells.get(index).is_some_and(|cell| cell.is_some())
+    }
+
+    /// Frees an index that is held. With `LockIfLastIndex`, the set is then locked for good if no index is held any longer.
+    pub fn release(&mut self, index: usize, mode: ReleaseMode) -> ReleaseState
+        requires { is_held index self.old ≡ true }
+        ensures after { self.new ≡ settled mode (freed index self.old) }
+        ensures answer { result ≡ state_of self.new.locked }
+    {
+        self.cells[index] = None;
+        self.settle(mode)
+    }
+
+    // Locks the set if this is how its last index was released.
+    fn settle(&mut self, mode: ReleaseMode) -> ReleaseState
+        ensures after { self.new ≡ settled mode self.old }
+        ensures answer { result ≡ state_of self.new.locked }
+    {
+        if mode == ReleaseMode::LockIfLastIndex && self.borrowed_indices() == 0 {
+            self.locked = true;
+        }
+        if self.locked {
+            ReleaseState::Locked
+        } else {
+            ReleaseState::Unlocked
+        }
+    }
+
+    /// Calls `callback` with each index that the owner holds, rising.
+    pub fn find<F: FnMut(usize)>(&self, owner: OwnerId, callback: F)
+        requires { F.IsAlwaysCallable callback }
+        ensures { (last : F) × FoldsTo (λ p x q. F.step p x tt q) callback (held_by owner self.now.holders) last }
+    {
+        call_held(callback, owner, self.cells.as_slice());
+    }
+
+    /// Asks `decide` about each index that the owner holds, rising, and frees those for which it answers true. With
+    /// `LockIfLastIndex`, the set is then locked for good if no index is held any longer.
+    pub fn recover<F: FnMut(usize) -> bool>(
+        &mut self,
+        owner: OwnerId,
+        mode: ReleaseMode,
+        decide: F,
+    ) -> ReleaseState
+        requires { F.IsAlwaysCallable decide }
+        ensures after { (holders : List (Option ℕ)) × Recovered (λ p index answer q. F.step p index answer q) owner decide self.old.holders holders
+            × (self.new ≡ settled mode (record self.old { holders = holders })) }
+        ensures capacity { length self.new.holders ≡ length self.old.holders }
+        ensures answer { result ≡ state_of self.new.locked }
+    {
+        free_where(decide, owner, &mut self.cells);
+        self.settle(mode)
+    }
+
+    /// How many indices are held.
+    pub fn borrowed_indices(&self) -> usize
+        ensures { result ≡ borrowed self.now }
+    {
+        self.cells.iter().filter(|cell| cell.is_some()).count()
+    }
+
+    /// Whether the set is locked for good.
+    pub fn is_locked(&self) -> bool
+        ensures { result ≡ self.now.locked }
+    {
+        self.locked
+    }
+
+    /// All indices are below this.
+    pub fn capacity(&self) -> usize
+        ensures { result ≡ length self.now.holders }
+    {
+        self.cells.len()
+    }
+}
+
+fn is_of(owner: OwnerId, cell: Option<OwnerId>) -> bool
+    ensures { result ≡ is_of owner cell }
+{
+    match cell {
+        None => false,
+        Some(holder) => holder.value() == owner.value(),
+    }
+}
+
+fn lowest_free(cells: &[Option<OwnerId>]) -> Option<usize>
+    ensures { result ≡ position (λ holder. not (is_some holder)) cells.now }
+{
+    cells.iter().position(|cell| !cell.is_some())
+}
+
+// Calls `callback` with each index that the owner holds, rising.
+fn call_held<F: FnMut(usize)>(mut callback: F, owner: OwnerId, cells: &[Option<OwnerId>])
+    requires { F.IsAlwaysCallable callback }
+    ensures { (last : F) × FoldsTo (λ p x q. F.step p x tt q) callback (held_by owner cells.now) last }
+{
+    let mut rest = cells;
+    let mut at = 0usize;
+    while let Some((cell, tail)) = rest.split_first() {
+        let index = at;
+        at += 1;
+        rest = tail;
+        if is_of(owner, *cell) {
+            callback(index);
+        }
+    }
+}
+
+// Frees each index that the owner holds and for which `decide` answers true.
+fn free_where<F: FnMut(usize) -> bool>(
+    mut decide: F,
+    owner: OwnerId,
+    cells: &mut Vec<Option<OwnerId>>,
+)
+    requires { F.IsAlwaysCallable decide }
+    ensures freed { Recovered (λ p index answer q. F.step p index answer q) owner decide cells.old.items cells.new.items }
+    ensures capacity { length cells.new.items ≡ length cells.old.items }
+{
+    for index in 0..cells.len() {
+        if is_of(owner, cells[index]) && decide(index) {
+            cells[index] = None;
+        }
+    }
+}

@@ -1,0 +1,4 @@
+pub mod Chains
+pub mod Keys
+pub mod Pairs
+pub mod Tables

@@ -1,0 +1,6 @@
+use Rattle.std.specs.Prelude.{ℕ, List}
+
+-- keys in the order in which they will be given out, each of them below the capacity
+pub record BoundedKeys : Type 0 where
+  pub keys : List ℕ
+  pub capacity : ℕ

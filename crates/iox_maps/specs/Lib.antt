@@ -1,0 +1,9 @@
+pub mod BoundedKeys
+pub mod ErrorTexts
+pub mod FixedSizeFlatMapLends
+pub mod FixedSizeSlotMapLends
+pub mod FlatMapLends
+pub mod Links
+pub mod PairTable
+pub mod SlotMapLends
+pub mod SlotTable

@@ -1,0 +1,220 @@
+//! Calls that take memory, where some request for memory is refused.
+//!
+//! With ample memory this passes too. `bench/queues/fail-allocations.sh` runs it once for each request,
+//! and has that one refused.
+use iox_queues::{
+    BitSet, Call, CountingBitSet, FixedSizeBitSet, FixedSizeCountingBitSet, FixedSizeIndexQueue,
+    FixedSizeSafelyOverflowingIndexQueue, IndexQueue, Move, Party, PopAnswer, PushAnswer, Queue,
+    SafelyOverflowingIndexQueue, Share, Stepped, UnrestrictedAtomic, overflowing, refusing, sets,
+};
+use std::alloc::Global;
+use std::process::Abort;
+use std::test::Fail;
+
+// A refused `share` hands the queue back as it was.
+fn queues_come_back(rt: &impl Abort, alloc: Global) {
+    if let Ok(mut queue) = IndexQueue::new(alloc, 2) {
+        queue.push(7);
+        match queue.share(alloc) {
+            Ok(shared) => match shared.acquire_consumer() {
+                Some(mut consumer) => assert_eq!(rt; consumer.pop(), Some(7)),
+                None => assert!(rt; false),
+            },
+            Err(back) => {
+                let mut queue = back;
+                assert_eq!(rt; queue.pop(), Some(7));
+            }
+        }
+    }
+    if let Ok(mut queue) = SafelyOverflowingIndexQueue::new(alloc, 2) {
+        queue.push(7);
+        match queue.share(alloc) {
+            Ok(shared) => match shared.acquire_consumer() {
+                Some(mut consumer) => assert_eq!(rt; consumer.pop(), Some(7)),
+                None => assert!(rt; false),
+            },
+            Err(back) => {
+                let mut queue = back;
+                assert_eq!(rt; queue.pop(), Some(7));
+            }
+        }
+    }
+    if let Ok(mut queue) = Queue::<u128, 2>::new(alloc) {
+        queue.push(&7);
+        match queue.share(alloc) {
+            Ok(shared) => match shared.acquire_consumer() {
+                Some(mut consumer) => assert_eq!(rt; consumer.pop(), Some(7)),
+                None => assert!(rt; false),
+            },
+            Err(back) => {
+                let mut queue = back;
+                assert_eq!(rt; queue.pop(), Some(7));
+            }
+        }
+    }
+    match UnrestrictedAtomic::new(7u64).share(alloc) {
+        Ok(shared) => assert_eq!(rt; shared.load(), Some(7)),
+        Err(value) => assert_eq!(rt; value.load(), 7),
+    }
+}
+
+// Plain sets, once they are made, take no memory.
+fn sets_take_none(rt: &impl Abort, alloc: Global) {
+    if let Ok(mut bits) = BitSet::new(alloc, 3) {
+        if 2 < bits.capacity() {
+            assert!(rt; bits.set(2));
+        }
+        assert_eq!(rt; bits.reset_next(), Some(2));
+    }
+    if let Ok(mut counts) = CountingBitSet::new(alloc, 3) {
+        if 2 < counts.capacity() {
+            assert!(rt; counts.set(2));
+        }
+    }
+}
+
+const PUSH_THEN_POP: [Move; 14] = [
+    Move::Begin(Call::Push(2)),
+    Move::GoOn(Party::Producer),
+    Move::GoOn(Party::Producer),
+    Move::GoOn(Party::Producer),
+    Move::GoOn(Party::Producer),
+    Move::GoOn(Party::Producer),
+    Move::GoOn(Party::Producer),
+    Move::GoOn(Party::Producer),
+    Move::Begin(Call::Pop),
+    Move::GoOn(Party::Consumer),
+    Move::GoOn(Party::Consumer),
+    Move::GoOn(Party::Consumer),
+    Move::GoOn(Party::Consumer),
+    Move::GoOn(Party::Consumer),
+];
+
+// A step without memory changes nothing, and goes when it is asked again.
+fn overflowing_goes_again(rt: &impl Abort, alloc: Global) {
+    let Ok(mut machine) = overflowing::Machine::new(alloc, 1, &[1]) else {
+        return;
+    };
+    for step in PUSH_THEN_POP {
+        if 1000 <= machine.moments() {
+            return;
+        }
+        let events = machine.events().len();
+        let order = machine.order().len();
+        if machine.step(step) == Stepped::NoMemory {
+            assert_eq!(rt; machine.events().len(), events);
+            assert_eq!(rt; machine.order().len(), order);
+            if machine.moments() < 1000 {
+                assert!(rt; machine.step(step) != Stepped::NoMemory);
+            }
+        }
+    }
+    let pushes = machine.pushes();
+    assert_eq!(rt; pushes.len(), 1);
+    assert_eq!(rt; pushes[0].answer, PushAnswer::LeftOut(1));
+    let pops = machine.pops();
+    assert_eq!(rt; pops.len(), 1);
+    assert_eq!(rt; pops[0].answer, PopAnswer::Got(Some(2)));
+}
+
+fn refusing_goes_again(rt: &impl Abort, alloc: Global) {
+    let Ok(mut machine) = refusing::Machine::new(alloc, 1, &[1]) else {
+        return;
+    };
+    for step in PUSH_THEN_POP {
+        if 1000 <= machine.moments() {
+            return;
+        }
+        let events = machine.events().len();
+        let order = machine.order().len();
+        if machine.step(step) == Stepped::NoMemory {
+            assert_eq!(rt; machine.events().len(), events);
+            assert_eq!(rt; machine.order().len(), order);
+            if machine.moments() < 1000 {
+                assert!(rt; machine.step(step) != Stepped::NoMemory);
+            }
+        }
+    }
+    let pushes = machine.pushes();
+    assert_eq!(rt; pushes.len(), 1);
+    assert_eq!(rt; pushes[0].answer, PushAnswer::Refused);
+    let pops = machine.pops();
+    assert_eq!(rt; pops.len(), 1);
+    assert_eq!(rt; pops[0].answer, PopAnswer::Got(Some(1)));
+}
+
+const SET_THEN_RESET: [sets::Move; 10] = [
+    sets::Move::Begin(0, sets::Call::Set(1)),
+    sets::Move::GoOn(0),
+    sets::Move::GoOn(0),
+    sets::Move::GoOn(0),
+    sets::Move::Begin(0, sets::Call::ResetAll),
+    sets::Move::GoOn(0),
+    sets::Move::GoOn(0),
+    sets::Move::GoOn(0),
+    sets::Move::GoOn(0),
+    sets::Move::GoOn(0),
+];
+
+fn a_set_goes_again(rt: &impl Abort, alloc: Global) {
+    let Ok(mut machine) = sets::Machine::new(alloc, 1, 2, 1) else {
+        return;
+    };
+    for step in SET_THEN_RESET {
+        let events = machine.events().len();
+        let finished = machine.finished().len();
+        if machine.step(step) == Stepped::NoMemory {
+            assert_eq!(rt; machine.events().len(), events);
+            assert_eq!(rt; machine.finished().len(), finished);
+            assert!(rt; machine.step(step) != Stepped::NoMemory);
+        }
+    }
+    let finished = machine.finished();
+    assert_eq!(rt; finished.len(), 2);
+    assert_eq!(rt; finished[0].answer, sets::Answer::Added(true));
+    assert_eq!(rt; finished[1].answer, sets::Answer::Swept);
+}
+
+#[test]
+fn a_refused_request_changes_nothing(rt: HostRuntime) {
+    queues_come_back(&rt, rt.alloc());
+    sets_take_none(&rt, rt.alloc());
+    overflowing_goes_again(&rt, rt.alloc());
+    refusing_goes_again(&rt, rt.alloc());
+    a_set_goes_again(&rt, rt.alloc());
+}
+
+#[test]
+fn each_is_made_where_memory_is_found(rt: HostRuntime) -> Result<(), Fail> {
+    let alloc = rt.alloc();
+    assert_eq!(rt; IndexQueue::new(alloc, 2)?.capacity(), 2);
+    assert_eq!(rt; FixedSizeIndexQueue::<2>::new(alloc)?.capacity(), 2);
+    assert_eq!(rt; SafelyOverflowingIndexQueue::new(alloc, 2)?.capacity(), 2);
+    assert_eq!(rt;
+        FixedSizeSafelyOverflowingIndexQueue::<2>::new(alloc)?.capacity(),
+        2
+    );
+    assert_eq!(rt; Queue::<u128, 2>::new(alloc)?.capacity(), 2);
+    assert_eq!(rt; BitSet::new(alloc, 3)?.capacity(), 3);
+    assert_eq!(rt; FixedSizeBitSet::<3>::new(alloc)?.capacity(), 3);
+    assert_eq!(rt; CountingBitSet::new(alloc, 3)?.capacity(), 3);
+    assert_eq!(rt; FixedSizeCountingBitSet::<3>::new(alloc)?.capacity(), 3);
+    assert!(rt; IndexQueue::new(alloc, 2)?.share(alloc).is_ok());
+    assert!(rt; FixedSizeIndexQueue::<2>::new(alloc)?.share(alloc).is_ok());
+    assert!(rt;
+        SafelyOverflowingIndexQueue::new(alloc, 2)?
+            .share(alloc)
+            .is_ok()
+    );
+    assert!(rt;
+        FixedSizeSafelyOverflowingIndexQueue::<2>::new(alloc)?
+            .share(alloc)
+            .is_ok()
+    );
+    assert!(rt; Queue::<u128, 2>::new(alloc)?.share(alloc).is_ok());
+    assert!(rt; UnrestrictedAtomic::new(7u64).share(alloc).is_ok());
+    assert_eq!(rt; overflowing::Machine::new(alloc, 1, &[1])?.moments(), 0);
+    assert_eq!(rt; refusing::Machine::new(alloc, 1, &[1])?.moments(), 0);
+    assert_eq!(rt; sets::Machine::new(alloc, 1, 2, 1)?.capacity(), 2);
+    Ok(())
+}
