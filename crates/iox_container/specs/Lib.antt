@@ -1,6 +1,7 @@
 pub mod BoundedList
 pub mod BoundedText
 pub mod Bytes
+pub mod Callback
 pub mod FixedSizeQueueLends
 pub mod QueueLends
 pub mod RelocatableOptionLends

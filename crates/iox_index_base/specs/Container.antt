@@ -1,8 +1,6 @@
 -- A container: members at their indices, each with its owner.
-use Rattle.std.specs.Prelude.{ℕ, ◌≡◌, ◌≤◌, ◌+◌, ◌<◌, ◌^◌, Bool, true, false, not, ◌&&◌, ◌||◌, List, [], ◌∷◌, Option, None, Some, is_some, Result, Ok, Err, length, replicate, slice_get, slice_set, nat_eq, if◌then◌else◌}
+use Rattle.std.specs.Prelude.{ℕ, ◌≡◌, ◌≤◌, ◌+◌, ◌<◌, ◌^◌, Bool, true, false, not, ◌&&◌, ◌||◌, List, Option, None, Some, is_some, Result, Ok, Err, length, replicate, slice_get, slice_set, nat_eq, if◌then◌else◌}
 use Rattle.std.specs.List.{count_by, position}
-use Rattle.iox_container.specs.declared.callback_progression.CallbackProgression.{CallbackProgression}
-use Rattle.iox_container.specs.declared.callback_progression.CallbackProgression.TheVariants.{Continue, Stop}
 use Rattle.iox_index_base.specs.declared.container.Member.{Member}
 use Rattle.iox_index_base.specs.declared.container.ContainerHandle.{ContainerHandle}
 use Rattle.iox_index_base.specs.declared.error.ContainerAddFailure.{ContainerAddFailure}
@@ -109,17 +107,6 @@ members_of owner id members = asked_from (told_of owner id) 0 members
 -- a decision was asked about each member of the owner; those for which it answered true are gone
 abbrev pub Recovered : {F T : Type 0} → (F → ContainerHandle × T → Bool → F → Type 0) → ℕ → ℕ → F → List (Option (Member T)) → List (Option (Member T)) → Type 0
 Recovered R owner id decide old new = Recovers (told_of owner id) (λ member. member.0.index) None R decide old new
-
--- what is left to do after an answer: nothing after `Stop`, else this
-abbrev pub UnlessStopped : CallbackProgression → Type 0 → Type 0 → Type 0
-UnlessStopped Continue go_on stop = go_on
-UnlessStopped Stop go_on stop = stop
-
--- a callback was called with each of these in turn, up to and with the first that it answered with `Stop`
-abbrev pub CallsUntilStop : {F X : Type 0} → (F → X → CallbackProgression → F → Type 0) → F → List X → F → Type 0
-CallsUntilStop step first [] last = first ≡ last
-CallsUntilStop {F} step first (x ∷ rest) last =
-    (answer : CallbackProgression) × (next : F) × step first x answer next × UnlessStopped answer (CallsUntilStop step next rest last) (next ≡ last)
 
 -- all members that a copy has, by rising index
 abbrev pub all_members : {T : Type 0} → Copied T → List (ContainerHandle × T)

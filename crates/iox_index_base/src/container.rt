@@ -2,9 +2,10 @@
 ghost use Rattle.std.specs.Prelude.{◌≡◌, ◌≤◌, ◌<◌, ◌↔◌, ◌+◌, true, false, length, not, is_some, ℕ, List, Option, slice_get, nat_eq, IfOk, OnErr, IsErr, if◌then◌else◌};
 ghost use Rattle.std.specs.Bool.{OnFalse};
 ghost use Rattle.std.specs.List.{FoldsTo, position};
+ghost use Rattle.iox_container.specs.Callback.{CallsUntilStop};
 ghost use Rattle.iox_index_base.specs.Recovery.{asked_from};
 ghost use Rattle.iox_index_base.specs.Release.{locks, state_of};
-ghost use Rattle.iox_index_base.specs.Container.{Contents, Copied, empty_container, count_members, lowest_free, handle_of, with_member, without_member, settled, owns, is_numbered, is_of, HasRoom, copy_of, may_update, IsCopyOf, value_of, told, told_of, members_of, Recovered, CallsUntilStop, all_members};
+ghost use Rattle.iox_index_base.specs.Container.{Contents, Copied, empty_container, count_members, lowest_free, handle_of, with_member, without_member, settled, owns, is_numbered, is_of, HasRoom, copy_of, may_update, IsCopyOf, value_of, told, told_of, members_of, Recovered, all_members};
 
 use crate::error::{ContainerAddFailure, ContainerRemoveError};
 use crate::owner::OwnerId;

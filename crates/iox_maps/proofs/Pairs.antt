@@ -7,7 +7,7 @@ use Rattle.std.proofs.lemmas.List.Sums.{sum_by-cons}
 use Rattle.iox_maps.specs.SlotTable.{SlotTable, stored, value_at}
 use Rattle.iox_container.specs.declared.callback_progression.CallbackProgression.{CallbackProgression}
 use Rattle.iox_container.specs.declared.callback_progression.CallbackProgression.TheVariants.{Continue, Stop}
-use Rattle.iox_maps.specs.PairTable.{CallsUntilStop, KeysDiffer, pairs, place_from, place_of}
+use Rattle.iox_maps.specs.PairTable.{CallsAtKeys, KeysDiffer, pairs, place_from, place_of}
 
 module _ {K V : Type 0} where
   -- there are as many pairs as places that hold one
@@ -191,28 +191,28 @@ module _ {K V : Type 0} where
   -- a call that answers `Stop` ends the calls
   pub calls_stop : {F : Type 0} (step : F → K → CallbackProgression → F → Type 0) (first now next : F) (xs : List (Option (K × V))) (i : ℕ) (p : K × V)
       → i < length xs → value_at xs i ≡ Some p → step now p.0 Stop next
-      → ((last : F) → CallsUntilStop step now (pairs (drop i xs)) last → CallsUntilStop step first (pairs xs) last)
-      → (last : F) × CallsUntilStop step first (pairs xs) last
+      → ((last : F) → CallsAtKeys step now (pairs (drop i xs)) last → CallsAtKeys step first (pairs xs) last)
+      → (last : F) × CallsAtKeys step first (pairs xs) last
   calls_stop step first now next xs i p within some call before =
-      let C : List (K × V) → Type 0 = λ ps. CallsUntilStop step now ps next in
+      let C : List (K × V) → Type 0 = λ ps. CallsAtKeys step now ps next in
       (next, before next (subst C (sym (pairs_at_some xs i p within some)) (Stop, next, call, refl)))
 
   -- a call that answers `Continue` leaves the calls at the other pairs
   pub calls_continue : {F : Type 0} (step : F → K → CallbackProgression → F → Type 0) (first now next : F) (xs : List (Option (K × V))) (i : ℕ) (p : K × V)
       → i < length xs → value_at xs i ≡ Some p → step now p.0 Continue next
-      → ((last : F) → CallsUntilStop step now (pairs (drop i xs)) last → CallsUntilStop step first (pairs xs) last)
-      → (last : F) → CallsUntilStop step next (pairs (drop (i + 1) xs)) last → CallsUntilStop step first (pairs xs) last
+      → ((last : F) → CallsAtKeys step now (pairs (drop i xs)) last → CallsAtKeys step first (pairs xs) last)
+      → (last : F) → CallsAtKeys step next (pairs (drop (i + 1) xs)) last → CallsAtKeys step first (pairs xs) last
   calls_continue step first now next xs i p within some call before last rest =
-      let C : List (K × V) → Type 0 = λ ps. CallsUntilStop step now ps last in
+      let C : List (K × V) → Type 0 = λ ps. CallsAtKeys step now ps last in
       before last (subst C (sym (pairs_at_some xs i p within some)) (Continue, next, call, rest))
 
   -- a place that holds no pair is passed over
   pub calls_skip : {F : Type 0} (step : F → K → CallbackProgression → F → Type 0) (first now : F) (xs : List (Option (K × V))) (i : ℕ)
       → i < length xs → value_at xs i ≡ None
-      → ((last : F) → CallsUntilStop step now (pairs (drop i xs)) last → CallsUntilStop step first (pairs xs) last)
-      → (last : F) → CallsUntilStop step now (pairs (drop (i + 1) xs)) last → CallsUntilStop step first (pairs xs) last
+      → ((last : F) → CallsAtKeys step now (pairs (drop i xs)) last → CallsAtKeys step first (pairs xs) last)
+      → (last : F) → CallsAtKeys step now (pairs (drop (i + 1) xs)) last → CallsAtKeys step first (pairs xs) last
   calls_skip step first now xs i within none before last rest =
-      let C : List (K × V) → Type 0 = λ ps. CallsUntilStop step now ps last in
+      let C : List (K × V) → Type 0 = λ ps. CallsAtKeys step now ps last in
       before last (subst C (sym (pairs_at_none xs i within none)) rest)
 
 module _ {K V : Type 0} where
@@ -236,8 +236,8 @@ module _ {K V : Type 0} where
   -- where all pairs are seen, the calls are over
   pub calls_over : {F : Type 0} (step : F → K → CallbackProgression → F → Type 0) (first now : F) (xs : List (Option (K × V))) (i : ℕ)
       → length (pairs (drop i xs)) ≡ 0
-      → ((last : F) → CallsUntilStop step now (pairs (drop i xs)) last → CallsUntilStop step first (pairs xs) last)
-      → (last : F) × CallsUntilStop step first (pairs xs) last
+      → ((last : F) → CallsAtKeys step now (pairs (drop i xs)) last → CallsAtKeys step first (pairs xs) last)
+      → (last : F) × CallsAtKeys step first (pairs xs) last
   calls_over step first now xs i seen before =
-      let C : List (K × V) → Type 0 = λ ps. CallsUntilStop step now ps now in
+      let C : List (K × V) → Type 0 = λ ps. CallsAtKeys step now ps now in
       (now, before now (subst C (sym (nil_from_length (pairs (drop i xs)) seen)) refl))

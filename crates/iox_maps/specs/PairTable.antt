@@ -1,6 +1,6 @@
 use Rattle.std.specs.Prelude.{ℕ, ◌≡◌, ◌≢◌, ◌+◌, List, [], ◌∷◌, Bool, false, Option, Some, None, slice_set, option_map, if◌then◌else◌}
 use Rattle.iox_container.specs.declared.callback_progression.CallbackProgression.{CallbackProgression}
-use Rattle.iox_container.specs.declared.callback_progression.CallbackProgression.TheVariants.{Continue, Stop}
+use Rattle.iox_container.specs.Callback.{CallsUntilStop}
 use Rattle.iox_maps.specs.SlotTable.{SlotTable, value_at}
 
 module _ {K V : Type 0} where
@@ -37,14 +37,6 @@ module _ {K V : Type 0} where
   abbrev pub with_value_of : (K → K → Bool) → K → SlotTable (K × V) → V → SlotTable (K × V)
   with_value_of eq key table value = with_value_at (place_of eq key table) table value
 
--- what is left to do after an answer: nothing after `Stop`, else this
-abbrev pub UnlessStopped : CallbackProgression → Type 0 → Type 0 → Type 0
-UnlessStopped Continue go_on stop = go_on
-UnlessStopped Stop go_on stop = stop
-
 -- a callback was called at the keys of the pairs in their order, up to and with the first that it answered with `Stop`
-abbrev pub CallsUntilStop : {F K V : Type 0} → (F → K → CallbackProgression → F → Type 0) → F → List (K × V) → F → Type 0
-CallsUntilStop step first [] last = first ≡ last
-CallsUntilStop {F} step first (pair ∷ rest) last =
-    (answer : CallbackProgression) × (next : F) × step first pair.0 answer next
-    × UnlessStopped answer (CallsUntilStop step next rest last) (next ≡ last)
+abbrev pub CallsAtKeys : {F K V : Type 0} → (F → K → CallbackProgression → F → Type 0) → F → List (K × V) → F → Type 0
+CallsAtKeys step first table last = CallsUntilStop (λ p pair answer q. step p pair.0 answer q) first table last

@@ -5,7 +5,7 @@ ghost use Rattle.std.specs.Fn.{CalledAt};
 ghost use Rattle.std.specs.List.{range_with_len};
 ghost use Rattle.std.specs.Option.{option_copied_mut};
 ghost use Rattle.iox_maps.specs.SlotTable.{held_count, released, stored};
-ghost use Rattle.iox_maps.specs.PairTable.{CallsUntilStop, KeysDiffer, pairs, place_of, value_of};
+ghost use Rattle.iox_maps.specs.PairTable.{CallsAtKeys, KeysDiffer, pairs, place_of, value_of};
 
 use crate::slot_map::{SlotMap, SlotMapKey};
 use iox_container::CallbackProgression;
@@ -187,7 +187,7 @@ impl<K: Eq, V> FlatMap<K, V> {
     /// Calls `callback` at each key in the order of the places, up to and with the first that it answers with `Stop`.
     pub fn list_keys<F: FnMut(&K) -> CallbackProgression>(&self, mut callback: F)
         requires { F.IsAlwaysCallable callback }
-        ensures { (last : F) × CallsUntilStop (CalledAt F.FnMut) callback (pairs self.now.values) last }
+        ensures { (last : F) × CallsAtKeys (CalledAt F.FnMut) callback (pairs self.now.values) last }
     {
         let mut unseen = self.map.len();
         for index in 0..self.map.capacity() {

@@ -1,4 +1,4 @@
-//! Two schedules of the overflowing ring of capacity 1, where 1 waits.
+//! Two schedules of the overflowing ring of capacity 1, where 1 waits, and a ring that is too large.
 use iox_queues::overflowing::Machine;
 use iox_queues::{Call, Move, Party, PopAnswer, PushAnswer, Stepped};
 use std::process::Abort;
@@ -53,5 +53,11 @@ fn a_push_takes_the_oldest_before_the_pop_exchanges(rt: HostRuntime) -> Result<(
     let pops = machine.pops();
     assert_eq!(rt; pops.len(), 1);
     assert_eq!(rt; pops[0].answer, PopAnswer::Got(Some(2)));
+    Ok(())
+}
+
+#[test]
+fn a_ring_that_no_memory_holds_is_refused(rt: HostRuntime) -> Result<(), Fail> {
+    assert!(rt; Machine::new(rt.alloc(), 1 << 62, &[]).is_err());
     Ok(())
 }

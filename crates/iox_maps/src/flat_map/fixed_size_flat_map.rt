@@ -5,7 +5,7 @@ ghost use Rattle.std.specs.Fn.{CalledAt};
 ghost use Rattle.std.specs.List.{range_with_len};
 ghost use Rattle.std.specs.Option.{option_copied_mut};
 ghost use Rattle.iox_maps.specs.SlotTable.{released, stored};
-ghost use Rattle.iox_maps.specs.PairTable.{CallsUntilStop, KeysDiffer, pairs, place_of, value_of};
+ghost use Rattle.iox_maps.specs.PairTable.{CallsAtKeys, KeysDiffer, pairs, place_of, value_of};
 
 use crate::flat_map::{FlatMap, FlatMapError};
 use iox_container::CallbackProgression;
@@ -141,7 +141,7 @@ impl<K: Eq, V, const CAPACITY: usize> FixedSizeFlatMap<K, V, CAPACITY> {
     /// Calls `callback` at each key in the order of the places, up to and with the first that it answers with `Stop`.
     pub fn list_keys<F: FnMut(&K) -> CallbackProgression>(&self, callback: F)
         requires { F.IsAlwaysCallable callback }
-        ensures { (last : F) × CallsUntilStop (CalledAt F.FnMut) callback (pairs self.now.values) last }
+        ensures { (last : F) × CallsAtKeys (CalledAt F.FnMut) callback (pairs self.now.values) last }
     {
         self.map.list_keys(callback);
     }

@@ -1,6 +1,7 @@
 use Rattle.std.proofs.Common.{◌≡◌, ◌+◌, length}
 use Rattle.iox_index_base.specs.Recovery.{asked_from}
-use Rattle.iox_index_base.specs.Container.{told, CallsUntilStop}
+use Rattle.iox_container.specs.Callback.{CallsUntilStop}
+use Rattle.iox_index_base.specs.Container.{told}
 use Rattle.iox_index_base.proofs.container.call_until_stop.Given as goal
 
 abbrev pub invariant-loop-split : goal.invariant-loop-split
