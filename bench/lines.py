@@ -5,11 +5,13 @@ Usage: bench/lines.py [PROGRAM]     (PROGRAM is crates/iox/out/iox if not named;
 
 Makes inputs of 10^4, 10^5 and 10^6 lines of `put`, `receive`, `release`, and passes each from a file to a pipe through
 the program and through bench/echo, in turn. Of several rounds the fastest counts, since other work on the machine only
-ever slows a run. The cost of a line is told without the time of a run on no input. Where valgrind is there, it also
-counts the instructions of the program, which don't depend on what else runs. Nothing here is a test: it only prints.
+ever slows a run. The cost of a line is told without the time of a run on no input, by medians of many short runs. Where
+valgrind is there, it also counts the instructions of the program, which don't depend on what else runs. Nothing here is
+a test: it only prints.
 """
 import os
 import shutil
+import statistics
 import subprocess
 import sys
 import tempfile
@@ -43,6 +45,20 @@ def seconds(program, path):
     if run.returncode != 0:
         sys.exit(f"{program} ended with status {run.returncode}")
     return end - start, usage.ru_utime + usage.ru_stime
+
+
+def line_costs(program, folder):
+    """Nanoseconds a line at each size, without the time of a run on no input: medians of runs to nowhere, in turn."""
+    runs = {}
+    for turn in range(200):
+        for lines in (0, *SIZES) if turn < 20 else (0, *SIZES[:-1]):
+            path = os.path.join(folder, f"lines-{lines}" if lines else "empty")
+            with open(path, "rb") as source:
+                start = time.perf_counter()
+                subprocess.run([program], stdin=source, stdout=subprocess.DEVNULL, check=True)
+                runs.setdefault(lines, []).append(time.perf_counter() - start)
+    start = statistics.median(runs[0])
+    return [(statistics.median(runs[lines]) - start) / lines * 1e9 for lines in SIZES]
 
 
 def kilobytes(program, path):
@@ -118,9 +134,10 @@ def main():
         for place, what in enumerate(("wall", "processor")):
             ratio = whole["program", 10**6][place] / whole["echo", 10**6][place]
             print(f"at 10^6 lines the program takes {ratio:.2f} times the echo's {what} time")
-        for name, _ in programs:
-            few, many = ((whole[name, lines][0] - start[name][0]) / lines for lines in (10**4, 10**6))
-            print(f"{name}: a line of 10^6 costs {many / few:.2f} times a line of 10^4, by the clock")
+        for name, binary in programs:
+            costs = line_costs(binary, folder)
+            print(f"{name}: ns a line at 10^4, 10^5, 10^6:", *(f"{cost:.1f}" for cost in costs))
+            print(f"{name}: a line of 10^6 costs {costs[2] / costs[0]:.2f} times a line of 10^4, by the clock")
         if shutil.which("valgrind"):
             counts = [instructions(program, os.path.join(folder, f"lines-{lines}")) / lines for lines in SIZES]
             print("program: instructions a line at 10^4, 10^5, 10^6:", *(f"{count:.1f}" for count in counts))
