@@ -1,5 +1,4 @@
 //! Descriptions a second, beside a JSON tree of the same toolchain, in one run.
-use std::alloc::{Layout, alloc, dealloc, realloc};
 use std::time::Instant;
 
 unsafe extern "C" {
@@ -11,52 +10,8 @@ unsafe extern "C" {
     fn tree_write_rounds(rounds: u64) -> u64;
 }
 
-/// What an allocation answers to a Rattle library.
-#[repr(C)]
-struct Tried {
-    ok: bool,
-    block: *mut u8,
-}
-
-const HEADER: usize = 16;
-
-/// A Rattle library leaves its memory to the host. A block keeps its size before it, since it is freed without one.
-#[unsafe(no_mangle)]
-extern "C" fn rattle_alloc(size: usize, _align: usize) -> Tried {
-    let Ok(layout) = Layout::from_size_align(size + HEADER, HEADER) else {
-        return Tried { ok: false, block: std::ptr::null_mut() };
-    };
-    unsafe { kept(alloc(layout), size) }
-}
-
-#[unsafe(no_mangle)]
-unsafe extern "C" fn rattle_realloc(block: *mut u8, _kept: usize, size: usize, _align: usize) -> Tried {
-    unsafe {
-        let start = block.sub(HEADER);
-        let was = start.cast::<usize>().read();
-        let layout = Layout::from_size_align_unchecked(was + HEADER, HEADER);
-        kept(realloc(start, layout, size + HEADER), size)
-    }
-}
-
-unsafe fn kept(start: *mut u8, size: usize) -> Tried {
-    if start.is_null() {
-        return Tried { ok: false, block: start };
-    }
-    unsafe {
-        start.cast::<usize>().write(size);
-        Tried { ok: true, block: start.add(HEADER) }
-    }
-}
-
-#[unsafe(no_mangle)]
-unsafe extern "C" fn rattle_dealloc(block: *mut u8) {
-    unsafe {
-        let start = block.sub(HEADER);
-        let size = start.cast::<usize>().read();
-        dealloc(start, Layout::from_size_align_unchecked(size + HEADER, HEADER));
-    }
-}
+#[path = "../host.rs"]
+mod host;
 
 /// One measured call: its name, its loop, how many rounds, and the best nanoseconds a round so far.
 struct Row {

@@ -1,5 +1,4 @@
 //! `SlotMap` beside a plain slab, in one run.
-use std::alloc::{Layout, alloc, dealloc};
 use std::time::Instant;
 
 unsafe extern "C" {
@@ -7,39 +6,8 @@ unsafe extern "C" {
     fn slot_map_pairs(capacity: usize, rounds: u64) -> u64;
 }
 
-/// What an allocation answers to a Rattle library.
-#[repr(C)]
-struct Tried {
-    ok: bool,
-    block: *mut u8,
-}
-
-const HEADER: usize = 16;
-
-/// A Rattle library leaves its memory to the host. A block keeps its size before it, since it is freed without one.
-#[unsafe(no_mangle)]
-extern "C" fn rattle_alloc(size: usize, _align: usize) -> Tried {
-    let Ok(layout) = Layout::from_size_align(size + HEADER, HEADER) else {
-        return Tried { ok: false, block: std::ptr::null_mut() };
-    };
-    unsafe {
-        let start = alloc(layout);
-        if start.is_null() {
-            return Tried { ok: false, block: start };
-        }
-        start.cast::<usize>().write(size);
-        Tried { ok: true, block: start.add(HEADER) }
-    }
-}
-
-#[unsafe(no_mangle)]
-unsafe extern "C" fn rattle_dealloc(block: *mut u8) {
-    unsafe {
-        let start = block.sub(HEADER);
-        let size = start.cast::<usize>().read();
-        dealloc(start, Layout::from_size_align_unchecked(size + HEADER, HEADER));
-    }
-}
+#[path = "../host.rs"]
+mod host;
 
 enum Entry {
     Vacant(usize),

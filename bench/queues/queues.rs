@@ -2,7 +2,6 @@
 //!
 //! `queues` times one thread; `queues PATH` also times numbers one way between two threads, taking turns with the
 //! program `PATH`, which is `threads_bench`.
-use std::alloc::{Layout, alloc, dealloc};
 use std::hint::{black_box, spin_loop};
 use std::process::Command;
 use std::sync::Arc;
@@ -17,52 +16,8 @@ unsafe extern "C" {
     fn shared_overflows(rounds: u64) -> u64;
 }
 
-/// What an allocation answers to a Rattle library.
-#[repr(C)]
-struct Tried {
-    ok: bool,
-    block: *mut u8,
-}
-
-const HEADER: usize = 16;
-
-/// A Rattle library leaves its memory to the host. A block keeps its size before it, since it is freed without one.
-#[unsafe(no_mangle)]
-extern "C" fn rattle_alloc(size: usize, _align: usize) -> Tried {
-    let Ok(layout) = Layout::from_size_align(size + HEADER, HEADER) else {
-        return Tried { ok: false, block: std::ptr::null_mut() };
-    };
-    unsafe {
-        let start = alloc(layout);
-        if start.is_null() {
-            return Tried { ok: false, block: start };
-        }
-        start.cast::<usize>().write(size);
-        Tried { ok: true, block: start.add(HEADER) }
-    }
-}
-
-#[unsafe(no_mangle)]
-unsafe extern "C" fn rattle_dealloc(block: *mut u8) {
-    unsafe {
-        let start = block.sub(HEADER);
-        let size = start.cast::<usize>().read();
-        dealloc(start, Layout::from_size_align_unchecked(size + HEADER, HEADER));
-    }
-}
-
-/// Moves the first `kept` bytes to a block of `size` bytes.
-#[unsafe(no_mangle)]
-unsafe extern "C" fn rattle_realloc(block: *mut u8, kept: usize, size: usize, align: usize) -> Tried {
-    let tried = rattle_alloc(size, align);
-    if tried.ok {
-        unsafe {
-            std::ptr::copy_nonoverlapping(block, tried.block, kept.min(size));
-            rattle_dealloc(block);
-        }
-    }
-    tried
-}
+#[path = "../host.rs"]
+mod host;
 
 /// A ring in a `Vec`, for one thread.
 struct Ring {
