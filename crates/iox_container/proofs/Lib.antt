@@ -1,4 +1,1 @@
-pub mod Retains
-pub mod TextRows
-pub mod Texts
 pub mod VectorLemmas

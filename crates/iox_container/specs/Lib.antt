@@ -1,12 +1,7 @@
 pub mod BoundedList
-pub mod BoundedText
-pub mod Bytes
 pub mod Callback
 pub mod FixedSizeQueueLends
 pub mod QueueLends
 pub mod RelocatableOptionLends
 pub mod RelocatableOptions
-pub mod StringBytes
-pub mod Text
-pub mod TextRow
 pub mod Vectors

@@ -1,10 +1,14 @@
 -- How far a reader has come.
-use Rattle.std.proofs.Common.{◌≡◌, ◌⊎◌, inl, inr, ℕ, ◌+◌, ◌<◌, ◌≤◌, List, ◌∷◌, ◌++◌, [], length, get_or, Bool, true, false, codes, Result, Ok, Err, refl, ap, subst, ◌∙◌, arith, append_assoc, length-append}
+use Rattle.std.proofs.Common.{◌≡◌, ◌⊎◌, inl, inr, ℕ, ◌+◌, ◌<◌, ◌≤◌, List, ◌∷◌, ◌++◌, [], length, get_or, drop, drop-cons, suc, add-one, Bool, true, false, codes, Result, Ok, Err, refl, sym, ap, subst, ◌∙◌, arith, append_assoc, length-append}
 use Rattle.std.specs.List.{All}
 use Rattle.std.specs.Result.{IsOk, OnOk}
 use Rattle.json.specs.Print.{escape}
 use Rattle.iox_describe_base.specs.declared.attribute.Attribute.{Attribute}
-use Rattle.iox_describe.specs.Line.{attribute_text, attributes_text, comma_if}
+use Rattle.iox_describe_base.specs.declared.setting.SettingValue.{SettingValue}
+use Rattle.iox_describe_base.specs.Setting.{filled}
+use Rattle.iox_describe.specs.Line.{attribute_text, attributes_text, comma_if, member_text, members_text, value_text}
+use Rattle.iox_describe.specs.Reading.{Ends}
+use Rattle.iox_describe.specs.Within.{AreValues}
 
 -- a text of which so many bytes are read, and what is left of it stands in front
 pub record IsTextRead (text : List ℕ) (place : ℕ) (bytes whole rest : List ℕ) : Type 0 where
@@ -71,3 +75,29 @@ pub no_bracket_in_front : (later : Bool) (pair : Attribute) (more rest : List �
     → (first : ℕ) × (tail : List ℕ) × ((comma_if later ++ (attribute_text pair ++ more)) ++ rest ≡ first ∷ tail) × (first ≡ 93 → ⊥)
 no_bracket_in_front true pair more rest = (44, _, refl, λ e. omega arith)
 no_bracket_in_front false pair more rest = (91, _, refl, λ e. omega arith)
+
+-- settings that are set up to a place of their list, and those that are left stand in front
+pub record AreSet {S C : Type 0} (key : S → List ℕ) (value : S → C → SettingValue) (changed : S → SettingValue → C → C) (all : List S)
+    (place : ℕ) (before bytes : List ℕ) (config target : C) (rest : List ℕ) : Type 0 where
+  pub later : Bool
+  pub front : bytes ≡ members_text key value later target (drop place all) ++ 125 ∷ rest
+  pub begins : before ≡ comma_if later ++ codes "\""
+  pub whole : filled value changed (drop place all) target config ≡ target
+  pub values : AreValues value target (drop place all)
+
+-- what follows a setting ends its number
+pub ends_member : {S C : Type 0} (key : S → List ℕ) (value : S → C → SettingValue) (target : C) (more : List S) (rest : List ℕ)
+    → Ends (members_text key value true target more ++ 125 ∷ rest)
+ends_member key value target [] rest = refl
+ends_member key value target (setting ∷ more) rest = refl
+
+-- the parts of a setting, in front of what follows it
+pub member_front : (later : Bool) (key : List ℕ) (value : SettingValue) (more rest : List ℕ)
+    → (comma_if later ++ member_text key value ++ more) ++ rest ≡ (comma_if later ++ codes "\"") ++ (key ++ (codes "\":" ++ (value_text value ++ (more ++ rest))))
+member_front true key value more rest = simp append_assoc
+member_front false key value more rest = simp append_assoc
+
+-- what is left of a list at a place is the item there, and what is left behind it
+pub left_at : {X : Type 0} (xs all : List X) (place : ℕ) (x : X) → xs ≡ all → place < length xs → x ≡ get_or xs place x → drop place all ≡ x ∷ drop (place + 1) all
+left_at xs all place x same inside is =
+    rw (← same) (drop-cons xs place x inside ∙ ap (λ y. y ∷ drop (suc place) xs) (sym is) ∙ ap (λ k. x ∷ drop k xs) (sym (add-one place)))

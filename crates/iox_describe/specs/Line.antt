@@ -7,14 +7,16 @@ use Rattle.iox_describe_base.specs.declared.pattern.MessagingPattern.{MessagingP
 use Rattle.iox_describe_base.specs.declared.pattern.MessagingPattern.TheVariants as pattern
 use Rattle.iox_describe_base.specs.declared.static_config.Settings.{Settings}
 use Rattle.iox_describe_base.specs.declared.static_config.Settings.TheVariants.{RequestResponse, PublishSubscribe, Event}
-use Rattle.iox_describe_base.specs.declared.static_config.event.StaticConfig as event
-use Rattle.iox_describe_base.specs.declared.static_config.publish_subscribe.StaticConfig as publish_subscribe
-use Rattle.iox_describe_base.specs.declared.static_config.request_response.StaticConfig as request_response
+use Rattle.iox_describe_base.specs.declared.setting.SettingValue.{SettingValue}
+use Rattle.iox_describe_base.specs.declared.setting.SettingValue.TheVariants.{Switch, Number, OptionalNumber, Types}
 use Rattle.iox_describe_base.specs.declared.type_detail.TypeVariant.{TypeVariant}
 use Rattle.iox_describe_base.specs.declared.type_detail.TypeVariant.TheVariants.{FixedSize, Dynamic}
 use Rattle.iox_describe_base.specs.Agreement.{Agreement, pattern_of}
 use Rattle.iox_describe_base.specs.Detail.{Detail}
 use Rattle.iox_describe_base.specs.Hash.{hash_text}
+use Rattle.iox_describe_base.specs.RequestResponseSettings as request_response
+use Rattle.iox_describe_base.specs.PublishSubscribeSettings as publish_subscribe
+use Rattle.iox_describe_base.specs.EventSettings as event
 
 -- one text and then another; it groups to the right
 infixr 20 ◌⌢◌
@@ -53,72 +55,42 @@ types_text t =
     ⌢ codes ",\"user_header\":" ⌢ detail_text t.user_header
     ⌢ codes "}"
 
--- the settings of the pattern
-unfoldable pub publish_subscribe_text : publish_subscribe.StaticConfig → List ℕ
-publish_subscribe_text c =
-    codes "{\"enable_safe_overflow\":" ⌢ switch_text c.enable_safe_overflow
-    ⌢ codes ",\"history_size\":" ⌢ decimal c.history_size
-    ⌢ codes ",\"max_nodes\":" ⌢ decimal c.max_nodes
-    ⌢ codes ",\"max_publishers\":" ⌢ decimal c.max_publishers
-    ⌢ codes ",\"max_subscribers\":" ⌢ decimal c.max_subscribers
-    ⌢ codes ",\"subscriber_max_borrowed_samples\":" ⌢ decimal c.subscriber_max_borrowed_samples
-    ⌢ codes ",\"subscriber_max_buffer_size\":" ⌢ decimal c.subscriber_max_buffer_size
-    ⌢ codes ",\"types\":" ⌢ types_text c.types
-    ⌢ codes "}"
+-- what a setting is set to
+abbrev pub value_text : SettingValue → List ℕ
+value_text (Switch b) = switch_text b
+value_text (Number n) = decimal n
+value_text (OptionalNumber o) = option_text o
+value_text (Types t) = types_text t
 
--- the settings of the pattern
-unfoldable pub event_text : event.StaticConfig → List ℕ
-event_text c =
-    codes "{\"deadline\":" ⌢ option_text c.deadline
-    ⌢ codes ",\"event_id_max_value\":" ⌢ decimal c.event_id_max_value
-    ⌢ codes ",\"max_listeners\":" ⌢ decimal c.max_listeners
-    ⌢ codes ",\"max_nodes\":" ⌢ decimal c.max_nodes
-    ⌢ codes ",\"max_notifiers\":" ⌢ decimal c.max_notifiers
-    ⌢ codes ",\"notifier_created_event\":" ⌢ option_text c.notifier_created_event
-    ⌢ codes ",\"notifier_dead_event\":" ⌢ option_text c.notifier_dead_event
-    ⌢ codes ",\"notifier_dropped_event\":" ⌢ option_text c.notifier_dropped_event
-    ⌢ codes "}"
+-- a comma, where something stands before
+abbrev pub comma_if : Bool → List ℕ
+comma_if later = if later then codes "," else []
 
--- the settings of the pattern, up to those of clients
-unfoldable pub request_response_front : request_response.StaticConfig → List ℕ
-request_response_front c =
-    codes "{\"enable_fire_and_forget_requests\":" ⌢ switch_text c.enable_fire_and_forget_requests
-    ⌢ codes ",\"enable_safe_overflow_for_requests\":" ⌢ switch_text c.enable_safe_overflow_for_requests
-    ⌢ codes ",\"enable_safe_overflow_for_responses\":" ⌢ switch_text c.enable_safe_overflow_for_responses
-    ⌢ codes ",\"max_active_requests_per_client\":" ⌢ decimal c.max_active_requests_per_client
-    ⌢ codes ",\"max_borrowed_responses_per_pending_response\":" ⌢ decimal c.max_borrowed_responses_per_pending_response
-    ⌢ codes ",\"max_clients\":" ⌢ decimal c.max_clients
+-- a setting: its key in quotes, a colon, and what it is set to
+abbrev pub member_text : List ℕ → SettingValue → List ℕ
+member_text key value = codes "\"" ⌢ key ⌢ codes "\":" ⌢ value_text value
 
--- the others
-unfoldable pub request_response_back : request_response.StaticConfig → List ℕ
-request_response_back c =
-    codes ",\"max_loaned_requests\":" ⌢ decimal c.max_loaned_requests
-    ⌢ codes ",\"max_nodes\":" ⌢ decimal c.max_nodes
-    ⌢ codes ",\"max_response_buffer_size\":" ⌢ decimal c.max_response_buffer_size
-    ⌢ codes ",\"max_servers\":" ⌢ decimal c.max_servers
-    ⌢ codes ",\"request_types\":" ⌢ types_text c.request_types
-    ⌢ codes ",\"response_types\":" ⌢ types_text c.response_types
-    ⌢ codes "}"
+-- the settings of a list, one after another
+abbrev pub members_text : {S C : Type 0} → (S → List ℕ) → (S → C → SettingValue) → Bool → C → List S → List ℕ
+members_text key value later config [] = []
+members_text key value later config (setting ∷ more) =
+    comma_if later ++ member_text (key setting) (value setting config) ++ members_text key value true config more
 
--- the settings of the pattern
-abbrev pub request_response_text : request_response.StaticConfig → List ℕ
-request_response_text c = request_response_front c ⌢ request_response_back c
+-- the settings of a list as an object
+abbrev pub object_text : {S C : Type 0} → (S → List ℕ) → (S → C → SettingValue) → List S → C → List ℕ
+object_text key value all config = codes "{" ⌢ members_text key value false config all ⌢ codes "}"
 
 -- the settings of any pattern
 abbrev pub settings_text : Settings → List ℕ
-settings_text (RequestResponse c) = request_response_text c
-settings_text (PublishSubscribe c) = publish_subscribe_text c
-settings_text (Event c) = event_text c
+settings_text (RequestResponse c) = object_text request_response.key request_response.value request_response.all c
+settings_text (PublishSubscribe c) = object_text publish_subscribe.key publish_subscribe.value publish_subscribe.all c
+settings_text (Event c) = object_text event.key event.value event.all c
 
 -- the word of a pattern
 abbrev pub pattern_text : MessagingPattern → List ℕ
 pattern_text pattern.RequestResponse = codes "\"request_response\""
 pattern_text pattern.PublishSubscribe = codes "\"publish_subscribe\""
 pattern_text pattern.Event = codes "\"event\""
-
--- a comma, where something stands before
-abbrev pub comma_if : Bool → List ℕ
-comma_if later = if later then codes "," else []
 
 -- an attribute: a list of its key and its value
 abbrev pub attribute_text : Attribute → List ℕ

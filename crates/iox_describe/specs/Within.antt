@@ -1,13 +1,15 @@
 -- What a description may be: texts, types and attributes within their limits, numbers of 64 bits, and
 -- the settings' numbers within those of the pattern.
-use Rattle.std.specs.Prelude.{◌≡◌, ℕ, ◌<◌, ◌^◌, length, slice_index, Option, IfSome}
+use Rattle.std.specs.Prelude.{◌≡◌, ℕ, ◌<◌, ◌^◌, List, [], ◌∷◌, length, slice_index, Option, IfSome}
 use Rattle.iox_describe_base.specs.declared.hash.ServiceHash.{ServiceHash}
 use Rattle.iox_describe_base.specs.declared.message_type.MessageTypeDetails.{MessageTypeDetails}
+use Rattle.iox_describe_base.specs.declared.setting.SettingValue.{SettingValue}
+use Rattle.iox_describe_base.specs.declared.setting.SettingValue.TheVariants.{Switch, Number, OptionalNumber, Types}
 use Rattle.iox_describe_base.specs.declared.static_config.Settings.{Settings}
 use Rattle.iox_describe_base.specs.declared.static_config.Settings.TheVariants.{RequestResponse, PublishSubscribe, Event}
-use Rattle.iox_describe_base.specs.declared.static_config.event.StaticConfig as event
-use Rattle.iox_describe_base.specs.declared.static_config.publish_subscribe.StaticConfig as publish_subscribe
-use Rattle.iox_describe_base.specs.declared.static_config.request_response.StaticConfig as request_response
+use Rattle.iox_describe_base.specs.EventSettings as event
+use Rattle.iox_describe_base.specs.PublishSubscribeSettings as publish_subscribe
+use Rattle.iox_describe_base.specs.RequestResponseSettings as request_response
 use Rattle.iox_describe_base.specs.Agreement.{Agreement, AreWithinLimits}
 use Rattle.iox_describe_base.specs.Attributes.{AreAttributes}
 use Rattle.iox_describe_base.specs.Detail.{Detail, IsDetail}
@@ -33,44 +35,23 @@ pub record AreTypes (t : MessageTypeDetails) : Type 0 where
   pub payload : IsTypeDetail t.payload
   pub user_header : IsTypeDetail t.user_header
 
--- the settings of the pattern
-pub record ArePublishSubscribe (c : publish_subscribe.StaticConfig) : Type 0 where
-  pub history_size : IsNumber c.history_size
-  pub max_nodes : IsNumber c.max_nodes
-  pub max_publishers : IsNumber c.max_publishers
-  pub max_subscribers : IsNumber c.max_subscribers
-  pub subscriber_max_borrowed_samples : IsNumber c.subscriber_max_borrowed_samples
-  pub subscriber_max_buffer_size : IsNumber c.subscriber_max_buffer_size
-  pub types : AreTypes c.types
+-- what a setting may be set to
+abbrev pub IsValue : SettingValue → Type 0
+IsValue (Switch b) = Unit {0}
+IsValue (Number n) = IsNumber n
+IsValue (OptionalNumber o) = IsOption o
+IsValue (Types t) = AreTypes t
 
--- the settings of the pattern
-pub record AreEvent (c : event.StaticConfig) : Type 0 where
-  pub deadline : IsOption c.deadline
-  pub event_id_max_value : IsNumber c.event_id_max_value
-  pub max_listeners : IsNumber c.max_listeners
-  pub max_nodes : IsNumber c.max_nodes
-  pub max_notifiers : IsNumber c.max_notifiers
-  pub notifier_created_event : IsOption c.notifier_created_event
-  pub notifier_dead_event : IsOption c.notifier_dead_event
-  pub notifier_dropped_event : IsOption c.notifier_dropped_event
-
--- the settings of the pattern
-pub record AreRequestResponse (c : request_response.StaticConfig) : Type 0 where
-  pub max_active_requests_per_client : IsNumber c.max_active_requests_per_client
-  pub max_borrowed_responses_per_pending_response : IsNumber c.max_borrowed_responses_per_pending_response
-  pub max_clients : IsNumber c.max_clients
-  pub max_loaned_requests : IsNumber c.max_loaned_requests
-  pub max_nodes : IsNumber c.max_nodes
-  pub max_response_buffer_size : IsNumber c.max_response_buffer_size
-  pub max_servers : IsNumber c.max_servers
-  pub request_types : AreTypes c.request_types
-  pub response_types : AreTypes c.response_types
+-- each setting of a list is set to such a value
+abbrev pub AreValues : {S C : Type 0} → (S → C → SettingValue) → C → List S → Type 0
+AreValues value config [] = Unit {0}
+AreValues value config (setting ∷ more) = IsValue (value setting config) × AreValues value config more
 
 -- the settings of any pattern
 abbrev pub AreSettings : Settings → Type 0
-AreSettings (RequestResponse c) = AreRequestResponse c
-AreSettings (PublishSubscribe c) = ArePublishSubscribe c
-AreSettings (Event c) = AreEvent c
+AreSettings (RequestResponse c) = AreValues request_response.value c request_response.all
+AreSettings (PublishSubscribe c) = AreValues publish_subscribe.value c publish_subscribe.all
+AreSettings (Event c) = AreValues event.value c event.all
 
 -- the twenty bytes of a hash
 pub record IsHash (h : ServiceHash) : Type 0 where

@@ -6,7 +6,8 @@
 //! | `reader` | the description of a line, if the line is spelled as `encode` spells it |
 //! | `error` | why a line was not read |
 //!
-//! The types stand in `iox_describe_base`, whose items are named again here.
+//! The types stand in `iox_describe_base`, and what an opener requires of a description in
+//! `iox_describe_verdict`; their items are named again here.
 #![tactic(auto)]
 
 pub mod error;
@@ -17,9 +18,10 @@ pub use error::DescriptionError;
 pub use iox_describe_base::{
     Attribute, AttributeKey, AttributeSpecifier, AttributeValue, AttributeVerifier, Description,
     Header, LimitError, MessageTypeDetails, MessagingPattern, ServiceHash, ServiceName, Settings,
-    TypeDetail, TypeVariant, ZeroCopySend, event, publish_subscribe, request_response, requirement,
+    TypeDetail, TypeVariant, ZeroCopySend, event, publish_subscribe, request_response,
     service_hash,
 };
+pub use iox_describe_verdict::requirement;
 pub use reader::{decode, is_within_limits};
 pub use writer::encode;
 

@@ -7,7 +7,7 @@ pub mod PublishSubscribe
 pub mod Event
 pub mod RequestResponse
 pub mod Agreement
-pub mod Verdict
-pub mod PublishSubscribeClauses
-pub mod EventClauses
-pub mod RequestResponseClauses
+pub mod Setting
+pub mod EventSettings
+pub mod PublishSubscribeSettings
+pub mod RequestResponseSettings

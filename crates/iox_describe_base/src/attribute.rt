@@ -6,7 +6,7 @@ ghost use Rattle.iox_describe_base.specs.Attributes.{IsAttribute};
 use crate::limits::{
     LimitError, MAX_ATTRIBUTE_KEY_LENGTH, MAX_ATTRIBUTE_VALUE_LENGTH, MAX_ATTRIBUTES,
 };
-use iox_container::StaticString;
+use iox_string::StaticString;
 use std::alloc::{AllocError, Global};
 use std::marker::Model;
 

@@ -3,7 +3,7 @@ ghost use Rattle.std.specs.Prelude.{◌≡◌, ◌↔◌, IsOk, IfOk};
 ghost use Rattle.iox_describe_base.specs.Limits.{IsText};
 
 use crate::limits::{LimitError, MAX_SERVICE_NAME_LENGTH};
-use iox_container::StaticString;
+use iox_string::StaticString;
 use std::marker::Model;
 
 /// The name of a service: 1 to 255 bytes of 1..=127. Contracts see it as the list of its bytes.

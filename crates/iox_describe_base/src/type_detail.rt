@@ -3,7 +3,7 @@ ghost use Rattle.std.specs.Prelude.{◌≡◌, ◌≤◌, ◌↔◌, IsOk, IfOk}
 ghost use Rattle.iox_describe_base.specs.Limits.{IsText};
 
 use crate::limits::{LimitError, MAX_TYPE_NAME_LENGTH};
-use iox_container::StaticString;
+use iox_string::StaticString;
 use std::marker::Model;
 
 /// Whether a value of a type is one element or a slice of them.

@@ -5,8 +5,8 @@ ghost use Rattle.iox_hub.specs.Service.{new_service, is_named, may_enter, entere
 
 use crate::agreement::Agreement;
 use crate::domain::Domain;
-use iox_container::StaticString;
 use iox_describe_base::MessagingPattern;
+use iox_string::StaticString;
 use std::alloc::{AllocError, Global};
 use std::marker::Model;
 

@@ -129,9 +129,10 @@ impl<T: Words, const CAPACITY: usize> FixedSizeContainer<T, CAPACITY> {
         self.container.update_state(state)
     }
 
-    /// Whether the container is locked for good.
+    /// Whether the container is locked for good; then it has no member.
     pub fn is_locked(&self) -> bool
-        ensures { result ≡ self.now.locked }
+        ensures value { result ≡ self.now.locked }
+        ensures none { result ≡ true → count_members self.now ≡ 0 }
     {
         self.container.is_locked()
     }

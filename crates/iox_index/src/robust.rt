@@ -1,5 +1,5 @@
 //! The set of indices whose capacity its type bounds, and which knows its holders.
-ghost use Rattle.std.specs.Prelude.{◌≡◌, ◌≤◌, ℕ, List, Option, Some, length, slice_set, true, IfOk, OnErr};
+ghost use Rattle.std.specs.Prelude.{◌≡◌, ◌≤◌, ℕ, List, Option, Some, length, slice_set, true, false, IfOk, OnErr};
 ghost use Rattle.std.specs.List.{FoldsTo};
 ghost use Rattle.iox_index_base.specs.Release.{state_of};
 ghost use Rattle.iox_index_base.specs.Robust.{RobustSetState, new_robust_set, is_held, lowest_free, borrowed, answer_of, freed, settled, held_by, Recovered};
@@ -106,9 +106,11 @@ impl<const CAPACITY: usize> StaticRobustUniqueIndexSet<CAPACITY> {
         self.set.borrowed_indices()
     }
 
-    /// Whether the set is locked for good.
+    /// Whether the set is locked for good; then no index is held.
     pub fn is_locked(&self) -> bool
-        ensures { result ≡ self.now.locked }
+        ensures value { result ≡ self.now.locked }
+        ensures none { result ≡ true → borrowed self.now ≡ 0 }
+        ensures unheld { result ≡ true → (index : ℕ) → is_held index self.now ≡ false }
     {
         self.set.is_locked()
     }

@@ -1,5 +1,5 @@
 //! The set of indices whose capacity its type bounds, and which hands out the last released first.
-ghost use Rattle.std.specs.Prelude.{◌≡◌, ◌≤◌, true, IfOk, OnErr};
+ghost use Rattle.std.specs.Prelude.{◌≡◌, ◌≤◌, ℕ, true, false, IfOk, OnErr};
 ghost use Rattle.iox_index_base.specs.Release.{state_of};
 ghost use Rattle.iox_index_base.specs.Unique.{UniqueSetState, new_unique_set, is_held, borrowed, answer_of, acquired, freed, settled, Takes};
 
@@ -88,9 +88,11 @@ impl<const CAPACITY: usize> FixedSizeUniqueIndexSet<CAPACITY> {
         self.set.borrowed_indices()
     }
 
-    /// Whether the set is locked for good.
+    /// Whether the set is locked for good; then no index is held.
     pub fn is_locked(&self) -> bool
-        ensures { result ≡ self.now.locked }
+        ensures value { result ≡ self.now.locked }
+        ensures none { result ≡ true → borrowed self.now ≡ 0 }
+        ensures unheld { result ≡ true → (index : ℕ) → is_held index self.now ≡ false }
     {
         self.set.is_locked()
     }

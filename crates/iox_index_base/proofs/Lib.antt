@@ -1,3 +1,4 @@
 pub mod FreeLists
+pub mod Locked
 pub mod Recovering
 pub mod Told

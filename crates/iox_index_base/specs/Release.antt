@@ -1,5 +1,5 @@
 -- What a release leaves.
-use Rattle.std.specs.Prelude.{ℕ, Bool, true, false, nat_eq}
+use Rattle.std.specs.Prelude.{ℕ, ◌≡◌, Bool, true, false, nat_eq}
 use Rattle.iox_index_base.specs.declared.release.ReleaseMode.{ReleaseMode}
 use Rattle.iox_index_base.specs.declared.release.ReleaseMode.TheVariants.{LockIfLastIndex, Default}
 use Rattle.iox_index_base.specs.declared.release.ReleaseState.{ReleaseState}
@@ -14,3 +14,7 @@ locks Default held = false
 abbrev pub state_of : Bool → ReleaseState
 state_of true = Locked
 state_of false = Unlocked
+
+-- if it is locked, then none is held
+abbrev pub IsUnheldIfLocked : Bool → ℕ → Type 0
+IsUnheldIfLocked locked held = locked ≡ true → held ≡ 0

@@ -55,11 +55,16 @@ pub struct Container<T: Words> {
 }
 
 impl<T: Words> Model for Container<T> {
+    ghost use Rattle.std.specs.Prelude.{is_some};
+    ghost use Rattle.std.specs.List.{count_by};
+    ghost use Rattle.iox_index_base.specs.Release.{IsUnheldIfLocked};
     ghost use Rattle.iox_index_base.specs.Container.{Contents};
 
     ghost Value = { Contents T };
 
     ghost view = { λ c. record { id = c.id; members = c.members.items; changes = c.changes; locked = c.locked } };
+
+    ghost invariant = { λ c. IsUnheldIfLocked c.locked (count_by is_some c.members.items) };
 }
 
 /// What was copied of a container.
@@ -242,9 +247,10 @@ impl<T: Words> Container<T> {
         true
     }
 
-    /// Whether the container is locked for good.
+    /// Whether the container is locked for good; then it has no member.
     pub fn is_locked(&self) -> bool
-        ensures { result ≡ self.now.locked }
+        ensures value { result ≡ self.now.locked }
+        ensures none { result ≡ true → count_members self.now ≡ 0 }
     {
         self.locked
     }

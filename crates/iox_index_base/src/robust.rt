@@ -21,13 +21,16 @@ pub struct RobustUniqueIndexSet {
 }
 
 impl Model for RobustUniqueIndexSet {
-    ghost use Rattle.std.specs.Prelude.{◌≡◌, true};
-    ghost use Rattle.iox_index_base.specs.Release.{locks, state_of};
-    ghost use Rattle.iox_index_base.specs.Robust.{RobustSetState, borrowed};
+    ghost use Rattle.std.specs.Prelude.{is_some};
+    ghost use Rattle.std.specs.List.{count_by};
+    ghost use Rattle.iox_index_base.specs.Release.{IsUnheldIfLocked};
+    ghost use Rattle.iox_index_base.specs.Robust.{RobustSetState};
 
     ghost Value = { RobustSetState };
 
     ghost view = { λ s. record { holders = s.cells.items; locked = s.locked } };
+
+    ghost invariant = { λ s. IsUnheldIfLocked s.locked (count_by is_some s.cells.items) };
 }
 
 impl RobustUniqueIndexSet {
@@ -124,9 +127,11 @@ impl RobustUniqueIndexSet {
         self.cells.iter().filter(|cell| cell.is_some()).count()
     }
 
-    /// Whether the set is locked for good.
+    /// Whether the set is locked for good; then no index is held.
     pub fn is_locked(&self) -> bool
-        ensures { result ≡ self.now.locked }
+        ensures value { result ≡ self.now.locked }
+        ensures none { result ≡ true → borrowed self.now ≡ 0 }
+        ensures unheld { result ≡ true → (index : ℕ) → is_held index self.now ≡ false }
     {
         self.locked
     }

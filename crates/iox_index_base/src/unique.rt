@@ -1,5 +1,5 @@
 //! Sets that hand out the last released index first.
-ghost use Rattle.std.specs.Prelude.{◌≡◌, ◌≤◌, ◌<◌, length, true, IfOk, OnErr};
+ghost use Rattle.std.specs.Prelude.{◌≡◌, ◌≤◌, ◌<◌, ℕ, length, true, false, IfOk, OnErr};
 ghost use Rattle.iox_index_base.specs.Release.{locks, state_of};
 ghost use Rattle.iox_index_base.specs.Unique.{UniqueSetState, new_unique_set, is_held, borrowed, answer_of, acquired, freed, settled, Takes};
 
@@ -21,15 +21,16 @@ pub struct UniqueIndexSet {
 }
 
 impl Model for UniqueIndexSet {
-    ghost use Rattle.std.specs.Prelude.{◌≤◌, length, reverse};
+    ghost use Rattle.std.specs.Prelude.{◌-◌, ◌≤◌, length, reverse};
     ghost use Rattle.std.specs.Vec.{vec_capacity};
+    ghost use Rattle.iox_index_base.specs.Release.{IsUnheldIfLocked};
     ghost use Rattle.iox_index_base.specs.Unique.{UniqueSetState, AreFree};
 
     ghost Value = { UniqueSetState };
 
     ghost view = { λ s. record { capacity = length s.held.items; free = reverse s.free.items; locked = s.locked } };
 
-    ghost invariant = { λ s. AreFree s.held.items (reverse s.free.items) × (length s.held.items ≤ vec_capacity s.free) };
+    ghost invariant = { λ s. AreFree s.held.items (reverse s.free.items) × (length s.held.items ≤ vec_capacity s.free) × IsUnheldIfLocked s.locked (length s.held.items - length (reverse s.free.items)) };
 }
 
 impl UniqueIndexSet {
@@ -123,9 +124,11 @@ impl UniqueIndexSet {
         self.held.len() - self.free.len()
     }
 
-    /// Whether the set is locked for good.
+    /// Whether the set is locked for good; then no index is held.
     pub fn is_locked(&self) -> bool
-        ensures { result ≡ self.now.locked }
+        ensures value { result ≡ self.now.locked }
+        ensures none { result ≡ true → borrowed self.now ≡ 0 }
+        ensures unheld { result ≡ true → (index : ℕ) → is_held index self.now ≡ false }
     {
         self.locked
     }

@@ -3,8 +3,8 @@ ghost use Rattle.std.specs.Prelude.{◌≡◌, ◌+◌, ◌∷◌, [], ◌≤◌
 ghost use Rattle.iox_script.specs.Words.{words_of, same, is_digit, below_limit, digits_from, number_of, tagged, is_name_byte, name_of, buffer_of};
 ghost use Rattle.std.specs.List.{list_all};
 
-use iox_container::StaticString;
 use iox_hub::ServiceName;
+use iox_string::StaticString;
 
 /// The bytes before the first space, and those after it, if there is one.
 pub(crate) fn first_word(line: &[u8]) -> (&[u8], Option<&[u8]>)

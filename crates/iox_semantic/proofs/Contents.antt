@@ -2,10 +2,10 @@ use Rattle.std.proofs.Common.{Bool, ℕ, ◌≡◌, ◌+◌, ◌<◌, ◌≤◌,
 use Rattle.std.proofs.lemmas.List.{drop_at, take_at, length-append, length-drop, length-take-le}
 use Rattle.std.proofs.lemmas.List.Elements.{All-drop, All-take}
 use Rattle.std.specs.Prelude.{All, IsErrAnd, IsOk}
-use Rattle.iox_container.specs.declared.string.error.StringModificationError.{StringModificationError}
-use Rattle.iox_container.specs.declared.string.error.StringModificationError.TheVariants as changing
-use Rattle.iox_container.specs.StringBytes.{IsStringByte, IsStringBytes}
-use Rattle.iox_container.specs.Text.{AnswersInsertion, bytes_inserted}
+use Rattle.iox_string.specs.declared.error.StringModificationError.{StringModificationError}
+use Rattle.iox_string.specs.declared.error.StringModificationError.TheVariants as changing
+use Rattle.iox_string.specs.StringBytes.{IsStringByte, IsStringBytes}
+use Rattle.iox_string.specs.Text.{AnswersInsertion, bytes_inserted}
 use Rattle.iox_semantic.specs.declared.error.SemanticStringError.{SemanticStringError}
 use Rattle.iox_semantic.specs.declared.error.SemanticStringError.TheVariants.{InvalidContent, ExceedsMaximumLength}
 use Rattle.iox_semantic.specs.Accepted.{AnswersContent}

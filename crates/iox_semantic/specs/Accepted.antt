@@ -1,5 +1,5 @@
 use Rattle.std.specs.Prelude.{ℕ, ◌≡◌, ◌<◌, ◌≤◌, ◌↔◌, List, Bool, false, length, Result, Err, IsOk}
-use Rattle.iox_container.specs.StringBytes.{IsStringBytes}
+use Rattle.iox_string.specs.StringBytes.{IsStringBytes}
 use Rattle.iox_semantic.specs.declared.error.SemanticStringError.{SemanticStringError}
 use Rattle.iox_semantic.specs.declared.error.SemanticStringError.TheVariants.{InvalidContent, ExceedsMaximumLength}
 

@@ -1,6 +1,6 @@
 use Rattle.std.specs.Prelude.{ℕ, List, codes}
-use Rattle.iox_container.specs.declared.string.error.StringModificationError.{StringModificationError}
-use Rattle.iox_container.specs.declared.string.error.StringModificationError.TheVariants as changing
+use Rattle.iox_string.specs.declared.error.StringModificationError.{StringModificationError}
+use Rattle.iox_string.specs.declared.error.StringModificationError.TheVariants as changing
 use Rattle.iox_semantic.specs.declared.error.SemanticStringError.{SemanticStringError}
 use Rattle.iox_semantic.specs.declared.error.SemanticStringError.TheVariants.{InvalidContent, ExceedsMaximumLength}
 

@@ -2,7 +2,7 @@
 ghost use Rattle.std.specs.Prelude.{◌≡◌};
 ghost use Rattle.iox_semantic.specs.Refusals.{error_text, refusal_of};
 
-use iox_container::StringModificationError;
+use iox_string::StringModificationError;
 use thiserror::Error;
 
 /// Why a semantic string was not made or not changed; a string that stood before is then as it was.

@@ -1,8 +1,8 @@
 //! What makes a text acceptable, and which texts say the same.
 ghost use Rattle.std.specs.Prelude.{◌≡◌, ℕ, ◌≤◌, List, length, Bool};
-ghost use Rattle.iox_container.specs.StringBytes.{IsStringBytes};
+ghost use Rattle.iox_string.specs.StringBytes.{IsStringBytes};
 
-use iox_container::StaticString;
+use iox_string::StaticString;
 
 /// The rules of a kind of text, as of file names or service names.
 ///

@@ -8,13 +8,12 @@ ghost use Rattle.std.proofs.Common.{rules};
 ghost use Rattle.std.specs.Bool.{OnTrue, OnFalse};
 ghost use Rattle.std.specs.Cmp.{on_equiv, on_per, on_po, on_total, partial_equiv_from_equiv};
 ghost use Rattle.std.specs.Cmp.Lexicographic.{pointwise, slice_cmp, nat_list_eq_equiv, nat_list_cmp_total, texts_po, texts_ties};
-ghost use Rattle.iox_container.specs.StringBytes.{IsStringBytes};
-ghost use Rattle.iox_container.specs.Text.{bytes_inserted, range_replaced};
+ghost use Rattle.iox_string.specs.StringBytes.{IsStringBytes};
+ghost use Rattle.iox_string.specs.Text.{bytes_inserted, range_replaced};
 ghost use Rattle.iox_semantic.specs.Accepted.{AnswersContent, IsAccepted};
 
 use crate::{Rules, SemanticStringError};
-use iox_container::StaticString;
-use iox_container::string::String;
+use iox_string::{StaticString, String};
 use std::cmp::Ordering;
 use std::hash::{Hash, Hasher};
 use std::marker::{Model, PhantomData};

@@ -1,4 +1,6 @@
 use super::*;
+use crate::StaticString;
+use crate::string::String;
 use std::cell::RefCell;
 use std::test::Fail;
 
@@ -89,6 +91,24 @@ fn goes_through_its_list_form(rt: HostRuntime) -> Result<(), Fail> {
     assert!(rt; long.contains("list longer than capacity"));
     assert!(rt; serde_json::from_str::<StaticVec<u8, 2>>(rt.alloc(), "7").is_err());
     assert!(rt; serde_json::from_str::<StaticVec<u8, 2>>(rt.alloc(), "[300]").is_err());
+    Ok(())
+}
+
+#[test]
+fn holds_strings(rt: HostRuntime) -> Result<(), Fail> {
+    let mut names = StaticVec::<StaticString<4>, 2>::new(rt.alloc())?;
+    names.push(StaticString::from_bytes(b"nam")?)?;
+    names.as_mut_slice()[0].push(b'e')?;
+    assert_eq!(rt;
+        serde_json::to_string(rt.alloc(), &names)?.as_str(),
+        "[\"name\"]"
+    );
+    assert!(rt;
+        serde_json::from_str::<StaticVec<StaticString<4>, 2>>(rt.alloc(), "[\"name\"]")? == names
+    );
+    assert!(rt;
+        serde_json::from_str::<StaticVec<StaticString<4>, 2>>(rt.alloc(), "[\"names\"]").is_err()
+    );
     Ok(())
 }
 

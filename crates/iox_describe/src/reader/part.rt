@@ -82,7 +82,7 @@ impl<'a> Reader<'a> {
     }
 
     /// A number that stands behind a text.
-    pub(super) fn number(&mut self, before: &[u8]) -> u64
+    fn number(&mut self, before: &[u8]) -> u64
         ensures { (number : ℕ) (rest : List ℕ) → IsNumber number → Ends rest → self.old.rest.now ≡ before.now ++ (decimal number ++ rest)
             → (result ≡ number) × (self.new.rest.now ≡ rest) }
     {
@@ -91,7 +91,7 @@ impl<'a> Reader<'a> {
     }
 
     /// The digits in front, as a number.
-    fn digits(&mut self) -> u64
+    pub(super) fn digits(&mut self) -> u64
         ensures { (number : ℕ) (rest : List ℕ) → IsNumber number → Ends rest → self.old.rest.now ≡ decimal number ++ rest
             → (result ≡ number) × (self.new.rest.now ≡ rest) }
     {
@@ -100,12 +100,10 @@ impl<'a> Reader<'a> {
         value_of(digits)
     }
 
-    /// A switch that stands behind a text.
-    pub(super) fn switch(&mut self, before: &[u8]) -> bool
-        ensures { (switch : Bool) (rest : List ℕ) → self.old.rest.now ≡ before.now ++ (switch_text switch ++ rest)
-            → (result ≡ switch) × (self.new.rest.now ≡ rest) }
+    /// A switch.
+    pub(super) fn switch(&mut self) -> bool
+        ensures { (switch : Bool) → Takes switch (switch_text switch) self.old.rest.now self.new.rest.now result }
     {
-        self.literal(before);
         if self.is_next(b"true") {
             return true;
         }
@@ -113,12 +111,11 @@ impl<'a> Reader<'a> {
         false
     }
 
-    /// An option that stands behind a text: `null` or a number.
-    pub(super) fn option(&mut self, before: &[u8]) -> Option<u64>
-        ensures { (option : Option ℕ) (rest : List ℕ) → IsOption option → Ends rest → self.old.rest.now ≡ before.now ++ (option_text option ++ rest)
+    /// An option: `null` or a number.
+    pub(super) fn option(&mut self) -> Option<u64>
+        ensures { (option : Option ℕ) (rest : List ℕ) → IsOption option → Ends rest → self.old.rest.now ≡ option_text option ++ rest
             → (result ≡ option) × (self.new.rest.now ≡ rest) }
     {
-        self.literal(before);
         if self.is_at(b'n') {
             self.literal(b"null");
             return None;
@@ -166,12 +163,11 @@ impl<'a> Reader<'a> {
         detail_of(variant, name.as_bytes(), size, alignment)
     }
 
-    /// The types of a message that stand behind a text.
-    pub(super) fn types(&mut self, before: &[u8]) -> MessageTypeDetails
-        ensures { (types : MessageTypeDetails) (rest : List ℕ) → AreTypes types → self.old.rest.now ≡ before.now ++ (types_text types ++ rest)
+    /// The types of a message.
+    pub(super) fn types(&mut self) -> MessageTypeDetails
+        ensures { (types : MessageTypeDetails) (rest : List ℕ) → AreTypes types → self.old.rest.now ≡ types_text types ++ rest
             → (result ≡ types) × (self.new.rest.now ≡ rest) }
     {
-        self.literal(before);
         let header = self.detail(b"{\"header\":");
         let payload = self.detail(b",\"payload\":");
         let user_header = self.detail(b",\"user_header\":");

@@ -1,15 +1,18 @@
-//! The settings of each pattern, read from the front of the bytes that are left.
-ghost use Rattle.std.specs.Prelude.{◌≡◌, ℕ, ◌++◌, List};
+//! Settings, read from the front of the bytes that are left: each setting of the pattern's list in turn.
+ghost use Rattle.std.specs.Prelude.{◌≡◌, ℕ, ◌++◌, ◌∷◌, List, false};
+ghost use Rattle.iox_describe_base.specs.declared.setting.SettingValue.{SettingValue};
 ghost use Rattle.iox_describe_base.specs.declared.static_config.Settings.{Settings};
-ghost use Rattle.iox_describe_base.specs.declared.static_config.event.StaticConfig as event;
-ghost use Rattle.iox_describe_base.specs.declared.static_config.publish_subscribe.StaticConfig as publish_subscribe;
-ghost use Rattle.iox_describe_base.specs.declared.static_config.request_response.StaticConfig as request_response;
 ghost use Rattle.iox_describe_base.specs.Agreement.{pattern_of};
-ghost use Rattle.iox_describe.specs.Line.{event_text, publish_subscribe_text, request_response_text, settings_text};
-ghost use Rattle.iox_describe.specs.Within.{AreEvent, ArePublishSubscribe, AreRequestResponse, AreSettings};
+ghost use Rattle.iox_describe_base.specs.Setting.{SameKind};
+ghost use Rattle.iox_describe.specs.Line.{members_text, object_text, settings_text, value_text};
+ghost use Rattle.iox_describe.specs.Reading.{Ends};
+ghost use Rattle.iox_describe.specs.Within.{AreSettings, AreValues, IsValue};
 
 use crate::reader::part::Reader;
-use iox_describe_base::{MessagingPattern, Settings, event, publish_subscribe, request_response};
+use iox_describe_base::{
+    MessageTypeDetails, MessagingPattern, PatternSetting, SettingValue, Settings, TypeVariant,
+    event, publish_subscribe, request_response,
+};
 
 impl<'a> Reader<'a> {
     /// The settings of a service of the pattern.
@@ -19,104 +22,64 @@ impl<'a> Reader<'a> {
     {
         match pattern {
             MessagingPattern::RequestResponse => {
-                Settings::RequestResponse(self.request_response_settings())
+                let config = request_response::StaticConfig::new(some_types(), some_types());
+                Settings::RequestResponse(self.object::<request_response::Setting>(config))
             }
             MessagingPattern::PublishSubscribe => {
-                Settings::PublishSubscribe(self.publish_subscribe_settings())
+                let config = publish_subscribe::StaticConfig::new(some_types());
+                Settings::PublishSubscribe(self.object::<publish_subscribe::Setting>(config))
             }
-            MessagingPattern::Event => Settings::Event(self.event_settings()),
+            MessagingPattern::Event => {
+                let config = event::StaticConfig::new();
+                Settings::Event(self.object::<event::Setting>(config))
+            }
         }
     }
 
-    /// The settings of a service of this pattern.
-    fn publish_subscribe_settings(&mut self) -> publish_subscribe::StaticConfig
-        ensures { (config : publish_subscribe.StaticConfig) (rest : List ℕ) → ArePublishSubscribe config → self.old.rest.now ≡ publish_subscribe_text config ++ rest
-            → (result ≡ config) × (self.new.rest.now ≡ rest) }
+    /// The settings of a service of a pattern, in the place of those that are given.
+    fn object<S: PatternSetting>(&mut self, config: S::Config) -> S::Config
+        ensures { (target : S.Config) (rest : List ℕ) → AreValues S.value target S.all → self.old.rest.now ≡ object_text S.key S.value S.all target ++ rest
+            → (result ≡ target) × (self.new.rest.now ≡ rest) }
     {
-        let enable_safe_overflow = self.switch(b"{\"enable_safe_overflow\":");
-        let history_size = self.number(b",\"history_size\":");
-        let max_nodes = self.number(b",\"max_nodes\":");
-        let max_publishers = self.number(b",\"max_publishers\":");
-        let max_subscribers = self.number(b",\"max_subscribers\":");
-        let subscriber_max_borrowed_samples = self.number(b",\"subscriber_max_borrowed_samples\":");
-        let subscriber_max_buffer_size = self.number(b",\"subscriber_max_buffer_size\":");
-        let types = self.types(b",\"types\":");
+        self.literal(b"{");
+        let config = self.members::<S>(config);
         self.literal(b"}");
-        publish_subscribe::StaticConfig {
-            enable_safe_overflow,
-            history_size,
-            max_nodes,
-            max_publishers,
-            max_subscribers,
-            subscriber_max_borrowed_samples,
-            subscriber_max_buffer_size,
-            types,
-        }
+        config
     }
 
-    /// The settings of a service of this pattern.
-    fn event_settings(&mut self) -> event::StaticConfig
-        ensures { (config : event.StaticConfig) (rest : List ℕ) → AreEvent config → self.old.rest.now ≡ event_text config ++ rest
-            → (result ≡ config) × (self.new.rest.now ≡ rest) }
+    /// Each setting of the list, in the place of those that are given.
+    fn members<S: PatternSetting>(&mut self, config: S::Config) -> S::Config
+        ensures { (target : S.Config) (rest : List ℕ) → AreValues S.value target S.all → self.old.rest.now ≡ members_text S.key S.value false target S.all ++ 125 ∷ rest
+            → (result ≡ target) × (self.new.rest.now ≡ 125 ∷ rest) }
     {
-        let deadline = self.option(b"{\"deadline\":");
-        let event_id_max_value = self.number(b",\"event_id_max_value\":");
-        let max_listeners = self.number(b",\"max_listeners\":");
-        let max_nodes = self.number(b",\"max_nodes\":");
-        let max_notifiers = self.number(b",\"max_notifiers\":");
-        let notifier_created_event = self.option(b",\"notifier_created_event\":");
-        let notifier_dead_event = self.option(b",\"notifier_dead_event\":");
-        let notifier_dropped_event = self.option(b",\"notifier_dropped_event\":");
-        self.literal(b"}");
-        event::StaticConfig {
-            deadline,
-            event_id_max_value,
-            max_listeners,
-            max_nodes,
-            max_notifiers,
-            notifier_created_event,
-            notifier_dead_event,
-            notifier_dropped_event,
+        let mut config = config;
+        let mut before: &[u8] = b"\"";
+        for setting in S::all() {
+            self.literal(before);
+            self.literal(setting.key());
+            self.literal(b"\":");
+            let value = self.value(setting.value(&config));
+            setting.set(&mut config, value);
+            before = b",\"";
         }
+        config
     }
 
-    /// The settings of a service of this pattern.
-    fn request_response_settings(&mut self) -> request_response::StaticConfig
-        ensures { (config : request_response.StaticConfig) (rest : List ℕ) → AreRequestResponse config → self.old.rest.now ≡ request_response_text config ++ rest
-            → (result ≡ config) × (self.new.rest.now ≡ rest) }
+    /// A value of the same kind as another.
+    fn value(&mut self, like: SettingValue) -> SettingValue
+        ensures { (value : SettingValue) (rest : List ℕ) → SameKind like value → IsValue value → Ends rest → self.old.rest.now ≡ value_text value ++ rest
+            → (result ≡ value) × (self.new.rest.now ≡ rest) }
     {
-        let enable_fire_and_forget_requests = self.switch(b"{\"enable_fire_and_forget_requests\":");
-        let enable_safe_overflow_for_requests = self.switch(
-            b",\"enable_safe_overflow_for_requests\":",
-        );
-        let enable_safe_overflow_for_responses = self.switch(
-            b",\"enable_safe_overflow_for_responses\":",
-        );
-        let max_active_requests_per_client = self.number(b",\"max_active_requests_per_client\":");
-        let max_borrowed_responses_per_pending_response = self.number(
-            b",\"max_borrowed_responses_per_pending_response\":",
-        );
-        let max_clients = self.number(b",\"max_clients\":");
-        let max_loaned_requests = self.number(b",\"max_loaned_requests\":");
-        let max_nodes = self.number(b",\"max_nodes\":");
-        let max_response_buffer_size = self.number(b",\"max_response_buffer_size\":");
-        let max_servers = self.number(b",\"max_servers\":");
-        let request_types = self.types(b",\"request_types\":");
-        let response_types = self.types(b",\"response_types\":");
-        self.literal(b"}");
-        request_response::StaticConfig {
-            enable_fire_and_forget_requests,
-            enable_safe_overflow_for_requests,
-            enable_safe_overflow_for_responses,
-            max_active_requests_per_client,
-            max_borrowed_responses_per_pending_response,
-            max_clients,
-            max_loaned_requests,
-            max_nodes,
-            max_response_buffer_size,
-            max_servers,
-            request_types,
-            response_types,
+        match like {
+            SettingValue::Switch(_) => SettingValue::Switch(self.switch()),
+            SettingValue::Number(_) => SettingValue::Number(self.digits()),
+            SettingValue::OptionalNumber(_) => SettingValue::OptionalNumber(self.option()),
+            SettingValue::Types(_) => SettingValue::Types(self.types()),
         }
     }
+}
+
+/// Types that stand in a place until those of a message are read.
+fn some_types() -> MessageTypeDetails {
+    MessageTypeDetails::from::<u8, u8, u8>(TypeVariant::FixedSize)
 }

@@ -2,11 +2,10 @@
 ghost use Rattle.std.specs.Prelude.{◌≡◌, ℕ, ◌/◌, ◌%◌, ◌<◌, ◌≤◌, ◌++◌, ◌∷◌, List, length};
 ghost use Rattle.std.specs.Char.{digit_char};
 ghost use Rattle.json.specs.Print.{escape, escape_byte, escape_letter};
-ghost use Rattle.iox_container.specs.StringBytes.{IsStringBytes};
+ghost use Rattle.iox_string.specs.StringBytes.{IsStringBytes};
 
 use crate::reader::part::Reader;
-use iox_container::StaticString;
-use iox_container::string::String;
+use iox_string::{StaticString, String};
 
 impl<'a> Reader<'a> {
     /// A text that stands behind another.

@@ -24,11 +24,10 @@ pub(super) fn push_number(out: &mut Vec<u8>, before: &[u8], number: u64) -> Resu
     out.extend_from_slice(buffer.format(number).as_bytes())
 }
 
-/// Appends a switch, after some bytes.
-pub(super) fn push_switch(out: &mut Vec<u8>, before: &[u8], switch: bool) -> Result<(), AllocError>
-    ensures { OnOk result (out.new.items ≡ out.old.items ++ before.now ++ switch_text switch) }
+/// Appends a switch.
+pub(super) fn push_switch(out: &mut Vec<u8>, switch: bool) -> Result<(), AllocError>
+    ensures { OnOk result (out.new.items ≡ out.old.items ++ switch_text switch) }
 {
-    out.extend_from_slice(before)?;
     if switch {
         push_bytes(out, b"true")
     } else {
@@ -36,20 +35,13 @@ pub(super) fn push_switch(out: &mut Vec<u8>, before: &[u8], switch: bool) -> Res
     }
 }
 
-/// Appends an option, after some bytes.
-pub(super) fn push_option(
-    out: &mut Vec<u8>,
-    before: &[u8],
-    option: Option<u64>,
-) -> Result<(), AllocError>
-    ensures { OnOk result (out.new.items ≡ out.old.items ++ before.now ++ option_text option) }
+/// Appends an option.
+pub(super) fn push_option(out: &mut Vec<u8>, option: Option<u64>) -> Result<(), AllocError>
+    ensures { OnOk result (out.new.items ≡ out.old.items ++ option_text option) }
 {
     match option {
-        Some(number) => push_number(out, before, number),
-        None => {
-            out.extend_from_slice(before)?;
-            push_bytes(out, b"null")
-        }
+        Some(number) => push_number(out, b"", number),
+        None => push_bytes(out, b"null"),
     }
 }
 
@@ -139,16 +131,11 @@ fn push_detail(out: &mut Vec<u8>, before: &[u8], detail: &TypeDetail) -> Result<
     Ok(())
 }
 
-/// Appends the types of a message, after some bytes.
+/// Appends the types of a message.
 #[tactic(auto, unfolding(crate::specs::Line::types_text))]
-pub(super) fn push_types(
-    out: &mut Vec<u8>,
-    before: &[u8],
-    types: &MessageTypeDetails,
-) -> Result<(), AllocError>
-    ensures { OnOk result (out.new.items ≡ out.old.items ++ before.now ++ types_text types.now) }
+pub(super) fn push_types(out: &mut Vec<u8>, types: &MessageTypeDetails) -> Result<(), AllocError>
+    ensures { OnOk result (out.new.items ≡ out.old.items ++ types_text types.now) }
 {
-    push_bytes(out, before)?;
     push_detail(out, b"{\"header\":", &types.header)?;
     push_detail(out, b",\"payload\":", &types.payload)?;
     push_detail(out, b",\"user_header\":", &types.user_header)?;

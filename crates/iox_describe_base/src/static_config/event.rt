@@ -2,6 +2,7 @@
 ghost use Rattle.std.specs.Prelude.{◌≡◌, ◌↔◌, IsTrue};
 
 use crate::limits::NUMBER_OF_PORTS_END;
+use crate::setting::{PatternSetting, SettingValue};
 
 /// The settings of an event service.
 ///
@@ -70,4 +71,108 @@ impl StaticConfig {
             && self.max_nodes < NUMBER_OF_PORTS_END
             && 1 <= self.max_notifiers
     }
+}
+
+/// A setting of an event service.
+#[derive(Clone, Copy, PartialEq, Eq)]
+pub enum Setting {
+    /// `deadline`
+    Deadline,
+    /// `event_id_max_value`
+    EventIdMaxValue,
+    /// `max_listeners`
+    MaxListeners,
+    /// `max_nodes`
+    MaxNodes,
+    /// `max_notifiers`
+    MaxNotifiers,
+    /// `notifier_created_event`
+    NotifierCreatedEvent,
+    /// `notifier_dead_event`
+    NotifierDeadEvent,
+    /// `notifier_dropped_event`
+    NotifierDroppedEvent,
+}
+
+impl PatternSetting for Setting {
+    ghost use Rattle.std.specs.Prelude.{refl};
+    ghost use Rattle.iox_describe_base.specs.EventSettings.{all, changed, key, value};
+    ghost use Rattle.iox_describe_base.specs.declared.static_config.event.Setting.TheVariants.{Deadline, EventIdMaxValue, MaxListeners, MaxNodes, MaxNotifiers, NotifierCreatedEvent, NotifierDeadEvent, NotifierDroppedEvent};
+
+    type Config = StaticConfig;
+
+    ghost all = { all };
+
+    ghost key = { key };
+
+    ghost value = { value };
+
+    ghost changed = { changed };
+
+    fn all() -> &'static [Self] {
+        &[
+            Setting::Deadline,
+            Setting::EventIdMaxValue,
+            Setting::MaxListeners,
+            Setting::MaxNodes,
+            Setting::MaxNotifiers,
+            Setting::NotifierCreatedEvent,
+            Setting::NotifierDeadEvent,
+            Setting::NotifierDroppedEvent,
+        ]
+    }
+
+    fn key(self) -> &'static [u8] {
+        match self {
+            Setting::Deadline => b"deadline",
+            Setting::EventIdMaxValue => b"event_id_max_value",
+            Setting::MaxListeners => b"max_listeners",
+            Setting::MaxNodes => b"max_nodes",
+            Setting::MaxNotifiers => b"max_notifiers",
+            Setting::NotifierCreatedEvent => b"notifier_created_event",
+            Setting::NotifierDeadEvent => b"notifier_dead_event",
+            Setting::NotifierDroppedEvent => b"notifier_dropped_event",
+        }
+    }
+
+    fn value(self, config: &StaticConfig) -> SettingValue {
+        match self {
+            Setting::Deadline => SettingValue::OptionalNumber(config.deadline),
+            Setting::EventIdMaxValue => SettingValue::Number(config.event_id_max_value),
+            Setting::MaxListeners => SettingValue::Number(config.max_listeners),
+            Setting::MaxNodes => SettingValue::Number(config.max_nodes),
+            Setting::MaxNotifiers => SettingValue::Number(config.max_notifiers),
+            Setting::NotifierCreatedEvent => SettingValue::OptionalNumber(
+                config.notifier_created_event,
+            ),
+            Setting::NotifierDeadEvent => SettingValue::OptionalNumber(config.notifier_dead_event),
+            Setting::NotifierDroppedEvent => SettingValue::OptionalNumber(
+                config.notifier_dropped_event,
+            ),
+        }
+    }
+
+    fn set(self, config: &mut StaticConfig, to: SettingValue) {
+        match (self, to) {
+            (Setting::Deadline, SettingValue::OptionalNumber(option)) => config.deadline = option,
+            (Setting::EventIdMaxValue, SettingValue::Number(number)) => config.event_id_max_value =
+                number,
+            (Setting::MaxListeners, SettingValue::Number(number)) => config.max_listeners = number,
+            (Setting::MaxNodes, SettingValue::Number(number)) => config.max_nodes = number,
+            (Setting::MaxNotifiers, SettingValue::Number(number)) => config.max_notifiers = number,
+            (Setting::NotifierCreatedEvent, SettingValue::OptionalNumber(option)) =>
+                config.notifier_created_event = option,
+            (Setting::NotifierDeadEvent, SettingValue::OptionalNumber(option)) =>
+                config.notifier_dead_event = option,
+            (Setting::NotifierDroppedEvent, SettingValue::OptionalNumber(option)) =>
+                config.notifier_dropped_event = option,
+            _ => {}
+        }
+    }
+
+    ghost in_order = { refl };
+
+    ghost one_kind = { elim [ Deadline ↦ λ a b. tt | EventIdMaxValue ↦ λ a b. tt | MaxListeners ↦ λ a b. tt | MaxNodes ↦ λ a b. tt | MaxNotifiers ↦ λ a b. tt | NotifierCreatedEvent ↦ λ a b. tt | NotifierDeadEvent ↦ λ a b. tt | NotifierDroppedEvent ↦ λ a b. tt ] };
+
+    ghost is_whole = { λ target config. refl };
 }

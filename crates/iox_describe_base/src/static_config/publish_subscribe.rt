@@ -3,6 +3,7 @@ ghost use Rattle.std.specs.Prelude.{◌≡◌, ◌↔◌, IsTrue};
 
 use crate::limits::{NUMBER_OF_PORTS_END, NUMBER_OF_SAMPLES_END};
 use crate::message_type::MessageTypeDetails;
+use crate::setting::{PatternSetting, SettingValue};
 
 /// The settings of a publish-subscribe service.
 ///
@@ -78,4 +79,109 @@ impl StaticConfig {
             && 1 <= self.subscriber_max_buffer_size
             && self.subscriber_max_buffer_size < NUMBER_OF_SAMPLES_END
     }
+}
+
+/// A setting of a publish-subscribe service.
+#[derive(Clone, Copy, PartialEq, Eq)]
+pub enum Setting {
+    /// `enable_safe_overflow`
+    EnableSafeOverflow,
+    /// `history_size`
+    HistorySize,
+    /// `max_nodes`
+    MaxNodes,
+    /// `max_publishers`
+    MaxPublishers,
+    /// `max_subscribers`
+    MaxSubscribers,
+    /// `subscriber_max_borrowed_samples`
+    SubscriberMaxBorrowedSamples,
+    /// `subscriber_max_buffer_size`
+    SubscriberMaxBufferSize,
+    /// `types`
+    Types,
+}
+
+impl PatternSetting for Setting {
+    ghost use Rattle.std.specs.Prelude.{refl};
+    ghost use Rattle.iox_describe_base.specs.PublishSubscribeSettings.{all, changed, key, value};
+    ghost use Rattle.iox_describe_base.specs.declared.static_config.publish_subscribe.Setting.TheVariants.{EnableSafeOverflow, HistorySize, MaxNodes, MaxPublishers, MaxSubscribers, SubscriberMaxBorrowedSamples, SubscriberMaxBufferSize, Types};
+
+    type Config = StaticConfig;
+
+    ghost all = { all };
+
+    ghost key = { key };
+
+    ghost value = { value };
+
+    ghost changed = { changed };
+
+    fn all() -> &'static [Self] {
+        &[
+            Setting::EnableSafeOverflow,
+            Setting::HistorySize,
+            Setting::MaxNodes,
+            Setting::MaxPublishers,
+            Setting::MaxSubscribers,
+            Setting::SubscriberMaxBorrowedSamples,
+            Setting::SubscriberMaxBufferSize,
+            Setting::Types,
+        ]
+    }
+
+    fn key(self) -> &'static [u8] {
+        match self {
+            Setting::EnableSafeOverflow => b"enable_safe_overflow",
+            Setting::HistorySize => b"history_size",
+            Setting::MaxNodes => b"max_nodes",
+            Setting::MaxPublishers => b"max_publishers",
+            Setting::MaxSubscribers => b"max_subscribers",
+            Setting::SubscriberMaxBorrowedSamples => b"subscriber_max_borrowed_samples",
+            Setting::SubscriberMaxBufferSize => b"subscriber_max_buffer_size",
+            Setting::Types => b"types",
+        }
+    }
+
+    fn value(self, config: &StaticConfig) -> SettingValue {
+        match self {
+            Setting::EnableSafeOverflow => SettingValue::Switch(config.enable_safe_overflow),
+            Setting::HistorySize => SettingValue::Number(config.history_size),
+            Setting::MaxNodes => SettingValue::Number(config.max_nodes),
+            Setting::MaxPublishers => SettingValue::Number(config.max_publishers),
+            Setting::MaxSubscribers => SettingValue::Number(config.max_subscribers),
+            Setting::SubscriberMaxBorrowedSamples => SettingValue::Number(
+                config.subscriber_max_borrowed_samples,
+            ),
+            Setting::SubscriberMaxBufferSize => SettingValue::Number(
+                config.subscriber_max_buffer_size,
+            ),
+            Setting::Types => SettingValue::Types(config.types),
+        }
+    }
+
+    fn set(self, config: &mut StaticConfig, to: SettingValue) {
+        match (self, to) {
+            (Setting::EnableSafeOverflow, SettingValue::Switch(switch)) =>
+                config.enable_safe_overflow = switch,
+            (Setting::HistorySize, SettingValue::Number(number)) => config.history_size = number,
+            (Setting::MaxNodes, SettingValue::Number(number)) => config.max_nodes = number,
+            (Setting::MaxPublishers, SettingValue::Number(number)) => config.max_publishers =
+                number,
+            (Setting::MaxSubscribers, SettingValue::Number(number)) => config.max_subscribers =
+                number,
+            (Setting::SubscriberMaxBorrowedSamples, SettingValue::Number(number)) =>
+                config.subscriber_max_borrowed_samples = number,
+            (Setting::SubscriberMaxBufferSize, SettingValue::Number(number)) =>
+                config.subscriber_max_buffer_size = number,
+            (Setting::Types, SettingValue::Types(types)) => config.types = types,
+            _ => {}
+        }
+    }
+
+    ghost in_order = { refl };
+
+    ghost one_kind = { elim [ EnableSafeOverflow ↦ λ a b. tt | HistorySize ↦ λ a b. tt | MaxNodes ↦ λ a b. tt | MaxPublishers ↦ λ a b. tt | MaxSubscribers ↦ λ a b. tt | SubscriberMaxBorrowedSamples ↦ λ a b. tt | SubscriberMaxBufferSize ↦ λ a b. tt | Types ↦ λ a b. tt ] };
+
+    ghost is_whole = { λ target config. refl };
 }

@@ -3,6 +3,7 @@ ghost use Rattle.std.specs.Prelude.{◌≡◌, ◌↔◌, IsTrue};
 
 use crate::limits::NUMBER_OF_PORTS_END;
 use crate::message_type::MessageTypeDetails;
+use crate::setting::{PatternSetting, SettingValue};
 
 /// The settings of a request-response service.
 ///
@@ -93,4 +94,142 @@ impl StaticConfig {
             && 1 <= self.max_response_buffer_size
             && 1 <= self.max_servers
     }
+}
+
+/// A setting of a request-response service.
+#[derive(Clone, Copy, PartialEq, Eq)]
+pub enum Setting {
+    /// `enable_fire_and_forget_requests`
+    EnableFireAndForgetRequests,
+    /// `enable_safe_overflow_for_requests`
+    EnableSafeOverflowForRequests,
+    /// `enable_safe_overflow_for_responses`
+    EnableSafeOverflowForResponses,
+    /// `max_active_requests_per_client`
+    MaxActiveRequestsPerClient,
+    /// `max_borrowed_responses_per_pending_response`
+    MaxBorrowedResponsesPerPendingResponse,
+    /// `max_clients`
+    MaxClients,
+    /// `max_loaned_requests`
+    MaxLoanedRequests,
+    /// `max_nodes`
+    MaxNodes,
+    /// `max_response_buffer_size`
+    MaxResponseBufferSize,
+    /// `max_servers`
+    MaxServers,
+    /// `request_types`
+    RequestTypes,
+    /// `response_types`
+    ResponseTypes,
+}
+
+impl PatternSetting for Setting {
+    ghost use Rattle.std.specs.Prelude.{refl};
+    ghost use Rattle.iox_describe_base.specs.RequestResponseSettings.{all, changed, key, value};
+    ghost use Rattle.iox_describe_base.specs.declared.static_config.request_response.Setting.TheVariants.{EnableFireAndForgetRequests, EnableSafeOverflowForRequests, EnableSafeOverflowForResponses, MaxActiveRequestsPerClient, MaxBorrowedResponsesPerPendingResponse, MaxClients, MaxLoanedRequests, MaxNodes, MaxResponseBufferSize, MaxServers, RequestTypes, ResponseTypes};
+
+    type Config = StaticConfig;
+
+    ghost all = { all };
+
+    ghost key = { key };
+
+    ghost value = { value };
+
+    ghost changed = { changed };
+
+    fn all() -> &'static [Self] {
+        &[
+            Setting::EnableFireAndForgetRequests,
+            Setting::EnableSafeOverflowForRequests,
+            Setting::EnableSafeOverflowForResponses,
+            Setting::MaxActiveRequestsPerClient,
+            Setting::MaxBorrowedResponsesPerPendingResponse,
+            Setting::MaxClients,
+            Setting::MaxLoanedRequests,
+            Setting::MaxNodes,
+            Setting::MaxResponseBufferSize,
+            Setting::MaxServers,
+            Setting::RequestTypes,
+            Setting::ResponseTypes,
+        ]
+    }
+
+    fn key(self) -> &'static [u8] {
+        match self {
+            Setting::EnableFireAndForgetRequests => b"enable_fire_and_forget_requests",
+            Setting::EnableSafeOverflowForRequests => b"enable_safe_overflow_for_requests",
+            Setting::EnableSafeOverflowForResponses => b"enable_safe_overflow_for_responses",
+            Setting::MaxActiveRequestsPerClient => b"max_active_requests_per_client",
+            Setting::MaxBorrowedResponsesPerPendingResponse =>
+                b"max_borrowed_responses_per_pending_response",
+            Setting::MaxClients => b"max_clients",
+            Setting::MaxLoanedRequests => b"max_loaned_requests",
+            Setting::MaxNodes => b"max_nodes",
+            Setting::MaxResponseBufferSize => b"max_response_buffer_size",
+            Setting::MaxServers => b"max_servers",
+            Setting::RequestTypes => b"request_types",
+            Setting::ResponseTypes => b"response_types",
+        }
+    }
+
+    fn value(self, config: &StaticConfig) -> SettingValue {
+        match self {
+            Setting::EnableFireAndForgetRequests => SettingValue::Switch(
+                config.enable_fire_and_forget_requests,
+            ),
+            Setting::EnableSafeOverflowForRequests => SettingValue::Switch(
+                config.enable_safe_overflow_for_requests,
+            ),
+            Setting::EnableSafeOverflowForResponses => SettingValue::Switch(
+                config.enable_safe_overflow_for_responses,
+            ),
+            Setting::MaxActiveRequestsPerClient => SettingValue::Number(
+                config.max_active_requests_per_client,
+            ),
+            Setting::MaxBorrowedResponsesPerPendingResponse => SettingValue::Number(
+                config.max_borrowed_responses_per_pending_response,
+            ),
+            Setting::MaxClients => SettingValue::Number(config.max_clients),
+            Setting::MaxLoanedRequests => SettingValue::Number(config.max_loaned_requests),
+            Setting::MaxNodes => SettingValue::Number(config.max_nodes),
+            Setting::MaxResponseBufferSize => SettingValue::Number(config.max_response_buffer_size),
+            Setting::MaxServers => SettingValue::Number(config.max_servers),
+            Setting::RequestTypes => SettingValue::Types(config.request_types),
+            Setting::ResponseTypes => SettingValue::Types(config.response_types),
+        }
+    }
+
+    fn set(self, config: &mut StaticConfig, to: SettingValue) {
+        match (self, to) {
+            (Setting::EnableFireAndForgetRequests, SettingValue::Switch(switch)) =>
+                config.enable_fire_and_forget_requests = switch,
+            (Setting::EnableSafeOverflowForRequests, SettingValue::Switch(switch)) =>
+                config.enable_safe_overflow_for_requests = switch,
+            (Setting::EnableSafeOverflowForResponses, SettingValue::Switch(switch)) =>
+                config.enable_safe_overflow_for_responses = switch,
+            (Setting::MaxActiveRequestsPerClient, SettingValue::Number(number)) =>
+                config.max_active_requests_per_client = number,
+            (Setting::MaxBorrowedResponsesPerPendingResponse, SettingValue::Number(number)) =>
+                config.max_borrowed_responses_per_pending_response = number,
+            (Setting::MaxClients, SettingValue::Number(number)) => config.max_clients = number,
+            (Setting::MaxLoanedRequests, SettingValue::Number(number)) =>
+                config.max_loaned_requests = number,
+            (Setting::MaxNodes, SettingValue::Number(number)) => config.max_nodes = number,
+            (Setting::MaxResponseBufferSize, SettingValue::Number(number)) =>
+                config.max_response_buffer_size = number,
+            (Setting::MaxServers, SettingValue::Number(number)) => config.max_servers = number,
+            (Setting::RequestTypes, SettingValue::Types(types)) => config.request_types = types,
+            (Setting::ResponseTypes, SettingValue::Types(types)) => config.response_types = types,
+            _ => {}
+        }
+    }
+
+    ghost in_order = { refl };
+
+    ghost one_kind = { elim [ EnableFireAndForgetRequests ↦ λ a b. tt | EnableSafeOverflowForRequests ↦ λ a b. tt | EnableSafeOverflowForResponses ↦ λ a b. tt | MaxActiveRequestsPerClient ↦ λ a b. tt | MaxBorrowedResponsesPerPendingResponse ↦ λ a b. tt | MaxClients ↦ λ a b. tt | MaxLoanedRequests ↦ λ a b. tt | MaxNodes ↦ λ a b. tt | MaxResponseBufferSize ↦ λ a b. tt | MaxServers ↦ λ a b. tt | RequestTypes ↦ λ a b. tt | ResponseTypes ↦ λ a b. tt ] };
+
+    ghost is_whole = { λ target config. refl };
 }

@@ -1,5 +1,5 @@
 use super::*;
-use iox_container::StaticString;
+use iox_string::StaticString;
 use std::test::Fail;
 
 const CONFIG: HubConfig = HubConfig {

@@ -1,7 +1,7 @@
 //! Two kinds of text: one that refuses the empty text and slashes, and one whose letters' case doesn't count.
 ghost use Rattle.std.specs.Prelude.{◌≡◌, ℕ, ◌==◌, List, map, length, refl, false};
 ghost use Rattle.std.specs.List.{list_any};
-ghost use Rattle.iox_container.specs.StringBytes.{IsStringByte};
+ghost use Rattle.iox_string.specs.StringBytes.{IsStringByte};
 ghost use Rattle.iox_semantic.specs.LetterCase.{lower_case, lower_case_once};
 
 use super::*;

@@ -7,9 +7,8 @@ pub returns : goal.returns
 unfolding types_text
 returns c =
     rw (
-      c.in_ok-push_bytes-2.ensures,
+      c.in_ok-push_bytes.ensures,
       c.in_ok-push_detail-3.ensures,
       c.in_ok-push_detail-2.ensures,
       c.in_ok-push_detail.ensures,
-      c.in_ok-push_bytes.ensures,
     ) (simp append_assoc)

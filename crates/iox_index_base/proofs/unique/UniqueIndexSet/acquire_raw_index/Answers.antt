@@ -13,8 +13,11 @@ index_mut-requires c =
 pub invariant_of-self-2 : goal.invariant_of-self-2
 invariant_of-self-2 c =
     let C : List ℕ → Type 0 = λ free. AreFree c.self.inside.held.items free in
-    let ready : C (c.in-Some.index ∷ reverse c.pop.new.self.items) = subst C (reverse-last _ _ _ c.in-Some.ensures.items) c.self.invariant.0 in
-    (AreFree-taken _ _ _ ready, rw (length-set c.self.inside.held.items c.in-Some.index true) (omega (arith, c.self.invariant.1, c.pop.ensures.capacity)))
+    let ready : C (c.in-Some.index ∷ reverse c.pop.new.self.items) = subst C (reverse-last _ _ _ c.in-Some.ensures.items) c.self.invariant.0 in (
+      AreFree-taken _ _ _ ready,
+      rw (length-set c.self.inside.held.items c.in-Some.index true) (omega (arith, c.self.invariant.1, c.pop.ensures.capacity)),
+      λ locked. cc,
+    )
 
 pub returns-clause-taken : goal.returns-clause-taken
 returns-clause-taken c =

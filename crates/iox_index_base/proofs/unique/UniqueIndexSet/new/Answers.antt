@@ -11,4 +11,4 @@ invariant_of-result c =
     let free : reverse c.loop-count.free.items ≡ range_with_len 0 c.args.capacity =
     c.loop-count.invariant.0 ∙ ap (λ from. range_with_len from c.loop-count.count) none ∙ ap (λ n. range_with_len 0 n) all in
     let held : c.in_ok-held.held.items ≡ replicate c.args.capacity false = c.in_ok-held.ensures.items_if_clones_equal (λ y h. h) in
-    rw (held, free) (AreFree-start c.args.capacity, rw (length-replicate c.args.capacity false) c.loop-count.invariant.2)
+    rw (held, free) (AreFree-start c.args.capacity, rw (length-replicate c.args.capacity false) c.loop-count.invariant.2, λ locked. cc)

@@ -17,9 +17,11 @@ pub invariant_of-self : goal.invariant_of-self
 invariant_of-self c =
     let before : UniqueSetState =
     record { capacity = length c.self.inside.held.items; free = reverse c.self.inside.free.items; locked = c.self.inside.locked } in
-    let held = held-means c.args.index before (rw (← c.self.view_is) at c.requires) in (
+    let held = held-means c.args.index before (rw (← c.self.view_is) at c.requires) in
+    let room = AreFree-room c.self.inside.held.items c.args.index before.free c.self.invariant.0 held.0 held.1 in (
       rw (reverse-last _ _ _ c.push_reserved.ensures.items) (AreFree-freed _ _ _ c.self.invariant.0 held.0 held.1),
       rw (length-set c.self.inside.held.items c.args.index false) (omega (arith, c.self.invariant.1, c.push_reserved.ensures.capacity)),
+      λ locked. absurd (omega (arith, room, c.self.invariant.2 locked)),
     )
 
 pub returns-clause-after : goal.returns-clause-after

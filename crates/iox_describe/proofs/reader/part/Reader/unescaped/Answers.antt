@@ -2,7 +2,7 @@
 use Rattle.std.proofs.Common.{◌∷◌, [], ◌++◌, ◌+◌, ◌≤◌, inl, inr, length, ap, sym, ◌∙◌, arith, append_assoc, append-nil}
 use Rattle.std.proofs.lemmas.List.Elements.{All-cons, All-nil}
 use Rattle.json.specs.Print.{escape, escape_byte}
-use Rattle.iox_container.specs.StringBytes.{IsStringByte}
+use Rattle.iox_string.specs.StringBytes.{IsStringByte}
 use Rattle.iox_describe.proofs.Escapes.{no_quote_in_front}
 use Rattle.iox_describe.proofs.Halfway.{ends_or_goes_on, good_at_seam, longer, nothing_left, room_at_seam, when_ok}
 use Rattle.iox_describe.proofs.reader.part.Reader.unescaped.Goals as goal

@@ -1,6 +1,6 @@
 use Rattle.std.proofs.Common.{◌≡◌, ◌≤◌, ◌++◌, ◌∷◌, ℕ, List, length}
 use Rattle.json.specs.Print.{escape}
-use Rattle.iox_container.specs.StringBytes.{IsStringBytes}
+use Rattle.iox_string.specs.StringBytes.{IsStringBytes}
 use Rattle.iox_describe.proofs.Halfway.{IsTextRead}
 use Rattle.iox_describe.proofs.reader.part.Reader.unescaped.Given as goal
 

@@ -1,5 +1,0 @@
-use Rattle.iox_describe_base.proofs.EventWeaker.{weaker}
-use Rattle.iox_describe_base.proofs.laws.weaker_event_requirement_is_met.Goals as goal
-
-pub returns : goal.returns
-returns c = λ weak strong a. weaker weak strong a.attributes a.settings

@@ -1,0 +1,5 @@
+pub mod Earliest
+pub mod VerdictLemmas
+pub mod EventWeaker
+pub mod PublishSubscribeWeaker
+pub mod RequestResponseWeaker

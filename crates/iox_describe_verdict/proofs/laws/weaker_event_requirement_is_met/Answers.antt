@@ -1,0 +1,5 @@
+use Rattle.iox_describe_verdict.proofs.EventWeaker.{weaker}
+use Rattle.iox_describe_verdict.proofs.laws.weaker_event_requirement_is_met.Goals as goal
+
+pub returns : goal.returns
+returns c = λ weak strong a. weaker weak strong a.attributes a.settings

@@ -1,0 +1,5 @@
+pub mod Verdict
+pub mod Earliest
+pub mod PublishSubscribeClauses
+pub mod EventClauses
+pub mod RequestResponseClauses

@@ -1,0 +1,8 @@
+use Rattle.iox_index_base.specs.Container.{told_of}
+use Rattle.iox_index_base.proofs.Locked.{unheld-emptied}
+use Rattle.iox_index_base.proofs.container.Container.recover.Goals as goal
+
+pub invariant_of-self : goal.invariant_of-self
+invariant_of-self g c =
+    let removed = c.remove_where.ensures.removed in
+    unheld-emptied (told_of c.args.owner c.self.inside.id) (λ member. member.0.index) removed.0 c.self.inside.members.items c.remove_where.new.members.items c.self.inside.locked removed.2 c.self.invariant

@@ -1,0 +1,8 @@
+use Rattle.iox_index_base.specs.Robust.{index_of}
+use Rattle.iox_index_base.proofs.Locked.{unheld-emptied}
+use Rattle.iox_index_base.proofs.robust.RobustUniqueIndexSet.recover.Goals as goal
+
+pub invariant_of-self : goal.invariant_of-self
+invariant_of-self g c =
+    let freed = c.free_where.ensures.freed in
+    unheld-emptied (index_of c.args.owner) (λ index. index) freed.0 c.self.inside.cells.items c.free_where.new.cells.items c.self.inside.locked freed.2 c.self.invariant

@@ -1,0 +1,3 @@
+pub mod Retains
+pub mod TextRows
+pub mod Texts

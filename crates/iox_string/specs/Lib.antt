@@ -1,0 +1,5 @@
+pub mod BoundedText
+pub mod Bytes
+pub mod StringBytes
+pub mod Text
+pub mod TextRow
