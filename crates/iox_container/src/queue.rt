@@ -8,6 +8,7 @@ ghost use Rattle.iox_container.specs.BoundedList.{overflow_of, pushed_with_overf
 
 use std::alloc::{AllocError, Global};
 use std::collections::VecDeque;
+use std::fmt;
 use std::marker::Model;
 
 mod fixed_size_queue;
@@ -167,6 +168,13 @@ impl<T: PartialEq> PartialEq for Queue<T> {
 
 impl<T: Eq> Eq for Queue<T> {
     ghost laws = { on_equiv (λ q. q.items) (lists_equiv T.Eq.laws) };
+}
+
+/// The items as a list, the oldest first.
+impl<T: fmt::Debug> fmt::Debug for Queue<T> {
+    fn fmt<W: fmt::Write>(&self, f: &mut fmt::Formatter<W>) -> fmt::Result {
+        fmt::Debug::fmt(&self.ring, f)
+    }
 }
 
 #[cfg(test)]

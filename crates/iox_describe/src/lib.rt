@@ -17,9 +17,9 @@ pub mod writer;
 pub use error::DescriptionError;
 pub use iox_describe_base::{
     Attribute, AttributeKey, AttributeSpecifier, AttributeValue, AttributeVerifier, Description,
-    Header, LimitError, MessageTypeDetails, MessagingPattern, ServiceHash, ServiceName, Settings,
-    TypeDetail, TypeVariant, ZeroCopySend, event, publish_subscribe, request_response,
-    service_hash,
+    Header, LimitError, MessageTypeDetails, MessagingPattern, PatternSetting, ServiceHash,
+    ServiceName, SettingValue, Settings, TypeDetail, TypeVariant, ZeroCopySend, event,
+    publish_subscribe, request_response, service_hash,
 };
 pub use iox_describe_verdict::requirement;
 pub use reader::{decode, is_within_limits};

@@ -19,7 +19,7 @@ pub type AttributeValue = StaticString<MAX_ATTRIBUTE_VALUE_LENGTH>;
 /// A key and its value.
 ///
 /// Ported from `iceoryx2::service::attribute::Attribute`.
-#[derive(Clone, Copy, PartialEq, Eq)]
+#[derive(Clone, Copy, Debug, PartialEq, Eq)]
 pub struct Attribute {
     /// The key.
     pub key: AttributeKey,
@@ -32,7 +32,7 @@ pub struct Attribute {
 /// Contracts see it as the list of its pairs.
 ///
 /// Ported from `iceoryx2::service::attribute::AttributeSpecifier`.
-#[derive(Drop)]
+#[derive(Debug, Drop)]
 pub struct AttributeSpecifier {
     pairs: Vec<Attribute>,
 }

@@ -13,7 +13,7 @@ use std::marker::Model;
 /// Contracts see it as the record `Agreement` of these four.
 ///
 /// Ported from `iceoryx2::service::static_config::StaticConfig`.
-#[derive(Drop)]
+#[derive(Debug, Drop)]
 pub struct Description {
     name: ServiceName,
     service_hash: ServiceHash,

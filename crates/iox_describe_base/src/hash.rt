@@ -9,7 +9,7 @@ use sha1::Sha1;
 /// The SHA-1 digest of a messaging pattern and a name; its text is 40 digits in lower case.
 ///
 /// Ported from `iceoryx2::service::service_hash::ServiceHash`.
-#[derive(Clone, Copy, PartialEq, Eq, Hash)]
+#[derive(Clone, Copy, Debug, PartialEq, Eq, Hash)]
 pub struct ServiceHash {
     /// The 20 bytes of the digest.
     pub digest: [u8; 20],

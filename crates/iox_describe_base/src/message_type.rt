@@ -7,7 +7,7 @@ use crate::zero_copy_send::ZeroCopySend;
 /// The types of a service's messages.
 ///
 /// Ported from `iceoryx2::service::static_config::message_type_details::MessageTypeDetails`.
-#[derive(Clone, Copy, PartialEq, Eq)]
+#[derive(Clone, Copy, Debug, PartialEq, Eq)]
 pub struct MessageTypeDetails {
     /// The header that the service writes.
     pub header: TypeDetail,

@@ -1,15 +1,16 @@
 //! The name of a service.
-ghost use Rattle.std.specs.Prelude.{◌≡◌, ◌↔◌, IsOk, IfOk};
+ghost use Rattle.std.specs.Prelude.{◌≡◌, ◌↔◌, IsOk, IfOk, Some};
 ghost use Rattle.iox_describe_base.specs.Limits.{IsText};
 
 use crate::limits::{LimitError, MAX_SERVICE_NAME_LENGTH};
-use iox_string::StaticString;
+use iox_string::{StaticString, String};
+use std::fmt;
 use std::marker::Model;
 
 /// The name of a service: 1 to 255 bytes of 1..=127. Contracts see it as the list of its bytes.
 ///
 /// Ported from `iceoryx2::service::service_name::ServiceName`.
-#[derive(Clone, Copy, PartialEq, Eq)]
+#[derive(Clone, Copy, Debug, PartialEq, Eq)]
 pub struct ServiceName {
     value: StaticString<MAX_SERVICE_NAME_LENGTH>,
 }
@@ -44,11 +45,27 @@ impl ServiceName {
         }
     }
 
+    /// The name as text.
+    pub fn as_str(&self) -> &str
+        ensures { result.now ≡ self.now }
+    {
+        self.value.as_str()
+    }
+
     /// The bytes of the name.
     pub fn as_bytes(&self) -> &[u8]
         ensures value { result.now ≡ self.now }
         ensures within { IsText 1 255 self.now }
     {
         self.value.as_bytes()
+    }
+}
+
+/// The name itself.
+impl fmt::Display for ServiceName {
+    ghost output = { λ n. Some n };
+
+    fn fmt<W: fmt::Write>(&self, f: &mut fmt::Formatter<W>) -> fmt::Result {
+        f.pad(self.as_str())
     }
 }

@@ -6,7 +6,7 @@ ghost use Rattle.iox_describe_base.specs.Setting.{filled, keys_rise, SameKind};
 use crate::message_type::MessageTypeDetails;
 
 /// What a setting is set to.
-#[derive(Clone, Copy, PartialEq, Eq)]
+#[derive(Clone, Copy, Debug, PartialEq, Eq)]
 pub enum SettingValue {
     /// Whether something is done.
     Switch(bool),

@@ -10,7 +10,7 @@ pub mod request_response;
 /// The settings of a service, of one of the three patterns.
 ///
 /// Ported from `iceoryx2::service::static_config::messaging_pattern::MessagingPattern`.
-#[derive(Clone, Copy, PartialEq, Eq)]
+#[derive(Clone, Copy, Debug, PartialEq, Eq)]
 pub enum Settings {
     /// The settings of a request-response service.
     RequestResponse(request_response::StaticConfig),

@@ -21,7 +21,7 @@ pub enum TypeVariant {
 /// Contracts see it as the record `Detail` of these four.
 ///
 /// Ported from `iceoryx2::service::static_config::message_type_details::TypeDetail`.
-#[derive(Clone, Copy, PartialEq, Eq)]
+#[derive(Clone, Copy, Debug, PartialEq, Eq)]
 pub struct TypeDetail {
     variant: TypeVariant,
     name: StaticString<MAX_TYPE_NAME_LENGTH>,

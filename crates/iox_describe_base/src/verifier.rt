@@ -12,7 +12,7 @@ use std::marker::Model;
 /// Contracts see it as the record `Required` of the two lists.
 ///
 /// Ported from `iceoryx2::service::attribute::AttributeVerifier`.
-#[derive(Drop)]
+#[derive(Debug, Drop)]
 pub struct AttributeVerifier {
     pairs: AttributeSpecifier,
     keys: Vec<AttributeKey>,

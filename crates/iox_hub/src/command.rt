@@ -3,7 +3,7 @@ use crate::error::Refusal;
 use crate::service::ServiceName;
 
 /// One command. It names what was made before by its number, each kind counted from 1.
-#[derive(Clone, Copy)]
+#[derive(Clone, Copy, Debug)]
 pub enum Command<T> {
     /// Makes a node.
     Node,

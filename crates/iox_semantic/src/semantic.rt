@@ -15,6 +15,7 @@ ghost use Rattle.iox_semantic.specs.Accepted.{AnswersContent, IsAccepted};
 use crate::{Rules, SemanticStringError};
 use iox_string::{StaticString, String};
 use std::cmp::Ordering;
+use std::fmt;
 use std::hash::{Hash, Hasher};
 use std::marker::{Model, PhantomData};
 
@@ -25,6 +26,7 @@ use std::marker::{Model, PhantomData};
 ///
 /// Ported from the types of the macro `iceoryx2_bb_container::semantic_string!`.
 #[derive(Drop)]
+#[derive_where(Clone)]
 pub struct Semantic<R: Rules<CAPACITY>, const CAPACITY: usize> {
     content: StaticString<CAPACITY>,
     rules: PhantomData<R>,
@@ -302,6 +304,22 @@ impl<R: Rules<CAPACITY>, const CAPACITY: usize> Hash for Semantic<R, CAPACITY> {
 
     fn hash<H: Hasher>(&self, state: &mut H) {
         self.normalised().hash(state);
+    }
+}
+
+/// The text as a literal: in quotes, with escapes.
+impl<R: Rules<CAPACITY>, const CAPACITY: usize> fmt::Debug for Semantic<R, CAPACITY> {
+    fn fmt<W: fmt::Write>(&self, f: &mut fmt::Formatter<W>) -> fmt::Result {
+        fmt::Debug::fmt(&self.content, f)
+    }
+}
+
+/// The text.
+impl<R: Rules<CAPACITY>, const CAPACITY: usize> fmt::Display for Semantic<R, CAPACITY> {
+    ghost output = { λ s. Some s };
+
+    fn fmt<W: fmt::Write>(&self, f: &mut fmt::Formatter<W>) -> fmt::Result {
+        fmt::Display::fmt(&self.content, f)
     }
 }
 

@@ -7,6 +7,7 @@ ghost use Rattle.iox_container.specs.BoundedList.{overflow_of, pushed_with_overf
 
 use crate::queue::Queue;
 use std::alloc::{AllocError, Global};
+use std::fmt;
 use std::marker::Model;
 
 /// A queue of at most `CAPACITY` items. `new` takes all its memory, and no other call takes any.
@@ -144,6 +145,13 @@ impl<T: PartialEq, const CAPACITY: usize> PartialEq for FixedSizeQueue<T, CAPACI
 
 impl<T: Eq, const CAPACITY: usize> Eq for FixedSizeQueue<T, CAPACITY> {
     ghost laws = { lists_equiv T.Eq.laws };
+}
+
+/// The items as a list, the oldest first.
+impl<T: fmt::Debug, const CAPACITY: usize> fmt::Debug for FixedSizeQueue<T, CAPACITY> {
+    fn fmt<W: fmt::Write>(&self, f: &mut fmt::Formatter<W>) -> fmt::Result {
+        fmt::Debug::fmt(&self.queue, f)
+    }
 }
 
 #[cfg(test)]

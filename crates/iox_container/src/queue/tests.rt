@@ -13,6 +13,10 @@ fn goes_round_its_places(rt: HostRuntime) -> Result<(), Fail> {
     if let Some(oldest) = numbers.peek_mut() {
         *oldest += 10;
     }
+    assert_eq!(rt;
+        format!(in rt.alloc(); "{numbers:?}")?.as_str(),
+        "[13, 4, 5]"
+    );
     assert_eq!(rt; numbers.pop(), Some(13));
     assert!(rt; numbers.push(6));
     assert!(rt; numbers.is_full());

@@ -7,6 +7,7 @@ ghost use Rattle.iox_container.specs.Vectors.{MakesInTurn, refill_same};
 
 use crate::vector::Vector;
 use std::alloc::{AllocError, Allocator};
+use std::fmt;
 use std::marker::Model;
 
 /// A vector whose capacity is chosen by `new`, which takes all its memory.
@@ -145,4 +146,11 @@ impl<T: PartialEq, A: Allocator> PartialEq for PolymorphicVec<T, A> {
 
 impl<T: Eq, A: Allocator> Eq for PolymorphicVec<T, A> {
     ghost laws = { on_equiv (λ v. v.items) (lists_equiv T.Eq.laws) };
+}
+
+/// The items as a list.
+impl<T: Drop + fmt::Debug, A: Allocator> fmt::Debug for PolymorphicVec<T, A> {
+    fn fmt<W: fmt::Write>(&self, f: &mut fmt::Formatter<W>) -> fmt::Result {
+        fmt::Debug::fmt(self.as_slice(), f)
+    }
 }

@@ -6,6 +6,7 @@ ghost use Rattle.iox_container.specs.Vectors.{refill_same};
 
 use crate::vector::{PolymorphicVec, Vector};
 use std::alloc::{AllocError, Global};
+use std::fmt;
 use std::marker::Model;
 
 /// A vector of at most `CAPACITY` items. `new` takes all its memory, and no other call takes any.
@@ -92,4 +93,11 @@ impl<T: PartialEq, const CAPACITY: usize> PartialEq for StaticVec<T, CAPACITY> {
 
 impl<T: Eq, const CAPACITY: usize> Eq for StaticVec<T, CAPACITY> {
     ghost laws = { lists_equiv T.Eq.laws };
+}
+
+/// The items as a list.
+impl<T: Drop + fmt::Debug, const CAPACITY: usize> fmt::Debug for StaticVec<T, CAPACITY> {
+    fn fmt<W: fmt::Write>(&self, f: &mut fmt::Formatter<W>) -> fmt::Result {
+        fmt::Debug::fmt(self.as_slice(), f)
+    }
 }

@@ -19,6 +19,10 @@ fn both_vectors_meet_the_trait(rt: HostRuntime) -> Result<(), Fail> {
     with_two_more(&mut chosen)?;
     assert_eq!(rt; chosen.as_slice(), [5, 7].as_slice());
     assert_eq!(rt;
+        format!(in rt.alloc(); "{fixed:?} {chosen:?}")?.as_str(),
+        "[5, 7] [5, 7]"
+    );
+    assert_eq!(rt;
         with_two_more(&mut chosen),
         Err(VectorModificationError::InsertWouldExceedCapacity)
     );

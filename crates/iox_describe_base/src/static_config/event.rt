@@ -7,7 +7,7 @@ use crate::setting::{PatternSetting, SettingValue};
 /// The settings of an event service.
 ///
 /// Ported from `iceoryx2::service::static_config::event::StaticConfig`.
-#[derive(Clone, Copy, PartialEq, Eq)]
+#[derive(Clone, Copy, Debug, PartialEq, Eq)]
 pub struct StaticConfig {
     /// The longest time between two events, in nanoseconds.
     pub deadline: Option<u64>,
@@ -74,7 +74,7 @@ impl StaticConfig {
 }
 
 /// A setting of an event service.
-#[derive(Clone, Copy, PartialEq, Eq)]
+#[derive(Clone, Copy, Debug, PartialEq, Eq)]
 pub enum Setting {
     /// `deadline`
     Deadline,

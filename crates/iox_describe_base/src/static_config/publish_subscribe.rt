@@ -8,7 +8,7 @@ use crate::setting::{PatternSetting, SettingValue};
 /// The settings of a publish-subscribe service.
 ///
 /// Ported from `iceoryx2::service::static_config::publish_subscribe::StaticConfig`.
-#[derive(Clone, Copy, PartialEq, Eq)]
+#[derive(Clone, Copy, Debug, PartialEq, Eq)]
 pub struct StaticConfig {
     /// Whether a full buffer drops its oldest message, in place of holding the publisher up.
     pub enable_safe_overflow: bool,
@@ -82,7 +82,7 @@ impl StaticConfig {
 }
 
 /// A setting of a publish-subscribe service.
-#[derive(Clone, Copy, PartialEq, Eq)]
+#[derive(Clone, Copy, Debug, PartialEq, Eq)]
 pub enum Setting {
     /// `enable_safe_overflow`
     EnableSafeOverflow,

@@ -8,7 +8,7 @@ use crate::setting::{PatternSetting, SettingValue};
 /// The settings of a request-response service.
 ///
 /// Ported from `iceoryx2::service::static_config::request_response::StaticConfig`.
-#[derive(Clone, Copy, PartialEq, Eq)]
+#[derive(Clone, Copy, Debug, PartialEq, Eq)]
 pub struct StaticConfig {
     /// Whether a client may send requests and let go of their responses.
     pub enable_fire_and_forget_requests: bool,
@@ -97,7 +97,7 @@ impl StaticConfig {
 }
 
 /// A setting of a request-response service.
-#[derive(Clone, Copy, PartialEq, Eq)]
+#[derive(Clone, Copy, Debug, PartialEq, Eq)]
 pub enum Setting {
     /// `enable_fire_and_forget_requests`
     EnableFireAndForgetRequests,

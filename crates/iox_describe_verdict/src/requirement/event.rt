@@ -46,7 +46,7 @@ pub enum ClauseError {
 }
 
 /// What an opener requires of an event service. A setting that is `None` was not named, and is not tested.
-#[derive(Drop)]
+#[derive(Debug, Drop)]
 pub struct Requirement {
     /// The attributes that it must have.
     pub attributes: AttributeVerifier,

@@ -59,7 +59,7 @@ pub enum ClauseError {
 }
 
 /// What an opener requires of a request-response service. A setting that is `None` was not named, and is not tested.
-#[derive(Drop)]
+#[derive(Debug, Drop)]
 pub struct Requirement {
     /// Types that the service's must be compatible to.
     pub request_types: MessageTypeDetails,

@@ -1,10 +1,11 @@
 //! Two kinds of text: one that refuses the empty text and slashes, and one whose letters' case doesn't count.
-ghost use Rattle.std.specs.Prelude.{◌≡◌, ℕ, ◌==◌, List, map, length, refl, false};
+ghost use Rattle.std.specs.Prelude.{◌≡◌, ℕ, ◌==◌, List, map, length, refl, false, Ok};
 ghost use Rattle.std.specs.List.{list_any};
 ghost use Rattle.iox_string.specs.StringBytes.{IsStringByte};
 ghost use Rattle.iox_semantic.specs.LetterCase.{lower_case, lower_case_once};
 
 use super::*;
+use std::alloc::AllocError;
 use std::hash::DefaultHasher;
 use std::test::Fail;
 
@@ -155,5 +156,24 @@ fn texts_are_told_apart_by_their_normal_form(rt: HostRuntime) -> Result<(), Fail
     let other = Semantic::<FileName, 8>::new(b"ABC")?;
     assert!(rt; one != other);
     assert!(rt; other < one);
+    Ok(())
+}
+
+/// The same text again, as the clause says.
+fn twin(text: &Semantic<AnyCase, 8>) -> Result<Semantic<AnyCase, 8>, AllocError>
+    ensures { result ≡ Ok text.now }
+{
+    text.clone()
+}
+
+#[test]
+fn a_clone_and_what_is_printed_are_the_text_itself(rt: HostRuntime) -> Result<(), Fail> {
+    let name = Semantic::<AnyCase, 8>::new(b"A\"b")?;
+    let mut same = twin(&name)?;
+    same.push(b'c')?;
+    assert_eq!(rt; same.as_bytes(), b"A\"bc".as_slice());
+    assert_eq!(rt; name.as_bytes(), b"A\"b".as_slice());
+    assert_eq!(rt; format!(in rt.alloc(); "{name}")?.as_str(), "A\"b");
+    assert_eq!(rt; format!(in rt.alloc(); "{name:?}")?.as_str(), "\"A\\\"b\"");
     Ok(())
 }
