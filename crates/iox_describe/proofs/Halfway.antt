@@ -4,8 +4,8 @@ use Rattle.std.specs.List.{All}
 use Rattle.std.specs.Result.{IsOk, OnOk}
 use Rattle.json.specs.Print.{escape}
 use Rattle.iox_describe_base.specs.declared.attribute.Attribute.{Attribute}
-use Rattle.iox_describe_base.specs.declared.setting.SettingValue.{SettingValue}
-use Rattle.iox_describe_base.specs.Setting.{filled}
+use Rattle.iox_describe_settings.specs.declared.setting.SettingValue.{SettingValue}
+use Rattle.iox_describe_settings.specs.Setting.{filled}
 use Rattle.iox_describe.specs.Line.{attribute_text, attributes_text, comma_if, member_text, members_text, value_text}
 use Rattle.iox_describe.specs.Reading.{Ends}
 use Rattle.iox_describe.specs.Within.{AreValues}

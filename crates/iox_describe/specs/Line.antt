@@ -5,18 +5,18 @@ use Rattle.iox_describe_base.specs.declared.attribute.Attribute.{Attribute}
 use Rattle.iox_describe_base.specs.declared.message_type.MessageTypeDetails.{MessageTypeDetails}
 use Rattle.iox_describe_base.specs.declared.pattern.MessagingPattern.{MessagingPattern}
 use Rattle.iox_describe_base.specs.declared.pattern.MessagingPattern.TheVariants as pattern
-use Rattle.iox_describe_base.specs.declared.static_config.Settings.{Settings}
-use Rattle.iox_describe_base.specs.declared.static_config.Settings.TheVariants.{RequestResponse, PublishSubscribe, Event}
-use Rattle.iox_describe_base.specs.declared.setting.SettingValue.{SettingValue}
-use Rattle.iox_describe_base.specs.declared.setting.SettingValue.TheVariants.{Switch, Number, OptionalNumber, Types}
+use Rattle.iox_describe_settings.specs.declared.static_config.Settings.{Settings}
+use Rattle.iox_describe_settings.specs.declared.static_config.Settings.TheVariants.{RequestResponse, PublishSubscribe, Event}
+use Rattle.iox_describe_settings.specs.declared.setting.SettingValue.{SettingValue}
+use Rattle.iox_describe_settings.specs.declared.setting.SettingValue.TheVariants.{Switch, Number, OptionalNumber, Types}
 use Rattle.iox_describe_base.specs.declared.type_detail.TypeVariant.{TypeVariant}
 use Rattle.iox_describe_base.specs.declared.type_detail.TypeVariant.TheVariants.{FixedSize, Dynamic}
-use Rattle.iox_describe_base.specs.Agreement.{Agreement, pattern_of}
+use Rattle.iox_describe_settings.specs.Agreement.{Agreement, pattern_of}
 use Rattle.iox_describe_base.specs.Detail.{Detail}
 use Rattle.iox_describe_base.specs.Hash.{hash_text}
-use Rattle.iox_describe_base.specs.RequestResponseSettings as request_response
-use Rattle.iox_describe_base.specs.PublishSubscribeSettings as publish_subscribe
-use Rattle.iox_describe_base.specs.EventSettings as event
+use Rattle.iox_describe_settings.specs.RequestResponseSettings as request_response
+use Rattle.iox_describe_settings.specs.PublishSubscribeSettings as publish_subscribe
+use Rattle.iox_describe_settings.specs.EventSettings as event
 
 -- one text and then another; it groups to the right
 infixr 20 ◌⌢◌

@@ -3,14 +3,14 @@
 use Rattle.std.specs.Prelude.{◌≡◌, ℕ, ◌<◌, ◌^◌, List, [], ◌∷◌, length, slice_index, Option, IfSome}
 use Rattle.iox_describe_base.specs.declared.hash.ServiceHash.{ServiceHash}
 use Rattle.iox_describe_base.specs.declared.message_type.MessageTypeDetails.{MessageTypeDetails}
-use Rattle.iox_describe_base.specs.declared.setting.SettingValue.{SettingValue}
-use Rattle.iox_describe_base.specs.declared.setting.SettingValue.TheVariants.{Switch, Number, OptionalNumber, Types}
-use Rattle.iox_describe_base.specs.declared.static_config.Settings.{Settings}
-use Rattle.iox_describe_base.specs.declared.static_config.Settings.TheVariants.{RequestResponse, PublishSubscribe, Event}
-use Rattle.iox_describe_base.specs.EventSettings as event
-use Rattle.iox_describe_base.specs.PublishSubscribeSettings as publish_subscribe
-use Rattle.iox_describe_base.specs.RequestResponseSettings as request_response
-use Rattle.iox_describe_base.specs.Agreement.{Agreement, AreWithinLimits}
+use Rattle.iox_describe_settings.specs.declared.setting.SettingValue.{SettingValue}
+use Rattle.iox_describe_settings.specs.declared.setting.SettingValue.TheVariants.{Switch, Number, OptionalNumber, Types}
+use Rattle.iox_describe_settings.specs.declared.static_config.Settings.{Settings}
+use Rattle.iox_describe_settings.specs.declared.static_config.Settings.TheVariants.{RequestResponse, PublishSubscribe, Event}
+use Rattle.iox_describe_settings.specs.EventSettings as event
+use Rattle.iox_describe_settings.specs.PublishSubscribeSettings as publish_subscribe
+use Rattle.iox_describe_settings.specs.RequestResponseSettings as request_response
+use Rattle.iox_describe_settings.specs.Agreement.{Agreement, AreWithinLimits}
 use Rattle.iox_describe_base.specs.Attributes.{AreAttributes}
 use Rattle.iox_describe_base.specs.Detail.{Detail, IsDetail}
 use Rattle.iox_describe_base.specs.Limits.{IsText}

@@ -6,8 +6,8 @@
 //! | `reader` | the description of a line, if the line is spelled as `encode` spells it |
 //! | `error` | why a line was not read |
 //!
-//! The types stand in `iox_describe_base`, and what an opener requires of a description in
-//! `iox_describe_verdict`; their items are named again here.
+//! Names, types and attributes stand in `iox_describe_base`, settings and the description in `iox_describe_settings`,
+//! what an opener requires of one in `iox_describe_verdict`; their items are named again here.
 #![tactic(auto)]
 
 pub mod error;
@@ -16,10 +16,12 @@ pub mod writer;
 
 pub use error::DescriptionError;
 pub use iox_describe_base::{
-    Attribute, AttributeKey, AttributeSpecifier, AttributeValue, AttributeVerifier, Description,
-    Header, LimitError, MessageTypeDetails, MessagingPattern, PatternSetting, ServiceHash,
-    ServiceName, SettingValue, Settings, TypeDetail, TypeVariant, ZeroCopySend, event,
-    publish_subscribe, request_response, service_hash,
+    Attribute, AttributeKey, AttributeSpecifier, AttributeValue, AttributeVerifier, Header,
+    LimitError, MessageTypeDetails, MessagingPattern, ServiceHash, ServiceName, TypeDetail,
+    TypeVariant, ZeroCopySend, service_hash,
+};
+pub use iox_describe_settings::{
+    Description, PatternSetting, SettingValue, Settings, event, publish_subscribe, request_response,
 };
 pub use iox_describe_verdict::requirement;
 pub use reader::{decode, is_within_limits};

@@ -1,7 +1,7 @@
 //! The description that a line spells.
 ghost use Rattle.std.specs.Prelude.{◌≡◌, ◌⊎◌, ◌↔◌, ◌++◌, ◌∷◌, [], List, ℕ, false, Ok, Err, Some, IfOk, IsTrue};
 ghost use Rattle.iox_describe_base.specs.declared.attribute.Attribute.{Attribute};
-ghost use Rattle.iox_describe_base.specs.Agreement.{Agreement};
+ghost use Rattle.iox_describe_settings.specs.Agreement.{Agreement};
 ghost use Rattle.iox_describe_base.specs.Attributes.{AreAttributes};
 ghost use Rattle.iox_describe.specs.declared.error.DescriptionError.TheVariants.{Invalid, OutOfMemory};
 ghost use Rattle.iox_describe.specs.Line.{line, attributes_text};
@@ -10,7 +10,8 @@ ghost use Rattle.iox_describe.specs.Within.{AreSettings, IsHash, IsWithinLimits}
 use crate::error::DescriptionError;
 use crate::reader::part::Reader;
 use crate::writer::encode;
-use iox_describe_base::{AttributeSpecifier, Description, ServiceHash, ServiceName, Settings};
+use iox_describe_base::{AttributeSpecifier, ServiceHash, ServiceName};
+use iox_describe_settings::{Description, Settings};
 use std::alloc::Global;
 
 mod part;

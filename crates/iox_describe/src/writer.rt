@@ -4,7 +4,8 @@ ghost use Rattle.iox_describe.specs.Line.{line, attribute_text, attributes_text,
 
 use crate::writer::part::{push_bytes, push_text};
 use crate::writer::settings::push_settings;
-use iox_describe_base::{Attribute, Description, MessagingPattern};
+use iox_describe_base::{Attribute, MessagingPattern};
+use iox_describe_settings::Description;
 use std::alloc::{AllocError, Global};
 
 mod part;

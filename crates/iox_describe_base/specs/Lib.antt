@@ -3,11 +3,3 @@ pub mod Detail
 pub mod Compatible
 pub mod Hash
 pub mod Attributes
-pub mod PublishSubscribe
-pub mod Event
-pub mod RequestResponse
-pub mod Agreement
-pub mod Setting
-pub mod EventSettings
-pub mod PublishSubscribeSettings
-pub mod RequestResponseSettings

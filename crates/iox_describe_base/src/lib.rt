@@ -1,4 +1,4 @@
-//! What the nodes of a service agree on: names, types, attributes and settings.
+//! What a description speaks of, below its settings: names, types and attributes.
 //!
 //! | Module | What it has |
 //! |---|---|
@@ -8,14 +8,10 @@
 //! | `type_detail`, `message_type`, `zero_copy_send` | how a type lies in memory, the three types of a message, the types that know theirs |
 //! | `header` | what a service writes before each message |
 //! | `attribute`, `verifier` | attributes, and what an opener requires of them |
-//! | `setting` | what it is to be a setting of a pattern: a key, and a value that is read and written |
-//! | `static_config` | the settings of each pattern: defaults, adjusting, limits, and the list of them all |
-//! | `description` | all that is agreed |
 //! | `laws` | what holds of compatibility |
 #![tactic(auto)]
 
 pub mod attribute;
-pub mod description;
 pub mod hash;
 pub mod header;
 pub mod laws;
@@ -23,22 +19,17 @@ pub mod limits;
 pub mod message_type;
 pub mod name;
 pub mod pattern;
-pub mod setting;
-pub mod static_config;
 pub mod type_detail;
 pub mod verifier;
 pub mod zero_copy_send;
 
 pub use attribute::{Attribute, AttributeKey, AttributeSpecifier, AttributeValue};
-pub use description::Description;
 pub use hash::{ServiceHash, service_hash};
 pub use header::Header;
 pub use limits::LimitError;
 pub use message_type::MessageTypeDetails;
 pub use name::ServiceName;
 pub use pattern::MessagingPattern;
-pub use setting::{PatternSetting, SettingValue};
-pub use static_config::{Settings, event, publish_subscribe, request_response};
 pub use type_detail::{TypeDetail, TypeVariant};
 pub use verifier::AttributeVerifier;
 pub use zero_copy_send::ZeroCopySend;

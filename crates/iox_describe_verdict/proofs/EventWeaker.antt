@@ -2,9 +2,9 @@
 use Rattle.std.proofs.Common.{◌≡◌, List}
 use Rattle.iox_describe_base.specs.declared.attribute.Attribute.{Attribute}
 use Rattle.iox_describe_verdict.specs.declared.requirement.event.Requirement.{Requirement}
-use Rattle.iox_describe_base.specs.declared.static_config.event.StaticConfig.{StaticConfig}
-use Rattle.iox_describe_base.specs.declared.static_config.Settings.{Settings}
-use Rattle.iox_describe_base.specs.declared.static_config.Settings.TheVariants.{RequestResponse, PublishSubscribe, Event}
+use Rattle.iox_describe_settings.specs.declared.static_config.event.StaticConfig.{StaticConfig}
+use Rattle.iox_describe_settings.specs.declared.static_config.Settings.{Settings}
+use Rattle.iox_describe_settings.specs.declared.static_config.Settings.TheVariants.{RequestResponse, PublishSubscribe, Event}
 use Rattle.iox_describe_verdict.specs.Verdict.{first_unmet}
 use Rattle.iox_describe_verdict.specs.EventClauses.{clauses_on, clauses_of, IsWeaker}
 use Rattle.iox_describe_verdict.proofs.VerdictLemmas.{attributes, enough, met, option, step}

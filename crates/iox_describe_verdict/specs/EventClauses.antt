@@ -3,13 +3,13 @@ use Rattle.std.specs.Prelude.{◌∷◌, [], List, Bool, true, false, None}
 use Rattle.iox_describe_verdict.specs.declared.requirement.event.Requirement.{Requirement}
 use Rattle.iox_describe_verdict.specs.declared.requirement.event.ClauseError.{ClauseError}
 use Rattle.iox_describe_verdict.specs.declared.requirement.event.ClauseError.TheVariants as error
-use Rattle.iox_describe_base.specs.declared.static_config.event.Setting.{Setting}
-use Rattle.iox_describe_base.specs.declared.static_config.event.Setting.TheVariants.{Deadline, EventIdMaxValue, MaxListeners, MaxNodes, MaxNotifiers, NotifierCreatedEvent, NotifierDeadEvent, NotifierDroppedEvent}
-use Rattle.iox_describe_base.specs.declared.static_config.event.StaticConfig.{StaticConfig}
-use Rattle.iox_describe_base.specs.declared.static_config.Settings.{Settings}
-use Rattle.iox_describe_base.specs.declared.static_config.Settings.TheVariants.{RequestResponse, PublishSubscribe, Event}
+use Rattle.iox_describe_settings.specs.declared.static_config.event.Setting.{Setting}
+use Rattle.iox_describe_settings.specs.declared.static_config.event.Setting.TheVariants.{Deadline, EventIdMaxValue, MaxListeners, MaxNodes, MaxNotifiers, NotifierCreatedEvent, NotifierDeadEvent, NotifierDroppedEvent}
+use Rattle.iox_describe_settings.specs.declared.static_config.event.StaticConfig.{StaticConfig}
+use Rattle.iox_describe_settings.specs.declared.static_config.Settings.{Settings}
+use Rattle.iox_describe_settings.specs.declared.static_config.Settings.TheVariants.{RequestResponse, PublishSubscribe, Event}
 use Rattle.iox_describe_base.specs.declared.attribute.Attribute.{Attribute}
-use Rattle.iox_describe_base.specs.Agreement.{Agreement}
+use Rattle.iox_describe_settings.specs.Agreement.{Agreement}
 use Rattle.iox_describe_base.specs.Attributes.{Required, has_required, IsFewer}
 use Rattle.iox_describe_verdict.specs.Verdict.{is_enough, AsksLess, is_same_option, IsLeftOut}
 

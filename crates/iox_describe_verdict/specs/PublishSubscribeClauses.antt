@@ -4,13 +4,13 @@ use Rattle.iox_describe_base.specs.declared.message_type.MessageTypeDetails.{Mes
 use Rattle.iox_describe_verdict.specs.declared.requirement.publish_subscribe.Requirement.{Requirement}
 use Rattle.iox_describe_verdict.specs.declared.requirement.publish_subscribe.ClauseError.{ClauseError}
 use Rattle.iox_describe_verdict.specs.declared.requirement.publish_subscribe.ClauseError.TheVariants as error
-use Rattle.iox_describe_base.specs.declared.static_config.publish_subscribe.Setting.{Setting}
-use Rattle.iox_describe_base.specs.declared.static_config.publish_subscribe.Setting.TheVariants.{EnableSafeOverflow, HistorySize, MaxNodes, MaxPublishers, MaxSubscribers, SubscriberMaxBorrowedSamples, SubscriberMaxBufferSize, Types}
-use Rattle.iox_describe_base.specs.declared.static_config.publish_subscribe.StaticConfig.{StaticConfig}
-use Rattle.iox_describe_base.specs.declared.static_config.Settings.{Settings}
-use Rattle.iox_describe_base.specs.declared.static_config.Settings.TheVariants.{RequestResponse, PublishSubscribe, Event}
+use Rattle.iox_describe_settings.specs.declared.static_config.publish_subscribe.Setting.{Setting}
+use Rattle.iox_describe_settings.specs.declared.static_config.publish_subscribe.Setting.TheVariants.{EnableSafeOverflow, HistorySize, MaxNodes, MaxPublishers, MaxSubscribers, SubscriberMaxBorrowedSamples, SubscriberMaxBufferSize, Types}
+use Rattle.iox_describe_settings.specs.declared.static_config.publish_subscribe.StaticConfig.{StaticConfig}
+use Rattle.iox_describe_settings.specs.declared.static_config.Settings.{Settings}
+use Rattle.iox_describe_settings.specs.declared.static_config.Settings.TheVariants.{RequestResponse, PublishSubscribe, Event}
 use Rattle.iox_describe_base.specs.declared.attribute.Attribute.{Attribute}
-use Rattle.iox_describe_base.specs.Agreement.{Agreement}
+use Rattle.iox_describe_settings.specs.Agreement.{Agreement}
 use Rattle.iox_describe_base.specs.Attributes.{Required, has_required, IsFewer}
 use Rattle.iox_describe_base.specs.Compatible.{is_compatible}
 use Rattle.iox_describe_verdict.specs.Verdict.{is_enough, AsksLess, is_same_switch, IsLeftOut}

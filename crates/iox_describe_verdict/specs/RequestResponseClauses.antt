@@ -4,13 +4,13 @@ use Rattle.iox_describe_base.specs.declared.message_type.MessageTypeDetails.{Mes
 use Rattle.iox_describe_verdict.specs.declared.requirement.request_response.Requirement.{Requirement}
 use Rattle.iox_describe_verdict.specs.declared.requirement.request_response.ClauseError.{ClauseError}
 use Rattle.iox_describe_verdict.specs.declared.requirement.request_response.ClauseError.TheVariants as error
-use Rattle.iox_describe_base.specs.declared.static_config.request_response.Setting.{Setting}
-use Rattle.iox_describe_base.specs.declared.static_config.request_response.Setting.TheVariants.{EnableFireAndForgetRequests, EnableSafeOverflowForRequests, EnableSafeOverflowForResponses, MaxActiveRequestsPerClient, MaxBorrowedResponsesPerPendingResponse, MaxClients, MaxLoanedRequests, MaxNodes, MaxResponseBufferSize, MaxServers, RequestTypes, ResponseTypes}
-use Rattle.iox_describe_base.specs.declared.static_config.request_response.StaticConfig.{StaticConfig}
-use Rattle.iox_describe_base.specs.declared.static_config.Settings.{Settings}
-use Rattle.iox_describe_base.specs.declared.static_config.Settings.TheVariants.{RequestResponse, PublishSubscribe, Event}
+use Rattle.iox_describe_settings.specs.declared.static_config.request_response.Setting.{Setting}
+use Rattle.iox_describe_settings.specs.declared.static_config.request_response.Setting.TheVariants.{EnableFireAndForgetRequests, EnableSafeOverflowForRequests, EnableSafeOverflowForResponses, MaxActiveRequestsPerClient, MaxBorrowedResponsesPerPendingResponse, MaxClients, MaxLoanedRequests, MaxNodes, MaxResponseBufferSize, MaxServers, RequestTypes, ResponseTypes}
+use Rattle.iox_describe_settings.specs.declared.static_config.request_response.StaticConfig.{StaticConfig}
+use Rattle.iox_describe_settings.specs.declared.static_config.Settings.{Settings}
+use Rattle.iox_describe_settings.specs.declared.static_config.Settings.TheVariants.{RequestResponse, PublishSubscribe, Event}
 use Rattle.iox_describe_base.specs.declared.attribute.Attribute.{Attribute}
-use Rattle.iox_describe_base.specs.Agreement.{Agreement}
+use Rattle.iox_describe_settings.specs.Agreement.{Agreement}
 use Rattle.iox_describe_base.specs.Attributes.{Required, has_required, IsFewer}
 use Rattle.iox_describe_base.specs.Compatible.{is_compatible}
 use Rattle.iox_describe_verdict.specs.Verdict.{is_enough, AsksLess, is_same_switch, IsLeftOut}

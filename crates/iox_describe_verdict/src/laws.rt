@@ -1,6 +1,6 @@
 //! Laws of requirements, as functions that do nothing: each contract is the law.
 ghost use Rattle.std.specs.Prelude.{◌≡◌, Ok};
-ghost use Rattle.iox_describe_base.specs.Agreement.{Agreement};
+ghost use Rattle.iox_describe_settings.specs.Agreement.{Agreement};
 ghost use Rattle.iox_describe_verdict.specs.Verdict.{first_unmet};
 ghost use Rattle.iox_describe_verdict.specs.EventClauses as event;
 ghost use Rattle.iox_describe_verdict.specs.PublishSubscribeClauses as publish_subscribe;

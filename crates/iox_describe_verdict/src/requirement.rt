@@ -7,7 +7,7 @@ pub mod event;
 pub mod publish_subscribe;
 pub mod request_response;
 
-use iox_describe_base::PatternSetting;
+use iox_describe_settings::PatternSetting;
 
 /// A setting of a messaging pattern that a requirement may name.
 ///

@@ -1,17 +1,17 @@
 //! Settings, read from the front of the bytes that are left: each setting of the pattern's list in turn.
 ghost use Rattle.std.specs.Prelude.{◌≡◌, ℕ, ◌++◌, ◌∷◌, List, false};
-ghost use Rattle.iox_describe_base.specs.declared.setting.SettingValue.{SettingValue};
-ghost use Rattle.iox_describe_base.specs.declared.static_config.Settings.{Settings};
-ghost use Rattle.iox_describe_base.specs.Agreement.{pattern_of};
-ghost use Rattle.iox_describe_base.specs.Setting.{SameKind};
+ghost use Rattle.iox_describe_settings.specs.declared.setting.SettingValue.{SettingValue};
+ghost use Rattle.iox_describe_settings.specs.declared.static_config.Settings.{Settings};
+ghost use Rattle.iox_describe_settings.specs.Agreement.{pattern_of};
+ghost use Rattle.iox_describe_settings.specs.Setting.{SameKind};
 ghost use Rattle.iox_describe.specs.Line.{members_text, object_text, settings_text, value_text};
 ghost use Rattle.iox_describe.specs.Reading.{Ends};
 ghost use Rattle.iox_describe.specs.Within.{AreSettings, AreValues, IsValue};
 
 use crate::reader::part::Reader;
-use iox_describe_base::{
-    MessageTypeDetails, MessagingPattern, PatternSetting, SettingValue, Settings, TypeVariant,
-    event, publish_subscribe, request_response,
+use iox_describe_base::{MessageTypeDetails, MessagingPattern, TypeVariant};
+use iox_describe_settings::{
+    PatternSetting, SettingValue, Settings, event, publish_subscribe, request_response,
 };
 
 impl<'a> Reader<'a> {

@@ -3,7 +3,7 @@ ghost use Rattle.std.specs.Prelude.{◌≡◌, ◌++◌, false, OnOk};
 ghost use Rattle.iox_describe.specs.Line.{comma_if, member_text, members_text, object_text, settings_text, value_text};
 
 use crate::writer::part::{push_bytes, push_number, push_option, push_switch, push_types};
-use iox_describe_base::{
+use iox_describe_settings::{
     PatternSetting, SettingValue, Settings, event, publish_subscribe, request_response,
 };
 use std::alloc::AllocError;

@@ -1,6 +1,6 @@
 -- What stands in front is read part by part.
 use Rattle.std.proofs.Common.{Some, ap, refl, ◌∙◌, append_assoc}
-use Rattle.iox_describe_base.specs.Agreement.{pattern_of}
+use Rattle.iox_describe_settings.specs.Agreement.{pattern_of}
 use Rattle.iox_describe.specs.Line.{line}
 use Rattle.iox_describe.proofs.reader.candidate.Goals as goal
 

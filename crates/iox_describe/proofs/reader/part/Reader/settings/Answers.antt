@@ -1,6 +1,6 @@
 -- The settings are those of the pattern.
 use Rattle.std.proofs.Common.{ap}
-use Rattle.iox_describe_base.specs.declared.static_config.Settings.TheVariants.{RequestResponse, PublishSubscribe, Event}
+use Rattle.iox_describe_settings.specs.declared.static_config.Settings.TheVariants.{RequestResponse, PublishSubscribe, Event}
 use Rattle.iox_describe.proofs.reader.part.Reader.settings.Goals as goal
 
 pub returns-in-RequestResponse : goal.returns-in-RequestResponse

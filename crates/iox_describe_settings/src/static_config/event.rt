@@ -1,8 +1,8 @@
 //! What is agreed for an event service.
 ghost use Rattle.std.specs.Prelude.{◌≡◌, ◌↔◌, IsTrue};
 
-use crate::limits::NUMBER_OF_PORTS_END;
 use crate::setting::{PatternSetting, SettingValue};
+use iox_describe_base::limits::NUMBER_OF_PORTS_END;
 
 /// The settings of an event service.
 ///
@@ -28,7 +28,7 @@ pub struct StaticConfig {
 }
 
 impl StaticConfig {
-    ghost use Rattle.iox_describe_base.specs.Event.{defaults, adjusted, IsWithinLimits};
+    ghost use Rattle.iox_describe_settings.specs.Event.{defaults, adjusted, IsWithinLimits};
 
     /// The default settings.
     pub fn new() -> Self
@@ -96,8 +96,8 @@ pub enum Setting {
 
 impl PatternSetting for Setting {
     ghost use Rattle.std.specs.Prelude.{refl};
-    ghost use Rattle.iox_describe_base.specs.EventSettings.{all, changed, key, value};
-    ghost use Rattle.iox_describe_base.specs.declared.static_config.event.Setting.TheVariants.{Deadline, EventIdMaxValue, MaxListeners, MaxNodes, MaxNotifiers, NotifierCreatedEvent, NotifierDeadEvent, NotifierDroppedEvent};
+    ghost use Rattle.iox_describe_settings.specs.EventSettings.{all, changed, key, value};
+    ghost use Rattle.iox_describe_settings.specs.declared.static_config.event.Setting.TheVariants.{Deadline, EventIdMaxValue, MaxListeners, MaxNodes, MaxNotifiers, NotifierCreatedEvent, NotifierDeadEvent, NotifierDroppedEvent};
 
     type Config = StaticConfig;
 

@@ -1,7 +1,7 @@
 //! What is agreed for a service, by its messaging pattern.
 ghost use Rattle.std.specs.Prelude.{◌≡◌, ◌↔◌, IsTrue};
 
-use crate::pattern::MessagingPattern;
+use iox_describe_base::pattern::MessagingPattern;
 
 pub mod event;
 pub mod publish_subscribe;
@@ -21,7 +21,7 @@ pub enum Settings {
 }
 
 impl Settings {
-    ghost use Rattle.iox_describe_base.specs.Agreement.{pattern_of, max_nodes_of, AreWithinLimits};
+    ghost use Rattle.iox_describe_settings.specs.Agreement.{pattern_of, max_nodes_of, AreWithinLimits};
 
     /// The pattern that these are the settings of.
     pub fn pattern(&self) -> MessagingPattern

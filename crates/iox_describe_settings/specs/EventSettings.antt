@@ -1,10 +1,10 @@
 -- The settings of an event service, one by one.
 use Rattle.std.specs.Prelude.{ℕ, List, [], ◌∷◌, codes}
-use Rattle.iox_describe_base.specs.declared.setting.SettingValue.{SettingValue}
-use Rattle.iox_describe_base.specs.declared.setting.SettingValue.TheVariants.{Number, OptionalNumber}
-use Rattle.iox_describe_base.specs.declared.static_config.event.Setting.{Setting}
-use Rattle.iox_describe_base.specs.declared.static_config.event.Setting.TheVariants.{Deadline, EventIdMaxValue, MaxListeners, MaxNodes, MaxNotifiers, NotifierCreatedEvent, NotifierDeadEvent, NotifierDroppedEvent}
-use Rattle.iox_describe_base.specs.declared.static_config.event.StaticConfig.{StaticConfig}
+use Rattle.iox_describe_settings.specs.declared.setting.SettingValue.{SettingValue}
+use Rattle.iox_describe_settings.specs.declared.setting.SettingValue.TheVariants.{Number, OptionalNumber}
+use Rattle.iox_describe_settings.specs.declared.static_config.event.Setting.{Setting}
+use Rattle.iox_describe_settings.specs.declared.static_config.event.Setting.TheVariants.{Deadline, EventIdMaxValue, MaxListeners, MaxNodes, MaxNotifiers, NotifierCreatedEvent, NotifierDeadEvent, NotifierDroppedEvent}
+use Rattle.iox_describe_settings.specs.declared.static_config.event.StaticConfig.{StaticConfig}
 
 -- all of them, in rising order of their keys
 abbrev pub all : List Setting

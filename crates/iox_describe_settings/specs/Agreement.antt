@@ -4,11 +4,11 @@ use Rattle.iox_describe_base.specs.declared.attribute.Attribute.{Attribute}
 use Rattle.iox_describe_base.specs.declared.hash.ServiceHash.{ServiceHash}
 use Rattle.iox_describe_base.specs.declared.pattern.MessagingPattern.{MessagingPattern}
 use Rattle.iox_describe_base.specs.declared.pattern.MessagingPattern.TheVariants as pattern
-use Rattle.iox_describe_base.specs.declared.static_config.Settings.{Settings}
-use Rattle.iox_describe_base.specs.declared.static_config.Settings.TheVariants.{RequestResponse, PublishSubscribe, Event}
-use Rattle.iox_describe_base.specs.RequestResponse as request_response
-use Rattle.iox_describe_base.specs.PublishSubscribe as publish_subscribe
-use Rattle.iox_describe_base.specs.Event as event
+use Rattle.iox_describe_settings.specs.declared.static_config.Settings.{Settings}
+use Rattle.iox_describe_settings.specs.declared.static_config.Settings.TheVariants.{RequestResponse, PublishSubscribe, Event}
+use Rattle.iox_describe_settings.specs.RequestResponse as request_response
+use Rattle.iox_describe_settings.specs.PublishSubscribe as publish_subscribe
+use Rattle.iox_describe_settings.specs.Event as event
 
 -- name, hash, settings and attributes of a service
 pub record Agreement : Type 0 where

@@ -1,9 +1,9 @@
 //! The settings of a messaging pattern, one by one.
 ghost use Rattle.std.specs.Prelude.{◌≡◌, ℕ, List, true};
-ghost use Rattle.iox_describe_base.specs.declared.setting.SettingValue.{SettingValue};
-ghost use Rattle.iox_describe_base.specs.Setting.{filled, keys_rise, SameKind};
+ghost use Rattle.iox_describe_settings.specs.declared.setting.SettingValue.{SettingValue};
+ghost use Rattle.iox_describe_settings.specs.Setting.{filled, keys_rise, SameKind};
 
-use crate::message_type::MessageTypeDetails;
+use iox_describe_base::message_type::MessageTypeDetails;
 
 /// What a setting is set to.
 #[derive(Clone, Copy, Debug, PartialEq, Eq)]

@@ -1,6 +1,6 @@
 -- The settings of an event service.
 use Rattle.std.specs.Prelude.{◌≤◌, ◌<◌, ◌^◌, max, None}
-use Rattle.iox_describe_base.specs.declared.static_config.event.StaticConfig.{StaticConfig}
+use Rattle.iox_describe_settings.specs.declared.static_config.event.StaticConfig.{StaticConfig}
 
 -- what stands where nothing is asked
 abbrev pub defaults : StaticConfig

@@ -1,7 +1,7 @@
 -- The settings of a publish-subscribe service.
 use Rattle.std.specs.Prelude.{◌≤◌, ◌<◌, ◌^◌, max, true}
 use Rattle.iox_describe_base.specs.declared.message_type.MessageTypeDetails.{MessageTypeDetails}
-use Rattle.iox_describe_base.specs.declared.static_config.publish_subscribe.StaticConfig.{StaticConfig}
+use Rattle.iox_describe_settings.specs.declared.static_config.publish_subscribe.StaticConfig.{StaticConfig}
 
 -- what stands where nothing is asked
 abbrev pub defaults : MessageTypeDetails → StaticConfig

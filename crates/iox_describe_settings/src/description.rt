@@ -1,11 +1,11 @@
 //! The description of a service: what its nodes agree on.
 ghost use Rattle.std.specs.Prelude.{◌≡◌, ◌↔◌, IfOk, IsTrue};
 
-use crate::attribute::AttributeSpecifier;
-use crate::hash::{ServiceHash, service_hash};
-use crate::name::ServiceName;
-use crate::pattern::MessagingPattern;
 use crate::static_config::Settings;
+use iox_describe_base::attribute::AttributeSpecifier;
+use iox_describe_base::hash::{ServiceHash, service_hash};
+use iox_describe_base::name::ServiceName;
+use iox_describe_base::pattern::MessagingPattern;
 use std::alloc::{AllocError, Global};
 use std::marker::Model;
 
@@ -22,7 +22,7 @@ pub struct Description {
 }
 
 impl Model for Description {
-    ghost use Rattle.iox_describe_base.specs.Agreement.{Agreement, agreement};
+    ghost use Rattle.iox_describe_settings.specs.Agreement.{Agreement, agreement};
 
     ghost Value = { Agreement };
 
@@ -30,7 +30,7 @@ impl Model for Description {
 }
 
 impl Description {
-    ghost use Rattle.iox_describe_base.specs.Agreement.{agreement, pattern_of, max_nodes_of, AreWithinLimits};
+    ghost use Rattle.iox_describe_settings.specs.Agreement.{agreement, pattern_of, max_nodes_of, AreWithinLimits};
     ghost use Rattle.iox_describe_base.specs.Hash.{hash_text, service_hash_text};
 
     /// The version of the format that descriptions are written in.

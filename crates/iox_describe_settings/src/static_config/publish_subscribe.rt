@@ -1,9 +1,9 @@
 //! What is agreed for a publish-subscribe service.
 ghost use Rattle.std.specs.Prelude.{◌≡◌, ◌↔◌, IsTrue};
 
-use crate::limits::{NUMBER_OF_PORTS_END, NUMBER_OF_SAMPLES_END};
-use crate::message_type::MessageTypeDetails;
 use crate::setting::{PatternSetting, SettingValue};
+use iox_describe_base::limits::{NUMBER_OF_PORTS_END, NUMBER_OF_SAMPLES_END};
+use iox_describe_base::message_type::MessageTypeDetails;
 
 /// The settings of a publish-subscribe service.
 ///
@@ -29,7 +29,7 @@ pub struct StaticConfig {
 }
 
 impl StaticConfig {
-    ghost use Rattle.iox_describe_base.specs.PublishSubscribe.{defaults, adjusted, IsWithinLimits};
+    ghost use Rattle.iox_describe_settings.specs.PublishSubscribe.{defaults, adjusted, IsWithinLimits};
 
     /// The default settings, for these types.
     pub fn new(types: MessageTypeDetails) -> Self
@@ -104,8 +104,8 @@ pub enum Setting {
 
 impl PatternSetting for Setting {
     ghost use Rattle.std.specs.Prelude.{refl};
-    ghost use Rattle.iox_describe_base.specs.PublishSubscribeSettings.{all, changed, key, value};
-    ghost use Rattle.iox_describe_base.specs.declared.static_config.publish_subscribe.Setting.TheVariants.{EnableSafeOverflow, HistorySize, MaxNodes, MaxPublishers, MaxSubscribers, SubscriberMaxBorrowedSamples, SubscriberMaxBufferSize, Types};
+    ghost use Rattle.iox_describe_settings.specs.PublishSubscribeSettings.{all, changed, key, value};
+    ghost use Rattle.iox_describe_settings.specs.declared.static_config.publish_subscribe.Setting.TheVariants.{EnableSafeOverflow, HistorySize, MaxNodes, MaxPublishers, MaxSubscribers, SubscriberMaxBorrowedSamples, SubscriberMaxBufferSize, Types};
 
     type Config = StaticConfig;
 

@@ -1,10 +1,10 @@
 -- The settings of a request-response service, one by one.
 use Rattle.std.specs.Prelude.{ℕ, List, [], ◌∷◌, codes}
-use Rattle.iox_describe_base.specs.declared.setting.SettingValue.{SettingValue}
-use Rattle.iox_describe_base.specs.declared.setting.SettingValue.TheVariants.{Switch, Number, Types}
-use Rattle.iox_describe_base.specs.declared.static_config.request_response.Setting.{Setting}
-use Rattle.iox_describe_base.specs.declared.static_config.request_response.Setting.TheVariants.{EnableFireAndForgetRequests, EnableSafeOverflowForRequests, EnableSafeOverflowForResponses, MaxActiveRequestsPerClient, MaxBorrowedResponsesPerPendingResponse, MaxClients, MaxLoanedRequests, MaxNodes, MaxResponseBufferSize, MaxServers, RequestTypes, ResponseTypes}
-use Rattle.iox_describe_base.specs.declared.static_config.request_response.StaticConfig.{StaticConfig}
+use Rattle.iox_describe_settings.specs.declared.setting.SettingValue.{SettingValue}
+use Rattle.iox_describe_settings.specs.declared.setting.SettingValue.TheVariants.{Switch, Number, Types}
+use Rattle.iox_describe_settings.specs.declared.static_config.request_response.Setting.{Setting}
+use Rattle.iox_describe_settings.specs.declared.static_config.request_response.Setting.TheVariants.{EnableFireAndForgetRequests, EnableSafeOverflowForRequests, EnableSafeOverflowForResponses, MaxActiveRequestsPerClient, MaxBorrowedResponsesPerPendingResponse, MaxClients, MaxLoanedRequests, MaxNodes, MaxResponseBufferSize, MaxServers, RequestTypes, ResponseTypes}
+use Rattle.iox_describe_settings.specs.declared.static_config.request_response.StaticConfig.{StaticConfig}
 
 -- all of them, in rising order of their keys
 abbrev pub all : List Setting

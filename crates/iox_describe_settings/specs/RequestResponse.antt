@@ -1,7 +1,7 @@
 -- The settings of a request-response service.
 use Rattle.std.specs.Prelude.{◌≤◌, ◌<◌, ◌^◌, max, true}
 use Rattle.iox_describe_base.specs.declared.message_type.MessageTypeDetails.{MessageTypeDetails}
-use Rattle.iox_describe_base.specs.declared.static_config.request_response.StaticConfig.{StaticConfig}
+use Rattle.iox_describe_settings.specs.declared.static_config.request_response.StaticConfig.{StaticConfig}
 
 -- what stands where nothing is asked
 abbrev pub defaults : MessageTypeDetails → MessageTypeDetails → StaticConfig

@@ -2,8 +2,8 @@
 use Rattle.std.specs.Prelude.{ℕ, List, [], ◌∷◌, Bool, true, ◌&&◌}
 use Rattle.std.specs.Cmp.Lexicographic.{slice_cmp}
 use Rattle.std.specs.Ordering.{is_lt, nat_cmp}
-use Rattle.iox_describe_base.specs.declared.setting.SettingValue.{SettingValue}
-use Rattle.iox_describe_base.specs.declared.setting.SettingValue.TheVariants.{Switch, Number, OptionalNumber, Types}
+use Rattle.iox_describe_settings.specs.declared.setting.SettingValue.{SettingValue}
+use Rattle.iox_describe_settings.specs.declared.setting.SettingValue.TheVariants.{Switch, Number, OptionalNumber, Types}
 
 -- two values of one kind
 abbrev pub SameKind : SettingValue → SettingValue → Type 0

@@ -1,9 +1,9 @@
 //! What is agreed for a request-response service.
 ghost use Rattle.std.specs.Prelude.{◌≡◌, ◌↔◌, IsTrue};
 
-use crate::limits::NUMBER_OF_PORTS_END;
-use crate::message_type::MessageTypeDetails;
 use crate::setting::{PatternSetting, SettingValue};
+use iox_describe_base::limits::NUMBER_OF_PORTS_END;
+use iox_describe_base::message_type::MessageTypeDetails;
 
 /// The settings of a request-response service.
 ///
@@ -37,7 +37,7 @@ pub struct StaticConfig {
 }
 
 impl StaticConfig {
-    ghost use Rattle.iox_describe_base.specs.RequestResponse.{defaults, adjusted, IsWithinLimits};
+    ghost use Rattle.iox_describe_settings.specs.RequestResponse.{defaults, adjusted, IsWithinLimits};
 
     /// The default settings, for these types.
     pub fn new(request_types: MessageTypeDetails, response_types: MessageTypeDetails) -> Self
@@ -127,8 +127,8 @@ pub enum Setting {
 
 impl PatternSetting for Setting {
     ghost use Rattle.std.specs.Prelude.{refl};
-    ghost use Rattle.iox_describe_base.specs.RequestResponseSettings.{all, changed, key, value};
-    ghost use Rattle.iox_describe_base.specs.declared.static_config.request_response.Setting.TheVariants.{EnableFireAndForgetRequests, EnableSafeOverflowForRequests, EnableSafeOverflowForResponses, MaxActiveRequestsPerClient, MaxBorrowedResponsesPerPendingResponse, MaxClients, MaxLoanedRequests, MaxNodes, MaxResponseBufferSize, MaxServers, RequestTypes, ResponseTypes};
+    ghost use Rattle.iox_describe_settings.specs.RequestResponseSettings.{all, changed, key, value};
+    ghost use Rattle.iox_describe_settings.specs.declared.static_config.request_response.Setting.TheVariants.{EnableFireAndForgetRequests, EnableSafeOverflowForRequests, EnableSafeOverflowForResponses, MaxActiveRequestsPerClient, MaxBorrowedResponsesPerPendingResponse, MaxClients, MaxLoanedRequests, MaxNodes, MaxResponseBufferSize, MaxServers, RequestTypes, ResponseTypes};
 
     type Config = StaticConfig;
 

@@ -1,0 +1,16 @@
+//! What the nodes of a service agree on: the settings of each pattern, and the description with all of it.
+//!
+//! | Module | What it has |
+//! |---|---|
+//! | `setting` | what it is to be a setting of a pattern: a key, and a value that is read and written |
+//! | `static_config` | the settings of each pattern: defaults, adjusting, limits, and the list of them all |
+//! | `description` | all that is agreed |
+#![tactic(auto)]
+
+pub mod description;
+pub mod setting;
+pub mod static_config;
+
+pub use description::Description;
+pub use setting::{PatternSetting, SettingValue};
+pub use static_config::{Settings, event, publish_subscribe, request_response};
