@@ -3,11 +3,11 @@ ghost use Rattle.std.specs.Prelude.{◌≡◌, None};
 
 use crate::requirement::{RequiredSetting, first_unmet, is_enough, is_same_switch};
 use iox_describe_base::attribute::AttributeSpecifier;
-use iox_describe_settings::description::Description;
 use iox_describe_base::message_type::MessageTypeDetails;
+use iox_describe_base::verifier::AttributeVerifier;
+use iox_describe_settings::description::Description;
 use iox_describe_settings::static_config::Settings;
 use iox_describe_settings::static_config::request_response::{Setting, StaticConfig};
-use iox_describe_base::verifier::AttributeVerifier;
 use thiserror::Error;
 
 /// Why a request-response service can't be opened as required: the first clause that is not met. The variants
