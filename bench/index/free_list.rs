@@ -21,6 +21,15 @@ impl FreeList {
         FreeList { free: (0..capacity).rev().collect() }
     }
 
+    /// A list that has handed out the first `held` indices.
+    fn with_held(capacity: usize, held: usize) -> Self {
+        let mut list = FreeList::new(capacity);
+        for _ in 0..held {
+            list.acquire();
+        }
+        list
+    }
+
     fn acquire(&mut self) -> Option<usize> {
         self.free.pop()
     }
@@ -32,11 +41,8 @@ impl FreeList {
 
 #[inline(never)]
 fn list_rounds(capacity: usize, rounds: u64) -> u64 {
-    let mut list = FreeList::new(black_box(capacity));
     let half = capacity / 2;
-    for _ in 0..half {
-        list.acquire();
-    }
+    let mut list = FreeList::with_held(black_box(capacity), half);
     let (mut sum, mut index) = (0u64, 0);
     for _ in 0..black_box(rounds) {
         list.release(index);
@@ -50,11 +56,8 @@ fn list_rounds(capacity: usize, rounds: u64) -> u64 {
 
 #[inline(never)]
 fn list_pairs(capacity: usize, rounds: u64) -> u64 {
-    let mut list = FreeList::new(black_box(capacity));
     let half = capacity / 2;
-    for _ in 0..half {
-        list.acquire();
-    }
+    let mut list = FreeList::with_held(black_box(capacity), half);
     let (mut sum, mut index) = (0u64, 0);
     for _ in 0..black_box(rounds) {
         let next = if index + 1 < half { index + 1 } else { 0 };
@@ -73,11 +76,8 @@ fn list_pairs(capacity: usize, rounds: u64) -> u64 {
 
 #[inline(never)]
 fn list_bursts(capacity: usize, together: usize, rounds: u64) -> u64 {
-    let mut list = FreeList::new(black_box(capacity));
     let (half, together) = (capacity / 2, black_box(together));
-    for _ in 0..half {
-        list.acquire();
-    }
+    let mut list = FreeList::with_held(black_box(capacity), half);
     let (mut sum, mut index) = (0u64, 0);
     for _ in 0..black_box(rounds) {
         for _ in 0..together {
