@@ -5,7 +5,7 @@
 #![tactic(auto)]
 
 use iox_hub::HubConfig;
-use iox_script::{Input, Output, ServeError, serve};
+use iox_script::{Input, Output, serve, status};
 use std::process::ExitCode;
 
 /// How many connections of publishers that left a subscriber keeps.
@@ -18,14 +18,9 @@ fn main(rt: HostRuntime) -> ExitCode {
     };
     let mut input = Input::new(rt.stdin());
     let mut output = Output::new(rt.stdout());
-    match serve(rt.alloc(), config, &mut input, &mut output) {
-        Ok(()) => ExitCode::SUCCESS,
-        Err(error) => {
-            let _ = rt.eprintln(&error);
-            match error {
-                ServeError::ReadFault | ServeError::WriteFault => ExitCode::from(1),
-                ServeError::OutOfMemory => ExitCode::from(2),
-            }
-        }
+    let ending = serve(rt.alloc(), config, &mut input, &mut output);
+    if let Err(error) = ending {
+        let _ = rt.eprintln(&error);
     }
+    ExitCode::from(status(ending))
 }

@@ -1,6 +1,6 @@
 //! What a hub is asked, and what it answers.
 use crate::error::Refusal;
-use crate::service::ServiceName;
+use iox_describe_base::ServiceName;
 
 /// One command. It names what was made before by its number, each kind counted from 1.
 #[derive(Clone, Copy, Debug)]

@@ -14,8 +14,8 @@ use crate::error::{
     ReceiveError, Refusal, SubscriberCreateError,
 };
 use crate::message::Message;
-use crate::service::{Service, ServiceName};
-use iox_describe_base::MessagingPattern;
+use crate::service::Service;
+use iox_describe_base::{MessagingPattern, ServiceName};
 use std::alloc::{AllocError, Global};
 use std::marker::Model;
 

@@ -33,4 +33,4 @@ pub use error::{
     ReceiveError, Refusal, SubscriberCreateError,
 };
 pub use hub::{Hub, HubConfig, NodeHandle, RunReport};
-pub use service::ServiceName;
+pub use iox_describe_base::ServiceName;

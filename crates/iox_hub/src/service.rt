@@ -5,13 +5,9 @@ ghost use Rattle.iox_hub.specs.Service.{new_service, is_named, may_enter, entere
 
 use crate::agreement::Agreement;
 use crate::domain::Domain;
-use iox_describe_base::MessagingPattern;
-use iox_string::StaticString;
+use iox_describe_base::{MessagingPattern, ServiceName};
 use std::alloc::{AllocError, Global};
 use std::marker::Model;
-
-/// The name of a service: at most 255 bytes of 1..=127.
-pub type ServiceName = StaticString<255>;
 
 /// An open service, and which nodes are in it.
 #[derive(Drop)]

@@ -1,16 +1,15 @@
 //! The container whose capacity its type fixes.
-ghost use Rattle.std.specs.Prelude.{◌≡◌, ◌↔◌, ◌+◌, ℕ, List, Option, true, false, length, not, nat_eq, IfOk, OnErr, IsErr};
+ghost use Rattle.std.specs.Prelude.{◌≡◌, ◌↔◌, ◌+◌, ℕ, List, Option, true, false, length, slice_get, not, nat_eq, IfOk, OnErr, IsErr};
 ghost use Rattle.iox_index_base.specs.declared.container.Member.{Member};
 ghost use Rattle.std.specs.Bool.{OnFalse};
 ghost use Rattle.std.specs.List.{FoldsTo};
 ghost use Rattle.iox_index_base.specs.Release.{state_of};
-ghost use Rattle.iox_index_base.specs.Container.{Contents, Copied, empty_container, count_members, lowest_free, handle_of, with_member, without_member, settled, owns, HasRoom, copy_of, may_update, IsCopyOf, members_of, Recovered};
+ghost use Rattle.iox_index_base.specs.Container.{Contents, Copied, empty_container, count_members, lowest_free, handle_of, with_member, without_member, settled, owns, HasRoom, copy_of, may_update, IsCopyOf, member_of, handle_at, first_handle, members_of, Recovered};
 
 use iox_index_base::{
-    Container, ContainerAddFailure, ContainerHandle, ContainerRemoveError, ContainerState, OwnerId,
-    ReleaseMode, ReleaseState,
+    Container, ContainerAddFailure, ContainerHandle, ContainerRemoveError, ContainerState, Member,
+    OwnerId, ReleaseMode, ReleaseState,
 };
-use iox_queues_base::Words;
 use std::alloc::{AllocError, Global};
 use std::marker::Model;
 
@@ -18,11 +17,11 @@ use std::marker::Model;
 ///
 /// Ported from `iceoryx2_bb_lock_free::mpmc::container::FixedSizeContainer`.
 #[derive(Drop)]
-pub struct FixedSizeContainer<T: Words, const CAPACITY: usize> {
+pub struct FixedSizeContainer<T: Copy, const CAPACITY: usize> {
     container: Container<T>,
 }
 
-impl<T: Words, const CAPACITY: usize> Model for FixedSizeContainer<T, CAPACITY> {
+impl<T: Copy, const CAPACITY: usize> Model for FixedSizeContainer<T, CAPACITY> {
     ghost use Rattle.std.specs.Prelude.{◌≡◌, length};
     ghost use Rattle.iox_index_base.specs.Container.{Contents};
 
@@ -33,7 +32,7 @@ impl<T: Words, const CAPACITY: usize> Model for FixedSizeContainer<T, CAPACITY> 
     ghost invariant = { λ c. length c.container.members ≡ CAPACITY };
 }
 
-impl<T: Words, const CAPACITY: usize> FixedSizeContainer<T, CAPACITY> {
+impl<T: Copy, const CAPACITY: usize> FixedSizeContainer<T, CAPACITY> {
     /// A container without members, which the id tells from others. It fails only where memory is wanting.
     pub fn new(alloc: Global, id: u64) -> Result<Self, AllocError>
         ensures { IfOk result (λ container. container ≡ empty_container id CAPACITY) }
@@ -76,6 +75,27 @@ impl<T: Words, const CAPACITY: usize> FixedSizeContainer<T, CAPACITY> {
         ensures err { OnErr result (self.new ≡ self.old) }
     {
         self.container.remove(handle, mode)
+    }
+
+    /// The handle of the owner's first member, by rising index; `None` where it has none.
+    pub fn first_of(&self, owner: OwnerId) -> Option<ContainerHandle>
+        ensures { result ≡ first_handle (members_of owner self.now.id self.now.members) }
+    {
+        self.container.first_of(owner)
+    }
+
+    /// The member at this index; `None` where there is none, and past the capacity.
+    pub fn get(&self, index: usize) -> Option<Member<T>>
+        ensures { result ≡ member_of (slice_get self.now.members index) }
+    {
+        self.container.get(index)
+    }
+
+    /// The handle of the member at this index; `None` where there is none, and past the capacity.
+    pub fn handle(&self, index: usize) -> Option<ContainerHandle>
+        ensures { result ≡ handle_at self.now.id index (member_of (slice_get self.now.members index)) }
+    {
+        self.container.handle(index)
     }
 
     /// Calls `callback` with the handle and the value of each member of the owner, by rising index.

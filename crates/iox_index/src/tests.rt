@@ -1,7 +1,6 @@
 //! Worked examples: sets of capacity 3, a container whose members come and go, guards in two threads.
 use crate::*;
 use iox_container::CallbackProgression;
-use iox_queues_base::Words;
 use std::test::Fail;
 use std::thread;
 
@@ -145,7 +144,7 @@ fn small_capacities(rt: HostRuntime) -> Result<(), Fail> {
 }
 
 // Adds a member where the counts have room, through the container alone.
-fn added<T: Words>(
+fn added<T: Copy>(
     container: &mut Container<T>,
     value: T,
     owner: OwnerId,
@@ -156,7 +155,7 @@ fn added<T: Words>(
     Ok(container.add(value, owner)?)
 }
 
-fn removed<T: Words>(
+fn removed<T: Copy>(
     container: &mut Container<T>,
     handle: ContainerHandle,
     mode: ReleaseMode,
@@ -269,7 +268,9 @@ fn takes_turns(set: &SharedIndexSet) -> bool {
 
 #[test]
 fn guards_in_two_threads_give_all_back(rt: HostRuntime) -> Result<(), Fail> {
-    let set = UniqueIndexSet::new(rt.alloc(), 2)?.share(rt.alloc())?;
+    let Ok(set) = UniqueIndexSet::new(rt.alloc(), 2)?.share(rt.alloc()) else {
+        return Err(Fail::new("not shared"));
+    };
     let (here, there) = thread::join(&rt, || takes_turns(&set), || takes_turns(&set));
     assert!(rt; here);
     assert!(rt; there);
@@ -285,7 +286,9 @@ fn a_shared_set_goes_on_where_the_plain_one_was(rt: HostRuntime) -> Result<(), F
     }
     assert!(rt; plain.is_held(0));
     plain.release_raw_index(0, ReleaseMode::Default);
-    let set = plain.share(rt.alloc())?;
+    let Ok(set) = plain.share(rt.alloc()) else {
+        return Err(Fail::new("not shared"));
+    };
     let first = set.acquire()?;
     assert_eq!(rt; first.value(), 0);
     let second = set.acquire()?;
@@ -304,5 +307,140 @@ fn takes_no_more_room_than_there_is(rt: HostRuntime) -> Result<(), Fail> {
     assert!(rt; UniqueIndexSet::new(rt.alloc(), usize::MAX).is_err());
     assert!(rt; RobustUniqueIndexSet::new(rt.alloc(), usize::MAX).is_err());
     assert!(rt; Container::<u64>::new(rt.alloc(), 1, usize::MAX).is_err());
+    Ok(())
+}
+
+#[test]
+fn a_set_that_a_head_has_no_room_for_is_not_shared(rt: HostRuntime) -> Result<(), Fail> {
+    let most = (1 << 24) - 1;
+    let set = UniqueIndexSet::new(rt.alloc(), most + 1)?;
+    match set.share(rt.alloc()) {
+        Ok(_) => return Err(Fail::new("2^24 indices were shared")),
+        Err(mut set) => {
+            assert_eq!(rt; set.capacity(), most + 1);
+            assert_eq!(rt; set.acquire_raw_index(), Ok(0));
+        }
+    }
+    let set = UniqueIndexSet::new(rt.alloc(), most)?;
+    let Ok(shared) = set.share(rt.alloc()) else {
+        return Err(Fail::new("2^24 - 1 indices were not shared"));
+    };
+    assert_eq!(rt; shared.acquire()?.value(), 0);
+    assert_eq!(rt; shared.capacity(), most);
+    Ok(())
+}
+
+#[test]
+fn a_shared_set_gives_each_answer(rt: HostRuntime) -> Result<(), Fail> {
+    let mut plain = UniqueIndexSet::new(rt.alloc(), 2)?;
+    assert_eq!(rt; plain.acquire_raw_index(), Ok(0));
+    let Ok(set) = plain.share(rt.alloc()) else {
+        return Err(Fail::new("not shared"));
+    };
+    assert_eq!(rt; set.borrowed_indices(), 1);
+    assert_eq!(rt; set.head().aba, 0);
+    let index = set.acquire()?;
+    assert_eq!(rt; index.value(), 1);
+    assert_eq!(rt; set.borrowed_indices(), 2);
+    assert_eq!(rt; set.head().aba, 1);
+    assert_eq!(rt;
+        set.acquire().err(),
+        Some(UniqueIndexSetAcquireFailure::OutOfIndices)
+    );
+    assert_eq!(rt; set.head().aba, 1);
+    drop(index);
+    assert_eq!(rt; set.borrowed_indices(), 1);
+    assert_eq!(rt; set.head().aba, 2);
+    assert_eq!(rt; set.head().head, 1);
+    let mut plain = UniqueIndexSet::new(rt.alloc(), 1)?;
+    assert_eq!(rt; plain.acquire_raw_index(), Ok(0));
+    assert!(rt; plain.is_held(0));
+    plain.release_raw_index(0, ReleaseMode::LockIfLastIndex);
+    let Ok(locked) = plain.share(rt.alloc()) else {
+        return Err(Fail::new("not shared"));
+    };
+    assert!(rt; locked.is_locked());
+    assert_eq!(rt;
+        locked.acquire().err(),
+        Some(UniqueIndexSetAcquireFailure::IsLocked)
+    );
+    let Ok(none) = UniqueIndexSet::new(rt.alloc(), 0)?.share(rt.alloc()) else {
+        return Err(Fail::new("not shared"));
+    };
+    assert_eq!(rt;
+        none.acquire().err(),
+        Some(UniqueIndexSetAcquireFailure::OutOfIndices)
+    );
+    Ok(())
+}
+
+#[test]
+fn members_are_looked_up(rt: HostRuntime) -> Result<(), Fail> {
+    let owner = OwnerId::new(1)?;
+    let other = OwnerId::new(2)?;
+    let mut container = FixedSizeContainer::<u64, 3>::new(rt.alloc(), 5)?;
+    assert_eq!(rt; container.first_of(owner), None);
+    assert!(rt; container.has_room());
+    container.add(10, other)?;
+    assert!(rt; container.has_room());
+    let second = container.add(20, owner)?;
+    assert!(rt; container.has_room());
+    container.add(30, owner)?;
+    assert_eq!(rt; container.first_of(owner), Some(second));
+    assert_eq!(rt; container.handle(1), Some(second));
+    assert_eq!(rt; container.handle(3), None);
+    assert_eq!(rt; container.get(2).map(|member| member.value), Some(30));
+    assert!(rt; container.get(3).is_none());
+    Ok(())
+}
+
+#[test]
+fn memory_is_wanting_only_where_it_is(rt: HostRuntime) -> Result<(), Fail> {
+    let owner = OwnerId::new(1)?;
+    for capacity in [0, 1, 2, 7, 64, 65_536] {
+        for _again in 0..3 {
+            let set = UniqueIndexSet::new(rt.alloc(), capacity)?;
+            assert_eq!(rt; set.capacity(), capacity);
+            assert!(rt; set.share(rt.alloc()).is_ok(), "{capacity}");
+            let robust = RobustUniqueIndexSet::new(rt.alloc(), capacity)?;
+            assert_eq!(rt; robust.capacity(), capacity);
+            let mut container = Container::<u64>::new(rt.alloc(), 1, capacity)?;
+            assert_eq!(rt; container.capacity(), capacity);
+            assert!(rt; container.has_room());
+            assert_eq!(rt; container.add(7, owner).is_ok(), 0 < capacity);
+            let copy = container.get_state(rt.alloc())?;
+            assert_eq!(rt; copy.get(0).is_some(), 0 < capacity);
+        }
+    }
+    assert!(rt; FixedSizeUniqueIndexSet::<64>::new_with_reduced_capacity(rt.alloc(), 7).is_ok());
+    assert!(rt; StaticRobustUniqueIndexSet::<64>::new_with_reduced_capacity(rt.alloc(), 7).is_ok());
+    assert!(rt; FixedSizeContainer::<u64, 64>::new(rt.alloc(), 1).is_ok());
+    Ok(())
+}
+
+#[test]
+fn each_error_names_its_type_and_its_variant(rt: HostRuntime) -> Result<(), Fail> {
+    let texts = [
+        format!(in rt.alloc(); "{}", UniqueIndexSetAcquireFailure::OutOfIndices)?,
+        format!(in rt.alloc(); "{}", UniqueIndexSetAcquireFailure::IsLocked)?,
+        format!(in rt.alloc(); "{}", ContainerAddFailure::OutOfSpace)?,
+        format!(in rt.alloc(); "{}", ContainerAddFailure::IsLocked)?,
+        format!(in rt.alloc();
+            "{}",
+            ContainerRemoveError::ContainerHandleNotOwnedByContainer
+        )?,
+        format!(in rt.alloc(); "{}", OwnerIdNewError::ValueReserved)?,
+    ];
+    let names = [
+        "UniqueIndexSetAcquireFailure::OutOfIndices",
+        "UniqueIndexSetAcquireFailure::IsLocked",
+        "ContainerAddFailure::OutOfSpace",
+        "ContainerAddFailure::IsLocked",
+        "ContainerRemoveError::ContainerHandleNotOwnedByContainer",
+        "OwnerIdNewError::ValueReserved",
+    ];
+    for (text, name) in texts.iter().zip(names) {
+        assert_eq!(rt; text.as_str(), name);
+    }
     Ok(())
 }

@@ -1,5 +1,7 @@
 //! The set of indices whose capacity its type bounds, and which hands out the last released first.
-ghost use Rattle.std.specs.Prelude.{◌≡◌, ◌≤◌, ℕ, true, false, IfOk, OnErr};
+ghost use Rattle.std.specs.Prelude.{◌≡◌, ◌≤◌, ◌<◌, ◌+◌, ◌^◌, ℕ, true, false, IfOk, IfErr, OnErr};
+ghost use Rattle.std.specs.List.{count_by, range_with_len};
+ghost use Rattle.iox_index_base.specs.Shared.{shared_form};
 ghost use Rattle.iox_index_base.specs.Release.{state_of};
 ghost use Rattle.iox_index_base.specs.Unique.{UniqueSetState, new_unique_set, is_held, borrowed, answer_of, acquired, freed, settled, Takes};
 
@@ -53,6 +55,7 @@ impl<const CAPACITY: usize> FixedSizeUniqueIndexSet<CAPACITY> {
         ensures answer { result ≡ answer_of self.old.locked self.old.free }
         ensures ok { IfOk result (λ index. self.new ≡ acquired self.old) }
         ensures taken { IfOk result (λ index. Takes index self.old self.new) }
+        ensures one_more { IfOk result (λ index. borrowed self.new ≡ borrowed self.old + 1) }
         ensures err { OnErr result (self.new ≡ self.old) }
     {
         self.set.acquire_raw_index()
@@ -70,20 +73,30 @@ impl<const CAPACITY: usize> FixedSizeUniqueIndexSet<CAPACITY> {
         requires { is_held index self.old ≡ true }
         ensures after { self.new ≡ settled mode (freed index self.old) }
         ensures taken { Takes index (freed index self.old) self.old }
+        ensures one_fewer { borrowed self.new + 1 ≡ borrowed self.old }
         ensures answer { result ≡ state_of self.new.locked }
     {
         self.set.release_raw_index(index, mode)
     }
 
-    /// The set with its free indices as they are, to be shared by threads. It fails only where memory is wanting.
-    pub fn share(self, alloc: Global) -> Result<SharedIndexSet, AllocError> {
+    /// The set with its free indices as they are, to be shared by threads. The set itself comes back where no memory is
+    /// found, or where it has 2^24 indices or more, for which a head has no room.
+    pub fn share(self, alloc: Global) -> Result<SharedIndexSet, FixedSizeUniqueIndexSet<CAPACITY>>
+        ensures shared { IfOk result (λ set. set ≡ shared_form self.entry) }
+        ensures room { IfOk result (λ set. self.entry.capacity < 2 ^ 24) }
+        ensures back { IfErr result (λ set. set ≡ self.entry) }
+    {
         let FixedSizeUniqueIndexSet { set } = self;
-        set.share(alloc)
+        match set.share(alloc) {
+            Ok(shared) => Ok(shared),
+            Err(set) => Err(FixedSizeUniqueIndexSet { set }),
+        }
     }
 
     /// How many indices are held.
     pub fn borrowed_indices(&self) -> usize
-        ensures { result ≡ borrowed self.now }
+        ensures value { result ≡ borrowed self.now }
+        ensures counted { result ≡ count_by (λ index. is_held index self.now) (range_with_len 0 self.now.capacity) }
     {
         self.set.borrowed_indices()
     }

@@ -1,8 +1,9 @@
 -- Lists of free indices, as they are handed out and come back.
-use Rattle.std.proofs.Common.{ℕ, zero, suc, ◌≡◌, ◌+◌, ◌<◌, ◌≤◌, ◌∷◌, ◌++◌, [], List, Bool, true, false, not, ◌&&◌, ◌||◌, length, arith, refl, sym, ap, ◌∙◌, nat_lt, replicate, reverse}
+use Rattle.std.proofs.Common.{ℕ, zero, suc, ◌≡◌, ◌+◌, ◌<◌, ◌≤◌, ◌∷◌, ◌++◌, [], List, Bool, true, false, not, ◌&&◌, ◌||◌, length, arith, refl, sym, ap, ◌∙◌, nat_lt, cond, replicate, reverse}
 use Rattle.std.proofs.Math.ListN.{set}
 use Rattle.std.proofs.Math.Logic.{⊎_elim}
-use Rattle.std.specs.List.{AllByRecursion, IsDistinct, range_with_len}
+use Rattle.std.specs.List.{AllByRecursion, IsDistinct, count_by, range_with_len}
+use Rattle.std.proofs.lemmas.List.Sums.{sum_by-cons}
 use Rattle.std.proofs.Math.Dec.{eqb}
 use Rattle.std.proofs.lemmas.Bool.{eq-eqb}
 use Rattle.std.proofs.lemmas.Bool.Decides.{eqb_tells, nat_tests}
@@ -157,3 +158,74 @@ pub held-means : (index : ℕ) (set : UniqueSetState) → is_held index set ≡ 
 held-means index set h =
     let both = and-both (nat_lt index set.capacity) (not (is_among index set.free)) h in
     (grind (arith, nat_tests, both.0), not-true (is_among index set.free) both.1)
+
+-- how many of these numbers aren't among others
+abbrev pub count_absent : List ℕ → List ℕ → ℕ
+count_absent indices numbers = count_by (λ number. not (is_among number indices)) numbers
+
+absent-cons : (indices : List ℕ) (number : ℕ) (numbers : List ℕ) → count_absent indices (number ∷ numbers) ≡ cond (not (is_among number indices)) 1 0 + count_absent indices numbers
+absent-cons indices number numbers = sum_by-cons (λ n. cond (not (is_among n indices)) 1 0) number numbers
+
+-- a number below the range changes nothing
+absent-skip : (n from index : ℕ) (indices : List ℕ) → index < from → count_absent (index ∷ indices) (range_with_len from n) ≡ count_absent indices (range_with_len from n)
+absent-skip zero from index indices low = refl
+absent-skip (suc n) from index indices low =
+    ⊎_elim (λ same. absurd (omega (arith, same.1)))
+    (λ other.
+    absent-cons (index ∷ indices) from (range_with_len (from + 1) n)
+    ∙ ap (λ b. cond (not (b || is_among from indices)) 1 0 + count_absent (index ∷ indices) (range_with_len (from + 1) n)) other.0
+    ∙ ap (λ k. cond (not (is_among from indices)) 1 0 + k) (absent-skip n (from + 1) index indices (omega arith))
+    ∙ sym (absent-cons indices from (range_with_len (from + 1) n)))
+    (eqb_tells from index)
+
+-- a number of the range that isn't among the others takes one off
+absent-one : (n from index : ℕ) (indices : List ℕ) → is_among index indices ≡ false → from ≤ index → index < from + n
+    → count_absent (index ∷ indices) (range_with_len from n) + 1 ≡ count_absent indices (range_with_len from n)
+absent-one zero from index indices new low high = absurd (omega arith)
+absent-one (suc n) from index indices new low high =
+    let rest = range_with_len (from + 1) n in
+    ⊎_elim
+    (λ same.
+    let here : ◌≡◌ {A = ℕ} (cond (not (is_among from (index ∷ indices))) 1 0) 0 = rw same.0 refl in
+    let was : ◌≡◌ {A = ℕ} (cond (not (is_among from indices)) 1 0) 1 = rw (same.1, new) refl in
+    omega (arith, absent-cons (index ∷ indices) from rest, absent-cons indices from rest, here, was, absent-skip n (from + 1) index indices (omega (arith, same.1))))
+    (λ other.
+    let same : ◌≡◌ {A = ℕ} (cond (not (is_among from (index ∷ indices))) 1 0) (cond (not (is_among from indices)) 1 0) = rw other.0 refl in
+    omega (arith, absent-cons (index ∷ indices) from rest, absent-cons indices from rest, same, absent-one n (from + 1) index indices new (omega (arith, other.1)) (omega arith)))
+    (eqb_tells from index)
+
+absent-none : (n from : ℕ) → count_absent [] (range_with_len from n) ≡ n
+absent-none zero from = refl
+absent-none (suc n) from = omega (arith, absent-cons [] from (range_with_len (from + 1) n), absent-none n (from + 1))
+
+-- of the numbers below a bound, as many are absent as are left
+absent-rest : (bound : ℕ) (free : List ℕ) → IsDistinct eqb free → ((index : ℕ) → is_among index free ≡ true → index < bound)
+    → count_absent free (range_with_len 0 bound) + length free ≡ bound
+absent-rest bound [] d below = omega (arith, absent-none bound 0)
+absent-rest bound (index ∷ free) d below =
+    let first : index < bound = below index (rw (eq-eqb index index refl) refl) in
+    omega (
+      arith,
+      absent-one bound 0 index free (distinct-head index free d) (omega arith) (omega (arith, first)),
+      absent-rest bound free (distinct-rest index free d) (λ other among. below other (or-true (eqb other index) (is_among other free) among)),
+    )
+
+-- below the capacity, what is held is what isn't free
+held-absent : (n from : ℕ) (set : UniqueSetState) → from + n ≤ set.capacity → count_by (λ index. is_held index set) (range_with_len from n) ≡ count_absent set.free (range_with_len from n)
+held-absent zero from set high = refl
+held-absent (suc n) from set high =
+    let inside : nat_lt from set.capacity ≡ true = grind (arith, nat_tests) in
+    sum_by-cons (λ index. cond (is_held index set) 1 0) from (range_with_len (from + 1) n)
+    ∙ ap (λ b. cond (b && not (is_among from set.free)) 1 0 + count_by (λ index. is_held index set) (range_with_len (from + 1) n)) inside
+    ∙ ap (λ k. cond (not (is_among from set.free)) 1 0 + k) (held-absent n (from + 1) set (omega arith))
+    ∙ sym (absent-cons set.free from (range_with_len (from + 1) n))
+
+-- the held indices are as many as are left by the free ones
+pub held-counted : (held : List Bool) (set : UniqueSetState) → set.capacity ≡ length held → AreFree held set.free
+    → count_by (λ index. is_held index set) (range_with_len 0 set.capacity) + length set.free ≡ set.capacity
+held-counted held set whole f =
+    omega (
+      arith,
+      held-absent set.capacity 0 set (omega arith),
+      absent-rest set.capacity set.free f.distinct (λ index among. omega (arith, f.below index among, whole)),
+    )

@@ -1,5 +1,5 @@
 -- A container: members at their indices, each with its owner.
-use Rattle.std.specs.Prelude.{ℕ, ◌≡◌, ◌≤◌, ◌+◌, ◌<◌, ◌^◌, Bool, true, false, not, ◌&&◌, ◌||◌, List, Option, None, Some, is_some, Result, Ok, Err, length, replicate, slice_get, slice_set, nat_eq, if◌then◌else◌}
+use Rattle.std.specs.Prelude.{ℕ, ◌≡◌, ◌≤◌, ◌+◌, ◌<◌, ◌^◌, Bool, true, false, not, ◌&&◌, ◌||◌, List, [], ◌∷◌, Option, None, Some, is_some, Result, Ok, Err, length, replicate, slice_get, slice_set, nat_eq, if◌then◌else◌}
 use Rattle.std.specs.List.{count_by, position}
 use Rattle.iox_index_base.specs.declared.container.Member.{Member}
 use Rattle.iox_index_base.specs.declared.container.ContainerHandle.{ContainerHandle}
@@ -91,6 +91,16 @@ abbrev pub value_of : {T : Type 0} → Option (Option (Member T)) → Option T
 value_of (Some (Some member)) = Some member.value
 value_of place = None
 
+-- the member of a place, if there is such a place and it has one
+abbrev pub member_of : {T : Type 0} → Option (Option (Member T)) → Option (Member T)
+member_of (Some place) = place
+member_of None = None
+
+-- the handle of a member
+abbrev pub handle_at : {T : Type 0} → ℕ → ℕ → Option (Member T) → Option ContainerHandle
+handle_at id index None = None
+handle_at id index (Some member) = Some (record { container = id; index = index; number = member.number })
+
 -- what is told of a member: its handle and its value
 abbrev pub told : {T : Type 0} → ℕ → ℕ → Option (Member T) → Option (ContainerHandle × T)
 told id index None = None
@@ -103,6 +113,11 @@ told_of owner id index member = if is_of owner member then told id index member 
 -- the members of an owner, by rising index
 abbrev pub members_of : {T : Type 0} → ℕ → ℕ → List (Option (Member T)) → List (ContainerHandle × T)
 members_of owner id members = asked_from (told_of owner id) 0 members
+
+-- the handle of the first of these members
+abbrev pub first_handle : {T : Type 0} → List (ContainerHandle × T) → Option ContainerHandle
+first_handle [] = None
+first_handle (member ∷ members) = Some member.0
 
 -- a decision was asked about each member of the owner; those for which it answered true are gone
 abbrev pub Recovered : {F T : Type 0} → (F → ContainerHandle × T → Bool → F → Type 0) → ℕ → ℕ → F → List (Option (Member T)) → List (Option (Member T)) → Type 0

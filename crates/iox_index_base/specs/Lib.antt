@@ -5,4 +5,5 @@ pub mod Recovery
 pub mod Refusals
 pub mod Release
 pub mod Robust
+pub mod Shared
 pub mod Unique

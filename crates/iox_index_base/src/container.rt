@@ -5,13 +5,12 @@ ghost use Rattle.std.specs.List.{FoldsTo, position};
 ghost use Rattle.iox_container.specs.Callback.{CallsUntilStop};
 ghost use Rattle.iox_index_base.specs.Recovery.{asked_from};
 ghost use Rattle.iox_index_base.specs.Release.{locks, state_of};
-ghost use Rattle.iox_index_base.specs.Container.{Contents, Copied, empty_container, count_members, lowest_free, handle_of, with_member, without_member, settled, owns, is_numbered, is_of, HasRoom, copy_of, may_update, IsCopyOf, value_of, told, told_of, members_of, Recovered, all_members};
+ghost use Rattle.iox_index_base.specs.Container.{Contents, Copied, empty_container, count_members, lowest_free, handle_of, with_member, without_member, settled, owns, is_numbered, is_of, HasRoom, copy_of, may_update, IsCopyOf, value_of, member_of, handle_at, first_handle, told, told_of, members_of, Recovered, all_members};
 
 use crate::error::{ContainerAddFailure, ContainerRemoveError};
 use crate::owner::OwnerId;
 use crate::release::{ReleaseMode, ReleaseState};
 use iox_container::CallbackProgression;
-use iox_queues_base::Words;
 use std::alloc::{AllocError, Global};
 use std::marker::Model;
 
@@ -47,14 +46,14 @@ impl ContainerHandle {
 ///
 /// Ported from `iceoryx2_bb_lock_free::mpmc::container::Container`.
 #[derive(Drop)]
-pub struct Container<T: Words> {
+pub struct Container<T: Copy> {
     id: u64,
     members: Vec<Option<Member<T>>>,
     changes: u64,
     locked: bool,
 }
 
-impl<T: Words> Model for Container<T> {
+impl<T: Copy> Model for Container<T> {
     ghost use Rattle.std.specs.Prelude.{is_some};
     ghost use Rattle.std.specs.List.{count_by};
     ghost use Rattle.iox_index_base.specs.Release.{IsUnheldIfLocked};
@@ -71,13 +70,13 @@ impl<T: Words> Model for Container<T> {
 ///
 /// Ported from `iceoryx2_bb_lock_free::mpmc::container::ContainerState`.
 #[derive(Drop)]
-pub struct ContainerState<T: Words> {
+pub struct ContainerState<T: Copy> {
     id: u64,
     members: Vec<Option<Member<T>>>,
     changes: u64,
 }
 
-impl<T: Words> Model for ContainerState<T> {
+impl<T: Copy> Model for ContainerState<T> {
     ghost use Rattle.iox_index_base.specs.Container.{Copied};
 
     ghost Value = { Copied T };
@@ -85,7 +84,7 @@ impl<T: Words> Model for ContainerState<T> {
     ghost view = { λ s. record { id = s.id; members = s.members.items; changes = s.changes } };
 }
 
-impl<T: Words> Container<T> {
+impl<T: Copy> Container<T> {
     /// A container without members, which the id tells from others. It fails only where memory is wanting.
     pub fn new(alloc: Global, id: u64, capacity: usize) -> Result<Self, AllocError>
         ensures { IfOk result (λ container. container ≡ empty_container id capacity) }
@@ -181,6 +180,35 @@ impl<T: Words> Container<T> {
         } else {
             ReleaseState::Unlocked
         }
+    }
+
+    /// The handle of the owner's first member, by rising index; `None` where it has none.
+    pub fn first_of(&self, owner: OwnerId) -> Option<ContainerHandle>
+        ensures { result ≡ first_handle (members_of owner self.now.id self.now.members) }
+    {
+        first_told(owner, self.id, self.members.as_slice())
+    }
+
+    /// The member at this index; `None` where there is none, and past the capacity.
+    pub fn get(&self, index: usize) -> Option<Member<T>>
+        ensures { result ≡ member_of (slice_get self.now.members index) }
+    {
+        match self.members.get(index)? {
+            None => None,
+            Some(member) => Some(*member),
+        }
+    }
+
+    /// The handle of the member at this index; `None` where there is none, and past the capacity.
+    pub fn handle(&self, index: usize) -> Option<ContainerHandle>
+        ensures { result ≡ handle_at self.now.id index (member_of (slice_get self.now.members index)) }
+    {
+        let member = self.get(index)?;
+        Some(ContainerHandle {
+            container: self.id,
+            index,
+            number: member.number,
+        })
     }
 
     /// Calls `callback` with the handle and the value of each member of the owner, by rising index.
@@ -280,7 +308,7 @@ impl<T: Words> Container<T> {
     }
 }
 
-impl<T: Words> ContainerState<T> {
+impl<T: Copy> ContainerState<T> {
     /// Calls `callback` with the handle and the value of each member, by rising index, up to and with the first that it
     /// answers with `Stop`.
     pub fn for_each<F: FnMut(ContainerHandle, T) -> CallbackProgression>(&self, callback: F)
@@ -302,7 +330,7 @@ impl<T: Words> ContainerState<T> {
 }
 
 // What is told of a member.
-fn told<T: Words>(id: u64, index: usize, member: Option<Member<T>>) -> Option<(ContainerHandle, T)>
+fn told<T: Copy>(id: u64, index: usize, member: Option<Member<T>>) -> Option<(ContainerHandle, T)>
     ensures { result ≡ told id index member }
 {
     let member = member?;
@@ -315,7 +343,7 @@ fn told<T: Words>(id: u64, index: usize, member: Option<Member<T>>) -> Option<(C
 }
 
 // The same of a member of this owner alone.
-fn told_of<T: Words>(
+fn told_of<T: Copy>(
     owner: OwnerId,
     id: u64,
     index: usize,
@@ -329,7 +357,28 @@ fn told_of<T: Words>(
     told(id, index, member)
 }
 
-fn call_members<T: Words, F: FnMut(ContainerHandle, T)>(
+// The handle of the owner's first member.
+fn first_told<T: Copy>(
+    owner: OwnerId,
+    id: u64,
+    members: &[Option<Member<T>>],
+) -> Option<ContainerHandle>
+    ensures { result ≡ first_handle (members_of owner id members.now) }
+{
+    let mut rest = members;
+    let mut at = 0usize;
+    while let Some(split) = rest.split_first() {
+        let index = at;
+        at += 1;
+        rest = split.1;
+        if let Some(found) = told_of(owner, id, index, *split.0) {
+            return Some(found.0);
+        }
+    }
+    None
+}
+
+fn call_members<T: Copy, F: FnMut(ContainerHandle, T)>(
     mut callback: F,
     owner: OwnerId,
     id: u64,
@@ -351,7 +400,7 @@ fn call_members<T: Words, F: FnMut(ContainerHandle, T)>(
     }
 }
 
-fn call_until_stop<T: Words, F: FnMut(ContainerHandle, T) -> CallbackProgression>(
+fn call_until_stop<T: Copy, F: FnMut(ContainerHandle, T) -> CallbackProgression>(
     mut callback: F,
     id: u64,
     members: &[Option<Member<T>>],
@@ -376,7 +425,7 @@ fn call_until_stop<T: Words, F: FnMut(ContainerHandle, T) -> CallbackProgression
 }
 
 // Removes each member of the owner for which `decide` answers true.
-fn remove_where<T: Words, F: FnMut(ContainerHandle, T) -> bool>(
+fn remove_where<T: Copy, F: FnMut(ContainerHandle, T) -> bool>(
     mut decide: F,
     owner: OwnerId,
     id: u64,
@@ -396,7 +445,7 @@ fn remove_where<T: Words, F: FnMut(ContainerHandle, T) -> bool>(
     }
 }
 
-fn lowest_free<T: Words>(members: &[Option<Member<T>>]) -> Option<usize>
+fn lowest_free<T: Copy>(members: &[Option<Member<T>>]) -> Option<usize>
     ensures { result ≡ position (λ member. not (is_some member)) members.now }
 {
     members.iter().position(|member| !member.is_some())

@@ -1,6 +1,6 @@
 //! The word of a set that tells its next free index.
 ghost use Rattle.std.specs.Prelude.{◌≡◌, ◌+◌, ◌*◌, ◌^◌, ◌%◌, ◌/◌, ◌<◌};
-ghost use Rattle.iox_index_base.specs.Head.{word_of_head, head_of_word};
+ghost use Rattle.iox_index_base.specs.Head.{word_of_head, head_of_word, head_after_acquire, head_after_release};
 
 const INDICES: u64 = 1 << 24;
 
@@ -28,6 +28,28 @@ impl HeadDetails {
         let head = u64::from(self.head) % INDICES;
         let borrowed_indices = u64::from(self.borrowed_indices) % INDICES;
         (head * CHANGES + u64::from(self.aba)) * INDICES + borrowed_indices
+    }
+
+    /// The head once its next free index is taken, behind which `next` comes: one change more, one index more held.
+    pub fn after_acquire(&self, next: u32) -> HeadDetails
+        ensures { result ≡ head_after_acquire next self.now }
+    {
+        HeadDetails {
+            head: next,
+            aba: self.aba.wrapping_add(1),
+            borrowed_indices: self.borrowed_indices.wrapping_add(1),
+        }
+    }
+
+    /// The head once `index` is given back: one change more, one index fewer held.
+    pub fn after_release(&self, index: u32) -> HeadDetails
+        ensures { result ≡ head_after_release index self.now }
+    {
+        HeadDetails {
+            head: index,
+            aba: self.aba.wrapping_add(1),
+            borrowed_indices: self.borrowed_indices.wrapping_sub(1),
+        }
     }
 }
 

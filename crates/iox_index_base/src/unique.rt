@@ -1,5 +1,6 @@
 //! Sets that hand out the last released index first.
-ghost use Rattle.std.specs.Prelude.{◌≡◌, ◌≤◌, ◌<◌, ℕ, length, true, false, IfOk, OnErr};
+ghost use Rattle.std.specs.Prelude.{◌≡◌, ◌≤◌, ◌<◌, ◌+◌, ℕ, length, true, false, IfOk, OnErr};
+ghost use Rattle.std.specs.List.{count_by, range_with_len};
 ghost use Rattle.iox_index_base.specs.Release.{locks, state_of};
 ghost use Rattle.iox_index_base.specs.Unique.{UniqueSetState, new_unique_set, is_held, borrowed, answer_of, acquired, freed, settled, Takes};
 
@@ -57,6 +58,7 @@ impl UniqueIndexSet {
         ensures answer { result ≡ answer_of self.old.locked self.old.free }
         ensures ok { IfOk result (λ index. self.new ≡ acquired self.old) }
         ensures taken { IfOk result (λ index. Takes index self.old self.new) }
+        ensures one_more { IfOk result (λ index. borrowed self.new ≡ borrowed self.old + 1) }
         ensures err { OnErr result (self.new ≡ self.old) }
     {
         if self.locked {
@@ -81,6 +83,7 @@ impl UniqueIndexSet {
         requires { is_held index self.old ≡ true }
         ensures after { self.new ≡ settled mode (freed index self.old) }
         ensures taken { Takes index (freed index self.old) self.old }
+        ensures one_fewer { borrowed self.new + 1 ≡ borrowed self.old }
         ensures answer { result ≡ state_of self.new.locked }
     {
         self.put_back(index);
@@ -92,6 +95,7 @@ impl UniqueIndexSet {
         requires { is_held index self.old ≡ true }
         ensures after { self.new ≡ freed index self.old }
         ensures taken { Takes index (freed index self.old) self.old }
+        ensures one_fewer { borrowed self.new + 1 ≡ borrowed self.old }
     {
         self.held[index] = false;
         self.free.push_reserved(index);
@@ -119,7 +123,8 @@ impl UniqueIndexSet {
 
     /// How many indices are held.
     pub fn borrowed_indices(&self) -> usize
-        ensures { result ≡ borrowed self.now }
+        ensures value { result ≡ borrowed self.now }
+        ensures counted { result ≡ count_by (λ index. is_held index self.now) (range_with_len 0 self.now.capacity) }
     {
         self.held.len() - self.free.len()
     }

@@ -2,13 +2,15 @@
 //!
 //! It has no items of its own, only tests: `conversations` holds whole scripts with their replies, `lines` single
 //! lines and the ways in which a line is faulty, `streams` readers and writers that give or take little, or fail.
-//! `talk` is what they share.
+//! `repeated` has the same command again and again; `talk` is what they share.
 #![tactic(auto)]
 
 #[cfg(test)]
 mod conversations;
 #[cfg(test)]
 mod lines;
+#[cfg(test)]
+mod repeated;
 #[cfg(test)]
 mod streams;
 #[cfg(test)]

@@ -110,7 +110,7 @@ fn pieces_make_no_difference(rt: HostRuntime) -> Result<(), Fail> {
             let mut output = Output::new(Vec::new(rt.alloc()));
             serve(rt.alloc(), CONFIG, &mut input, &mut output)?;
             assert_eq!(rt;
-                output.writer.as_slice(),
+                output.writer().as_slice(),
                 replies.as_bytes(),
                 "cut at {first}"
             );
@@ -134,8 +134,8 @@ fn a_failed_read_ends_the_conversation(rt: HostRuntime) -> Result<(), Fail> {
         let mut output = Output::new(Vec::new(rt.alloc()));
         let result = serve(rt.alloc(), CONFIG, &mut input, &mut output);
         assert_eq!(rt; result, Err(ServeError::ReadFault), "call {good_calls}");
-        assert!(rt; input.failed);
-        let written = output.writer.as_slice();
+        assert!(rt; input.has_failed());
+        let written = output.writer().as_slice();
         assert!(rt;
             replies.as_bytes().starts_with(written),
             "call {good_calls}"
@@ -159,9 +159,9 @@ fn an_endless_reader_is_left(rt: HostRuntime) -> Result<(), Fail> {
         let mut output = Output::new(Vec::new(rt.alloc()));
         let result = serve(rt.alloc(), CONFIG, &mut input, &mut output);
         assert_eq!(rt; result, Err(ServeError::ReadFault), "byte {byte}");
-        assert_eq!(rt; input.calls, READ_CALLS, "byte {byte}");
-        assert!(rt; !input.failed);
-        assert_eq!(rt; output.writer.len(), length, "byte {byte}");
+        assert_eq!(rt; input.calls(), READ_CALLS, "byte {byte}");
+        assert!(rt; !input.has_failed());
+        assert_eq!(rt; output.writer().len(), length, "byte {byte}");
     }
     Ok(())
 }
@@ -175,11 +175,11 @@ fn a_writer_may_take_one_byte_a_call_or_all_in_one(rt: HostRuntime) -> Result<()
         let mut output = Output::new(Sips::new(rt.alloc(), most, good_calls));
         serve(rt.alloc(), CONFIG, &mut input, &mut output)?;
         assert_eq!(rt;
-            output.writer.taken.as_slice(),
+            output.writer().taken.as_slice(),
             replies.as_bytes(),
             "{most} bytes a call"
         );
-        assert!(rt; !output.failed);
+        assert!(rt; !output.has_failed());
     }
     Ok(())
 }
@@ -192,8 +192,8 @@ fn a_failed_write_ends_the_conversation(rt: HostRuntime) -> Result<(), Fail> {
         let mut output = Output::new(Sips::new(rt.alloc(), 1, good_calls));
         let result = serve(rt.alloc(), CONFIG, &mut input, &mut output);
         assert_eq!(rt; result, Err(ServeError::WriteFault), "call {good_calls}");
-        assert!(rt; output.failed);
-        let taken = output.writer.taken.as_slice();
+        assert!(rt; output.has_failed());
+        let taken = output.writer().taken.as_slice();
         assert_eq!(rt; taken.len(), good_calls);
         assert!(rt; replies.as_bytes().starts_with(taken), "call {good_calls}");
     }
@@ -206,12 +206,12 @@ fn a_writer_that_takes_nothing_ends_the_conversation(rt: HostRuntime) -> Result<
     let mut output = Output::new(Sips::new(rt.alloc(), 0, usize::MAX));
     let result = serve(rt.alloc(), CONFIG, &mut input, &mut output);
     assert_eq!(rt; result, Err(ServeError::WriteFault));
-    assert!(rt; output.failed);
-    assert!(rt; output.writer.taken.is_empty());
+    assert!(rt; output.has_failed());
+    assert!(rt; output.writer().taken.is_empty());
     // Where nothing is to be written, nothing fails.
     let mut input = Input::new(b"".as_slice());
     let mut output = Output::new(Sips::new(rt.alloc(), 0, 0));
     serve(rt.alloc(), CONFIG, &mut input, &mut output)?;
-    assert!(rt; !output.failed);
+    assert!(rt; !output.has_failed());
     Ok(())
 }

@@ -15,7 +15,7 @@ pub(crate) fn answer(alloc: Global, bytes: &[u8]) -> Result<Vec<u8>, ServeError>
     let mut input = Input::new(bytes);
     let mut output = Output::new(Vec::new(alloc));
     serve(alloc, CONFIG, &mut input, &mut output)?;
-    Ok(output.writer)
+    Ok(output.into_writer())
 }
 
 /// The lines in and the lines out of a script in which each line reads `LINE -> REPLY`.

@@ -4,3 +4,5 @@ pub mod ReplyText
 pub mod Lines
 pub mod Conversation
 pub mod Input
+pub mod Output
+pub mod Ending

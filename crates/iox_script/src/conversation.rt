@@ -4,32 +4,20 @@ ghost use Rattle.std.specs.Io.KnownBytes.{Appends};
 ghost use Rattle.iox_hub.specs.Machine.{total};
 ghost use Rattle.iox_script.specs.Conversation.{IsConversation, Converses};
 
-use crate::input::{Input, Output};
+use crate::error::ServeError;
+use crate::input::Input;
+use crate::output::Output;
 use crate::session::Session;
+use crate::write_all::write_all;
 use iox_hub::HubConfig;
 use std::alloc::Global;
 use std::io::{Read, Write};
-use thiserror::Error;
 
 /// How many read calls a conversation makes at most.
 pub const READ_CALLS: u64 = 1 << 20;
 
 /// How many bytes one read call asks for.
 const PIECE: usize = 65536;
-
-/// Why a conversation ended before its input did.
-#[derive(Clone, Copy, Debug, PartialEq, Eq, Hash, Error)]
-pub enum ServeError {
-    /// A read call failed, or 2^20 read calls were made.
-    #[error("read fault")]
-    ReadFault,
-    /// A write call failed, or took no bytes.
-    #[error("write fault")]
-    WriteFault,
-    /// No memory was found for a reply.
-    #[error("out of memory")]
-    OutOfMemory,
-}
 
 /// Answers each line of the input by one line of output, on a new hub, until a read gives no bytes.
 ///
@@ -87,7 +75,7 @@ fn converse<R: Read, W: Write>(
             let Ok(()) = session.finish(alloc, out) else {
                 return Err(ServeError::OutOfMemory);
             };
-            if !output.write_all(out) {
+            if !write_all(output, out) {
                 return Err(ServeError::WriteFault);
             }
             return Ok(());
@@ -95,7 +83,7 @@ fn converse<R: Read, W: Write>(
         let Ok(()) = session.take_bytes(alloc, &piece[..count], out) else {
             return Err(ServeError::OutOfMemory);
         };
-        if !output.write_all(out) {
+        if !write_all(output, out) {
             return Err(ServeError::WriteFault);
         }
         out.clear();

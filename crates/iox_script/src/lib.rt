@@ -10,19 +10,27 @@
 //! | `words` | the words of a line, and what single words spell |
 //! | `read` | from a line to its command |
 //! | `print` | from a reply to its line |
-//! | `input` | a reader and a writer, with what their calls answered |
+//! | `input` | a reader, with what its calls answered |
+//! | `output` | a writer, with what its calls answered |
+//! | `write_all` | all of a text, in as many write calls as it takes |
 //! | `session` | one hub, and the line that isn't whole yet |
 //! | `conversation` | all lines of an input |
+//! | `error` | why a conversation ended, and how a program says so |
 #![tactic(auto)]
 
 mod conversation;
+mod error;
 mod input;
+mod output;
 mod print;
 mod read;
 mod session;
 mod words;
+mod write_all;
 
-pub use conversation::{READ_CALLS, ServeError, serve};
-pub use input::{Input, Output};
+pub use conversation::{READ_CALLS, serve};
+pub use error::{ServeError, status};
+pub use input::Input;
+pub use output::Output;
 pub use print::print_reply;
 pub use read::read_command;

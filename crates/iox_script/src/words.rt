@@ -4,7 +4,6 @@ ghost use Rattle.iox_script.specs.Words.{words_of, same, is_digit, below_limit, 
 ghost use Rattle.std.specs.List.{list_all};
 
 use iox_hub::ServiceName;
-use iox_string::StaticString;
 
 /// The bytes before the first space, and those after it, if there is one.
 pub(crate) fn first_word(line: &[u8]) -> (&[u8], Option<&[u8]>)
@@ -79,7 +78,7 @@ pub(crate) fn name(word: &[u8]) -> Option<ServiceName>
     if word.is_empty() || word.len() > 255 || !are_name_bytes(word) {
         return None;
     }
-    StaticString::from_bytes(word).ok()
+    ServiceName::new(word).ok()
 }
 
 fn are_name_bytes(word: &[u8]) -> bool

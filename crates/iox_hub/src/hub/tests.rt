@@ -1,5 +1,4 @@
 use super::*;
-use iox_string::StaticString;
 use std::test::Fail;
 
 const CONFIG: HubConfig = HubConfig {
@@ -8,7 +7,7 @@ const CONFIG: HubConfig = HubConfig {
 };
 
 fn name(bytes: &[u8]) -> Result<ServiceName, Fail> {
-    Ok(StaticString::from_bytes(bytes)?)
+    Ok(ServiceName::new(bytes)?)
 }
 
 #[test]
@@ -70,5 +69,15 @@ fn a_full_mailbox_drops_its_oldest(rt: HostRuntime) -> Result<(), Fail> {
     let report = hub.run(rt.alloc(), &commands);
     assert_eq!(rt; report.stopped, false);
     assert!(rt; report.replies.as_slice() == replies.as_slice());
+    Ok(())
+}
+
+#[test]
+fn a_hundred_nodes_are_made(rt: HostRuntime) -> Result<(), Fail> {
+    let mut hub: Hub<u8, bool> = Hub::new(rt.alloc(), CONFIG);
+    for number in 1..=100 {
+        assert!(rt; hub.has_room(1));
+        assert_eq!(rt; hub.new_node()?.number, number);
+    }
     Ok(())
 }

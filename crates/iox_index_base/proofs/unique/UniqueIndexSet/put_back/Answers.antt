@@ -36,3 +36,11 @@ returns-clause-taken c =
     rw (← c.self.view_is) (
     Takes-first _ _ _ _ _ _ (AreFree-freed c.self.inside.held.items c.args.index before.free c.self.invariant.0 held.0 held.1)
     (sym (length-set c.self.inside.held.items c.args.index false)))
+
+pub returns-clause-one_fewer : goal.returns-clause-one_fewer
+returns-clause-one_fewer c =
+    let before : UniqueSetState =
+    record { capacity = length c.self.inside.held.items; free = reverse c.self.inside.free.items; locked = c.self.inside.locked } in
+    let held = held-means c.args.index before (rw (← c.self.view_is) at c.requires) in
+    let room = AreFree-room c.self.inside.held.items c.args.index before.free c.self.invariant.0 held.0 held.1 in
+    rw (← c.self.view_is, reverse-last _ _ _ c.push_reserved.ensures.items, length-set c.self.inside.held.items c.args.index false) (omega (arith, room))
