@@ -56,7 +56,7 @@ fn edits_in_place(rt: HostRuntime) -> Result<(), Fail> {
     assert_eq!(rt; text.pop(), Some(b'r'));
     assert_eq!(rt; text.remove(0), Some(b'w'));
     text.push_bytes(b"abcabc")?;
-    text.retain(|byte| byte != b'b');
+    text.retain(&mut |byte| byte != b'b');
     assert_eq!(rt; text.as_str(), "oacac");
     assert!(rt; text.remove_range(1, 2));
     assert!(rt; !text.remove_range(1, 3));
