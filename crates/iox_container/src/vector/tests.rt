@@ -84,9 +84,9 @@ fn a_clone_is_equal(rt: HostRuntime) -> Result<(), Fail> {
     Ok(())
 }
 
-// What reading a vector of two bytes answers: its items, or why it was refused.
+// What reading a vector of three bytes answers: its items, or why it was refused.
 fn read(alloc: Global, json: &str) -> Result<std::string::String, Fail> {
-    match serde_json::from_str::<StaticVec<u8, 2>>(alloc, json) {
+    match serde_json::from_str::<StaticVec<u8, 3>>(alloc, json) {
         Ok(vec) => Ok(format!(in alloc; "{vec:?}")?),
         Err(error) => {
             let text = format!(in alloc; "{error}")?;
@@ -101,16 +101,16 @@ fn read(alloc: Global, json: &str) -> Result<std::string::String, Fail> {
 #[test]
 fn goes_through_its_list_form(rt: HostRuntime) -> Result<(), Fail> {
     let alloc: Global = rt.alloc();
-    let mut vec = StaticVec::<u8, 2>::new(alloc)?;
+    let mut vec = StaticVec::<u8, 3>::new(alloc)?;
     assert_eq!(rt; serde_json::to_string(alloc, &vec)?.as_str(), "[]");
     vec.push(7)?;
     assert_eq!(rt; serde_json::to_string(alloc, &vec)?.as_str(), "[7]");
-    vec.push(8)?;
-    assert_eq!(rt; serde_json::to_string(alloc, &vec)?.as_str(), "[7,8]");
-    for json in ["[]", "[7]", "[7, 8]"] {
+    vec.extend_from_slice(&[8, 9])?;
+    assert_eq!(rt; serde_json::to_string(alloc, &vec)?.as_str(), "[7,8,9]");
+    for json in ["[]", "[7]", "[7, 8]", "[7, 8, 9]"] {
         assert_eq!(rt; read(alloc, json)?.as_str(), json);
     }
-    assert!(rt; read(alloc, "[7, 8, 9]")?.contains("list longer than capacity"));
+    assert!(rt; read(alloc, "[7, 8, 9, 1]")?.contains("list longer than capacity"));
     for refused in [
         "7", "null", "{}", "[300]", "[7, 300]", "[\"7\"]", "[7, 8", "[7] 8",
     ] {
@@ -126,14 +126,14 @@ fn goes_through_its_list_form(rt: HostRuntime) -> Result<(), Fail> {
 #[test]
 fn is_read_from_a_tree_as_well(rt: HostRuntime) -> Result<(), Fail> {
     let alloc: Global = rt.alloc();
-    for (json, len) in [("[]", 0), ("[7]", 1), ("[7,8]", 2)] {
-        let vec: StaticVec<u8, 2> = serde_json::from_value(alloc, Value::from_str(alloc, json)?)?;
+    for (json, len) in [("[]", 0), ("[7]", 1), ("[7,8]", 2), ("[7,8,9]", 3)] {
+        let vec: StaticVec<u8, 3> = serde_json::from_value(alloc, Value::from_str(alloc, json)?)?;
         assert_eq!(rt; vec.len(), len);
         assert_eq!(rt; serde_json::to_string(alloc, &vec)?.as_str(), json);
     }
-    for refused in ["[7,8,9]", "7", "[300]"] {
+    for refused in ["[7,8,9,1]", "7", "[300]"] {
         let tree = Value::from_str(alloc, refused)?;
-        assert!(rt; serde_json::from_value::<StaticVec<u8, 2>>(alloc, tree).is_err());
+        assert!(rt; serde_json::from_value::<StaticVec<u8, 3>>(alloc, tree).is_err());
     }
     Ok(())
 }

@@ -182,7 +182,7 @@ pub trait Vector<T: Drop> {
         ensures callable { F.IsAlwaysCallable make.new }
         ensures capacity { room self.new ≡ room self.old }
     {
-        if self.capacity() < new_len {
+        if new_len > self.capacity() {
             return Err(VectorModificationError::InsertWouldExceedCapacity);
         }
         self.truncate(new_len);
