@@ -97,6 +97,11 @@ fn values_are_gone_over_by_key(rt: HostRuntime) -> Result<(), Fail> {
     }
     assert_eq!(rt; seen.as_slice(), [(0, 9), (2, 7)].as_slice());
     assert_eq!(rt; format!(in rt.alloc(); "{map:?}")?.as_str(), "{0: 9, 2: 7}");
+    let key = SlotMapKey::new(3);
+    assert_eq!(rt;
+        format!(in rt.alloc(); "{key:?}")?.as_str(),
+        "SlotMapKey { value: 3 }"
+    );
     let chosen = SlotMap::<&str>::new(rt.alloc(), 2)?;
     assert_eq!(rt; (&chosen).into_iter().count(), 0);
     assert_eq!(rt; format!(in rt.alloc(); "{chosen:?}")?.as_str(), "{}");
