@@ -221,7 +221,8 @@ impl<T: Copy> Container<T> {
     }
 
     /// Asks `decide` about each member of the owner, by rising index, and removes those for which it answers true. With
-    /// `LockIfLastIndex`, the container is then locked for good if it has no member. This counts as one change.
+    /// `LockIfLastIndex`, the container is then locked for good if it has no member, also where none was removed. This
+    /// counts as one change.
     pub fn recover<F: FnMut(ContainerHandle, T) -> bool>(
         &mut self,
         owner: OwnerId,

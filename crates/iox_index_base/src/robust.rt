@@ -104,7 +104,7 @@ impl RobustUniqueIndexSet {
     }
 
     /// Asks `decide` about each index that the owner holds, rising, and frees those for which it answers true. With
-    /// `LockIfLastIndex`, the set is then locked for good if no index is held any longer.
+    /// `LockIfLastIndex`, the set is then locked for good if no index is held any longer, also where none was freed.
     pub fn recover<F: FnMut(usize) -> bool>(
         &mut self,
         owner: OwnerId,
