@@ -1,11 +1,14 @@
 -- A clause that is weaker is met where the stronger one is.
-use Rattle.std.proofs.Common.{◌≡◌, ℕ, zero, suc, ◌<◌, Bool, true, false, cond, not, List, [], ◌∷◌, length, get_or, Option, Some, None, is_none, Result, Ok, refl, subst, arith}
+use Rattle.std.proofs.Common.{◌≡◌, ℕ, ◌≤◌, nat_le, zero, suc, ◌<◌, Bool, true, false, cond, not, List, [], ◌∷◌, length, get_or, Option, Some, None, is_none, Result, Ok, refl, subst, arith}
 use Rattle.std.specs.List.{find}
 use Rattle.std.specs.Prelude.{Contains, All}
 use Rattle.std.proofs.lemmas.Bool.{leb-true, le-leb}
 use Rattle.iox_describe_base.specs.declared.attribute.Attribute.{Attribute}
 use Rattle.iox_describe_base.specs.Attributes.{Required, has_pair, has_key, unmet_pair, unmet_lone_key, key_or, has_required, IsFewer}
-use Rattle.iox_describe_verdict.specs.Verdict.{unmet_clause, first_unmet, is_enough, is_same_switch, is_same_option, AsksLess, IsLeftOut}
+use Rattle.iox_describe_base.proofs.CompatibleLemmas.{compatible-chain}
+use Rattle.iox_describe_settings.specs.declared.setting.SettingValue.{SettingValue}
+use Rattle.iox_describe_settings.specs.declared.setting.SettingValue.TheVariants.{Switch, Number, OptionalNumber, Types}
+use Rattle.iox_describe_verdict.specs.Verdict.{unmet_clause, first_unmet, is_met, meets, AsksLess, IsAtMost}
 
 -- no clause is unmet
 abbrev pub met : {E : Type 0} → Result (Unit {0}) E
@@ -19,18 +22,38 @@ step true true e cs ds f g h = g h
 step true false e cs ds f g h = absurd (let k = f refl in cc)
 step false c e cs ds f g h = absurd cc
 
-pub enough : (weak strong : Option ℕ) (n : ℕ) → AsksLess weak strong → is_enough strong n ≡ true → is_enough weak n ≡ true
-enough None strong n h e = refl
-enough (Some w) None n h e = absurd h
-enough (Some w) (Some s) n h e = le-leb w n (let k = leb-true s n e in omega (arith, h, k))
+enough : (weak strong n : ℕ) → weak ≤ strong → nat_le strong n ≡ true → nat_le weak n ≡ true
+enough weak strong n h e = le-leb weak n (let k = leb-true strong n e in omega (arith, h, k))
 
-pub switch : (weak strong : Option Bool) (b : Bool) → IsLeftOut weak strong → is_same_switch strong b ≡ true → is_same_switch weak b ≡ true
-switch None strong b h e = refl
-switch (Some w) strong b h e = subst (λ (o : Option Bool). is_same_switch o b ≡ true) h e
+-- a value that is as the stronger one asks is as the weaker one asks
+as_asked : (weak strong given : SettingValue) → IsAtMost weak strong → meets strong given ≡ true → meets weak given ≡ true
+as_asked (Switch a) (Switch b) given h e = subst (λ (x : Bool). meets (Switch x) given ≡ true) h e
+as_asked (Switch a) (Number b) given h e = absurd h
+as_asked (Switch a) (OptionalNumber b) given h e = absurd h
+as_asked (Switch a) (Types b) given h e = absurd h
+as_asked (Number a) (Switch b) given h e = absurd h
+as_asked (Number a) (Number b) (Switch g) h e = absurd cc
+as_asked (Number a) (Number b) (Number g) h e = enough a b g h e
+as_asked (Number a) (Number b) (OptionalNumber g) h e = absurd cc
+as_asked (Number a) (Number b) (Types g) h e = absurd cc
+as_asked (Number a) (OptionalNumber b) given h e = absurd h
+as_asked (Number a) (Types b) given h e = absurd h
+as_asked (OptionalNumber a) (Switch b) given h e = absurd h
+as_asked (OptionalNumber a) (Number b) given h e = absurd h
+as_asked (OptionalNumber a) (OptionalNumber b) given h e = subst (λ (x : Option ℕ). meets (OptionalNumber x) given ≡ true) h e
+as_asked (OptionalNumber a) (Types b) given h e = absurd h
+as_asked (Types a) (Switch b) given h e = absurd h
+as_asked (Types a) (Number b) given h e = absurd h
+as_asked (Types a) (OptionalNumber b) given h e = absurd h
+as_asked (Types a) (Types b) (Switch g) h e = absurd cc
+as_asked (Types a) (Types b) (Number g) h e = absurd cc
+as_asked (Types a) (Types b) (OptionalNumber g) h e = absurd cc
+as_asked (Types a) (Types b) (Types g) h e = compatible-chain a b g h e
 
-pub option : (weak strong : Option (Option ℕ)) (o : Option ℕ) → IsLeftOut weak strong → is_same_option strong o ≡ true → is_same_option weak o ≡ true
-option None strong o h e = refl
-option (Some w) strong o h e = subst (λ (x : Option (Option ℕ)). is_same_option x o ≡ true) h e
+pub setting : (weak strong : Option SettingValue) (given : SettingValue) → AsksLess weak strong → is_met strong given ≡ true → is_met weak given ≡ true
+setting None strong given h e = refl
+setting (Some w) None given h e = absurd h
+setting (Some w) (Some s) given h e = as_asked w s given h e
 
 none-head : {X : Type 0} (b : Bool) (x : X) (o : Option X) → cond b (Some x) o ≡ None → b ≡ false
 none-head true x o e = absurd cc
