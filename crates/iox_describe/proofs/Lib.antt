@@ -1,4 +1,2 @@
-pub mod Fronts
-pub mod Numbers
-pub mod Escapes
-pub mod Halfway
+pub mod Plain
+pub mod Trees
