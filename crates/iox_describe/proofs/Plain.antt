@@ -1,5 +1,5 @@
 -- The JSON of a description within the limits is read back from its text.
-use Rattle.std.proofs.Common.{◌≡◌, ◌<◌, ◌&&◌, ◌||◌, ℕ, zero, suc, List, [], ◌∷◌, length, map, Bool, true, false, Option, Some, None, refl, sym, ap, ◌∙◌, subst, get_or, arith, lit<}
+use Rattle.std.proofs.Common.{◌≡◌, ◌&&◌, ◌||◌, ℕ, zero, suc, List, [], ◌∷◌, map, Bool, true, false, Option, Some, None, refl, arith, lit<}
 use Rattle.std.specs.Prelude.{All}
 use Rattle.std.specs.Cmp.{first_so, second_so}
 use Rattle.std.specs.Str.{IsAscii, IsUtf8}
@@ -8,11 +8,10 @@ use Rattle.std.proofs.lemmas.Str.{IsUtf8-from_ascii}
 use Rattle.hex.specs.Hex.{encode_lower, lower_digits}
 use Rattle.hex.proofs.HexLemmas.{IsAscii-encode_with}
 use Rattle.iox_json.proofs.ReadBack.{IsUtf8-are_ascii, are_ascii}
-use Rattle.serde_json.specs.Data.{Data, Members}
 use Rattle.serde_json.specs.View.{items_of}
 use Rattle.serde_json.specs.Read.{read}
-use Rattle.serde_json.specs.Written.{compact_text, has_float, items_have_float}
-use Rattle.iox_string.specs.StringBytes.{IsStringBytes, IsStringByte}
+use Rattle.serde_json.specs.Written.{has_float, items_have_float}
+use Rattle.iox_string.specs.StringBytes.{IsStringBytes}
 use Rattle.iox_json.specs.Plain.{IsPlain, AreItems, AreMembers}
 use Rattle.iox_json.proofs.ReadBack.{plain-read, plain-utf8}
 use Rattle.iox_describe_base.specs.declared.attribute.Attribute.{Attribute}
@@ -21,8 +20,6 @@ use Rattle.iox_describe_base.specs.declared.type_detail.TypeVariant.{TypeVariant
 use Rattle.iox_describe_base.specs.declared.type_detail.TypeVariant.TheVariants.{FixedSize, Dynamic}
 use Rattle.iox_describe_base.specs.Attributes.{IsAttribute}
 use Rattle.iox_describe_base.specs.Detail.{Detail}
-use Rattle.iox_describe_base.specs.Hash.{hash_text}
-use Rattle.iox_describe_base.specs.declared.hash.ServiceHash.{ServiceHash}
 use Rattle.iox_describe_settings.specs.Agreement.{Agreement, pattern_of}
 use Rattle.iox_describe_settings.specs.declared.setting.SettingValue.{SettingValue}
 use Rattle.iox_describe_settings.specs.declared.setting.SettingValue.TheVariants.{Switch, Number, OptionalNumber, Types}
@@ -31,7 +28,7 @@ use Rattle.iox_describe_settings.specs.declared.static_config.Settings.TheVarian
 use Rattle.iox_describe_settings.specs.RequestResponseSettings as request_response
 use Rattle.iox_describe_settings.specs.PublishSubscribeSettings as publish_subscribe
 use Rattle.iox_describe_settings.specs.EventSettings as event
-use Rattle.iox_describe.specs.Line.{attribute_tree, attributes_tree, detail_tree, line, option_tree, pattern_word, settings_members, settings_tree, tree, types_tree, value_tree, variant_word}
+use Rattle.iox_describe.specs.Line.{attribute_tree, detail_tree, line, option_tree, pattern_word, settings_members, settings_tree, tree, types_tree, value_tree, variant_word}
 use Rattle.iox_describe.specs.Within.{AreSettings, AreTypes, AreValues, IsTypeDetail, IsValue, IsWithinLimits, IsOption}
 
 -- ---- texts are UTF-8

@@ -32,6 +32,9 @@ use iox_json::{number_at, text_at};
 use serde_json::Value;
 use std::alloc::Global;
 
+/// No line of a description within the limits is longer, in bytes.
+const MAX_LINE_LENGTH: usize = 32_768;
+
 /// The description that the bytes spell.
 ///
 /// It is the one within the limits for which `encode` writes just these bytes. `Invalid` exactly if there
@@ -43,6 +46,9 @@ pub fn decode(alloc: Global, bytes: &[u8]) -> Result<Description, DescriptionErr
         → (result ≡ Ok description) ⊎ (result ≡ Err OutOfMemory) }
     ensures invalid { result ≡ Err Invalid → (description : Agreement) → IsWithinLimits description → bytes.now ≡ line description → ⊥ }
 {
+    if bytes.len() > MAX_LINE_LENGTH {
+        return Err(DescriptionError::Invalid);
+    }
     let attributes = AttributeSpecifier::new(alloc)?;
     let value = value_of(alloc, bytes)?;
     let description = candidate(attributes, &value).ok_or(DescriptionError::Invalid)?;

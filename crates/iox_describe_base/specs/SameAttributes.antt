@@ -1,6 +1,6 @@
 -- When lists of attributes are the same.
-use Rattle.std.specs.Prelude.{◌≡◌, ◌&&◌, Bool, true, List, nat_eq, refl}
-use Rattle.std.proofs.Common.{ap, ◌∙◌, subst}
+use Rattle.std.specs.Prelude.{◌≡◌, ◌&&◌, Bool, List, nat_eq}
+use Rattle.std.proofs.Common.{ap, ◌∙◌}
 use Rattle.std.specs.Bool.{Decides}
 use Rattle.std.specs.Cmp.{IsPartialEquivalence, decided, first_so, second_so}
 use Rattle.std.specs.Cmp.Lexicographic.{pointwise, pointwise_decides, bytes_decides}

@@ -1,5 +1,5 @@
 -- The settings of a publish-subscribe service, one by one.
-use Rattle.std.specs.Prelude.{ℕ, ◌<◌, ◌^◌, List, [], ◌∷◌, codes, Some, None, true, false, ◌≡◌}
+use Rattle.std.specs.Prelude.{ℕ, ◌<◌, ◌^◌, List, [], ◌∷◌, codes, Some, true, false, ◌≡◌}
 use Rattle.iox_describe_base.specs.declared.message_type.MessageTypeDetails.{MessageTypeDetails}
 use Rattle.iox_describe_settings.specs.declared.setting.Rule.{Rule}
 use Rattle.iox_describe_settings.specs.Setting.{number, switch, types as types_rule, defaulted, AreAllowed, adjusted as adjusted_settings}

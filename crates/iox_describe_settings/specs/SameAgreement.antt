@@ -1,22 +1,19 @@
 -- When settings, and agreements, are the same.
-use Rattle.std.specs.Prelude.{◌≡◌, ◌==◌, ◌&&◌, ℕ, Bool, true, false, not, List, [], ◌∷◌, Option, Some, None, nat_eq, refl}
+use Rattle.std.specs.Prelude.{◌≡◌, ◌&&◌, ℕ, Bool, true, false, List, [], ◌∷◌, Option, Some, None, nat_eq, refl}
 use Rattle.std.proofs.Common.{sym, ap, ◌∙◌, subst}
 use Rattle.std.proofs.lemmas.Bool.{eq-eqb, eqb-true}
 use Rattle.std.specs.Bool.{Decides}
 use Rattle.std.specs.Cmp.{IsEquivalence, IsPartialEquivalence, partial_equiv_from_equiv, decided, first_so, second_so}
 use Rattle.std.specs.Cmp.Lexicographic.{pointwise, bytes_decides}
-use Rattle.iox_describe_base.specs.declared.attribute.Attribute.{Attribute}
-use Rattle.iox_describe_base.specs.declared.hash.ServiceHash.{ServiceHash}
 use Rattle.iox_describe_base.specs.declared.message_type.MessageTypeDetails.{MessageTypeDetails}
 use Rattle.iox_describe_base.specs.Compatible.{same_detail}
-use Rattle.iox_describe_base.specs.Detail.{Detail}
 use Rattle.iox_describe_base.specs.SameAttributes.{same_attributes, same_attributes_decides}
 use Rattle.iox_describe_base.proofs.CompatibleLemmas.{same_detail-true, same_detail-refl}
 use Rattle.iox_describe_settings.specs.declared.setting.SettingValue.{SettingValue}
 use Rattle.iox_describe_settings.specs.declared.setting.SettingValue.TheVariants.{Switch, Number, OptionalNumber, Types}
 use Rattle.iox_describe_settings.specs.declared.static_config.Settings.{Settings}
 use Rattle.iox_describe_settings.specs.declared.static_config.Settings.TheVariants.{RequestResponse, PublishSubscribe, Event}
-use Rattle.iox_describe_settings.specs.Agreement.{Agreement, agreement}
+use Rattle.iox_describe_settings.specs.Agreement.{Agreement}
 use Rattle.iox_describe_settings.specs.Setting.{all_same, filled, same_option, same_switch, same_types, same_value}
 use Rattle.iox_describe_settings.specs.RequestResponseSettings as request_response
 use Rattle.iox_describe_settings.specs.PublishSubscribeSettings as publish_subscribe

@@ -1,6 +1,6 @@
 -- The settings of each pattern, found among those of any pattern.
-use Rattle.std.specs.Prelude.{◌≡◌, Option, Some, None, Result, Ok, IsSome, ◌≤◌, ◌<◌, ◌^◌, refl}
-use Rattle.std.proofs.Common.{ap, sym, ◌∙◌, arith}
+use Rattle.std.specs.Prelude.{◌≡◌, Option, Some, None}
+use Rattle.std.proofs.Common.{ap}
 use Rattle.iox_describe_settings.specs.declared.static_config.Settings.{Settings}
 use Rattle.iox_describe_settings.specs.declared.static_config.Settings.TheVariants.{RequestResponse, PublishSubscribe, Event}
 use Rattle.iox_describe_settings.specs.declared.static_config.request_response.StaticConfig as request_response

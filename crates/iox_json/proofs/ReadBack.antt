@@ -1,12 +1,12 @@
 -- A plain value is read back from its text.
-use Rattle.std.proofs.Common.{◌≡◌, ◌≤◌, ℕ, zero, suc, List, [], ◌∷◌, ◌++◌, ◌||◌, Bool, true, false, Option, Some, option_map, option_and_then, refl, sym, ap, ◌∙◌, arith, append-nil}
+use Rattle.std.proofs.Common.{◌≡◌, ◌≤◌, ℕ, zero, suc, List, [], ◌∷◌, ◌||◌, Bool, true, false, Option, Some, option_map, option_and_then, refl, sym, ap, ◌∙◌, arith, append-nil}
 use Rattle.std.specs.Str.{IsUtf8}
 use Rattle.std.proofs.lemmas.Str.{IsUtf8-append, IsUtf8-from_ascii, IsUtf8-nil}
 use Rattle.std.proofs.lemmas.Fmt.{IsAscii-decimal}
 use Rattle.json.specs.Lex.{tokens}
 use Rattle.json.specs.Token.{Token}
 use Rattle.json.specs.Json as json
-use Rattle.json.specs.Print.{print, quoted}
+use Rattle.json.specs.Print.{quoted}
 use Rattle.json.specs.Tree as tree
 use Rattle.json.proofs.Printed.Decimals.{IsNumber-decimal}
 use Rattle.json.proofs.Printed.Tokens.{tokens-print}

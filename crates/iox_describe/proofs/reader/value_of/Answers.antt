@@ -1,14 +1,13 @@
 -- A line is text that reads as the JSON of its description, so that it is refused only for want of memory.
-use Rattle.std.proofs.Common.{◌≡◌, ◌⊎◌, inl, inr, List, ℕ, Some, None, Option, Result, Ok, Err, sym, ap, ◌∙◌, subst}
+use Rattle.std.proofs.Common.{◌≡◌, ◌⊎◌, inl, inr, Some, None, Result, Ok, Err, sym, ap, ◌∙◌, subst}
 use Rattle.std.specs.Prelude.{IsErrAnd, MatchResult}
 use Rattle.std.specs.Str.{IsUtf8}
-use Rattle.serde_json.specs.Errors.{IsMemory}
 use Rattle.serde_json.specs.Data.{Data}
 use Rattle.serde_json.specs.Read.{read}
 use Rattle.serde_json.specs.View.{view}
 use Rattle.iox_describe.specs.declared.error.DescriptionError.{DescriptionError}
 use Rattle.iox_describe.specs.declared.error.DescriptionError.TheVariants.{Invalid, OutOfMemory}
-use Rattle.iox_describe.specs.Line.{line, tree}
+use Rattle.iox_describe.specs.Line.{tree}
 use Rattle.iox_describe.proofs.Plain.{line-read, line-utf8}
 use Rattle.iox_describe.proofs.reader.value_of.Goals as goal
 
