@@ -40,7 +40,7 @@ fn descriptions_of_all_sizes_are_read_back(rt: HostRuntime) -> Result<(), Fail> 
             for value in [0usize, 256] {
                 let description = of_size(rt.alloc(), name, attributes, value)?;
                 assert!(rt;
-                    is_read_back(rt.alloc(), &description, 600)?,
+                    is_read_back(rt.alloc(), &description, 532)?,
                     "{name} {attributes} {value}"
                 );
             }
