@@ -1,4 +1,3 @@
-pub mod Fronts
-pub mod Numbers
-pub mod Escapes
-pub mod Halfway
+pub mod Length
+pub mod Plain
+pub mod Trees

@@ -1,6 +1,8 @@
--- How a description is spelled: compact JSON, keys in rising order of their bytes.
-use Rattle.std.specs.Prelude.{ℕ, List, [], ◌∷◌, ◌++◌, Bool, true, false, if◌then◌else◌, Option, Some, None, codes, decimal}
-use Rattle.json.specs.Print.{quoted}
+-- How a description is spelled: the compact text of a JSON object, whose keys stand in rising order.
+use Rattle.std.specs.Prelude.{ℕ, List, [], ◌∷◌, map, Option, Some, None, codes}
+use Rattle.serde_json.specs.Data.{unsigned, Data, null, boolean, number, string, array, object, no_items, item, Members, no_members, member}
+use Rattle.serde_json.specs.View.{items_of}
+use Rattle.serde_json.specs.Written.{compact_text}
 use Rattle.iox_describe_base.specs.declared.attribute.Attribute.{Attribute}
 use Rattle.iox_describe_base.specs.declared.message_type.MessageTypeDetails.{MessageTypeDetails}
 use Rattle.iox_describe_base.specs.declared.pattern.MessagingPattern.{MessagingPattern}
@@ -18,95 +20,83 @@ use Rattle.iox_describe_settings.specs.RequestResponseSettings as request_respon
 use Rattle.iox_describe_settings.specs.PublishSubscribeSettings as publish_subscribe
 use Rattle.iox_describe_settings.specs.EventSettings as event
 
--- one text and then another; it groups to the right
-infixr 20 ◌⌢◌
-abbrev pub ◌⌢◌ : List ℕ → List ℕ → List ℕ
-a ⌢ b = a ++ b
+-- a number that is not negative
+abbrev pub natural : ℕ → Data
+natural n = number (unsigned n)
 
--- a switch is `true` or `false`
-abbrev pub switch_text : Bool → List ℕ
-switch_text true = codes "true"
-switch_text false = codes "false"
+-- an option is null or its number
+abbrev pub option_tree : Option ℕ → Data
+option_tree None = null
+option_tree (Some n) = natural n
 
--- an option is `null` or its number
-abbrev pub option_text : Option ℕ → List ℕ
-option_text None = codes "null"
-option_text (Some n) = decimal n
-
--- the variant of a type
-abbrev pub variant_text : TypeVariant → List ℕ
-variant_text FixedSize = codes "\"FixedSize\""
-variant_text Dynamic = codes "\"Dynamic\""
+-- the word of a variant
+abbrev pub variant_word : TypeVariant → List ℕ
+variant_word FixedSize = codes "FixedSize"
+variant_word Dynamic = codes "Dynamic"
 
 -- the detail of a type
-unfoldable pub detail_text : Detail → List ℕ
-detail_text d =
-    codes "{\"alignment\":" ⌢ decimal d.alignment
-    ⌢ codes ",\"name\":" ⌢ quoted d.name
-    ⌢ codes ",\"size\":" ⌢ decimal d.size
-    ⌢ codes ",\"variant\":" ⌢ variant_text d.variant
-    ⌢ codes "}"
+abbrev pub detail_tree : Detail → Data
+detail_tree d =
+    object
+    (member (codes "alignment") (natural d.alignment)
+    (member (codes "name") (string d.name)
+    (member (codes "size") (natural d.size)
+    (member (codes "variant") (string (variant_word d.variant))
+    no_members))))
 
 -- the types of a message
-unfoldable pub types_text : MessageTypeDetails → List ℕ
-types_text t =
-    codes "{\"header\":" ⌢ detail_text t.header
-    ⌢ codes ",\"payload\":" ⌢ detail_text t.payload
-    ⌢ codes ",\"user_header\":" ⌢ detail_text t.user_header
-    ⌢ codes "}"
+abbrev pub types_tree : MessageTypeDetails → Data
+types_tree t =
+    object
+    (member (codes "header") (detail_tree t.header)
+    (member (codes "payload") (detail_tree t.payload)
+    (member (codes "user_header") (detail_tree t.user_header)
+    no_members)))
 
 -- what a setting is set to
-abbrev pub value_text : SettingValue → List ℕ
-value_text (Switch b) = switch_text b
-value_text (Number n) = decimal n
-value_text (OptionalNumber o) = option_text o
-value_text (Types t) = types_text t
+abbrev pub value_tree : SettingValue → Data
+value_tree (Switch b) = boolean b
+value_tree (Number n) = natural n
+value_tree (OptionalNumber o) = option_tree o
+value_tree (Types t) = types_tree t
 
--- a comma, where something stands before
-abbrev pub comma_if : Bool → List ℕ
-comma_if later = if later then codes "," else []
-
--- a setting: its key in quotes, a colon, and what it is set to
-abbrev pub member_text : List ℕ → SettingValue → List ℕ
-member_text key value = codes "\"" ⌢ key ⌢ codes "\":" ⌢ value_text value
-
--- the settings of a list, one after another
-abbrev pub members_text : {S C : Type 0} → (S → List ℕ) → (S → C → SettingValue) → Bool → C → List S → List ℕ
-members_text key value later config [] = []
-members_text key value later config (setting ∷ more) =
-    comma_if later ++ member_text (key setting) (value setting config) ++ members_text key value true config more
-
--- the settings of a list as an object
-abbrev pub object_text : {S C : Type 0} → (S → List ℕ) → (S → C → SettingValue) → List S → C → List ℕ
-object_text key value all config = codes "{" ⌢ members_text key value false config all ⌢ codes "}"
+-- the settings of a list, each under its key
+abbrev pub settings_members : {S C : Type 0} → (S → List ℕ) → (S → C → SettingValue) → List S → C → Members
+settings_members key value [] config = no_members
+settings_members key value (setting ∷ more) config = member (key setting) (value_tree (value setting config)) (settings_members key value more config)
 
 -- the settings of any pattern
-abbrev pub settings_text : Settings → List ℕ
-settings_text (RequestResponse c) = object_text request_response.key request_response.value request_response.all c
-settings_text (PublishSubscribe c) = object_text publish_subscribe.key publish_subscribe.value publish_subscribe.all c
-settings_text (Event c) = object_text event.key event.value event.all c
+abbrev pub settings_tree : Settings → Data
+settings_tree (RequestResponse c) = object (settings_members request_response.key request_response.value request_response.all c)
+settings_tree (PublishSubscribe c) = object (settings_members publish_subscribe.key publish_subscribe.value publish_subscribe.all c)
+settings_tree (Event c) = object (settings_members event.key event.value event.all c)
 
 -- the word of a pattern
-abbrev pub pattern_text : MessagingPattern → List ℕ
-pattern_text pattern.RequestResponse = codes "\"request_response\""
-pattern_text pattern.PublishSubscribe = codes "\"publish_subscribe\""
-pattern_text pattern.Event = codes "\"event\""
+abbrev pub pattern_word : MessagingPattern → List ℕ
+pattern_word pattern.RequestResponse = codes "request_response"
+pattern_word pattern.PublishSubscribe = codes "publish_subscribe"
+pattern_word pattern.Event = codes "event"
 
--- an attribute: a list of its key and its value
-abbrev pub attribute_text : Attribute → List ℕ
-attribute_text a = codes "[" ⌢ quoted a.key ⌢ codes "," ⌢ quoted a.value ⌢ codes "]"
+-- an attribute: its key and its value
+abbrev pub attribute_tree : Attribute → Data
+attribute_tree a = array (item (string a.key) (item (string a.value) no_items))
 
--- the attributes, one after another
-abbrev pub attributes_text : Bool → List Attribute → List ℕ
-attributes_text later [] = []
-attributes_text later (a ∷ more) = comma_if later ++ (attribute_text a ++ attributes_text true more)
+-- the attributes, in their order
+abbrev pub attributes_tree : List Attribute → Data
+attributes_tree attributes = array (items_of (map attribute_tree attributes))
+
+-- an agreement as JSON
+abbrev pub tree : Agreement → Data
+tree a =
+    object
+    (member (codes "attributes") (attributes_tree a.attributes)
+    (member (codes "name") (string a.name)
+    (member (codes "pattern") (string (pattern_word (pattern_of a.settings)))
+    (member (codes "service_hash") (string (hash_text a.service_hash))
+    (member (codes "settings") (settings_tree a.settings)
+    (member (codes "version") (natural 1)
+    no_members))))))
 
 -- the one line that spells an agreement
 unfoldable pub line : Agreement → List ℕ
-line a =
-    codes "{\"attributes\":[" ⌢ attributes_text false a.attributes
-    ⌢ codes "],\"name\":" ⌢ quoted a.name
-    ⌢ codes ",\"pattern\":" ⌢ pattern_text (pattern_of a.settings)
-    ⌢ codes ",\"service_hash\":\"" ⌢ hash_text a.service_hash
-    ⌢ codes "\",\"settings\":" ⌢ settings_text a.settings
-    ⌢ codes ",\"version\":1}"
+line a = compact_text (tree a)

@@ -1,12 +1,11 @@
--- What it means that a reader takes a text from the front of the bytes that are left.
-use Rattle.std.specs.Prelude.{◌≡◌, ℕ, ◌∷◌, ◌++◌, List, [], false}
-use Rattle.std.specs.Char.{is_ascii_digit}
+-- What it means that settings stand in a tree.
+use Rattle.std.specs.Prelude.{◌≡◌, ℕ, List, [], ◌∷◌, Some}
+use Rattle.serde_json.specs.Data.{Data}
+use Rattle.serde_json.specs.Find.{get}
+use Rattle.iox_describe_settings.specs.declared.setting.SettingValue.{SettingValue}
+use Rattle.iox_describe.specs.Line.{value_tree}
 
--- What stands in front is no digit, so that a number before it ends.
-abbrev pub Ends : List ℕ → Type 0
-Ends [] = ⊥
-Ends (byte ∷ rest) = is_ascii_digit byte ≡ false
-
--- Where the text of the value stands in front, the value is the answer and what follows is left.
-abbrev pub Takes : {X : Type 0} → X → List ℕ → List ℕ → List ℕ → X → Type 0
-Takes value text old new answer = (rest : List ℕ) → old ≡ text ++ rest → (answer ≡ value) × (new ≡ rest)
+-- each setting of a list is found under its key
+abbrev pub AreFound : {S C : Type 0} → (S → List ℕ) → (S → C → SettingValue) → List S → C → Data → Type 0
+AreFound key value [] target d = Unit {0}
+AreFound key value (setting ∷ more) target d = (get (key setting) d ≡ Some (value_tree (value setting target))) × AreFound key value more target d

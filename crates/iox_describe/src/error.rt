@@ -2,11 +2,11 @@
 ghost use Rattle.std.specs.Prelude.{◌≡◌};
 ghost use Rattle.iox_describe.specs.declared.error.DescriptionError.TheVariants.{OutOfMemory};
 
+use serde_json::Error;
 use std::alloc::AllocError;
-use thiserror::Error;
 
 /// Why bytes are not read as a description.
-#[derive(Clone, Copy, Debug, PartialEq, Eq, Error)]
+#[derive(Clone, Copy, Debug, PartialEq, Eq, thiserror::Error)]
 pub enum DescriptionError {
     /// The bytes are not the one spelling of any description within the limits.
     #[error("DescriptionError::Invalid")]
@@ -21,5 +21,21 @@ impl From<AllocError> for DescriptionError {
 
     fn from(_error: AllocError) -> DescriptionError {
         DescriptionError::OutOfMemory
+    }
+}
+
+impl From<Error> for DescriptionError {
+    ghost use Rattle.std.specs.Prelude.{◌⊎◌};
+    ghost use Rattle.serde_json.specs.Errors.{IsMemory};
+    ghost use Rattle.iox_describe.specs.declared.error.DescriptionError.TheVariants.{Invalid};
+
+    ghost from_gives = { λ error e. (e ≡ OutOfMemory) ⊎ ((e ≡ Invalid) × (¬ IsMemory error)) };
+
+    fn from(error: Error) -> DescriptionError {
+        if error.is_memory() {
+            DescriptionError::OutOfMemory
+        } else {
+            DescriptionError::Invalid
+        }
     }
 }

@@ -21,9 +21,10 @@ pub use iox_describe_base::{
     TypeVariant, ZeroCopySend, service_hash,
 };
 pub use iox_describe_settings::{
-    Description, PatternSetting, SettingValue, Settings, event, publish_subscribe, request_response,
+    Description, NumberRule, PatternSetting, Rule, SettingValue, Settings, event,
+    publish_subscribe, request_response,
 };
-pub use iox_describe_verdict::requirement;
+pub use iox_describe_verdict::{pattern, requirement};
 pub use reader::{decode, is_within_limits};
 pub use writer::encode;
 

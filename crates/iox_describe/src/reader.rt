@@ -1,22 +1,39 @@
 //! The description that a line spells.
-ghost use Rattle.std.specs.Prelude.{◌≡◌, ◌⊎◌, ◌↔◌, ◌++◌, ◌∷◌, [], List, ℕ, false, Ok, Err, Some, IfOk, IsTrue};
+ghost use Rattle.std.specs.Prelude.{◌≡◌, ◌⊎◌, ◌↔◌, ◌<◌, ◌++◌, ◌∷◌, [], List, ℕ, length, Ok, Err, Some, IfOk, IfSome, IsTrue, MatchResult};
+ghost use Rattle.serde_json.specs.Find.{get};
+ghost use Rattle.serde_json.specs.View.{view};
 ghost use Rattle.iox_describe_base.specs.declared.attribute.Attribute.{Attribute};
-ghost use Rattle.iox_describe_settings.specs.Agreement.{Agreement};
-ghost use Rattle.iox_describe_base.specs.Attributes.{AreAttributes};
+ghost use Rattle.iox_describe_base.specs.declared.hash.ServiceHash.{ServiceHash};
+ghost use Rattle.iox_describe_base.specs.declared.message_type.MessageTypeDetails.{MessageTypeDetails};
+ghost use Rattle.iox_describe_base.specs.Detail.{Detail};
+ghost use Rattle.iox_describe_settings.specs.declared.setting.SettingValue.{SettingValue};
+ghost use Rattle.iox_describe_settings.specs.declared.static_config.Settings.{Settings};
+ghost use Rattle.iox_describe_settings.specs.Agreement.{Agreement, pattern_of};
+ghost use Rattle.iox_describe_settings.specs.Setting.{IsOfKind};
+ghost use Rattle.iox_describe_base.specs.Attributes.{AreAttributes, IsAttribute};
+ghost use Rattle.iox_describe_base.specs.Hash.{hash_text};
 ghost use Rattle.iox_describe.specs.declared.error.DescriptionError.TheVariants.{Invalid, OutOfMemory};
-ghost use Rattle.iox_describe.specs.Line.{line, attributes_text};
-ghost use Rattle.iox_describe.specs.Within.{AreSettings, IsHash, IsWithinLimits};
+ghost use Rattle.iox_describe.specs.Line.{attribute_tree, attributes_tree, detail_tree, line, pattern_word, settings_tree, tree, types_tree, value_tree};
+ghost use Rattle.serde_json.specs.Data.{string};
+ghost use Rattle.iox_describe.specs.Reading.{AreFound};
+ghost use Rattle.iox_describe.specs.Within.{AreSettings, AreTypes, AreValues, IsHash, IsTypeDetail, IsValue, IsWithinLimits};
 
 use crate::error::DescriptionError;
-use crate::reader::part::Reader;
 use crate::writer::encode;
-use iox_describe_base::{AttributeSpecifier, ServiceHash, ServiceName};
-use iox_describe_settings::{Description, Settings};
+use iox_describe_base::{
+    AttributeSpecifier, MessageTypeDetails, MessagingPattern, ServiceHash, ServiceName, TypeDetail,
+    TypeVariant, ZeroCopySend,
+};
+use iox_describe_settings::{
+    Description, PatternSetting, Rule, SettingValue, Settings, event, publish_subscribe,
+    request_response,
+};
+use iox_json::{number_at, text_at};
+use serde_json::Value;
 use std::alloc::Global;
 
-mod part;
-mod settings;
-mod text;
+/// No line of a description within the limits is longer, in bytes.
+const MAX_LINE_LENGTH: usize = 32_768;
 
 /// The description that the bytes spell.
 ///
@@ -29,8 +46,12 @@ pub fn decode(alloc: Global, bytes: &[u8]) -> Result<Description, DescriptionErr
         → (result ≡ Ok description) ⊎ (result ≡ Err OutOfMemory) }
     ensures invalid { result ≡ Err Invalid → (description : Agreement) → IsWithinLimits description → bytes.now ≡ line description → ⊥ }
 {
+    if bytes.len() > MAX_LINE_LENGTH {
+        return Err(DescriptionError::Invalid);
+    }
     let attributes = AttributeSpecifier::new(alloc)?;
-    let description = candidate(attributes, bytes).ok_or(DescriptionError::Invalid)?;
+    let value = value_of(alloc, bytes)?;
+    let description = candidate(attributes, &value).ok_or(DescriptionError::Invalid)?;
     if !is_within_limits(&description) {
         return Err(DescriptionError::Invalid);
     }
@@ -68,43 +89,154 @@ fn has_20_bytes(hash: ServiceHash)
     let _hash = hash;
 }
 
-/// The one description whose spelling may be that of the bytes.
-fn candidate(mut attributes: AttributeSpecifier, bytes: &[u8]) -> Option<Description>
-    ensures { (description : Agreement) → IsWithinLimits description → attributes ≡ [] → bytes.now ≡ line description
+/// The bytes as JSON, if they are the line of a description.
+fn value_of(alloc: Global, bytes: &[u8]) -> Result<Value, DescriptionError>
+    ensures { (description : Agreement) → IsWithinLimits description → bytes.now ≡ line description
+        → MatchResult result (λ value. view value ≡ tree description) (λ error. error ≡ OutOfMemory) }
+{
+    Ok(Value::from_slice(alloc, bytes)?)
+}
+
+/// The one description whose JSON this may be.
+fn candidate(attributes: AttributeSpecifier, value: &Value) -> Option<Description>
+    ensures { (description : Agreement) → IsWithinLimits description → attributes ≡ [] → view value.now ≡ tree description
         → result ≡ Some description }
 {
-    let mut reader = Reader::new(bytes);
-    reader.literal(b"{\"attributes\":[");
-    read_attributes(&mut reader, &mut attributes);
-    let name = reader.text::<255>(b"],\"name\":");
-    reader.literal(b",\"pattern\":");
-    let pattern = reader.pattern();
-    reader.literal(b",\"service_hash\":\"");
-    let hash = reader.hash();
-    reader.literal(b"\",\"settings\":");
-    let settings = reader.settings(pattern);
-    reader.literal(b",\"version\":1}");
-    match ServiceName::new(name.as_bytes()) {
-        Ok(name) => Some(Description::of_parts(name, hash, settings, attributes)),
-        Err(_) => None,
+    let name = ServiceName::new(text_at(value, "name")?.as_bytes()).ok()?;
+    let hash = hash_of(text_at(value, "service_hash")?);
+    let pattern = pattern_of(text_at(value, "pattern")?);
+    let settings = settings_of(pattern, value.get("settings")?)?;
+    let attributes = defined(attributes, value.get("attributes")?)?;
+    Some(Description::of_parts(name, hash, settings, attributes))
+}
+
+/// The pattern that a word names.
+fn pattern_of(word: &str) -> MessagingPattern
+    ensures { (settings : Settings) → word.now ≡ pattern_word (pattern_of settings) → result ≡ pattern_of settings }
+{
+    match word {
+        "request_response" => MessagingPattern::RequestResponse,
+        "publish_subscribe" => MessagingPattern::PublishSubscribe,
+        _ => MessagingPattern::Event,
     }
 }
 
-/// Defines the attributes that stand in front, at most 8.
-fn read_attributes(reader: &mut Reader<'_>, attributes: &mut AttributeSpecifier)
-    ensures { (pairs : List Attribute) (rest : List ℕ) → AreAttributes pairs → attributes.old ≡ []
-        → reader.old.rest.now ≡ attributes_text false pairs ++ 93 ∷ rest
-        → (attributes.new ≡ pairs) × (reader.new.rest.now ≡ 93 ∷ rest) }
+/// The hash that digits write.
+fn hash_of(digits: &str) -> ServiceHash
+    ensures { (hash : ServiceHash) → IsHash hash → digits.now ≡ hash_text hash → result ≡ hash }
 {
-    let mut before: &[u8] = b"[";
-    for _place in 0..8usize {
-        if reader.is_at(b']') {
-            return;
-        }
-        let key = reader.text::<64>(before);
-        let value = reader.text::<256>(b",");
-        reader.literal(b"]");
-        let _ = attributes.define(key.as_bytes(), value.as_bytes());
-        before = b",[";
+    let mut digest = [0; 20];
+    let _ = hex::decode_to_slice(digits.as_bytes(), &mut digest);
+    ServiceHash { digest }
+}
+
+/// The attributes, defined in their order.
+fn defined(attributes: AttributeSpecifier, value: &Value) -> Option<AttributeSpecifier>
+    ensures { (pairs : List Attribute) → AreAttributes pairs → attributes ≡ [] → view value.now ≡ attributes_tree pairs
+        → result ≡ Some pairs }
+{
+    let mut attributes = attributes;
+    for item in value.as_array()? {
+        define(&mut attributes, item)?;
     }
+    Some(attributes)
+}
+
+/// Defines an attribute.
+fn define(attributes: &mut AttributeSpecifier, value: &Value) -> Option<()>
+    ensures { (pair : Attribute) → IsAttribute pair → length attributes.old < 8 → view value.now ≡ attribute_tree pair
+        → (result ≡ Some tt) × (attributes.new ≡ attributes.old ++ pair ∷ []) }
+{
+    let key = value.get(0)?.as_str()?;
+    let text = value.get(1)?.as_str()?;
+    attributes.define(key.as_bytes(), text.as_bytes()).ok()
+}
+
+/// The settings of a service of the pattern.
+fn settings_of(pattern: MessagingPattern, value: &Value) -> Option<Settings>
+    ensures { (settings : Settings) → AreSettings settings → pattern ≡ pattern_of settings → view value.now ≡ settings_tree settings
+        → result ≡ Some settings }
+{
+    match pattern {
+        MessagingPattern::RequestResponse => {
+            let config = request_response::StaticConfig::new(some_types(), some_types());
+            let config = filled::<request_response::Setting>(config, value)?;
+            Some(Settings::RequestResponse(config))
+        }
+        MessagingPattern::PublishSubscribe => {
+            let config = publish_subscribe::StaticConfig::new(some_types());
+            let config = filled::<publish_subscribe::Setting>(config, value)?;
+            Some(Settings::PublishSubscribe(config))
+        }
+        MessagingPattern::Event => {
+            let config = filled::<event::Setting>(event::StaticConfig::new(), value)?;
+            Some(Settings::Event(config))
+        }
+    }
+}
+
+/// Types that stand in a place until those of a message are read.
+fn some_types() -> MessageTypeDetails {
+    MessageTypeDetails::from::<u8, u8, u8>(TypeVariant::FixedSize)
+}
+
+/// The settings of a service of a pattern, in the place of those that are given.
+fn filled<S: PatternSetting>(config: S::Config, value: &Value) -> Option<S::Config>
+    ensures { (target : S.Config) → AreValues S.value target S.all → AreFound S.key S.value S.all target (view value.now)
+        → result ≡ Some target }
+{
+    let mut config = config;
+    for setting in S::all() {
+        set::<S>(*setting, &mut config, value)?;
+    }
+    Some(config)
+}
+
+/// Sets a setting to what it is in the JSON.
+fn set<S: PatternSetting>(setting: S, config: &mut S::Config, value: &Value) -> Option<()>
+    ensures { (target : S.Config) → IsValue (S.value setting target) → get (S.key setting) (view value.now) ≡ Some (value_tree (S.value setting target))
+        → (result ≡ Some tt) × (config.new ≡ S.changed setting (S.value setting target) config.old) }
+{
+    let value = setting_value(setting.rule(), value.get(setting.key())?)?;
+    setting.set(config, value);
+    Some(())
+}
+
+/// What a setting with this rule is set to.
+fn setting_value(rule: Rule, value: &Value) -> Option<SettingValue>
+    ensures read { (setting : SettingValue) → IsOfKind rule setting → IsValue setting → view value.now ≡ value_tree setting
+        → result ≡ Some setting }
+    ensures kind { IfSome result (IsOfKind rule) }
+{
+    match rule {
+        Rule::Switch(_) => Some(SettingValue::Switch(value.as_bool()?)),
+        Rule::Number(_) => Some(SettingValue::Number(value.as_u64()?)),
+        Rule::OptionalNumber(_) => Some(SettingValue::OptionalNumber(value.as_u64())),
+        Rule::Types => Some(SettingValue::Types(types_of(value)?)),
+    }
+}
+
+/// The types of a message.
+fn types_of(value: &Value) -> Option<MessageTypeDetails>
+    ensures { (types : MessageTypeDetails) → AreTypes types → view value.now ≡ types_tree types → result ≡ Some types }
+{
+    Some(MessageTypeDetails {
+        header: detail_of(value.get("header")?)?,
+        user_header: detail_of(value.get("user_header")?)?,
+        payload: detail_of(value.get("payload")?)?,
+    })
+}
+
+/// The detail of a type.
+fn detail_of(value: &Value) -> Option<TypeDetail>
+    ensures { (detail : Detail) → IsTypeDetail detail → view value.now ≡ detail_tree detail → result ≡ Some detail }
+{
+    let name = text_at(value, "name")?;
+    let variant = match text_at(value, "variant")? {
+        "Dynamic" => TypeVariant::Dynamic,
+        _ => TypeVariant::FixedSize,
+    };
+    let size = number_at(value, "size")?;
+    let alignment = number_at(value, "alignment")?;
+    TypeDetail::new(variant, name.as_bytes(), size, alignment).ok()
 }

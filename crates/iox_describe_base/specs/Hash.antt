@@ -16,6 +16,10 @@ digit_of Event = codes "2"
 abbrev pub hash_text : ServiceHash → List ℕ
 hash_text h = encode_lower h.digest
 
+-- a service's hash: SHA-1 over the digit of the pattern and the name
+abbrev pub service_hash_of : MessagingPattern → List ℕ → ServiceHash
+service_hash_of pattern name = record { digest = sha1 (digit_of pattern ++ name) }
+
 -- the text of a service's hash: SHA-1 over the digit of the pattern and the name, in lower-case hexadecimal
 abbrev pub service_hash_text : MessagingPattern → List ℕ → List ℕ
 service_hash_text pattern name = encode_lower (sha1 (digit_of pattern ++ name))

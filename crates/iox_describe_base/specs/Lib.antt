@@ -3,3 +3,4 @@ pub mod Detail
 pub mod Compatible
 pub mod Hash
 pub mod Attributes
+pub mod SameAttributes

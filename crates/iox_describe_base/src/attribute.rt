@@ -1,5 +1,5 @@
 //! Attributes: pairs of texts that tell services of one name apart.
-ghost use Rattle.std.specs.Prelude.{◌≡◌, ◌<◌, ◌↔◌, [], ◌∷◌, ◌++◌, length, IsOk, IfOk, OnOk, OnErr};
+ghost use Rattle.std.specs.Prelude.{◌≡◌, ◌<◌, ◌↔◌, [], ◌∷◌, ◌++◌, length, IsOk, IfOk, OnOk, OnErr, IsTrue};
 ghost use Rattle.iox_describe_base.specs.Limits.{IsText};
 ghost use Rattle.iox_describe_base.specs.Attributes.{IsAttribute};
 
@@ -93,6 +93,22 @@ impl AttributeSpecifier {
         ensures within { AreAttributes self.now }
     {
         self.pairs.as_slice()
+    }
+}
+
+/// Attributes are equal if they have the same pairs in the same order.
+impl PartialEq for AttributeSpecifier {
+    ghost use Rattle.iox_describe_base.specs.SameAttributes.{same_attributes, same_attributes_laws};
+
+    ghost eq = { same_attributes };
+
+    ghost laws = { same_attributes_laws };
+
+    fn eq(&self, other: &Self) -> bool
+        ensures same { result ≡ same_attributes self.now other.now }
+        ensures exact { IsTrue result ↔ (self.now ≡ other.now) }
+    {
+        self.pairs.as_slice() == other.pairs.as_slice()
     }
 }
 

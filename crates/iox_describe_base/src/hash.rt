@@ -1,6 +1,6 @@
 //! The hash under which a service is found.
 ghost use Rattle.std.specs.Prelude.{◌≡◌};
-ghost use Rattle.iox_describe_base.specs.Hash.{hash_text, service_hash_text, digit_of};
+ghost use Rattle.iox_describe_base.specs.Hash.{hash_text, service_hash_of, service_hash_text, digit_of};
 
 use crate::name::ServiceName;
 use crate::pattern::MessagingPattern;
@@ -31,7 +31,8 @@ impl ServiceHash {
 ///
 /// Ported from `iceoryx2::service::service_hash::ServiceHash::new`.
 pub fn service_hash(pattern: MessagingPattern, name: &ServiceName) -> ServiceHash
-    ensures { hash_text result ≡ service_hash_text pattern name.now }
+    ensures value { result ≡ service_hash_of pattern name.now }
+    ensures text { hash_text result ≡ service_hash_text pattern name.now }
 {
     let mut hasher = Sha1::new();
     hasher.update(pattern_digit(pattern));

@@ -19,15 +19,16 @@ pub struct MessageTypeDetails {
 
 impl MessageTypeDetails {
     ghost use Rattle.iox_describe_base.specs.Compatible.{is_compatible};
+    ghost use Rattle.iox_describe_base.specs.Detail.{detail};
     ghost use Rattle.iox_describe_base.specs.declared.type_detail.TypeVariant.TheVariants.{FixedSize};
 
     /// The types of messages with this header, user header and payload.
     pub fn from<H: ZeroCopySend, U: ZeroCopySend, P: ZeroCopySend>(
         payload_variant: TypeVariant,
     ) -> Self
-        ensures header { result.header ≡ H.described FixedSize }
-        ensures user_header { result.user_header ≡ U.described FixedSize }
-        ensures payload { result.payload ≡ P.described payload_variant }
+        ensures header { result.header ≡ detail FixedSize H.name H.size H.alignment }
+        ensures user_header { result.user_header ≡ detail FixedSize U.name U.size U.alignment }
+        ensures payload { result.payload ≡ detail payload_variant P.name P.size P.alignment }
     {
         MessageTypeDetails {
             header: H::type_detail(TypeVariant::FixedSize),

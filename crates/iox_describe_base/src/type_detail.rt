@@ -3,7 +3,7 @@ ghost use Rattle.std.specs.Prelude.{◌≡◌, ◌≤◌, ◌↔◌, IsOk, IfOk}
 ghost use Rattle.iox_describe_base.specs.Limits.{IsText};
 
 use crate::limits::{LimitError, MAX_TYPE_NAME_LENGTH};
-use iox_string::StaticString;
+use iox_string::{StaticString, String as _};
 use std::marker::Model;
 
 /// Whether a value of a type is one element or a slice of them.
@@ -98,6 +98,13 @@ impl TypeDetail {
         ensures within { IsDetail self.now }
     {
         self.name.as_bytes()
+    }
+
+    /// The type's name as text.
+    pub fn type_text(&self) -> &str
+        ensures { result.now ≡ self.now.name }
+    {
+        self.name.as_str()
     }
 
     /// The size of one element, in bytes.

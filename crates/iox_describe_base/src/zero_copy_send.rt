@@ -1,5 +1,5 @@
 //! Types whose values can be sent without a copy.
-ghost use Rattle.std.specs.Prelude.{◌≡◌, codes};
+ghost use Rattle.std.specs.Prelude.{◌≡◌, ℕ, List, codes};
 ghost use Rattle.iox_describe_base.specs.Detail.{detail};
 
 use crate::header::Header;
@@ -10,19 +10,26 @@ use crate::type_detail::{TypeDetail, TypeVariant};
 ///
 /// Ported from `iceoryx2_bb_elementary_traits::zero_copy_send::ZeroCopySend`.
 pub trait ZeroCopySend {
-    ghost use Rattle.iox_describe_base.specs.Detail.{Detail};
-    ghost use Rattle.iox_describe_base.specs.declared.type_detail.TypeVariant.{TypeVariant};
+    // the name of the type
+    ghost name: { List ℕ };
 
-    // the detail of the type, as one value or as a slice
-    ghost described: { TypeVariant → Detail };
+    // the size of a value, in bytes
+    ghost size: { ℕ };
 
-    /// The detail of the type, as one value or as a slice.
+    // the alignment of a value, in bytes
+    ghost alignment: { ℕ };
+
+    /// The detail of the type, as one value or as a slice: only the variant varies, and it is the one asked.
     fn type_detail(variant: TypeVariant) -> TypeDetail
-        ensures { result ≡ described variant };
+        ensures { result ≡ detail variant name size alignment };
 }
 
 impl ZeroCopySend for u8 {
-    ghost described = { λ variant. detail variant (codes "u8") 1 1 };
+    ghost name = { codes "u8" };
+
+    ghost size = { 1 };
+
+    ghost alignment = { 1 };
 
     fn type_detail(variant: TypeVariant) -> TypeDetail {
         TypeDetail::known(variant, b"u8", 1, 1)
@@ -30,7 +37,11 @@ impl ZeroCopySend for u8 {
 }
 
 impl ZeroCopySend for u16 {
-    ghost described = { λ variant. detail variant (codes "u16") 2 2 };
+    ghost name = { codes "u16" };
+
+    ghost size = { 2 };
+
+    ghost alignment = { 2 };
 
     fn type_detail(variant: TypeVariant) -> TypeDetail {
         TypeDetail::known(variant, b"u16", 2, 2)
@@ -38,7 +49,11 @@ impl ZeroCopySend for u16 {
 }
 
 impl ZeroCopySend for u32 {
-    ghost described = { λ variant. detail variant (codes "u32") 4 4 };
+    ghost name = { codes "u32" };
+
+    ghost size = { 4 };
+
+    ghost alignment = { 4 };
 
     fn type_detail(variant: TypeVariant) -> TypeDetail {
         TypeDetail::known(variant, b"u32", 4, 4)
@@ -46,7 +61,11 @@ impl ZeroCopySend for u32 {
 }
 
 impl ZeroCopySend for u64 {
-    ghost described = { λ variant. detail variant (codes "u64") 8 8 };
+    ghost name = { codes "u64" };
+
+    ghost size = { 8 };
+
+    ghost alignment = { 8 };
 
     fn type_detail(variant: TypeVariant) -> TypeDetail {
         TypeDetail::known(variant, b"u64", 8, 8)
@@ -54,7 +73,11 @@ impl ZeroCopySend for u64 {
 }
 
 impl ZeroCopySend for u128 {
-    ghost described = { λ variant. detail variant (codes "u128") 16 16 };
+    ghost name = { codes "u128" };
+
+    ghost size = { 16 };
+
+    ghost alignment = { 16 };
 
     fn type_detail(variant: TypeVariant) -> TypeDetail {
         TypeDetail::known(variant, b"u128", 16, 16)
@@ -62,7 +85,11 @@ impl ZeroCopySend for u128 {
 }
 
 impl ZeroCopySend for usize {
-    ghost described = { λ variant. detail variant (codes "usize") 8 8 };
+    ghost name = { codes "usize" };
+
+    ghost size = { 8 };
+
+    ghost alignment = { 8 };
 
     fn type_detail(variant: TypeVariant) -> TypeDetail {
         TypeDetail::known(variant, b"usize", 8, 8)
@@ -70,7 +97,11 @@ impl ZeroCopySend for usize {
 }
 
 impl ZeroCopySend for i8 {
-    ghost described = { λ variant. detail variant (codes "i8") 1 1 };
+    ghost name = { codes "i8" };
+
+    ghost size = { 1 };
+
+    ghost alignment = { 1 };
 
     fn type_detail(variant: TypeVariant) -> TypeDetail {
         TypeDetail::known(variant, b"i8", 1, 1)
@@ -78,7 +109,11 @@ impl ZeroCopySend for i8 {
 }
 
 impl ZeroCopySend for i16 {
-    ghost described = { λ variant. detail variant (codes "i16") 2 2 };
+    ghost name = { codes "i16" };
+
+    ghost size = { 2 };
+
+    ghost alignment = { 2 };
 
     fn type_detail(variant: TypeVariant) -> TypeDetail {
         TypeDetail::known(variant, b"i16", 2, 2)
@@ -86,7 +121,11 @@ impl ZeroCopySend for i16 {
 }
 
 impl ZeroCopySend for i32 {
-    ghost described = { λ variant. detail variant (codes "i32") 4 4 };
+    ghost name = { codes "i32" };
+
+    ghost size = { 4 };
+
+    ghost alignment = { 4 };
 
     fn type_detail(variant: TypeVariant) -> TypeDetail {
         TypeDetail::known(variant, b"i32", 4, 4)
@@ -94,7 +133,11 @@ impl ZeroCopySend for i32 {
 }
 
 impl ZeroCopySend for i64 {
-    ghost described = { λ variant. detail variant (codes "i64") 8 8 };
+    ghost name = { codes "i64" };
+
+    ghost size = { 8 };
+
+    ghost alignment = { 8 };
 
     fn type_detail(variant: TypeVariant) -> TypeDetail {
         TypeDetail::known(variant, b"i64", 8, 8)
@@ -102,7 +145,11 @@ impl ZeroCopySend for i64 {
 }
 
 impl ZeroCopySend for i128 {
-    ghost described = { λ variant. detail variant (codes "i128") 16 16 };
+    ghost name = { codes "i128" };
+
+    ghost size = { 16 };
+
+    ghost alignment = { 16 };
 
     fn type_detail(variant: TypeVariant) -> TypeDetail {
         TypeDetail::known(variant, b"i128", 16, 16)
@@ -110,7 +157,11 @@ impl ZeroCopySend for i128 {
 }
 
 impl ZeroCopySend for isize {
-    ghost described = { λ variant. detail variant (codes "isize") 8 8 };
+    ghost name = { codes "isize" };
+
+    ghost size = { 8 };
+
+    ghost alignment = { 8 };
 
     fn type_detail(variant: TypeVariant) -> TypeDetail {
         TypeDetail::known(variant, b"isize", 8, 8)
@@ -118,7 +169,11 @@ impl ZeroCopySend for isize {
 }
 
 impl ZeroCopySend for bool {
-    ghost described = { λ variant. detail variant (codes "bool") 1 1 };
+    ghost name = { codes "bool" };
+
+    ghost size = { 1 };
+
+    ghost alignment = { 1 };
 
     fn type_detail(variant: TypeVariant) -> TypeDetail {
         TypeDetail::known(variant, b"bool", 1, 1)
@@ -126,7 +181,11 @@ impl ZeroCopySend for bool {
 }
 
 impl ZeroCopySend for Header {
-    ghost described = { λ variant. detail variant (codes "Header") 24 8 };
+    ghost name = { codes "Header" };
+
+    ghost size = { 24 };
+
+    ghost alignment = { 8 };
 
     fn type_detail(variant: TypeVariant) -> TypeDetail {
         TypeDetail::known(variant, b"Header", 24, 8)

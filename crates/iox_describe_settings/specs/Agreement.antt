@@ -6,9 +6,9 @@ use Rattle.iox_describe_base.specs.declared.pattern.MessagingPattern.{MessagingP
 use Rattle.iox_describe_base.specs.declared.pattern.MessagingPattern.TheVariants as pattern
 use Rattle.iox_describe_settings.specs.declared.static_config.Settings.{Settings}
 use Rattle.iox_describe_settings.specs.declared.static_config.Settings.TheVariants.{RequestResponse, PublishSubscribe, Event}
-use Rattle.iox_describe_settings.specs.RequestResponse as request_response
-use Rattle.iox_describe_settings.specs.PublishSubscribe as publish_subscribe
-use Rattle.iox_describe_settings.specs.Event as event
+use Rattle.iox_describe_settings.specs.RequestResponseSettings as request_response
+use Rattle.iox_describe_settings.specs.PublishSubscribeSettings as publish_subscribe
+use Rattle.iox_describe_settings.specs.EventSettings as event
 
 -- name, hash, settings and attributes of a service
 pub record Agreement : Type 0 where

@@ -1,5 +1,7 @@
 -- The settings of an event service, one by one.
-use Rattle.std.specs.Prelude.{ℕ, List, [], ◌∷◌, codes}
+use Rattle.std.specs.Prelude.{ℕ, ◌^◌, List, [], ◌∷◌, codes, Some, None}
+use Rattle.iox_describe_settings.specs.declared.setting.Rule.{Rule}
+use Rattle.iox_describe_settings.specs.Setting.{number, optional_number, defaulted, AreAllowed, adjusted as adjusted_settings}
 use Rattle.iox_describe_settings.specs.declared.setting.SettingValue.{SettingValue}
 use Rattle.iox_describe_settings.specs.declared.setting.SettingValue.TheVariants.{Number, OptionalNumber}
 use Rattle.iox_describe_settings.specs.declared.static_config.event.Setting.{Setting}
@@ -52,3 +54,39 @@ changed NotifierCreatedEvent (OptionalNumber option) c = record c { notifier_cre
 changed NotifierDeadEvent (OptionalNumber option) c = record c { notifier_dead_event = option }
 changed NotifierDroppedEvent (OptionalNumber option) c = record c { notifier_dropped_event = option }
 changed other value c = c
+
+-- what each may be: its default, for a number also the least that can serve and what it stays below
+abbrev pub rule : Setting → Rule
+rule Deadline = optional_number None
+rule EventIdMaxValue = number 4294967295 0 None
+rule MaxListeners = number 16 1 None
+rule MaxNodes = number 36 1 (Some (2 ^ 24))
+rule MaxNotifiers = number 16 1 None
+rule NotifierCreatedEvent = optional_number None
+rule NotifierDeadEvent = optional_number None
+rule NotifierDroppedEvent = optional_number None
+
+-- settings of which none is set
+abbrev pub unset : StaticConfig
+unset = record {
+  deadline = None;
+  event_id_max_value = 0;
+  max_listeners = 0;
+  max_nodes = 0;
+  max_notifiers = 0;
+  notifier_created_event = None;
+  notifier_dead_event = None;
+  notifier_dropped_event = None;
+}
+
+-- what stands where nothing is asked
+abbrev pub defaults : StaticConfig
+defaults = defaulted rule changed all unset
+
+-- the settings that a service is created with: a number that can't serve becomes the least that can
+abbrev pub adjusted : StaticConfig → StaticConfig
+adjusted c = adjusted_settings rule value changed all c
+
+-- the numbers that a description may have: each between its ends
+abbrev pub IsWithinLimits : StaticConfig → Type 0
+IsWithinLimits c = AreAllowed rule value all c

@@ -1,5 +1,8 @@
 -- The settings of a publish-subscribe service, one by one.
-use Rattle.std.specs.Prelude.{ℕ, List, [], ◌∷◌, codes}
+use Rattle.std.specs.Prelude.{ℕ, ◌<◌, ◌^◌, List, [], ◌∷◌, codes, Some, true, false, ◌≡◌}
+use Rattle.iox_describe_base.specs.declared.message_type.MessageTypeDetails.{MessageTypeDetails}
+use Rattle.iox_describe_settings.specs.declared.setting.Rule.{Rule}
+use Rattle.iox_describe_settings.specs.Setting.{number, switch, types as types_rule, defaulted, AreAllowed, adjusted as adjusted_settings}
 use Rattle.iox_describe_settings.specs.declared.setting.SettingValue.{SettingValue}
 use Rattle.iox_describe_settings.specs.declared.setting.SettingValue.TheVariants.{Switch, Number, Types}
 use Rattle.iox_describe_settings.specs.declared.static_config.publish_subscribe.Setting.{Setting}
@@ -52,3 +55,43 @@ changed SubscriberMaxBorrowedSamples (Number number) c = record c { subscriber_m
 changed SubscriberMaxBufferSize (Number number) c = record c { subscriber_max_buffer_size = number }
 changed Types (Types types) c = record c { types = types }
 changed other value c = c
+
+-- what each may be: its default, for a number also the least that can serve and what it stays below
+abbrev pub rule : Setting → Rule
+rule EnableSafeOverflow = switch true
+rule HistorySize = number 0 0 (Some (2 ^ 32))
+rule MaxNodes = number 20 1 (Some (2 ^ 24))
+rule MaxPublishers = number 2 1 (Some (2 ^ 24))
+rule MaxSubscribers = number 8 1 (Some (2 ^ 24))
+rule SubscriberMaxBorrowedSamples = number 2 1 (Some (2 ^ 32))
+rule SubscriberMaxBufferSize = number 2 1 (Some (2 ^ 32))
+rule Types = types_rule
+
+-- settings of which none is set but the types that are given
+abbrev pub unset : MessageTypeDetails → StaticConfig
+unset types = record {
+  enable_safe_overflow = false;
+  history_size = 0;
+  max_nodes = 0;
+  max_publishers = 0;
+  max_subscribers = 0;
+  subscriber_max_borrowed_samples = 0;
+  subscriber_max_buffer_size = 0;
+  types = types;
+}
+
+-- what stands where nothing is asked
+abbrev pub defaults : MessageTypeDetails → StaticConfig
+defaults types = defaulted rule changed all (unset types)
+
+-- the settings that a service is created with: a number that can't serve becomes the least that can
+abbrev pub adjusted : StaticConfig → StaticConfig
+adjusted c = adjusted_settings rule value changed all c
+
+-- the numbers that a description may have: each between its ends
+abbrev pub IsWithinLimits : StaticConfig → Type 0
+IsWithinLimits c = AreAllowed rule value all c
+
+-- a full buffer holds the publisher up, and has no room for the history
+abbrev pub IsHistoryTooLong : StaticConfig → Type 0
+IsHistoryTooLong c = (c.enable_safe_overflow ≡ false) × (c.subscriber_max_buffer_size < c.history_size)

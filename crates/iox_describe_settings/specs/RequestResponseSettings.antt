@@ -1,5 +1,8 @@
 -- The settings of a request-response service, one by one.
-use Rattle.std.specs.Prelude.{ℕ, List, [], ◌∷◌, codes}
+use Rattle.std.specs.Prelude.{ℕ, ◌^◌, List, [], ◌∷◌, codes, Some, None, true, false}
+use Rattle.iox_describe_base.specs.declared.message_type.MessageTypeDetails.{MessageTypeDetails}
+use Rattle.iox_describe_settings.specs.declared.setting.Rule.{Rule}
+use Rattle.iox_describe_settings.specs.Setting.{number, switch, types as types_rule, defaulted, AreAllowed, adjusted as adjusted_settings}
 use Rattle.iox_describe_settings.specs.declared.setting.SettingValue.{SettingValue}
 use Rattle.iox_describe_settings.specs.declared.setting.SettingValue.TheVariants.{Switch, Number, Types}
 use Rattle.iox_describe_settings.specs.declared.static_config.request_response.Setting.{Setting}
@@ -68,3 +71,47 @@ changed MaxServers (Number number) c = record c { max_servers = number }
 changed RequestTypes (Types types) c = record c { request_types = types }
 changed ResponseTypes (Types types) c = record c { response_types = types }
 changed other value c = c
+
+-- what each may be: its default, for a number also the least that can serve and what it stays below
+abbrev pub rule : Setting → Rule
+rule EnableFireAndForgetRequests = switch true
+rule EnableSafeOverflowForRequests = switch true
+rule EnableSafeOverflowForResponses = switch true
+rule MaxActiveRequestsPerClient = number 4 1 None
+rule MaxBorrowedResponsesPerPendingResponse = number 2 1 None
+rule MaxClients = number 8 1 None
+rule MaxLoanedRequests = number 2 1 None
+rule MaxNodes = number 20 1 (Some (2 ^ 24))
+rule MaxResponseBufferSize = number 2 1 None
+rule MaxServers = number 2 1 None
+rule RequestTypes = types_rule
+rule ResponseTypes = types_rule
+
+-- settings of which none is set but the types that are given
+abbrev pub unset : MessageTypeDetails → MessageTypeDetails → StaticConfig
+unset request_types response_types = record {
+  enable_fire_and_forget_requests = false;
+  enable_safe_overflow_for_requests = false;
+  enable_safe_overflow_for_responses = false;
+  max_active_requests_per_client = 0;
+  max_borrowed_responses_per_pending_response = 0;
+  max_clients = 0;
+  max_loaned_requests = 0;
+  max_nodes = 0;
+  max_response_buffer_size = 0;
+  max_servers = 0;
+  request_types = request_types;
+  response_types = response_types;
+}
+
+-- what stands where nothing is asked
+abbrev pub defaults : MessageTypeDetails → MessageTypeDetails → StaticConfig
+defaults request_types response_types = defaulted rule changed all (unset request_types response_types)
+
+-- the settings that a service is created with: a number that can't serve becomes the least that can
+abbrev pub adjusted : StaticConfig → StaticConfig
+adjusted c = adjusted_settings rule value changed all c
+
+-- the numbers that a description may have: each between its ends
+abbrev pub IsWithinLimits : StaticConfig → Type 0
+IsWithinLimits c = AreAllowed rule value all c

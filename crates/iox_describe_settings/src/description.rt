@@ -31,14 +31,14 @@ impl Model for Description {
 
 impl Description {
     ghost use Rattle.iox_describe_settings.specs.Agreement.{agreement, pattern_of, max_nodes_of, AreWithinLimits};
-    ghost use Rattle.iox_describe_base.specs.Hash.{hash_text, service_hash_text};
+    ghost use Rattle.iox_describe_base.specs.Hash.{hash_text, service_hash_of, service_hash_text};
 
     /// The version of the format that descriptions are written in.
     pub const VERSION: u64 = 1;
 
     /// The description of a service of this name, with the hash that belongs to its pattern and name.
     pub fn new(name: ServiceName, settings: Settings, attributes: AttributeSpecifier) -> Self
-        ensures parts { result ≡ agreement name result.service_hash settings attributes }
+        ensures parts { result ≡ agreement name (service_hash_of (pattern_of settings) name) settings attributes }
         ensures hash { hash_text result.service_hash ≡ service_hash_text (pattern_of settings) name }
     {
         let service_hash = service_hash(settings.pattern(), &name);
@@ -133,5 +133,35 @@ impl Description {
         ensures { IsTrue result ↔ AreWithinLimits self.now.settings }
     {
         self.settings.are_within_limits()
+    }
+}
+
+/// Descriptions are equal if name, hash, settings and attributes are.
+impl PartialEq for Description {
+    ghost use Rattle.iox_describe_settings.specs.SameAgreement.{same_agreement, same_agreement_laws};
+
+    ghost eq = { same_agreement };
+
+    ghost laws = { same_agreement_laws };
+
+    fn eq(&self, other: &Self) -> bool
+        ensures same { result ≡ same_agreement self.now other.now }
+        ensures exact { IsTrue result ↔ (self.now ≡ other.now) }
+    {
+        self.is_same(other)
+    }
+}
+
+impl Description {
+    ghost use Rattle.iox_describe_settings.specs.SameAgreement.{same_agreement};
+
+    /// Whether name, hash, settings and attributes are the same.
+    fn is_same(&self, other: &Self) -> bool
+        ensures { result ≡ same_agreement self.now other.now }
+    {
+        self.name == other.name
+            && self.service_hash == other.service_hash
+            && self.settings == other.settings
+            && self.attributes == other.attributes
     }
 }

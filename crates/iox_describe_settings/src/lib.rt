@@ -12,5 +12,5 @@ pub mod setting;
 pub mod static_config;
 
 pub use description::Description;
-pub use setting::{PatternSetting, SettingValue};
+pub use setting::{NumberRule, PatternSetting, Rule, SettingValue};
 pub use static_config::{Settings, event, publish_subscribe, request_response};

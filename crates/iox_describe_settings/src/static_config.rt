@@ -1,6 +1,7 @@
 //! What is agreed for a service, by its messaging pattern.
 ghost use Rattle.std.specs.Prelude.{◌≡◌, ◌↔◌, IsTrue};
 
+use crate::setting::are_same;
 use iox_describe_base::pattern::MessagingPattern;
 
 pub mod event;
@@ -10,7 +11,7 @@ pub mod request_response;
 /// The settings of a service, of one of the three patterns.
 ///
 /// Ported from `iceoryx2::service::static_config::messaging_pattern::MessagingPattern`.
-#[derive(Clone, Copy, Debug, PartialEq, Eq)]
+#[derive(Clone, Copy, Debug)]
 pub enum Settings {
     /// The settings of a request-response service.
     RequestResponse(request_response::StaticConfig),
@@ -53,6 +54,51 @@ impl Settings {
             Settings::RequestResponse(config) => config.is_within_limits(),
             Settings::PublishSubscribe(config) => config.is_within_limits(),
             Settings::Event(config) => config.is_within_limits(),
+        }
+    }
+}
+
+/// Settings are equal if they are of one pattern and each setting is the same.
+impl PartialEq for Settings {
+    ghost use Rattle.std.specs.Cmp.{partial_equiv_from_equiv};
+    ghost use Rattle.iox_describe_settings.specs.SameAgreement.{same_settings, same_settings_laws};
+
+    ghost eq = { same_settings };
+
+    ghost laws = { partial_equiv_from_equiv same_settings_laws };
+
+    fn eq(&self, other: &Self) -> bool
+        ensures same { result ≡ same_settings self.now other.now }
+        ensures exact { IsTrue result ↔ (self.now ≡ other.now) }
+    {
+        self.is_same(other)
+    }
+}
+
+impl Eq for Settings {
+    ghost use Rattle.iox_describe_settings.specs.SameAgreement.{same_settings_laws};
+
+    ghost laws = { same_settings_laws };
+}
+
+impl Settings {
+    ghost use Rattle.iox_describe_settings.specs.SameAgreement.{same_settings};
+
+    /// Whether they are settings of one pattern, each of which is the same.
+    fn is_same(&self, other: &Self) -> bool
+        ensures { result ≡ same_settings self.now other.now }
+    {
+        match (self, other) {
+            (Settings::RequestResponse(first), Settings::RequestResponse(second)) => are_same::<
+                request_response::Setting,
+            >(first, second),
+            (Settings::PublishSubscribe(first), Settings::PublishSubscribe(second)) => are_same::<
+                publish_subscribe::Setting,
+            >(first, second),
+            (Settings::Event(first), Settings::Event(second)) => are_same::<event::Setting>(
+                first, second,
+            ),
+            _ => false,
         }
     }
 }

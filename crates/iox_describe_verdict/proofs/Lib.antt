@@ -1,5 +1,1 @@
 pub mod Earliest
-pub mod VerdictLemmas
-pub mod EventWeaker
-pub mod PublishSubscribeWeaker
-pub mod RequestResponseWeaker

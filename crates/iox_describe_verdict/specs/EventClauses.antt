@@ -1,5 +1,5 @@
 -- What an opener requires of an event service, clause by clause.
-use Rattle.std.specs.Prelude.{◌∷◌, [], List, Bool, true, false, None}
+use Rattle.std.specs.Prelude.{◌∷◌, [], List, Bool, true, false, Option, None, option_map}
 use Rattle.iox_describe_verdict.specs.declared.requirement.event.Requirement.{Requirement}
 use Rattle.iox_describe_verdict.specs.declared.requirement.event.ClauseError.{ClauseError}
 use Rattle.iox_describe_verdict.specs.declared.requirement.event.ClauseError.TheVariants as error
@@ -11,7 +11,10 @@ use Rattle.iox_describe_settings.specs.declared.static_config.Settings.TheVarian
 use Rattle.iox_describe_base.specs.declared.attribute.Attribute.{Attribute}
 use Rattle.iox_describe_settings.specs.Agreement.{Agreement}
 use Rattle.iox_describe_base.specs.Attributes.{Required, has_required, IsFewer}
-use Rattle.iox_describe_verdict.specs.Verdict.{is_enough, AsksLess, is_same_option, IsLeftOut}
+use Rattle.iox_describe_settings.specs.declared.setting.SettingValue.{SettingValue}
+use Rattle.iox_describe_settings.specs.declared.setting.SettingValue.TheVariants as value
+use Rattle.iox_describe_settings.specs.EventSettings as settings
+use Rattle.iox_describe_verdict.specs.Verdict.{is_met, overlaid, AsksLess}
 
 -- nothing is named but what is always tested
 abbrev pub unnamed : Required → Requirement
@@ -27,16 +30,20 @@ unnamed attributes = record {
   max_nodes = None;
 }
 
--- whether what is required of a setting is met
-abbrev pub is_met : Setting → Requirement → StaticConfig → Bool
-is_met Deadline r c = is_same_option r.deadline c.deadline
-is_met EventIdMaxValue r c = is_enough r.event_id_max_value c.event_id_max_value
-is_met MaxListeners r c = is_enough r.max_listeners c.max_listeners
-is_met MaxNodes r c = is_enough r.max_nodes c.max_nodes
-is_met MaxNotifiers r c = is_enough r.max_notifiers c.max_notifiers
-is_met NotifierCreatedEvent r c = is_same_option r.notifier_created_event c.notifier_created_event
-is_met NotifierDeadEvent r c = is_same_option r.notifier_dead_event c.notifier_dead_event
-is_met NotifierDroppedEvent r c = is_same_option r.notifier_dropped_event c.notifier_dropped_event
+-- what is asked of each setting, where it was named
+abbrev pub named : Setting → Requirement → Option SettingValue
+named Deadline r = option_map value.OptionalNumber r.deadline
+named EventIdMaxValue r = option_map value.Number r.event_id_max_value
+named MaxListeners r = option_map value.Number r.max_listeners
+named MaxNodes r = option_map value.Number r.max_nodes
+named MaxNotifiers r = option_map value.Number r.max_notifiers
+named NotifierCreatedEvent r = option_map value.OptionalNumber r.notifier_created_event
+named NotifierDeadEvent r = option_map value.OptionalNumber r.notifier_dead_event
+named NotifierDroppedEvent r = option_map value.OptionalNumber r.notifier_dropped_event
+
+-- the settings that are asked for: each as it was named, each other one at its default
+abbrev pub asked : Requirement → StaticConfig
+asked r = overlaid settings.changed (λ setting. named setting r) settings.all settings.defaults
 
 -- the error where it is not
 abbrev pub error_of : Setting → ClauseError
@@ -51,7 +58,7 @@ error_of NotifierDroppedEvent = error.IncompatibleNotifierDroppedEvent
 
 -- the clause on a setting
 abbrev pub clause : Requirement → StaticConfig → Setting → Bool × ClauseError
-clause r c setting = (is_met setting r c, error_of setting)
+clause r c setting = (is_met (named setting r) (settings.value setting c), error_of setting)
 
 -- the clauses on a service of the pattern, in the order in which they are tested, each with its error
 abbrev pub clauses_on : Requirement → List Attribute → StaticConfig → List (Bool × ClauseError)
@@ -77,14 +84,7 @@ clauses_of r attributes (Event c) = (true, error.IncompatibleMessagingPattern) �
 abbrev pub clauses : Requirement → Agreement → List (Bool × ClauseError)
 clauses r a = clauses_of r a.attributes a.settings
 
--- weak asks at most what strong asks
+-- weak requires fewer attributes, and asks of each setting at most what strong asks
 pub record IsWeaker (weak strong : Requirement) : Type 0 where
   pub attributes : IsFewer weak.attributes strong.attributes
-  pub deadline : IsLeftOut weak.deadline strong.deadline
-  pub max_notifiers : AsksLess weak.max_notifiers strong.max_notifiers
-  pub max_listeners : AsksLess weak.max_listeners strong.max_listeners
-  pub event_id_max_value : AsksLess weak.event_id_max_value strong.event_id_max_value
-  pub notifier_created_event : IsLeftOut weak.notifier_created_event strong.notifier_created_event
-  pub notifier_dropped_event : IsLeftOut weak.notifier_dropped_event strong.notifier_dropped_event
-  pub notifier_dead_event : IsLeftOut weak.notifier_dead_event strong.notifier_dead_event
-  pub max_nodes : AsksLess weak.max_nodes strong.max_nodes
+  pub settings : (setting : Setting) → AsksLess (named setting weak) (named setting strong)

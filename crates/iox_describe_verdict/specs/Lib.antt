@@ -3,3 +3,8 @@ pub mod Earliest
 pub mod PublishSubscribeClauses
 pub mod EventClauses
 pub mod RequestResponseClauses
+pub mod VerdictLemmas
+pub mod PublishSubscribeLaws
+pub mod EventLaws
+pub mod RequestResponseLaws
+pub mod Patterns

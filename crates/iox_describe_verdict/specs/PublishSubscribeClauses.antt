@@ -1,5 +1,5 @@
 -- What an opener requires of a publish-subscribe service, clause by clause.
-use Rattle.std.specs.Prelude.{◌∷◌, [], List, Bool, true, false, None, ◌≡◌}
+use Rattle.std.specs.Prelude.{◌∷◌, [], List, Bool, true, false, Option, Some, None, option_map}
 use Rattle.iox_describe_base.specs.declared.message_type.MessageTypeDetails.{MessageTypeDetails}
 use Rattle.iox_describe_verdict.specs.declared.requirement.publish_subscribe.Requirement.{Requirement}
 use Rattle.iox_describe_verdict.specs.declared.requirement.publish_subscribe.ClauseError.{ClauseError}
@@ -12,8 +12,10 @@ use Rattle.iox_describe_settings.specs.declared.static_config.Settings.TheVarian
 use Rattle.iox_describe_base.specs.declared.attribute.Attribute.{Attribute}
 use Rattle.iox_describe_settings.specs.Agreement.{Agreement}
 use Rattle.iox_describe_base.specs.Attributes.{Required, has_required, IsFewer}
-use Rattle.iox_describe_base.specs.Compatible.{is_compatible}
-use Rattle.iox_describe_verdict.specs.Verdict.{is_enough, AsksLess, is_same_switch, IsLeftOut}
+use Rattle.iox_describe_settings.specs.declared.setting.SettingValue.{SettingValue}
+use Rattle.iox_describe_settings.specs.declared.setting.SettingValue.TheVariants as value
+use Rattle.iox_describe_settings.specs.PublishSubscribeSettings as settings
+use Rattle.iox_describe_verdict.specs.Verdict.{is_met, overlaid, AsksLess}
 
 -- nothing is named but what is always tested
 abbrev pub unnamed : MessageTypeDetails → Required → Requirement
@@ -29,16 +31,20 @@ unnamed types attributes = record {
   max_nodes = None;
 }
 
--- whether what is required of a setting is met
-abbrev pub is_met : Setting → Requirement → StaticConfig → Bool
-is_met EnableSafeOverflow r c = is_same_switch r.enable_safe_overflow c.enable_safe_overflow
-is_met HistorySize r c = is_enough r.history_size c.history_size
-is_met MaxNodes r c = is_enough r.max_nodes c.max_nodes
-is_met MaxPublishers r c = is_enough r.max_publishers c.max_publishers
-is_met MaxSubscribers r c = is_enough r.max_subscribers c.max_subscribers
-is_met SubscriberMaxBorrowedSamples r c = is_enough r.subscriber_max_borrowed_samples c.subscriber_max_borrowed_samples
-is_met SubscriberMaxBufferSize r c = is_enough r.subscriber_max_buffer_size c.subscriber_max_buffer_size
-is_met Types r c = is_compatible r.types c.types
+-- what is asked of each setting, where it was named
+abbrev pub named : Setting → Requirement → Option SettingValue
+named EnableSafeOverflow r = option_map value.Switch r.enable_safe_overflow
+named HistorySize r = option_map value.Number r.history_size
+named MaxNodes r = option_map value.Number r.max_nodes
+named MaxPublishers r = option_map value.Number r.max_publishers
+named MaxSubscribers r = option_map value.Number r.max_subscribers
+named SubscriberMaxBorrowedSamples r = option_map value.Number r.subscriber_max_borrowed_samples
+named SubscriberMaxBufferSize r = option_map value.Number r.subscriber_max_buffer_size
+named Types r = Some (value.Types r.types)
+
+-- the settings that are asked for: each as it was named, each other one at its default
+abbrev pub asked : Requirement → StaticConfig
+asked r = overlaid settings.changed (λ setting. named setting r) settings.all (settings.defaults r.types)
 
 -- the error where it is not
 abbrev pub error_of : Setting → ClauseError
@@ -53,7 +59,7 @@ error_of Types = error.IncompatibleTypes
 
 -- the clause on a setting
 abbrev pub clause : Requirement → StaticConfig → Setting → Bool × ClauseError
-clause r c setting = (is_met setting r c, error_of setting)
+clause r c setting = (is_met (named setting r) (settings.value setting c), error_of setting)
 
 -- the clauses on a service of the pattern, in the order in which they are tested, each with its error
 abbrev pub clauses_on : Requirement → List Attribute → StaticConfig → List (Bool × ClauseError)
@@ -79,14 +85,7 @@ clauses_of r attributes (Event c) = (false, error.IncompatibleMessagingPattern) 
 abbrev pub clauses : Requirement → Agreement → List (Bool × ClauseError)
 clauses r a = clauses_of r a.attributes a.settings
 
--- weak asks at most what strong asks
+-- weak requires fewer attributes, and asks of each setting at most what strong asks
 pub record IsWeaker (weak strong : Requirement) : Type 0 where
-  pub types : is_compatible weak.types strong.types ≡ true
   pub attributes : IsFewer weak.attributes strong.attributes
-  pub enable_safe_overflow : IsLeftOut weak.enable_safe_overflow strong.enable_safe_overflow
-  pub max_publishers : AsksLess weak.max_publishers strong.max_publishers
-  pub max_subscribers : AsksLess weak.max_subscribers strong.max_subscribers
-  pub subscriber_max_buffer_size : AsksLess weak.subscriber_max_buffer_size strong.subscriber_max_buffer_size
-  pub history_size : AsksLess weak.history_size strong.history_size
-  pub subscriber_max_borrowed_samples : AsksLess weak.subscriber_max_borrowed_samples strong.subscriber_max_borrowed_samples
-  pub max_nodes : AsksLess weak.max_nodes strong.max_nodes
+  pub settings : (setting : Setting) → AsksLess (named setting weak) (named setting strong)

@@ -1,5 +1,5 @@
 -- What an opener requires of a request-response service, clause by clause.
-use Rattle.std.specs.Prelude.{◌∷◌, [], List, Bool, true, false, None, ◌≡◌}
+use Rattle.std.specs.Prelude.{◌∷◌, [], List, Bool, true, false, Option, Some, None, option_map}
 use Rattle.iox_describe_base.specs.declared.message_type.MessageTypeDetails.{MessageTypeDetails}
 use Rattle.iox_describe_verdict.specs.declared.requirement.request_response.Requirement.{Requirement}
 use Rattle.iox_describe_verdict.specs.declared.requirement.request_response.ClauseError.{ClauseError}
@@ -12,8 +12,10 @@ use Rattle.iox_describe_settings.specs.declared.static_config.Settings.TheVarian
 use Rattle.iox_describe_base.specs.declared.attribute.Attribute.{Attribute}
 use Rattle.iox_describe_settings.specs.Agreement.{Agreement}
 use Rattle.iox_describe_base.specs.Attributes.{Required, has_required, IsFewer}
-use Rattle.iox_describe_base.specs.Compatible.{is_compatible}
-use Rattle.iox_describe_verdict.specs.Verdict.{is_enough, AsksLess, is_same_switch, IsLeftOut}
+use Rattle.iox_describe_settings.specs.declared.setting.SettingValue.{SettingValue}
+use Rattle.iox_describe_settings.specs.declared.setting.SettingValue.TheVariants as value
+use Rattle.iox_describe_settings.specs.RequestResponseSettings as settings
+use Rattle.iox_describe_verdict.specs.Verdict.{is_met, overlaid, AsksLess}
 
 -- nothing is named but what is always tested
 abbrev pub unnamed : MessageTypeDetails → MessageTypeDetails → Required → Requirement
@@ -33,20 +35,24 @@ unnamed request_types response_types attributes = record {
   max_nodes = None;
 }
 
--- whether what is required of a setting is met
-abbrev pub is_met : Setting → Requirement → StaticConfig → Bool
-is_met EnableFireAndForgetRequests r c = is_same_switch r.enable_fire_and_forget_requests c.enable_fire_and_forget_requests
-is_met EnableSafeOverflowForRequests r c = is_same_switch r.enable_safe_overflow_for_requests c.enable_safe_overflow_for_requests
-is_met EnableSafeOverflowForResponses r c = is_same_switch r.enable_safe_overflow_for_responses c.enable_safe_overflow_for_responses
-is_met MaxActiveRequestsPerClient r c = is_enough r.max_active_requests_per_client c.max_active_requests_per_client
-is_met MaxBorrowedResponsesPerPendingResponse r c = is_enough r.max_borrowed_responses_per_pending_response c.max_borrowed_responses_per_pending_response
-is_met MaxClients r c = is_enough r.max_clients c.max_clients
-is_met MaxLoanedRequests r c = is_enough r.max_loaned_requests c.max_loaned_requests
-is_met MaxNodes r c = is_enough r.max_nodes c.max_nodes
-is_met MaxResponseBufferSize r c = is_enough r.max_response_buffer_size c.max_response_buffer_size
-is_met MaxServers r c = is_enough r.max_servers c.max_servers
-is_met RequestTypes r c = is_compatible r.request_types c.request_types
-is_met ResponseTypes r c = is_compatible r.response_types c.response_types
+-- what is asked of each setting, where it was named
+abbrev pub named : Setting → Requirement → Option SettingValue
+named EnableFireAndForgetRequests r = option_map value.Switch r.enable_fire_and_forget_requests
+named EnableSafeOverflowForRequests r = option_map value.Switch r.enable_safe_overflow_for_requests
+named EnableSafeOverflowForResponses r = option_map value.Switch r.enable_safe_overflow_for_responses
+named MaxActiveRequestsPerClient r = option_map value.Number r.max_active_requests_per_client
+named MaxBorrowedResponsesPerPendingResponse r = option_map value.Number r.max_borrowed_responses_per_pending_response
+named MaxClients r = option_map value.Number r.max_clients
+named MaxLoanedRequests r = option_map value.Number r.max_loaned_requests
+named MaxNodes r = option_map value.Number r.max_nodes
+named MaxResponseBufferSize r = option_map value.Number r.max_response_buffer_size
+named MaxServers r = option_map value.Number r.max_servers
+named RequestTypes r = Some (value.Types r.request_types)
+named ResponseTypes r = Some (value.Types r.response_types)
+
+-- the settings that are asked for: each as it was named, each other one at its default
+abbrev pub asked : Requirement → StaticConfig
+asked r = overlaid settings.changed (λ setting. named setting r) settings.all (settings.defaults r.request_types r.response_types)
 
 -- the error where it is not
 abbrev pub error_of : Setting → ClauseError
@@ -65,7 +71,7 @@ error_of ResponseTypes = error.IncompatibleResponseType
 
 -- the clause on a setting
 abbrev pub clause : Requirement → StaticConfig → Setting → Bool × ClauseError
-clause r c setting = (is_met setting r c, error_of setting)
+clause r c setting = (is_met (named setting r) (settings.value setting c), error_of setting)
 
 -- the clauses on a service of the pattern, in the order in which they are tested, each with its error
 abbrev pub clauses_on : Requirement → List Attribute → StaticConfig → List (Bool × ClauseError)
@@ -95,18 +101,7 @@ clauses_of r attributes (Event c) = (false, error.IncompatibleMessagingPattern) 
 abbrev pub clauses : Requirement → Agreement → List (Bool × ClauseError)
 clauses r a = clauses_of r a.attributes a.settings
 
--- weak asks at most what strong asks
+-- weak requires fewer attributes, and asks of each setting at most what strong asks
 pub record IsWeaker (weak strong : Requirement) : Type 0 where
-  pub request_types : is_compatible weak.request_types strong.request_types ≡ true
-  pub response_types : is_compatible weak.response_types strong.response_types ≡ true
   pub attributes : IsFewer weak.attributes strong.attributes
-  pub enable_safe_overflow_for_requests : IsLeftOut weak.enable_safe_overflow_for_requests strong.enable_safe_overflow_for_requests
-  pub enable_safe_overflow_for_responses : IsLeftOut weak.enable_safe_overflow_for_responses strong.enable_safe_overflow_for_responses
-  pub enable_fire_and_forget_requests : IsLeftOut weak.enable_fire_and_forget_requests strong.enable_fire_and_forget_requests
-  pub max_loaned_requests : AsksLess weak.max_loaned_requests strong.max_loaned_requests
-  pub max_active_requests_per_client : AsksLess weak.max_active_requests_per_client strong.max_active_requests_per_client
-  pub max_response_buffer_size : AsksLess weak.max_response_buffer_size strong.max_response_buffer_size
-  pub max_servers : AsksLess weak.max_servers strong.max_servers
-  pub max_clients : AsksLess weak.max_clients strong.max_clients
-  pub max_borrowed_responses_per_pending_response : AsksLess weak.max_borrowed_responses_per_pending_response strong.max_borrowed_responses_per_pending_response
-  pub max_nodes : AsksLess weak.max_nodes strong.max_nodes
+  pub settings : (setting : Setting) → AsksLess (named setting weak) (named setting strong)

@@ -1,6 +1,12 @@
 -- The verdict of a list of clauses, and what single clauses ask.
-use Rattle.std.specs.Prelude.{ℕ, ◌≡◌, ◌≤◌, List, Bool, true, false, not, ◌==◌, nat_le, Option, Some, None, Result, Ok, Err}
+use Rattle.std.specs.Prelude.{ℕ, ◌≡◌, ◌≤◌, List, [], ◌∷◌, Bool, true, false, not, nat_le, Option, Some, None, option_map, IfSome, Result, Ok, Err}
 use Rattle.std.specs.List.{find}
+use Rattle.iox_describe_base.specs.Compatible.{is_compatible}
+use Rattle.iox_describe_settings.specs.declared.setting.Rule.{Rule}
+use Rattle.iox_describe_settings.specs.declared.setting.Rule.TheVariants as rule
+use Rattle.iox_describe_settings.specs.declared.setting.SettingValue.{SettingValue}
+use Rattle.iox_describe_settings.specs.declared.setting.SettingValue.TheVariants.{Switch, Number, OptionalNumber, Types}
+use Rattle.iox_describe_settings.specs.Setting.{changed_to, same_option, same_switch, IsOfKind}
 
 -- the error of the clause that was found
 abbrev pub verdict_at : {E : Type 0} → Option (Bool × E) → Result (Unit {0}) E
@@ -15,40 +21,58 @@ unmet_clause clauses = find (λ clause. not clause.0) clauses
 abbrev pub first_unmet : {E : Type 0} → List (Bool × E) → Result (Unit {0}) E
 first_unmet clauses = verdict_at (unmet_clause clauses)
 
--- a number is met by one that is at least as large, where it was named
-abbrev pub is_enough : Option ℕ → ℕ → Bool
-is_enough None given = true
-is_enough (Some asked) given = nat_le asked given
+-- whether a value is as asked: a number is at least the one asked, types are compatible, and a switch or
+-- an option is the same
+abbrev pub meets : SettingValue → SettingValue → Bool
+meets (Switch asked) (Switch given) = same_switch asked given
+meets (Number asked) (Number given) = nat_le asked given
+meets (OptionalNumber asked) (OptionalNumber given) = same_option asked given
+meets (Types asked) (Types given) = is_compatible asked given
+meets asked given = false
 
--- whether two switches are one
-abbrev pub same_switch : Bool → Bool → Bool
-same_switch true given = given
-same_switch false given = not given
+-- whether a value is as asked, where something was
+abbrev pub is_met : Option SettingValue → SettingValue → Bool
+is_met None given = true
+is_met (Some asked) given = meets asked given
 
--- a switch is met by the same one, where it was named
-abbrev pub is_same_switch : Option Bool → Bool → Bool
-is_same_switch None given = true
-is_same_switch (Some asked) given = same_switch asked given
+-- what becomes of settings when each of a list is set to what is named for it, if something is
+abbrev pub overlaid : {S C : Type 0} → (S → SettingValue → C → C) → (S → Option SettingValue) → List S → C → C
+overlaid changed named [] config = config
+overlaid changed named (setting ∷ more) config = overlaid changed named more (changed_to changed setting (named setting) config)
 
--- whether two options are one
-abbrev pub same_option : Option ℕ → Option ℕ → Bool
-same_option None None = true
-same_option None (Some given) = false
-same_option (Some asked) None = false
-same_option (Some asked) (Some given) = asked == given
+-- the first value asks at most what the second asks: a number at most as large, types that are compatible
+-- to the other ones, and the same switch or option
+abbrev pub IsAtMost : SettingValue → SettingValue → Type 0
+IsAtMost (Switch weak) (Switch strong) = strong ≡ weak
+IsAtMost (Number weak) (Number strong) = weak ≤ strong
+IsAtMost (OptionalNumber weak) (OptionalNumber strong) = strong ≡ weak
+IsAtMost (Types weak) (Types strong) = is_compatible weak strong ≡ true
+IsAtMost weak strong = ⊥
 
--- an option is met by the same one, where it was named
-abbrev pub is_same_option : Option (Option ℕ) → Option ℕ → Bool
-is_same_option None given = true
-is_same_option (Some asked) given = same_option asked given
-
--- the first number was not named, or is at most the second
-abbrev pub AsksLess : Option ℕ → Option ℕ → Type 0
+-- the first was not named, or asks at most what the second asks
+abbrev pub AsksLess : Option SettingValue → Option SettingValue → Type 0
 AsksLess None strong = Unit {0}
 AsksLess (Some weak) None = ⊥
-AsksLess (Some weak) (Some strong) = weak ≤ strong
+AsksLess (Some weak) (Some strong) = IsAtMost weak strong
 
--- the first switch or option was not named, or is the second
-abbrev pub IsLeftOut : {X : Type 0} → Option X → Option X → Type 0
-IsLeftOut None strong = Unit {0}
-IsLeftOut (Some weak) strong = strong ≡ Some weak
+-- what is named of a switch, a number or an option is of its kind
+pub switch_is_of_kind : (r : Rule) → IsOfKind r (Switch true) → (o : Option Bool) → IfSome (option_map Switch o) (IsOfKind r)
+switch_is_of_kind r h None = tt
+switch_is_of_kind (rule.Switch default) h (Some b) = tt
+switch_is_of_kind (rule.Number range) h (Some b) = h
+switch_is_of_kind (rule.OptionalNumber default) h (Some b) = h
+switch_is_of_kind rule.Types h (Some b) = h
+
+pub number_is_of_kind : (r : Rule) → IsOfKind r (Number 0) → (o : Option ℕ) → IfSome (option_map Number o) (IsOfKind r)
+number_is_of_kind r h None = tt
+number_is_of_kind (rule.Switch default) h (Some n) = h
+number_is_of_kind (rule.Number range) h (Some n) = tt
+number_is_of_kind (rule.OptionalNumber default) h (Some n) = h
+number_is_of_kind rule.Types h (Some n) = h
+
+pub optional_number_is_of_kind : (r : Rule) → IsOfKind r (OptionalNumber None) → (o : Option (Option ℕ)) → IfSome (option_map OptionalNumber o) (IsOfKind r)
+optional_number_is_of_kind r h None = tt
+optional_number_is_of_kind (rule.Switch default) h (Some n) = h
+optional_number_is_of_kind (rule.Number range) h (Some n) = h
+optional_number_is_of_kind (rule.OptionalNumber default) h (Some n) = tt
+optional_number_is_of_kind rule.Types h (Some n) = h

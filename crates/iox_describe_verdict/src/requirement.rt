@@ -1,13 +1,15 @@
 //! What an opener requires of a service, and the verdict on a description.
-ghost use Rattle.std.specs.Prelude.{◌≡◌, ◌∷◌, List, Bool, true, None, Some, if◌then◌else◌, map};
+ghost use Rattle.std.specs.Prelude.{◌≡◌, ◌∷◌, List, Bool, true, Option, None, Some, if◌then◌else◌, map, IfSome};
 ghost use Rattle.iox_describe_verdict.specs.Earliest.{earlier, earliest, AreSame, rise};
-ghost use Rattle.iox_describe_verdict.specs.Verdict.{first_unmet, is_enough, is_same_switch, is_same_option};
+ghost use Rattle.iox_describe_settings.specs.declared.setting.SettingValue.{SettingValue};
+ghost use Rattle.iox_describe_settings.specs.Setting.{IsOfKind};
+ghost use Rattle.iox_describe_verdict.specs.Verdict.{first_unmet, is_met, meets, overlaid};
 
 pub mod event;
 pub mod publish_subscribe;
 pub mod request_response;
 
-use iox_describe_settings::PatternSetting;
+use iox_describe_settings::{PatternSetting, SettingValue};
 
 /// A setting of a messaging pattern that a requirement may name.
 ///
@@ -19,19 +21,35 @@ trait RequiredSetting: PatternSetting {
     /// Why a service of the pattern can't be opened.
     type ClauseError: Copy + Ord;
 
-    // whether the settings meet what is required of this one
-    ghost is_met: { Self → Self.Requirement → Self.Config → Bool };
+    // what is asked of a setting, where it was named
+    ghost named: { Self → Self.Requirement → Option SettingValue };
 
-    // the error where they don't
+    // the error where the settings of a service don't meet that
     ghost error: { Self → Self.ClauseError };
 
-    /// Whether the settings of a service meet what is required of this one.
-    fn is_met(self, requirement: &Self::Requirement, given: &Self::Config) -> bool
-        ensures { result ≡ is_met self requirement.now given.now };
+    /// What is asked of the setting, where it was named.
+    fn named(self, requirement: &Self::Requirement) -> Option<SettingValue>
+        ensures { result ≡ named self requirement.now };
 
-    /// The error where they don't.
+    /// The error where the settings of a service don't meet that.
     fn error(self) -> Self::ClauseError
         ensures { result ≡ error self };
+
+    // what is asked is of the setting's kind
+    ghost named_is_of_kind: { (setting : Self) (requirement : Self.Requirement) → IfSome (named setting requirement) (IsOfKind (Self.rule setting)) };
+}
+
+/// The same settings, but that each one that is named is as it was asked.
+fn asked<S: RequiredSetting>(requirement: &S::Requirement, config: S::Config) -> S::Config
+    ensures { result ≡ overlaid S.changed (λ setting. S.named setting requirement.now) S.all config }
+{
+    let mut config = config;
+    for setting in S::all() {
+        if let Some(value) = setting.named(requirement) {
+            setting.set(&mut config, value);
+        }
+    }
+    config
 }
 
 /// The error of the first clause that is not met, of that on the attributes and those on the settings,
@@ -41,7 +59,7 @@ fn first_unmet<S: RequiredSetting>(
     requirement: &S::Requirement,
     given: &S::Config,
 ) -> Result<(), S::ClauseError>
-    ensures { (clauses : List (Bool × S.ClauseError)) → AreSame S.ClauseError.cmp (attributes ∷ map (λ setting. (S.is_met setting requirement.now given.now, S.error setting)) S.all) clauses
+    ensures { (clauses : List (Bool × S.ClauseError)) → AreSame S.ClauseError.cmp (attributes ∷ map (λ setting. (is_met (S.named setting requirement.now) (S.value setting given.now), S.error setting)) S.all) clauses
         → rise S.ClauseError.cmp clauses ≡ true → result ≡ first_unmet clauses }
 {
     match earliest_unmet::<S>(error_of_unmet(attributes), requirement, given) {
@@ -63,11 +81,11 @@ fn earliest_unmet<S: RequiredSetting>(
     requirement: &S::Requirement,
     given: &S::Config,
 ) -> Option<S::ClauseError>
-    ensures { result ≡ earliest S.ClauseError.cmp before (map (λ setting. (S.is_met setting requirement.now given.now, S.error setting)) S.all) }
+    ensures { result ≡ earliest S.ClauseError.cmp before (map (λ setting. (is_met (S.named setting requirement.now) (S.value setting given.now), S.error setting)) S.all) }
 {
     let mut first = before;
     for setting in S::all() {
-        if !setting.is_met(requirement, given) {
+        if !is_met(setting.named(requirement), setting.value(given)) {
             first = Some(earlier(first, setting.error()));
         }
     }
@@ -84,32 +102,27 @@ fn earlier<E: Copy + Ord>(first: Option<E>, error: E) -> E
     }
 }
 
-/// Whether the number is at least the one that was asked, if one was.
-fn is_enough(asked: Option<u64>, given: u64) -> bool
-    ensures { result ≡ is_enough asked given }
+/// Whether a value is as asked, if something was.
+fn is_met(asked: Option<SettingValue>, given: SettingValue) -> bool
+    ensures { result ≡ is_met asked given }
 {
     match asked {
         None => true,
-        Some(asked) => asked <= given,
+        Some(asked) => meets(asked, given),
     }
 }
 
-/// Whether the switch is the one that was asked, if one was.
-fn is_same_switch(asked: Option<bool>, given: bool) -> bool
-    ensures { result ≡ is_same_switch asked given }
+/// Whether a value is as asked: a number is at least the one asked, types are compatible, and a switch or
+/// an option is the same.
+fn meets(asked: SettingValue, given: SettingValue) -> bool
+    ensures { result ≡ meets asked given }
 {
-    match asked {
-        None => true,
-        Some(asked) => asked == given,
-    }
-}
-
-/// Whether the option is the one that was asked, if one was.
-fn is_same_option(asked: Option<Option<u64>>, given: Option<u64>) -> bool
-    ensures { result ≡ is_same_option asked given }
-{
-    match asked {
-        None => true,
-        Some(asked) => asked == given,
+    match (asked, given) {
+        (SettingValue::Switch(asked), SettingValue::Switch(given)) => asked == given,
+        (SettingValue::Number(asked), SettingValue::Number(given)) => asked <= given,
+        (SettingValue::OptionalNumber(asked), SettingValue::OptionalNumber(given)) => asked
+            == given,
+        (SettingValue::Types(asked), SettingValue::Types(given)) => asked.is_compatible_to(&given),
+        _ => false,
     }
 }

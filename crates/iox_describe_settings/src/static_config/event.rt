@@ -1,7 +1,7 @@
 //! What is agreed for an event service.
 ghost use Rattle.std.specs.Prelude.{◌≡◌, ◌↔◌, IsTrue};
 
-use crate::setting::{PatternSetting, SettingValue};
+use crate::setting::{PatternSetting, Rule, SettingValue, adjusted, are_allowed, with_defaults};
 use iox_describe_base::limits::NUMBER_OF_PORTS_END;
 
 /// The settings of an event service.
@@ -28,18 +28,25 @@ pub struct StaticConfig {
 }
 
 impl StaticConfig {
-    ghost use Rattle.iox_describe_settings.specs.Event.{defaults, adjusted, IsWithinLimits};
+    ghost use Rattle.iox_describe_settings.specs.EventSettings.{adjusted, defaults, unset, IsWithinLimits};
 
     /// The default settings.
     pub fn new() -> Self
         ensures { result ≡ defaults }
     {
+        with_defaults::<Setting>(Self::unset())
+    }
+
+    /// Settings of which none is set.
+    fn unset() -> Self
+        ensures { result ≡ unset }
+    {
         StaticConfig {
             deadline: None,
-            event_id_max_value: 4_294_967_295,
-            max_listeners: 16,
-            max_nodes: 36,
-            max_notifiers: 16,
+            event_id_max_value: 0,
+            max_listeners: 0,
+            max_nodes: 0,
+            max_notifiers: 0,
             notifier_created_event: None,
             notifier_dead_event: None,
             notifier_dropped_event: None,
@@ -50,26 +57,14 @@ impl StaticConfig {
     pub fn adjusted(self) -> Self
         ensures { result ≡ adjusted self }
     {
-        StaticConfig {
-            deadline: self.deadline,
-            event_id_max_value: self.event_id_max_value,
-            max_listeners: self.max_listeners.max(1),
-            max_nodes: self.max_nodes.max(1),
-            max_notifiers: self.max_notifiers.max(1),
-            notifier_created_event: self.notifier_created_event,
-            notifier_dead_event: self.notifier_dead_event,
-            notifier_dropped_event: self.notifier_dropped_event,
-        }
+        adjusted::<Setting>(self)
     }
 
     /// Whether the numbers are within the limits of a description.
     pub fn is_within_limits(&self) -> bool
         ensures { IsTrue result ↔ IsWithinLimits self.now }
     {
-        1 <= self.max_listeners
-            && 1 <= self.max_nodes
-            && self.max_nodes < NUMBER_OF_PORTS_END
-            && 1 <= self.max_notifiers
+        are_allowed::<Setting>(self)
     }
 }
 
@@ -96,7 +91,7 @@ pub enum Setting {
 
 impl PatternSetting for Setting {
     ghost use Rattle.std.specs.Prelude.{refl};
-    ghost use Rattle.iox_describe_settings.specs.EventSettings.{all, changed, key, value};
+    ghost use Rattle.iox_describe_settings.specs.EventSettings.{all, changed, key, rule, value};
     ghost use Rattle.iox_describe_settings.specs.declared.static_config.event.Setting.TheVariants.{Deadline, EventIdMaxValue, MaxListeners, MaxNodes, MaxNotifiers, NotifierCreatedEvent, NotifierDeadEvent, NotifierDroppedEvent};
 
     type Config = StaticConfig;
@@ -104,6 +99,8 @@ impl PatternSetting for Setting {
     ghost all = { all };
 
     ghost key = { key };
+
+    ghost rule = { rule };
 
     ghost value = { value };
 
@@ -122,16 +119,29 @@ impl PatternSetting for Setting {
         ]
     }
 
-    fn key(self) -> &'static [u8] {
+    fn key(self) -> &'static str {
         match self {
-            Setting::Deadline => b"deadline",
-            Setting::EventIdMaxValue => b"event_id_max_value",
-            Setting::MaxListeners => b"max_listeners",
-            Setting::MaxNodes => b"max_nodes",
-            Setting::MaxNotifiers => b"max_notifiers",
-            Setting::NotifierCreatedEvent => b"notifier_created_event",
-            Setting::NotifierDeadEvent => b"notifier_dead_event",
-            Setting::NotifierDroppedEvent => b"notifier_dropped_event",
+            Setting::Deadline => "deadline",
+            Setting::EventIdMaxValue => "event_id_max_value",
+            Setting::MaxListeners => "max_listeners",
+            Setting::MaxNodes => "max_nodes",
+            Setting::MaxNotifiers => "max_notifiers",
+            Setting::NotifierCreatedEvent => "notifier_created_event",
+            Setting::NotifierDeadEvent => "notifier_dead_event",
+            Setting::NotifierDroppedEvent => "notifier_dropped_event",
+        }
+    }
+
+    fn rule(self) -> Rule {
+        match self {
+            Setting::Deadline => Rule::OptionalNumber(None),
+            Setting::EventIdMaxValue => Rule::number(4_294_967_295, 0, None),
+            Setting::MaxListeners => Rule::number(16, 1, None),
+            Setting::MaxNodes => Rule::number(36, 1, Some(NUMBER_OF_PORTS_END)),
+            Setting::MaxNotifiers => Rule::number(16, 1, None),
+            Setting::NotifierCreatedEvent => Rule::OptionalNumber(None),
+            Setting::NotifierDeadEvent => Rule::OptionalNumber(None),
+            Setting::NotifierDroppedEvent => Rule::OptionalNumber(None),
         }
     }
 
@@ -172,7 +182,7 @@ impl PatternSetting for Setting {
 
     ghost in_order = { refl };
 
-    ghost one_kind = { elim [ Deadline ↦ λ a b. tt | EventIdMaxValue ↦ λ a b. tt | MaxListeners ↦ λ a b. tt | MaxNodes ↦ λ a b. tt | MaxNotifiers ↦ λ a b. tt | NotifierCreatedEvent ↦ λ a b. tt | NotifierDeadEvent ↦ λ a b. tt | NotifierDroppedEvent ↦ λ a b. tt ] };
+    ghost of_kind = { elim [ Deadline ↦ λ c. tt | EventIdMaxValue ↦ λ c. tt | MaxListeners ↦ λ c. tt | MaxNodes ↦ λ c. tt | MaxNotifiers ↦ λ c. tt | NotifierCreatedEvent ↦ λ c. tt | NotifierDeadEvent ↦ λ c. tt | NotifierDroppedEvent ↦ λ c. tt ] };
 
     ghost is_whole = { λ target config. refl };
 }

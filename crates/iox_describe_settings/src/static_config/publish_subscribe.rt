@@ -1,7 +1,7 @@
 //! What is agreed for a publish-subscribe service.
 ghost use Rattle.std.specs.Prelude.{◌≡◌, ◌↔◌, IsTrue};
 
-use crate::setting::{PatternSetting, SettingValue};
+use crate::setting::{PatternSetting, Rule, SettingValue, adjusted, are_allowed, with_defaults};
 use iox_describe_base::limits::{NUMBER_OF_PORTS_END, NUMBER_OF_SAMPLES_END};
 use iox_describe_base::message_type::MessageTypeDetails;
 
@@ -29,20 +29,27 @@ pub struct StaticConfig {
 }
 
 impl StaticConfig {
-    ghost use Rattle.iox_describe_settings.specs.PublishSubscribe.{defaults, adjusted, IsWithinLimits};
+    ghost use Rattle.iox_describe_settings.specs.PublishSubscribeSettings.{adjusted, defaults, unset, IsWithinLimits, IsHistoryTooLong};
 
     /// The default settings, for these types.
     pub fn new(types: MessageTypeDetails) -> Self
         ensures { result ≡ defaults types }
     {
+        with_defaults::<Setting>(Self::unset(types))
+    }
+
+    /// Settings of which none is set but the types.
+    fn unset(types: MessageTypeDetails) -> Self
+        ensures { result ≡ unset types }
+    {
         StaticConfig {
-            enable_safe_overflow: true,
+            enable_safe_overflow: false,
             history_size: 0,
-            max_nodes: 20,
-            max_publishers: 2,
-            max_subscribers: 8,
-            subscriber_max_borrowed_samples: 2,
-            subscriber_max_buffer_size: 2,
+            max_nodes: 0,
+            max_publishers: 0,
+            max_subscribers: 0,
+            subscriber_max_borrowed_samples: 0,
+            subscriber_max_buffer_size: 0,
             types,
         }
     }
@@ -51,33 +58,22 @@ impl StaticConfig {
     pub fn adjusted(self) -> Self
         ensures { result ≡ adjusted self }
     {
-        StaticConfig {
-            enable_safe_overflow: self.enable_safe_overflow,
-            history_size: self.history_size,
-            max_nodes: self.max_nodes.max(1),
-            max_publishers: self.max_publishers.max(1),
-            max_subscribers: self.max_subscribers.max(1),
-            subscriber_max_borrowed_samples: self.subscriber_max_borrowed_samples.max(1),
-            subscriber_max_buffer_size: self.subscriber_max_buffer_size.max(1),
-            types: self.types,
-        }
+        adjusted::<Setting>(self)
     }
 
     /// Whether the numbers are within the limits of a description.
     pub fn is_within_limits(&self) -> bool
         ensures { IsTrue result ↔ IsWithinLimits self.now }
     {
-        self.history_size < NUMBER_OF_SAMPLES_END
-            && 1 <= self.max_nodes
-            && self.max_nodes < NUMBER_OF_PORTS_END
-            && 1 <= self.max_publishers
-            && self.max_publishers < NUMBER_OF_PORTS_END
-            && 1 <= self.max_subscribers
-            && self.max_subscribers < NUMBER_OF_PORTS_END
-            && 1 <= self.subscriber_max_borrowed_samples
-            && self.subscriber_max_borrowed_samples < NUMBER_OF_SAMPLES_END
-            && 1 <= self.subscriber_max_buffer_size
-            && self.subscriber_max_buffer_size < NUMBER_OF_SAMPLES_END
+        are_allowed::<Setting>(self)
+    }
+
+    /// Whether a full buffer would hold the publisher up and has no room for the history, so that no
+    /// subscriber could be given it.
+    pub fn is_history_too_long(&self) -> bool
+        ensures { IsTrue result ↔ IsHistoryTooLong self.now }
+    {
+        !self.enable_safe_overflow && self.subscriber_max_buffer_size < self.history_size
     }
 }
 
@@ -104,7 +100,7 @@ pub enum Setting {
 
 impl PatternSetting for Setting {
     ghost use Rattle.std.specs.Prelude.{refl};
-    ghost use Rattle.iox_describe_settings.specs.PublishSubscribeSettings.{all, changed, key, value};
+    ghost use Rattle.iox_describe_settings.specs.PublishSubscribeSettings.{all, changed, key, rule, value};
     ghost use Rattle.iox_describe_settings.specs.declared.static_config.publish_subscribe.Setting.TheVariants.{EnableSafeOverflow, HistorySize, MaxNodes, MaxPublishers, MaxSubscribers, SubscriberMaxBorrowedSamples, SubscriberMaxBufferSize, Types};
 
     type Config = StaticConfig;
@@ -112,6 +108,8 @@ impl PatternSetting for Setting {
     ghost all = { all };
 
     ghost key = { key };
+
+    ghost rule = { rule };
 
     ghost value = { value };
 
@@ -130,16 +128,33 @@ impl PatternSetting for Setting {
         ]
     }
 
-    fn key(self) -> &'static [u8] {
+    fn key(self) -> &'static str {
         match self {
-            Setting::EnableSafeOverflow => b"enable_safe_overflow",
-            Setting::HistorySize => b"history_size",
-            Setting::MaxNodes => b"max_nodes",
-            Setting::MaxPublishers => b"max_publishers",
-            Setting::MaxSubscribers => b"max_subscribers",
-            Setting::SubscriberMaxBorrowedSamples => b"subscriber_max_borrowed_samples",
-            Setting::SubscriberMaxBufferSize => b"subscriber_max_buffer_size",
-            Setting::Types => b"types",
+            Setting::EnableSafeOverflow => "enable_safe_overflow",
+            Setting::HistorySize => "history_size",
+            Setting::MaxNodes => "max_nodes",
+            Setting::MaxPublishers => "max_publishers",
+            Setting::MaxSubscribers => "max_subscribers",
+            Setting::SubscriberMaxBorrowedSamples => "subscriber_max_borrowed_samples",
+            Setting::SubscriberMaxBufferSize => "subscriber_max_buffer_size",
+            Setting::Types => "types",
+        }
+    }
+
+    fn rule(self) -> Rule {
+        match self {
+            Setting::EnableSafeOverflow => Rule::Switch(true),
+            Setting::HistorySize => Rule::number(0, 0, Some(NUMBER_OF_SAMPLES_END)),
+            Setting::MaxNodes => Rule::number(20, 1, Some(NUMBER_OF_PORTS_END)),
+            Setting::MaxPublishers => Rule::number(2, 1, Some(NUMBER_OF_PORTS_END)),
+            Setting::MaxSubscribers => Rule::number(8, 1, Some(NUMBER_OF_PORTS_END)),
+            Setting::SubscriberMaxBorrowedSamples => Rule::number(
+                2,
+                1,
+                Some(NUMBER_OF_SAMPLES_END),
+            ),
+            Setting::SubscriberMaxBufferSize => Rule::number(2, 1, Some(NUMBER_OF_SAMPLES_END)),
+            Setting::Types => Rule::Types,
         }
     }
 
@@ -181,7 +196,7 @@ impl PatternSetting for Setting {
 
     ghost in_order = { refl };
 
-    ghost one_kind = { elim [ EnableSafeOverflow ↦ λ a b. tt | HistorySize ↦ λ a b. tt | MaxNodes ↦ λ a b. tt | MaxPublishers ↦ λ a b. tt | MaxSubscribers ↦ λ a b. tt | SubscriberMaxBorrowedSamples ↦ λ a b. tt | SubscriberMaxBufferSize ↦ λ a b. tt | Types ↦ λ a b. tt ] };
+    ghost of_kind = { elim [ EnableSafeOverflow ↦ λ c. tt | HistorySize ↦ λ c. tt | MaxNodes ↦ λ c. tt | MaxPublishers ↦ λ c. tt | MaxSubscribers ↦ λ c. tt | SubscriberMaxBorrowedSamples ↦ λ c. tt | SubscriberMaxBufferSize ↦ λ c. tt | Types ↦ λ c. tt ] };
 
     ghost is_whole = { λ target config. refl };
 }

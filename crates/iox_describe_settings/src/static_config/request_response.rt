@@ -1,7 +1,7 @@
 //! What is agreed for a request-response service.
 ghost use Rattle.std.specs.Prelude.{◌≡◌, ◌↔◌, IsTrue};
 
-use crate::setting::{PatternSetting, SettingValue};
+use crate::setting::{PatternSetting, Rule, SettingValue, adjusted, are_allowed, with_defaults};
 use iox_describe_base::limits::NUMBER_OF_PORTS_END;
 use iox_describe_base::message_type::MessageTypeDetails;
 
@@ -37,23 +37,30 @@ pub struct StaticConfig {
 }
 
 impl StaticConfig {
-    ghost use Rattle.iox_describe_settings.specs.RequestResponse.{defaults, adjusted, IsWithinLimits};
+    ghost use Rattle.iox_describe_settings.specs.RequestResponseSettings.{adjusted, defaults, unset, IsWithinLimits};
 
     /// The default settings, for these types.
     pub fn new(request_types: MessageTypeDetails, response_types: MessageTypeDetails) -> Self
         ensures { result ≡ defaults request_types response_types }
     {
+        with_defaults::<Setting>(Self::unset(request_types, response_types))
+    }
+
+    /// Settings of which none is set but the types.
+    fn unset(request_types: MessageTypeDetails, response_types: MessageTypeDetails) -> Self
+        ensures { result ≡ unset request_types response_types }
+    {
         StaticConfig {
-            enable_fire_and_forget_requests: true,
-            enable_safe_overflow_for_requests: true,
-            enable_safe_overflow_for_responses: true,
-            max_active_requests_per_client: 4,
-            max_borrowed_responses_per_pending_response: 2,
-            max_clients: 8,
-            max_loaned_requests: 2,
-            max_nodes: 20,
-            max_response_buffer_size: 2,
-            max_servers: 2,
+            enable_fire_and_forget_requests: false,
+            enable_safe_overflow_for_requests: false,
+            enable_safe_overflow_for_responses: false,
+            max_active_requests_per_client: 0,
+            max_borrowed_responses_per_pending_response: 0,
+            max_clients: 0,
+            max_loaned_requests: 0,
+            max_nodes: 0,
+            max_response_buffer_size: 0,
+            max_servers: 0,
             request_types,
             response_types,
         }
@@ -63,36 +70,14 @@ impl StaticConfig {
     pub fn adjusted(self) -> Self
         ensures { result ≡ adjusted self }
     {
-        StaticConfig {
-            enable_fire_and_forget_requests: self.enable_fire_and_forget_requests,
-            enable_safe_overflow_for_requests: self.enable_safe_overflow_for_requests,
-            enable_safe_overflow_for_responses: self.enable_safe_overflow_for_responses,
-            max_active_requests_per_client: self.max_active_requests_per_client.max(1),
-            max_borrowed_responses_per_pending_response: self
-                .max_borrowed_responses_per_pending_response
-                .max(1),
-            max_clients: self.max_clients.max(1),
-            max_loaned_requests: self.max_loaned_requests.max(1),
-            max_nodes: self.max_nodes.max(1),
-            max_response_buffer_size: self.max_response_buffer_size.max(1),
-            max_servers: self.max_servers.max(1),
-            request_types: self.request_types,
-            response_types: self.response_types,
-        }
+        adjusted::<Setting>(self)
     }
 
     /// Whether the numbers are within the limits of a description.
     pub fn is_within_limits(&self) -> bool
         ensures { IsTrue result ↔ IsWithinLimits self.now }
     {
-        1 <= self.max_active_requests_per_client
-            && 1 <= self.max_borrowed_responses_per_pending_response
-            && 1 <= self.max_clients
-            && 1 <= self.max_loaned_requests
-            && 1 <= self.max_nodes
-            && self.max_nodes < NUMBER_OF_PORTS_END
-            && 1 <= self.max_response_buffer_size
-            && 1 <= self.max_servers
+        are_allowed::<Setting>(self)
     }
 }
 
@@ -127,7 +112,7 @@ pub enum Setting {
 
 impl PatternSetting for Setting {
     ghost use Rattle.std.specs.Prelude.{refl};
-    ghost use Rattle.iox_describe_settings.specs.RequestResponseSettings.{all, changed, key, value};
+    ghost use Rattle.iox_describe_settings.specs.RequestResponseSettings.{all, changed, key, rule, value};
     ghost use Rattle.iox_describe_settings.specs.declared.static_config.request_response.Setting.TheVariants.{EnableFireAndForgetRequests, EnableSafeOverflowForRequests, EnableSafeOverflowForResponses, MaxActiveRequestsPerClient, MaxBorrowedResponsesPerPendingResponse, MaxClients, MaxLoanedRequests, MaxNodes, MaxResponseBufferSize, MaxServers, RequestTypes, ResponseTypes};
 
     type Config = StaticConfig;
@@ -135,6 +120,8 @@ impl PatternSetting for Setting {
     ghost all = { all };
 
     ghost key = { key };
+
+    ghost rule = { rule };
 
     ghost value = { value };
 
@@ -157,21 +144,38 @@ impl PatternSetting for Setting {
         ]
     }
 
-    fn key(self) -> &'static [u8] {
+    fn key(self) -> &'static str {
         match self {
-            Setting::EnableFireAndForgetRequests => b"enable_fire_and_forget_requests",
-            Setting::EnableSafeOverflowForRequests => b"enable_safe_overflow_for_requests",
-            Setting::EnableSafeOverflowForResponses => b"enable_safe_overflow_for_responses",
-            Setting::MaxActiveRequestsPerClient => b"max_active_requests_per_client",
+            Setting::EnableFireAndForgetRequests => "enable_fire_and_forget_requests",
+            Setting::EnableSafeOverflowForRequests => "enable_safe_overflow_for_requests",
+            Setting::EnableSafeOverflowForResponses => "enable_safe_overflow_for_responses",
+            Setting::MaxActiveRequestsPerClient => "max_active_requests_per_client",
             Setting::MaxBorrowedResponsesPerPendingResponse =>
-                b"max_borrowed_responses_per_pending_response",
-            Setting::MaxClients => b"max_clients",
-            Setting::MaxLoanedRequests => b"max_loaned_requests",
-            Setting::MaxNodes => b"max_nodes",
-            Setting::MaxResponseBufferSize => b"max_response_buffer_size",
-            Setting::MaxServers => b"max_servers",
-            Setting::RequestTypes => b"request_types",
-            Setting::ResponseTypes => b"response_types",
+                "max_borrowed_responses_per_pending_response",
+            Setting::MaxClients => "max_clients",
+            Setting::MaxLoanedRequests => "max_loaned_requests",
+            Setting::MaxNodes => "max_nodes",
+            Setting::MaxResponseBufferSize => "max_response_buffer_size",
+            Setting::MaxServers => "max_servers",
+            Setting::RequestTypes => "request_types",
+            Setting::ResponseTypes => "response_types",
+        }
+    }
+
+    fn rule(self) -> Rule {
+        match self {
+            Setting::EnableFireAndForgetRequests => Rule::Switch(true),
+            Setting::EnableSafeOverflowForRequests => Rule::Switch(true),
+            Setting::EnableSafeOverflowForResponses => Rule::Switch(true),
+            Setting::MaxActiveRequestsPerClient => Rule::number(4, 1, None),
+            Setting::MaxBorrowedResponsesPerPendingResponse => Rule::number(2, 1, None),
+            Setting::MaxClients => Rule::number(8, 1, None),
+            Setting::MaxLoanedRequests => Rule::number(2, 1, None),
+            Setting::MaxNodes => Rule::number(20, 1, Some(NUMBER_OF_PORTS_END)),
+            Setting::MaxResponseBufferSize => Rule::number(2, 1, None),
+            Setting::MaxServers => Rule::number(2, 1, None),
+            Setting::RequestTypes => Rule::Types,
+            Setting::ResponseTypes => Rule::Types,
         }
     }
 
@@ -229,7 +233,7 @@ impl PatternSetting for Setting {
 
     ghost in_order = { refl };
 
-    ghost one_kind = { elim [ EnableFireAndForgetRequests ↦ λ a b. tt | EnableSafeOverflowForRequests ↦ λ a b. tt | EnableSafeOverflowForResponses ↦ λ a b. tt | MaxActiveRequestsPerClient ↦ λ a b. tt | MaxBorrowedResponsesPerPendingResponse ↦ λ a b. tt | MaxClients ↦ λ a b. tt | MaxLoanedRequests ↦ λ a b. tt | MaxNodes ↦ λ a b. tt | MaxResponseBufferSize ↦ λ a b. tt | MaxServers ↦ λ a b. tt | RequestTypes ↦ λ a b. tt | ResponseTypes ↦ λ a b. tt ] };
+    ghost of_kind = { elim [ EnableFireAndForgetRequests ↦ λ c. tt | EnableSafeOverflowForRequests ↦ λ c. tt | EnableSafeOverflowForResponses ↦ λ c. tt | MaxActiveRequestsPerClient ↦ λ c. tt | MaxBorrowedResponsesPerPendingResponse ↦ λ c. tt | MaxClients ↦ λ c. tt | MaxLoanedRequests ↦ λ c. tt | MaxNodes ↦ λ c. tt | MaxResponseBufferSize ↦ λ c. tt | MaxServers ↦ λ c. tt | RequestTypes ↦ λ c. tt | ResponseTypes ↦ λ c. tt ] };
 
     ghost is_whole = { λ target config. refl };
 }

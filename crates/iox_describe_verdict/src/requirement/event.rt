@@ -1,12 +1,14 @@
 //! What an opener requires of an event service.
-ghost use Rattle.std.specs.Prelude.{◌≡◌, None};
+ghost use Rattle.std.specs.Prelude.{◌≡◌, None, IfOk};
 
-use crate::requirement::{RequiredSetting, first_unmet, is_enough, is_same_option};
+use crate::requirement::{RequiredSetting, asked, first_unmet};
 use iox_describe_base::attribute::AttributeSpecifier;
 use iox_describe_base::verifier::AttributeVerifier;
 use iox_describe_settings::description::Description;
+use iox_describe_settings::setting::SettingValue;
 use iox_describe_settings::static_config::Settings;
 use iox_describe_settings::static_config::event::{Setting, StaticConfig};
+use std::alloc::{AllocError, Global};
 use thiserror::Error;
 
 /// Why an event service can't be opened as required: the first clause that is not met. The variants
@@ -70,7 +72,7 @@ pub struct Requirement {
 
 impl Requirement {
     ghost use Rattle.iox_describe_verdict.specs.Verdict.{first_unmet};
-    ghost use Rattle.iox_describe_verdict.specs.EventClauses.{clauses, clauses_on, unnamed};
+    ghost use Rattle.iox_describe_verdict.specs.EventClauses.{asked, clauses, clauses_on, unnamed};
 
     /// A requirement that names no setting.
     pub fn new(attributes: AttributeVerifier) -> Self
@@ -87,6 +89,30 @@ impl Requirement {
             notifier_dead_event: None,
             max_nodes: None,
         }
+    }
+
+    /// The same requirement, in memory of its own. Refused only for want of memory.
+    pub fn try_clone(&self, alloc: Global) -> Result<Self, AllocError>
+        ensures { IfOk result (λ requirement. requirement ≡ self.now) }
+    {
+        Ok(Requirement {
+            attributes: self.attributes.try_clone(alloc)?,
+            deadline: self.deadline,
+            max_notifiers: self.max_notifiers,
+            max_listeners: self.max_listeners,
+            event_id_max_value: self.event_id_max_value,
+            notifier_created_event: self.notifier_created_event,
+            notifier_dropped_event: self.notifier_dropped_event,
+            notifier_dead_event: self.notifier_dead_event,
+            max_nodes: self.max_nodes,
+        })
+    }
+
+    /// The settings that are asked for: each as it was named, each other one at its default.
+    pub fn asked(&self) -> StaticConfig
+        ensures { result ≡ asked self.now }
+    {
+        asked::<Setting>(self, StaticConfig::new())
     }
 
     /// Whether the service that is described meets every clause.
@@ -119,38 +145,35 @@ impl Requirement {
 }
 
 impl RequiredSetting for Setting {
-    ghost use Rattle.iox_describe_verdict.specs.EventClauses.{error_of, is_met};
+    ghost use Rattle.iox_describe_settings.specs.EventSettings.{rule};
+    ghost use Rattle.iox_describe_settings.specs.declared.static_config.event.Setting.TheVariants.{Deadline, EventIdMaxValue, MaxListeners, MaxNodes, MaxNotifiers, NotifierCreatedEvent, NotifierDeadEvent, NotifierDroppedEvent};
+    ghost use Rattle.iox_describe_verdict.specs.Verdict.{number_is_of_kind, optional_number_is_of_kind};
+    ghost use Rattle.iox_describe_verdict.specs.EventClauses.{error_of, named};
 
     type Requirement = Requirement;
 
     type ClauseError = ClauseError;
 
-    ghost is_met = { is_met };
+    ghost named = { named };
 
     ghost error = { error_of };
 
-    fn is_met(self, requirement: &Requirement, given: &StaticConfig) -> bool {
+    fn named(self, requirement: &Requirement) -> Option<SettingValue> {
         match self {
-            Setting::Deadline => is_same_option(requirement.deadline, given.deadline),
-            Setting::EventIdMaxValue => is_enough(
-                requirement.event_id_max_value,
-                given.event_id_max_value,
-            ),
-            Setting::MaxListeners => is_enough(requirement.max_listeners, given.max_listeners),
-            Setting::MaxNodes => is_enough(requirement.max_nodes, given.max_nodes),
-            Setting::MaxNotifiers => is_enough(requirement.max_notifiers, given.max_notifiers),
-            Setting::NotifierCreatedEvent => is_same_option(
-                requirement.notifier_created_event,
-                given.notifier_created_event,
-            ),
-            Setting::NotifierDeadEvent => is_same_option(
-                requirement.notifier_dead_event,
-                given.notifier_dead_event,
-            ),
-            Setting::NotifierDroppedEvent => is_same_option(
-                requirement.notifier_dropped_event,
-                given.notifier_dropped_event,
-            ),
+            Setting::Deadline => requirement.deadline.map(SettingValue::OptionalNumber),
+            Setting::EventIdMaxValue => requirement.event_id_max_value.map(SettingValue::Number),
+            Setting::MaxListeners => requirement.max_listeners.map(SettingValue::Number),
+            Setting::MaxNodes => requirement.max_nodes.map(SettingValue::Number),
+            Setting::MaxNotifiers => requirement.max_notifiers.map(SettingValue::Number),
+            Setting::NotifierCreatedEvent => requirement
+                .notifier_created_event
+                .map(SettingValue::OptionalNumber),
+            Setting::NotifierDeadEvent => requirement
+                .notifier_dead_event
+                .map(SettingValue::OptionalNumber),
+            Setting::NotifierDroppedEvent => requirement
+                .notifier_dropped_event
+                .map(SettingValue::OptionalNumber),
         }
     }
 
@@ -166,4 +189,6 @@ impl RequiredSetting for Setting {
             Setting::NotifierDroppedEvent => ClauseError::IncompatibleNotifierDroppedEvent,
         }
     }
+
+    ghost named_is_of_kind = { elim [ Deadline ↦ λ r. optional_number_is_of_kind (rule Deadline) tt r.deadline | EventIdMaxValue ↦ λ r. number_is_of_kind (rule EventIdMaxValue) tt r.event_id_max_value | MaxListeners ↦ λ r. number_is_of_kind (rule MaxListeners) tt r.max_listeners | MaxNodes ↦ λ r. number_is_of_kind (rule MaxNodes) tt r.max_nodes | MaxNotifiers ↦ λ r. number_is_of_kind (rule MaxNotifiers) tt r.max_notifiers | NotifierCreatedEvent ↦ λ r. optional_number_is_of_kind (rule NotifierCreatedEvent) tt r.notifier_created_event | NotifierDeadEvent ↦ λ r. optional_number_is_of_kind (rule NotifierDeadEvent) tt r.notifier_dead_event | NotifierDroppedEvent ↦ λ r. optional_number_is_of_kind (rule NotifierDroppedEvent) tt r.notifier_dropped_event ] };
 }

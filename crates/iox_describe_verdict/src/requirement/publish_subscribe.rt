@@ -1,13 +1,15 @@
 //! What an opener requires of a publish-subscribe service.
-ghost use Rattle.std.specs.Prelude.{◌≡◌, None};
+ghost use Rattle.std.specs.Prelude.{◌≡◌, None, IfOk};
 
-use crate::requirement::{RequiredSetting, first_unmet, is_enough, is_same_switch};
+use crate::requirement::{RequiredSetting, asked, first_unmet};
 use iox_describe_base::attribute::AttributeSpecifier;
 use iox_describe_base::message_type::MessageTypeDetails;
 use iox_describe_base::verifier::AttributeVerifier;
 use iox_describe_settings::description::Description;
+use iox_describe_settings::setting::SettingValue;
 use iox_describe_settings::static_config::Settings;
 use iox_describe_settings::static_config::publish_subscribe::{Setting, StaticConfig};
+use std::alloc::{AllocError, Global};
 use thiserror::Error;
 
 /// Why a publish-subscribe service can't be opened as required: the first clause that is not met. The variants
@@ -71,7 +73,7 @@ pub struct Requirement {
 
 impl Requirement {
     ghost use Rattle.iox_describe_verdict.specs.Verdict.{first_unmet};
-    ghost use Rattle.iox_describe_verdict.specs.PublishSubscribeClauses.{clauses, clauses_on, unnamed};
+    ghost use Rattle.iox_describe_verdict.specs.PublishSubscribeClauses.{asked, clauses, clauses_on, unnamed};
 
     /// A requirement that names no setting.
     pub fn new(types: MessageTypeDetails, attributes: AttributeVerifier) -> Self
@@ -88,6 +90,30 @@ impl Requirement {
             subscriber_max_borrowed_samples: None,
             max_nodes: None,
         }
+    }
+
+    /// The same requirement, in memory of its own. Refused only for want of memory.
+    pub fn try_clone(&self, alloc: Global) -> Result<Self, AllocError>
+        ensures { IfOk result (λ requirement. requirement ≡ self.now) }
+    {
+        Ok(Requirement {
+            types: self.types,
+            attributes: self.attributes.try_clone(alloc)?,
+            enable_safe_overflow: self.enable_safe_overflow,
+            max_publishers: self.max_publishers,
+            max_subscribers: self.max_subscribers,
+            subscriber_max_buffer_size: self.subscriber_max_buffer_size,
+            history_size: self.history_size,
+            subscriber_max_borrowed_samples: self.subscriber_max_borrowed_samples,
+            max_nodes: self.max_nodes,
+        })
+    }
+
+    /// The settings that are asked for: each as it was named, each other one at its default.
+    pub fn asked(&self) -> StaticConfig
+        ensures { result ≡ asked self.now }
+    {
+        asked::<Setting>(self, StaticConfig::new(self.types))
     }
 
     /// Whether the service that is described meets every clause.
@@ -120,38 +146,35 @@ impl Requirement {
 }
 
 impl RequiredSetting for Setting {
-    ghost use Rattle.iox_describe_verdict.specs.PublishSubscribeClauses.{error_of, is_met};
+    ghost use Rattle.iox_describe_settings.specs.PublishSubscribeSettings.{rule};
+    ghost use Rattle.iox_describe_settings.specs.declared.static_config.publish_subscribe.Setting.TheVariants.{EnableSafeOverflow, HistorySize, MaxNodes, MaxPublishers, MaxSubscribers, SubscriberMaxBorrowedSamples, SubscriberMaxBufferSize, Types};
+    ghost use Rattle.iox_describe_verdict.specs.Verdict.{number_is_of_kind, switch_is_of_kind};
+    ghost use Rattle.iox_describe_verdict.specs.PublishSubscribeClauses.{error_of, named};
 
     type Requirement = Requirement;
 
     type ClauseError = ClauseError;
 
-    ghost is_met = { is_met };
+    ghost named = { named };
 
     ghost error = { error_of };
 
-    fn is_met(self, requirement: &Requirement, given: &StaticConfig) -> bool {
+    fn named(self, requirement: &Requirement) -> Option<SettingValue> {
         match self {
-            Setting::EnableSafeOverflow => is_same_switch(
-                requirement.enable_safe_overflow,
-                given.enable_safe_overflow,
-            ),
-            Setting::HistorySize => is_enough(requirement.history_size, given.history_size),
-            Setting::MaxNodes => is_enough(requirement.max_nodes, given.max_nodes),
-            Setting::MaxPublishers => is_enough(requirement.max_publishers, given.max_publishers),
-            Setting::MaxSubscribers => is_enough(
-                requirement.max_subscribers,
-                given.max_subscribers,
-            ),
-            Setting::SubscriberMaxBorrowedSamples => is_enough(
-                requirement.subscriber_max_borrowed_samples,
-                given.subscriber_max_borrowed_samples,
-            ),
-            Setting::SubscriberMaxBufferSize => is_enough(
-                requirement.subscriber_max_buffer_size,
-                given.subscriber_max_buffer_size,
-            ),
-            Setting::Types => requirement.types.is_compatible_to(&given.types),
+            Setting::EnableSafeOverflow => requirement
+                .enable_safe_overflow
+                .map(SettingValue::Switch),
+            Setting::HistorySize => requirement.history_size.map(SettingValue::Number),
+            Setting::MaxNodes => requirement.max_nodes.map(SettingValue::Number),
+            Setting::MaxPublishers => requirement.max_publishers.map(SettingValue::Number),
+            Setting::MaxSubscribers => requirement.max_subscribers.map(SettingValue::Number),
+            Setting::SubscriberMaxBorrowedSamples => requirement
+                .subscriber_max_borrowed_samples
+                .map(SettingValue::Number),
+            Setting::SubscriberMaxBufferSize => requirement
+                .subscriber_max_buffer_size
+                .map(SettingValue::Number),
+            Setting::Types => Some(SettingValue::Types(requirement.types)),
         }
     }
 
@@ -168,4 +191,6 @@ impl RequiredSetting for Setting {
             Setting::Types => ClauseError::IncompatibleTypes,
         }
     }
+
+    ghost named_is_of_kind = { elim [ EnableSafeOverflow ↦ λ r. switch_is_of_kind (rule EnableSafeOverflow) tt r.enable_safe_overflow | HistorySize ↦ λ r. number_is_of_kind (rule HistorySize) tt r.history_size | MaxNodes ↦ λ r. number_is_of_kind (rule MaxNodes) tt r.max_nodes | MaxPublishers ↦ λ r. number_is_of_kind (rule MaxPublishers) tt r.max_publishers | MaxSubscribers ↦ λ r. number_is_of_kind (rule MaxSubscribers) tt r.max_subscribers | SubscriberMaxBorrowedSamples ↦ λ r. number_is_of_kind (rule SubscriberMaxBorrowedSamples) tt r.subscriber_max_borrowed_samples | SubscriberMaxBufferSize ↦ λ r. number_is_of_kind (rule SubscriberMaxBufferSize) tt r.subscriber_max_buffer_size | Types ↦ λ r. tt ] };
 }

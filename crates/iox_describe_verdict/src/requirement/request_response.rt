@@ -1,13 +1,15 @@
 //! What an opener requires of a request-response service.
-ghost use Rattle.std.specs.Prelude.{◌≡◌, None};
+ghost use Rattle.std.specs.Prelude.{◌≡◌, None, IfOk};
 
-use crate::requirement::{RequiredSetting, first_unmet, is_enough, is_same_switch};
+use crate::requirement::{RequiredSetting, asked, first_unmet};
 use iox_describe_base::attribute::AttributeSpecifier;
 use iox_describe_base::message_type::MessageTypeDetails;
 use iox_describe_base::verifier::AttributeVerifier;
 use iox_describe_settings::description::Description;
+use iox_describe_settings::setting::SettingValue;
 use iox_describe_settings::static_config::Settings;
 use iox_describe_settings::static_config::request_response::{Setting, StaticConfig};
+use std::alloc::{AllocError, Global};
 use thiserror::Error;
 
 /// Why a request-response service can't be opened as required: the first clause that is not met. The variants
@@ -91,7 +93,7 @@ pub struct Requirement {
 
 impl Requirement {
     ghost use Rattle.iox_describe_verdict.specs.Verdict.{first_unmet};
-    ghost use Rattle.iox_describe_verdict.specs.RequestResponseClauses.{clauses, clauses_on, unnamed};
+    ghost use Rattle.iox_describe_verdict.specs.RequestResponseClauses.{asked, clauses, clauses_on, unnamed};
 
     /// A requirement that names no setting.
     pub fn new(
@@ -116,6 +118,37 @@ impl Requirement {
             max_borrowed_responses_per_pending_response: None,
             max_nodes: None,
         }
+    }
+
+    /// The same requirement, in memory of its own. Refused only for want of memory.
+    pub fn try_clone(&self, alloc: Global) -> Result<Self, AllocError>
+        ensures { IfOk result (λ requirement. requirement ≡ self.now) }
+    {
+        Ok(Requirement {
+            request_types: self.request_types,
+            response_types: self.response_types,
+            attributes: self.attributes.try_clone(alloc)?,
+            enable_safe_overflow_for_requests: self.enable_safe_overflow_for_requests,
+            enable_safe_overflow_for_responses: self.enable_safe_overflow_for_responses,
+            enable_fire_and_forget_requests: self.enable_fire_and_forget_requests,
+            max_loaned_requests: self.max_loaned_requests,
+            max_active_requests_per_client: self.max_active_requests_per_client,
+            max_response_buffer_size: self.max_response_buffer_size,
+            max_servers: self.max_servers,
+            max_clients: self.max_clients,
+            max_borrowed_responses_per_pending_response: self.max_borrowed_responses_per_pending_response,
+            max_nodes: self.max_nodes,
+        })
+    }
+
+    /// The settings that are asked for: each as it was named, each other one at its default.
+    pub fn asked(&self) -> StaticConfig
+        ensures { result ≡ asked self.now }
+    {
+        asked::<Setting>(
+            self,
+            StaticConfig::new(self.request_types, self.response_types),
+        )
     }
 
     /// Whether the service that is described meets every clause.
@@ -148,55 +181,45 @@ impl Requirement {
 }
 
 impl RequiredSetting for Setting {
-    ghost use Rattle.iox_describe_verdict.specs.RequestResponseClauses.{error_of, is_met};
+    ghost use Rattle.iox_describe_settings.specs.RequestResponseSettings.{rule};
+    ghost use Rattle.iox_describe_settings.specs.declared.static_config.request_response.Setting.TheVariants.{EnableFireAndForgetRequests, EnableSafeOverflowForRequests, EnableSafeOverflowForResponses, MaxActiveRequestsPerClient, MaxBorrowedResponsesPerPendingResponse, MaxClients, MaxLoanedRequests, MaxNodes, MaxResponseBufferSize, MaxServers, RequestTypes, ResponseTypes};
+    ghost use Rattle.iox_describe_verdict.specs.Verdict.{number_is_of_kind, switch_is_of_kind};
+    ghost use Rattle.iox_describe_verdict.specs.RequestResponseClauses.{error_of, named};
 
     type Requirement = Requirement;
 
     type ClauseError = ClauseError;
 
-    ghost is_met = { is_met };
+    ghost named = { named };
 
     ghost error = { error_of };
 
-    fn is_met(self, requirement: &Requirement, given: &StaticConfig) -> bool {
+    fn named(self, requirement: &Requirement) -> Option<SettingValue> {
         match self {
-            Setting::EnableFireAndForgetRequests => is_same_switch(
-                requirement.enable_fire_and_forget_requests,
-                given.enable_fire_and_forget_requests,
-            ),
-            Setting::EnableSafeOverflowForRequests => is_same_switch(
-                requirement.enable_safe_overflow_for_requests,
-                given.enable_safe_overflow_for_requests,
-            ),
-            Setting::EnableSafeOverflowForResponses => is_same_switch(
-                requirement.enable_safe_overflow_for_responses,
-                given.enable_safe_overflow_for_responses,
-            ),
-            Setting::MaxActiveRequestsPerClient => is_enough(
-                requirement.max_active_requests_per_client,
-                given.max_active_requests_per_client,
-            ),
-            Setting::MaxBorrowedResponsesPerPendingResponse => is_enough(
-                requirement.max_borrowed_responses_per_pending_response,
-                given.max_borrowed_responses_per_pending_response,
-            ),
-            Setting::MaxClients => is_enough(requirement.max_clients, given.max_clients),
-            Setting::MaxLoanedRequests => is_enough(
-                requirement.max_loaned_requests,
-                given.max_loaned_requests,
-            ),
-            Setting::MaxNodes => is_enough(requirement.max_nodes, given.max_nodes),
-            Setting::MaxResponseBufferSize => is_enough(
-                requirement.max_response_buffer_size,
-                given.max_response_buffer_size,
-            ),
-            Setting::MaxServers => is_enough(requirement.max_servers, given.max_servers),
-            Setting::RequestTypes => requirement
-                .request_types
-                .is_compatible_to(&given.request_types),
-            Setting::ResponseTypes => requirement
-                .response_types
-                .is_compatible_to(&given.response_types),
+            Setting::EnableFireAndForgetRequests => requirement
+                .enable_fire_and_forget_requests
+                .map(SettingValue::Switch),
+            Setting::EnableSafeOverflowForRequests => requirement
+                .enable_safe_overflow_for_requests
+                .map(SettingValue::Switch),
+            Setting::EnableSafeOverflowForResponses => requirement
+                .enable_safe_overflow_for_responses
+                .map(SettingValue::Switch),
+            Setting::MaxActiveRequestsPerClient => requirement
+                .max_active_requests_per_client
+                .map(SettingValue::Number),
+            Setting::MaxBorrowedResponsesPerPendingResponse => requirement
+                .max_borrowed_responses_per_pending_response
+                .map(SettingValue::Number),
+            Setting::MaxClients => requirement.max_clients.map(SettingValue::Number),
+            Setting::MaxLoanedRequests => requirement.max_loaned_requests.map(SettingValue::Number),
+            Setting::MaxNodes => requirement.max_nodes.map(SettingValue::Number),
+            Setting::MaxResponseBufferSize => requirement
+                .max_response_buffer_size
+                .map(SettingValue::Number),
+            Setting::MaxServers => requirement.max_servers.map(SettingValue::Number),
+            Setting::RequestTypes => Some(SettingValue::Types(requirement.request_types)),
+            Setting::ResponseTypes => Some(SettingValue::Types(requirement.response_types)),
         }
     }
 
@@ -223,4 +246,6 @@ impl RequiredSetting for Setting {
             Setting::ResponseTypes => ClauseError::IncompatibleResponseType,
         }
     }
+
+    ghost named_is_of_kind = { elim [ EnableFireAndForgetRequests ↦ λ r. switch_is_of_kind (rule EnableFireAndForgetRequests) tt r.enable_fire_and_forget_requests | EnableSafeOverflowForRequests ↦ λ r. switch_is_of_kind (rule EnableSafeOverflowForRequests) tt r.enable_safe_overflow_for_requests | EnableSafeOverflowForResponses ↦ λ r. switch_is_of_kind (rule EnableSafeOverflowForResponses) tt r.enable_safe_overflow_for_responses | MaxActiveRequestsPerClient ↦ λ r. number_is_of_kind (rule MaxActiveRequestsPerClient) tt r.max_active_requests_per_client | MaxBorrowedResponsesPerPendingResponse ↦ λ r. number_is_of_kind (rule MaxBorrowedResponsesPerPendingResponse) tt r.max_borrowed_responses_per_pending_response | MaxClients ↦ λ r. number_is_of_kind (rule MaxClients) tt r.max_clients | MaxLoanedRequests ↦ λ r. number_is_of_kind (rule MaxLoanedRequests) tt r.max_loaned_requests | MaxNodes ↦ λ r. number_is_of_kind (rule MaxNodes) tt r.max_nodes | MaxResponseBufferSize ↦ λ r. number_is_of_kind (rule MaxResponseBufferSize) tt r.max_response_buffer_size | MaxServers ↦ λ r. number_is_of_kind (rule MaxServers) tt r.max_servers | RequestTypes ↦ λ r. tt | ResponseTypes ↦ λ r. tt ] };
 }

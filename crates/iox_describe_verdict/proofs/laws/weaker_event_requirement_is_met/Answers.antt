@@ -1,4 +1,4 @@
-use Rattle.iox_describe_verdict.proofs.EventWeaker.{weaker}
+use Rattle.iox_describe_verdict.specs.EventLaws.{weaker}
 use Rattle.iox_describe_verdict.proofs.laws.weaker_event_requirement_is_met.Goals as goal
 
 pub returns : goal.returns

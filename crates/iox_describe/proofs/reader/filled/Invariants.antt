@@ -1,0 +1,17 @@
+use Rattle.std.proofs.Common.{◌≡◌, drop}
+use Rattle.serde_json.specs.View.{view}
+use Rattle.iox_describe_settings.specs.Setting as all_settings
+use Rattle.iox_describe.specs.Reading.{AreFound}
+use Rattle.iox_describe.specs.Within.{AreValues}
+use Rattle.iox_describe.proofs.reader.filled.Given as goal
+
+-- the settings that are left are found, and fill the others to the target
+abbrev pub invariant-loop-setting : goal.invariant-loop-setting
+invariant-loop-setting g l =
+    (target : g.row.S-Config.Denot) → AreValues g.S.PatternSetting.value target l.setting-items
+    → AreFound g.S.PatternSetting.key g.S.PatternSetting.value l.setting-items target (view l.value)
+    → record {
+      values : AreValues g.S.PatternSetting.value target (drop l.setting-index l.setting-items);
+      found : AreFound g.S.PatternSetting.key g.S.PatternSetting.value (drop l.setting-index l.setting-items) target (view l.value);
+      fills : all_settings.filled g.S.PatternSetting.value g.S.PatternSetting.changed (drop l.setting-index l.setting-items) target l.config ≡ target;
+    }

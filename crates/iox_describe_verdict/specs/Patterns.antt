@@ -1,0 +1,41 @@
+-- The settings of each pattern, found among those of any pattern.
+use Rattle.std.specs.Prelude.{◌≡◌, Option, Some, None}
+use Rattle.std.proofs.Common.{ap}
+use Rattle.iox_describe_settings.specs.declared.static_config.Settings.{Settings}
+use Rattle.iox_describe_settings.specs.declared.static_config.Settings.TheVariants.{RequestResponse, PublishSubscribe, Event}
+use Rattle.iox_describe_settings.specs.declared.static_config.request_response.StaticConfig as request_response
+use Rattle.iox_describe_settings.specs.declared.static_config.publish_subscribe.StaticConfig as publish_subscribe
+use Rattle.iox_describe_settings.specs.declared.static_config.event.StaticConfig as event
+
+-- the settings of a publish-subscribe service
+abbrev pub publish_subscribe_of : Settings → Option publish_subscribe.StaticConfig
+publish_subscribe_of (RequestResponse c) = None
+publish_subscribe_of (PublishSubscribe c) = Some c
+publish_subscribe_of (Event c) = None
+
+-- the settings of an event service
+abbrev pub event_of : Settings → Option event.StaticConfig
+event_of (RequestResponse c) = None
+event_of (PublishSubscribe c) = None
+event_of (Event c) = Some c
+
+-- the settings of a request-response service
+abbrev pub request_response_of : Settings → Option request_response.StaticConfig
+request_response_of (RequestResponse c) = Some c
+request_response_of (PublishSubscribe c) = None
+request_response_of (Event c) = None
+
+pub found_publish_subscribe : (s : Settings) (c : publish_subscribe.StaticConfig) → publish_subscribe_of s ≡ Some c → PublishSubscribe c ≡ s
+found_publish_subscribe (RequestResponse d) c h = absurd cc
+found_publish_subscribe (PublishSubscribe d) c h = ap PublishSubscribe (let k : c ≡ d = cc in k)
+found_publish_subscribe (Event d) c h = absurd cc
+
+pub found_event : (s : Settings) (c : event.StaticConfig) → event_of s ≡ Some c → Event c ≡ s
+found_event (RequestResponse d) c h = absurd cc
+found_event (PublishSubscribe d) c h = absurd cc
+found_event (Event d) c h = ap Event (let k : c ≡ d = cc in k)
+
+pub found_request_response : (s : Settings) (c : request_response.StaticConfig) → request_response_of s ≡ Some c → RequestResponse c ≡ s
+found_request_response (RequestResponse d) c h = ap RequestResponse (let k : c ≡ d = cc in k)
+found_request_response (PublishSubscribe d) c h = absurd cc
+found_request_response (Event d) c h = absurd cc
