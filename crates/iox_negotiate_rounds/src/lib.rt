@@ -10,11 +10,13 @@
 //! | `creation` | from a lock to a published service, or back |
 //! | `opening` | from a description to a place among the nodes |
 //! | `rounds` | `create`, `open`, `open_or_create` |
+//! | `laws` | what holds of all of them, in other words |
 #![tactic(auto)]
 
 pub mod answer;
 pub mod creation;
 pub mod failure;
+pub mod laws;
 pub mod opening;
 pub mod request;
 pub mod rounds;
