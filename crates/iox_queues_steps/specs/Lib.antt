@@ -1,6 +1,7 @@
 pub mod Access
 pub mod Schedule
 pub mod Order
+pub mod Told
 pub mod Recorded
 pub mod Kept
 pub mod Overflowing

@@ -1,0 +1,40 @@
+-- One more step goes on with the call in hand of its party, or ends it.
+use Rattle.std.proofs.Common.{◌≡◌, ℕ, suc, ◌+◌, Bool, true, false, if◌then◌else◌, List, [], ◌∷◌, ◌++◌, length, refl, sym, ◌∙◌, ap, subst, arith, append_assoc, append-nil}
+use Rattle.iox_queues_steps.specs.Access.{Words, answer_of, after_access}
+use Rattle.iox_queues_steps.specs.Told.{Answered, Timed, same_party, own_one, own, local, Goes, IsWhole, IsOpen, InHand, Spans}
+use Rattle.iox_queues_steps.specs.declared.access.Access.{Access}
+use Rattle.iox_queues_steps.specs.declared.access.Access.TheVariants.{Local}
+use Rattle.iox_queues_steps.specs.declared.schedule.Event.{Event}
+use Rattle.iox_queues_steps.specs.declared.schedule.Party.{Party}
+
+pub answered_more : (words : Words) (events : List Event) (after : Words) (event : Event) → event.answer ≡ answer_of after event.access → Answered words events after → Answered words (events ++ event ∷ []) (after_access after event.access)
+answered_more words [] after event e h = (subst (λ (w : Words). event.answer ≡ answer_of w event.access) h e, ap (λ (w : Words). after_access w event.access) h)
+answered_more words (x ∷ events) after event e h = (h.0, answered_more (after_access words x.access) events after event e h.1)
+
+pub own_more : (party : Party) (from : ℕ) (events : List Event) (event : Event) → own party from (events ++ event ∷ []) ≡ own party from events ++ own_one party (from + length events) event
+own_more party from [] event = append-nil (own_one party from event) ∙ ap (λ (m : ℕ). own_one party m event) (here from)
+  where
+    here : (from : ℕ) → from ≡ from + 0
+    here from = omega arith
+own_more party from (x ∷ events) event =
+    ap (λ (ts : List Timed). own_one party from x ++ ts) (own_more party (from + 1) events event ∙ ap (λ (m : ℕ). own party (from + 1) events ++ own_one party m event) (on from (length events)))
+    ∙ sym (append_assoc (own_one party from x) (own party (from + 1) events) (own_one party (from + length (x ∷ events)) event))
+  where
+    on : (from n : ℕ) → from + 1 + n ≡ from + (suc n)
+    on from n = omega arith
+
+pub goes_more : {S : Type 0} (next : S → Access) (take : S → ℕ → S) (begun stage : S) (between : List Timed) (step : Timed) → step.event.access ≡ next stage → Goes next take begun between stage → Goes next take begun (between ++ step ∷ []) (take stage step.event.answer)
+goes_more next take begun stage [] step e h = (subst (λ (s : _). step.event.access ≡ next s) h e, ap (λ (s : _). take s step.event.answer) h)
+goes_more next take begun stage (x ∷ between) step e h = (h.0, goes_more next take (take begun x.event.answer) stage between step e h.1)
+
+-- the steps in hand grow, and no call ends
+pub spans_on : {C : Type 0} (IsCall : C → List Timed → Type 0) (IsHand IsHand' : List Timed → Type 0) (calls : List C) (steps more : List Timed) → ((hand : List Timed) → IsHand hand → IsHand' (hand ++ more)) → Spans IsCall IsHand calls steps → Spans IsCall IsHand' calls (steps ++ more)
+spans_on IsCall IsHand IsHand' [] steps more grows h = grows steps h
+spans_on IsCall IsHand IsHand' (call ∷ calls) steps more grows h =
+    (h.0, h.1 ++ more, ap (λ (ts : List Timed). ts ++ more) h.2 ∙ append_assoc h.0 h.1 more, h.3, spans_on IsCall IsHand IsHand' calls h.1 more grows h.4)
+
+-- the call in hand ends
+pub spans_end : {C : Type 0} (IsCall : C → List Timed → Type 0) (IsHand IsHand' : List Timed → Type 0) (calls : List C) (call : C) (steps more : List Timed) → ((hand : List Timed) → IsHand hand → IsCall call (hand ++ more)) → IsHand' [] → Spans IsCall IsHand calls steps → Spans IsCall IsHand' (calls ++ call ∷ []) (steps ++ more)
+spans_end IsCall IsHand IsHand' [] call steps more ends none h = (steps ++ more, [], sym (append-nil (steps ++ more)), ends steps h, none)
+spans_end IsCall IsHand IsHand' (x ∷ calls) call steps more ends none h =
+    (h.0, h.1 ++ more, ap (λ (ts : List Timed). ts ++ more) h.2 ∙ append_assoc h.0 h.1 more, h.3, spans_end IsCall IsHand IsHand' calls call h.1 more ends none h.4)
