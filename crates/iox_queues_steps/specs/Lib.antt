@@ -4,7 +4,3 @@ pub mod Order
 pub mod Told
 pub mod Recorded
 pub mod Kept
-pub mod Overflowing
-pub mod OverflowingRing
-pub mod OverflowingMachine
-pub mod OverflowingState

@@ -1,6 +1,6 @@
 -- What the steps that were made say of the calls that made them.
 use Rattle.std.specs.Prelude.{ℕ, ◌≡◌, ◌+◌, Bool, true, false, if◌then◌else◌, List, [], ◌∷◌, ◌++◌}
-use Rattle.iox_queues_steps.specs.Access.{Words, answer_of, after_access}
+use Rattle.iox_queues_steps.specs.Access.{RingWords, answer_of, after_access}
 use Rattle.iox_queues_steps.specs.declared.access.Access.{Access}
 use Rattle.iox_queues_steps.specs.declared.access.Access.TheVariants.{Local}
 use Rattle.iox_queues_steps.specs.declared.schedule.Event.{Event}
@@ -8,7 +8,7 @@ use Rattle.iox_queues_steps.specs.declared.schedule.Party.{Party}
 use Rattle.iox_queues_steps.specs.declared.schedule.Party.TheVariants.{Producer, Consumer}
 
 -- each step got what its word held then, and its access left the words for the next one
-abbrev pub Answered : Words → List Event → Words → Type 0
+abbrev pub Answered : RingWords → List Event → RingWords → Type 0
 Answered words [] after = after ≡ words
 Answered words (event ∷ events) after =
     (event.answer ≡ answer_of words event.access) × Answered (after_access words event.access) events after

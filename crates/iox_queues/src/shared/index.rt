@@ -8,7 +8,9 @@ use iox_queues_base::{
     FixedSizeIndexQueue, FixedSizeSafelyOverflowingIndexQueue, IndexQueue,
     SafelyOverflowingIndexQueue,
 };
-use iox_queues_steps::{PushAnswer, overflowing};
+use iox_queues_overflowing as overflowing;
+use iox_queues_refusing as refusing;
+use iox_queues_steps::PushAnswer;
 use std::sync::atomic::AtomicU64;
 
 // Puts the number into the cell, if there is one.
@@ -200,8 +202,8 @@ impl<const CAPACITY: usize> Consumer<'_, FixedSizeSafelyOverflowingIndexQueue<CA
 #[inline(always)]
 fn refusing_push_on(
     words: &SharedWords,
-    push: iox_queues_bounded::Push,
-) -> iox_queues_bounded::Push {
+    push: refusing::Push,
+) -> refusing::Push {
     if push.is_over() {
         push
     } else {
@@ -211,14 +213,14 @@ fn refusing_push_on(
 
 // A push makes at most four accesses here.
 fn refusing_push(words: &SharedWords, value: u64) -> bool {
-    let push = iox_queues_bounded::Push::begin(words.limit, value);
+    let push = refusing::Push::begin(words.limit, value);
     let push = refusing_push_on(words, push);
     let push = refusing_push_on(words, push);
     let push = refusing_push_on(words, push);
     let push = refusing_push_on(words, push);
     matches!(
         push,
-        iox_queues_bounded::Push::Pushed {
+        refusing::Push::Pushed {
             answer: PushAnswer::Kept,
             ..
         }
@@ -227,7 +229,7 @@ fn refusing_push(words: &SharedWords, value: u64) -> bool {
 
 // One access of a pop that is not over.
 #[inline(always)]
-fn plain_pop_on(words: &SharedWords, pop: iox_queues_bounded::Pop) -> iox_queues_bounded::Pop {
+fn plain_pop_on(words: &SharedWords, pop: refusing::Pop) -> refusing::Pop {
     if pop.is_over() {
         pop
     } else {
@@ -237,13 +239,13 @@ fn plain_pop_on(words: &SharedWords, pop: iox_queues_bounded::Pop) -> iox_queues
 
 // A pop makes at most four accesses here.
 fn plain_pop(words: &SharedWords) -> Option<u64> {
-    let pop = iox_queues_bounded::Pop::begin();
+    let pop = refusing::Pop::begin();
     let pop = plain_pop_on(words, pop);
     let pop = plain_pop_on(words, pop);
     let pop = plain_pop_on(words, pop);
     let pop = plain_pop_on(words, pop);
     match pop {
-        iox_queues_bounded::Pop::Popped { got } => got,
+        refusing::Pop::Popped { got } => got,
         _ => None,
     }
 }

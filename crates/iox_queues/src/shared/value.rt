@@ -8,7 +8,7 @@ ghost use Rattle.std.specs.Option.{is_some};
 use super::words::{SharedWords, fill, width_of};
 use super::{Consumer, Producer, Shareable, SharedQueue};
 use iox_queues_base::{Queue, Words};
-use iox_queues_bounded::{Pop, Push};
+use iox_queues_refusing::{Pop, Push};
 use iox_queues_steps::{Access, PushAnswer, Word};
 use std::sync::atomic::AtomicU64;
 
