@@ -4,10 +4,12 @@
 //! is safe and returns. What the values are that other threads stored is not claimed.
 //!
 //! - [`words`]: the shared words.
+//! - [`calls`]: a push or a pop as one run of its party value.
 //! - [`index`]: the queues of numbers.
 //! - [`value`]: the queue of any copied value.
 //! - [`atomic`]: the single value.
 pub mod atomic;
+mod calls;
 pub mod index;
 pub mod value;
 pub mod words;

@@ -4,7 +4,7 @@ ghost use Rattle.std.specs.Option.{option_to_list};
 ghost use Rattle.iox_queues_overflowing.specs.OverflowingRing.{taken_by_pop, pop_moves};
 ghost use Rattle.iox_queues_overflowing.specs.Overflowing.{pop_is_idle, pop_is_over, pop_next, pop_take, pop_emptied, pop_swapped};
 
-use iox_queues_steps::{Access, Act, PopAnswer, Word};
+use iox_queues_steps::{Access, Act, End, PopAnswer, Word};
 
 /// Where a pop stands, or a look that only tells whether something waits. Between `Begun` and
 /// `Popped`, or `LookBegun` and `Looked`, each stage is one access.
@@ -110,6 +110,26 @@ impl Pop {
             Pop::SawCell { read, .. } => position == read,
             _ => false,
         }
+    }
+}
+
+impl End for Pop {
+    ghost asks = { pop_next };
+
+    ghost takes = { pop_take };
+
+    ghost over = { pop_is_over };
+
+    fn next(&self) -> Access {
+        Pop::next(self)
+    }
+
+    fn take(self, answer: u64) -> Pop {
+        Pop::take(self, answer)
+    }
+
+    fn is_over(&self) -> bool {
+        Pop::is_over(self)
     }
 }
 

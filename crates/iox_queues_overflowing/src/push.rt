@@ -4,7 +4,7 @@ ghost use Rattle.std.specs.Option.{option_to_list};
 ghost use Rattle.iox_queues_overflowing.specs.OverflowingRing.{placed_by_push, late_put};
 ghost use Rattle.iox_queues_overflowing.specs.Overflowing.{push_is_idle, push_is_over, push_next, push_take, push_filled, push_swapped};
 
-use iox_queues_steps::{Access, Act, PushAnswer, Word};
+use iox_queues_steps::{Access, Act, End, PushAnswer, Word};
 
 /// Where a push stands. Between `Begun` and `Pushed` each stage is one access.
 #[derive(Clone, Copy, Debug, PartialEq, Eq)]
@@ -176,6 +176,26 @@ impl Push {
             }
             _ => None,
         }
+    }
+}
+
+impl End for Push {
+    ghost asks = { push_next };
+
+    ghost takes = { push_take };
+
+    ghost over = { push_is_over };
+
+    fn next(&self) -> Access {
+        Push::next(self)
+    }
+
+    fn take(self, answer: u64) -> Push {
+        Push::take(self, answer)
+    }
+
+    fn is_over(&self) -> bool {
+        Push::is_over(self)
     }
 }
 

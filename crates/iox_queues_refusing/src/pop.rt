@@ -3,7 +3,7 @@ ghost use Rattle.std.specs.Prelude.{◌≡◌, [], ◌∷◌, if◌then◌else�
 ghost use Rattle.std.specs.Option.{option_to_list};
 ghost use Rattle.iox_queues_refusing.specs.Refusing.{pop_is_idle, pop_is_over, pop_next, pop_take, pop_emptied, placed_by_pop};
 
-use iox_queues_steps::{Access, Act, PopAnswer, Word};
+use iox_queues_steps::{Access, Act, End, PopAnswer, Word};
 
 /// Where a pop stands, or a look that only tells whether something waits. Between `Begun` and
 /// `Popped`, or `LookBegun` and `Looked`, each stage is one access.
@@ -96,6 +96,26 @@ impl Pop {
             }),
             _ => None,
         }
+    }
+}
+
+impl End for Pop {
+    ghost asks = { pop_next };
+
+    ghost takes = { pop_take };
+
+    ghost over = { pop_is_over };
+
+    fn next(&self) -> Access {
+        Pop::next(self)
+    }
+
+    fn take(self, answer: u64) -> Pop {
+        Pop::take(self, answer)
+    }
+
+    fn is_over(&self) -> bool {
+        Pop::is_over(self)
     }
 }
 

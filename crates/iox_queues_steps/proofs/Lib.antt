@@ -1,3 +1,4 @@
 pub mod Held
 pub mod Orders
 pub mod Told
+pub mod Running

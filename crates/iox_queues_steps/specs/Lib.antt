@@ -4,3 +4,4 @@ pub mod Order
 pub mod Told
 pub mod Recorded
 pub mod Kept
+pub mod Runs
