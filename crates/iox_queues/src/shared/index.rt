@@ -25,6 +25,8 @@ fn pour_number(cell: &[AtomicU64], oldest: Option<u64>) -> bool
 }
 
 impl Shareable for IndexQueue {
+    ghost room = { λ q. q.capacity };
+
     fn width(&self) -> Option<usize>
         ensures { result ≡ Some 1 }
     {
@@ -37,9 +39,7 @@ impl Shareable for IndexQueue {
         self.capacity()
     }
 
-    fn limit(&self) -> u64
-        ensures { result ≡ self.now.capacity }
-    {
+    fn limit(&self) -> u64 {
         self.capacity() as u64
     }
 
@@ -54,6 +54,8 @@ impl Shareable for IndexQueue {
 impl SharedQueue for IndexQueue {}
 
 impl<const CAPACITY: usize> Shareable for FixedSizeIndexQueue<CAPACITY> {
+    ghost room = { λ q. CAPACITY };
+
     fn width(&self) -> Option<usize>
         ensures { result ≡ Some 1 }
     {
@@ -66,9 +68,7 @@ impl<const CAPACITY: usize> Shareable for FixedSizeIndexQueue<CAPACITY> {
         self.capacity()
     }
 
-    fn limit(&self) -> u64
-        ensures { result ≡ CAPACITY }
-    {
+    fn limit(&self) -> u64 {
         self.capacity() as u64
     }
 
@@ -83,6 +83,8 @@ impl<const CAPACITY: usize> Shareable for FixedSizeIndexQueue<CAPACITY> {
 impl<const CAPACITY: usize> SharedQueue for FixedSizeIndexQueue<CAPACITY> {}
 
 impl Shareable for SafelyOverflowingIndexQueue {
+    ghost room = { λ q. q.capacity };
+
     fn width(&self) -> Option<usize>
         ensures { result ≡ Some 1 }
     {
@@ -95,9 +97,7 @@ impl Shareable for SafelyOverflowingIndexQueue {
         self.capacity().saturating_add(1)
     }
 
-    fn limit(&self) -> u64
-        ensures { result ≡ self.now.capacity }
-    {
+    fn limit(&self) -> u64 {
         self.capacity() as u64
     }
 
@@ -112,6 +112,8 @@ impl Shareable for SafelyOverflowingIndexQueue {
 impl SharedQueue for SafelyOverflowingIndexQueue {}
 
 impl<const CAPACITY: usize> Shareable for FixedSizeSafelyOverflowingIndexQueue<CAPACITY> {
+    ghost room = { λ q. CAPACITY };
+
     fn width(&self) -> Option<usize>
         ensures { result ≡ Some 1 }
     {
@@ -124,9 +126,7 @@ impl<const CAPACITY: usize> Shareable for FixedSizeSafelyOverflowingIndexQueue<C
         self.capacity().saturating_add(1)
     }
 
-    fn limit(&self) -> u64
-        ensures { result ≡ CAPACITY }
-    {
+    fn limit(&self) -> u64 {
         self.capacity() as u64
     }
 
@@ -143,28 +143,28 @@ impl<const CAPACITY: usize> SharedQueue for FixedSizeSafelyOverflowingIndexQueue
 impl Producer<'_, IndexQueue> {
     /// Puts the number behind the rest; false if the queue is full.
     pub fn push(&mut self, value: u64) -> bool {
-        push_refusing(&mut numbers(self.words), self.words.limit, value)
+        push_refusing(&mut numbers(self.words), self.limit, value)
     }
 }
 
 impl<const CAPACITY: usize> Producer<'_, FixedSizeIndexQueue<CAPACITY>> {
     /// Puts the number behind the rest; false if the queue is full.
     pub fn push(&mut self, value: u64) -> bool {
-        push_refusing(&mut numbers(self.words), self.words.limit, value)
+        push_refusing(&mut numbers(self.words), self.limit, value)
     }
 }
 
 impl Producer<'_, SafelyOverflowingIndexQueue> {
     /// Puts the number behind the rest; a full queue hands its oldest number out.
     pub fn push(&mut self, value: u64) -> Option<u64> {
-        push_over(self.words, value)
+        push_over(self.words, self.limit, value)
     }
 }
 
 impl<const CAPACITY: usize> Producer<'_, FixedSizeSafelyOverflowingIndexQueue<CAPACITY>> {
     /// Puts the number behind the rest; a full queue hands its oldest number out.
     pub fn push(&mut self, value: u64) -> Option<u64> {
-        push_over(self.words, value)
+        push_over(self.words, self.limit, value)
     }
 }
 
@@ -202,9 +202,9 @@ fn numbers(words: &SharedWords) -> Numbers<'_> {
 }
 
 // A queue of capacity 0 hands the number back.
-fn push_over(words: &SharedWords, value: u64) -> Option<u64> {
-    if words.limit == 0 {
+fn push_over(words: &SharedWords, limit: u64, value: u64) -> Option<u64> {
+    if limit == 0 {
         return Some(value);
     }
-    push_overflowing(&mut numbers(words), words.limit, value)
+    push_overflowing(&mut numbers(words), limit, value)
 }

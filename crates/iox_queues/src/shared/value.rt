@@ -12,6 +12,8 @@ use iox_queues_base::{Queue, Words};
 use std::sync::atomic::AtomicU64;
 
 impl<T: Words, const CAPACITY: usize> Shareable for Queue<T, CAPACITY> {
+    ghost room = { λ q. CAPACITY };
+
     fn width(&self) -> Option<usize>
         ensures { result ≡ (if nat_le T.WORDS 16 then Some T.WORDS else None) }
     {
@@ -24,9 +26,7 @@ impl<T: Words, const CAPACITY: usize> Shareable for Queue<T, CAPACITY> {
         CAPACITY
     }
 
-    fn limit(&self) -> u64
-        ensures { result ≡ CAPACITY }
-    {
+    fn limit(&self) -> u64 {
         CAPACITY as u64
     }
 
@@ -53,7 +53,7 @@ impl<T: Words, const CAPACITY: usize> Producer<'_, Queue<T, CAPACITY>> {
             words: self.words,
             value: Some(*value),
         };
-        push_refusing(&mut cells, self.words.limit, 0)
+        push_refusing(&mut cells, self.limit, 0)
     }
 }
 

@@ -16,7 +16,6 @@ pub struct SharedWords {
     width: usize,
     pub(crate) write: AtomicU64,
     read: AtomicU64,
-    pub(crate) limit: u64,
     pub(crate) producer_taken: AtomicBool,
     pub(crate) consumer_taken: AtomicBool,
 }
@@ -26,7 +25,6 @@ impl SharedWords {
         cells: Vec<AtomicU64>,
         count: usize,
         width: usize,
-        limit: u64,
     ) -> SharedWords {
         SharedWords {
             cells,
@@ -34,7 +32,6 @@ impl SharedWords {
             width,
             write: AtomicU64::new(0),
             read: AtomicU64::new(0),
-            limit,
             producer_taken: AtomicBool::new(false),
             consumer_taken: AtomicBool::new(false),
         }
