@@ -1,9 +1,8 @@
 -- One more step of an end goes on with its call in hand, or ends it.
-use Rattle.std.proofs.Common.{◌≡◌, ℕ, ◌+◌, ◌-◌, Bool, true, false, if◌then◌else◌, ◌==◌, ◌%◌, nat_lt, Some, None, slice_index, List, [], ◌∷◌, ◌++◌, map, length, refl, sym, ◌∙◌, ap, subst, arith, length-append, append-nil}
+use Rattle.std.proofs.Common.{◌≡◌, ℕ, ◌-◌, Bool, true, false, if◌then◌else◌, ◌==◌, ◌%◌, nat_lt, Some, None, slice_index, List, [], ◌∷◌, ◌++◌, map, length, refl, sym, ◌∙◌, ap, subst, arith, append-nil}
 use Rattle.iox_queues_steps.specs.Access.{RingWords, answer_of, successor}
 use Rattle.iox_queues_steps.specs.Order.{push_call, pop_call}
 use Rattle.iox_queues_steps.specs.Told.{Timed, InHand, local, own, own_one}
-use Rattle.iox_queues_steps.specs.declared.access.Access.TheVariants.{Local}
 use Rattle.iox_queues_steps.specs.declared.order.PushAnswer.TheVariants.{Kept, Refused}
 use Rattle.iox_queues_steps.specs.declared.order.PopAnswer.TheVariants.{Got, Saw}
 use Rattle.iox_queues_steps.specs.declared.order.PushCall.{PushCall}
@@ -109,7 +108,7 @@ pub pop_begun_told : (kind : RingKind) (looks : Bool) (first m : ℕ) (calls : L
 pop_begun_told kind looks first m calls p steps idle h =
     spans_on (IsPopTold kind) (InHand Pop pop_next pop_take Consumer (pop_is_idle p) (pop_first kind (pop_looks p)) p first) (InHand Pop pop_next pop_take Consumer (pop_is_idle (pop_first kind looks)) (pop_first kind (pop_looks (pop_first kind looks))) (pop_first kind looks) m) calls steps (local Consumer m ∷ [])
     (λ hand g. subst (λ (b : Bool). InHand Pop pop_next pop_take Consumer (pop_is_idle (pop_first kind looks)) (pop_first kind b) (pop_first kind looks) m (hand ++ local Consumer m ∷ [])) (sym (looks_same kind looks))
-        (open_begun Pop pop_next pop_take Consumer (pop_is_idle p) (pop_is_idle (pop_first kind looks)) (pop_first kind (pop_looks p)) p (pop_first kind looks) first m hand idle (first_busy kind looks) g)) h
+    (open_begun Pop pop_next pop_take Consumer (pop_is_idle p) (pop_is_idle (pop_first kind looks)) (pop_first kind (pop_looks p)) p (pop_first kind looks) first m hand idle (first_busy kind looks) g)) h
 
 -- a pop or a look that goes on
 pop_on : (kind : RingKind) (first m : ℕ) (calls : List PopCall) (p p' : Pop) (answer : ℕ) (steps : List Timed) → pop_is_idle p ≡ false → pop_is_idle p' ≡ false → pop_looks p' ≡ pop_looks p → p' ≡ pop_take p answer → ArePopsTold kind p first calls steps → ArePopsTold kind p' first (calls ++ []) (steps ++ pop_step m p answer ∷ [])

@@ -1,13 +1,11 @@
 -- Each step on a ring of either kind keeps the shape, and stands in the order as it should.
-use Rattle.std.proofs.Common.{◌≡◌, ℕ, ◌+◌, ◌-◌, ◌^◌, ◌%◌, ◌<◌, ◌≤◌, Bool, true, false, if◌then◌else◌, ◌==◌, nat_lt, List, [], ◌∷◌, ◌++◌, length, replicate, slice_index, refl, sym, ◌∙◌, ap, subst, arith, append-nil, length-append, mod-eq_of_lt}
+use Rattle.std.proofs.Common.{◌≡◌, ℕ, ◌+◌, ◌-◌, ◌^◌, ◌%◌, ◌<◌, ◌≤◌, Bool, true, false, if◌then◌else◌, nat_lt, List, [], ◌++◌, length, replicate, slice_index, refl, sym, ◌∙◌, ap, subst, arith, append-nil, length-append, mod-eq_of_lt}
 use Rattle.std.proofs.Math.ListN.{get_or-append}
 use Rattle.std.proofs.lemmas.List.{length-replicate}
 use Rattle.std.proofs.lemmas.Bool.{ltb-true, ltb-false}
 use Rattle.iox_queues_steps.specs.Access.{RingWords, answer_of, after_access}
 use Rattle.iox_queues_steps.specs.Order.{Acts, after_acts, put_values, take_values, PutNow}
-use Rattle.iox_queues_steps.specs.declared.order.PopAnswer.{PopAnswer}
 use Rattle.iox_queues_steps.specs.declared.order.Act.{Act}
-use Rattle.iox_queues_overflowing.specs.Overflowing as overflowing
 use Rattle.iox_queues_overflowing.specs.OverflowingRing as overflowing_ring
 use Rattle.iox_queues_overflowing.specs.declared.push.Push.TheVariants as overflowing_push
 use Rattle.iox_queues_overflowing.specs.declared.pop.Pop.TheVariants as overflowing_pop
@@ -17,7 +15,7 @@ use Rattle.iox_queues_refusing.specs.Refusing as refusing
 use Rattle.iox_queues_refusing.specs.declared.push.Push.TheVariants as refusing_push
 use Rattle.iox_queues_refusing.specs.declared.pop.Pop.TheVariants as refusing_pop
 use Rattle.iox_queues_refusing.proofs.RefusingSteps as refusing_steps
-use Rattle.iox_queues_rings.specs.Ends.{overflows, cells_of, push_kind, pop_kind, push_is_over, pop_is_over, push_idle, push_begun, push_next, push_take, push_is_idle, push_ended, put_in_hand, placed_by_push, pop_idle, pop_first, pop_next, pop_take, pop_is_idle, pop_ended, placed_by_pop, Shape}
+use Rattle.iox_queues_rings.specs.Ends.{overflows, push_kind, pop_kind, push_is_over, pop_is_over, push_idle, push_begun, push_next, push_take, push_is_idle, push_ended, put_in_hand, placed_by_push, pop_idle, pop_first, pop_next, pop_take, pop_is_idle, pop_ended, placed_by_pop, Shape}
 use Rattle.iox_queues_rings.specs.RingMachine.{first_words}
 use Rattle.iox_queues_rings.specs.declared.ends.RingKind.{RingKind}
 use Rattle.iox_queues_rings.specs.declared.ends.RingKind.TheVariants as kind

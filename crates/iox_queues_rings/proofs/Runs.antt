@@ -2,10 +2,10 @@
 use Rattle.std.proofs.Common.{◌≡◌, ℕ, ◌+◌, ◌^◌, ◌<◌, ◌≤◌, Bool, true, false, not, if◌then◌else◌, List, [], ◌∷◌, ◌++◌, map, length, refl, sym, ◌∙◌, ap, subst, arith, append-nil, length-append, inl, inr}
 use Rattle.std.proofs.lemmas.List.{length-map}
 use Rattle.std.specs.List.{AllZip}
-use Rattle.iox_queues_steps.specs.Access.{RingWords, answer_of, after_access}
+use Rattle.iox_queues_steps.specs.Access.{answer_of, after_access}
 use Rattle.iox_queues_steps.specs.Order.{Acts, after_acts, acts_of, at, puts, takes, push_call, pop_call, PutInside, TakeInside, PutNow}
 use Rattle.iox_queues_steps.specs.Schedule.{count_of, is_stopped_of}
-use Rattle.iox_queues_steps.specs.Told.{Timed, InHand, same_party, own, own_one}
+use Rattle.iox_queues_steps.specs.Told.{Timed, InHand, same_party, own}
 use Rattle.iox_queues_steps.specs.declared.access.Access.TheVariants.{Local}
 use Rattle.iox_queues_steps.specs.declared.order.Act.{Act}
 use Rattle.iox_queues_steps.specs.declared.order.Placed.{Placed}
@@ -19,14 +19,12 @@ use Rattle.iox_queues_steps.specs.declared.schedule.Stepped.{Stepped}
 use Rattle.iox_queues_steps.specs.declared.schedule.Stepped.TheVariants as stepped
 use Rattle.iox_queues_steps.proofs.Orders.{acts_more, Acts-append, after_acts-append, rises_more, put_step, put_keep, take_step, take_keep}
 use Rattle.iox_queues_steps.proofs.Told.{answered_more}
-use Rattle.iox_queues_rings.specs.Ends.{overflows, push_idle, push_value, pop_idle, pop_looks, push_begun, push_next, push_take, push_is_idle, push_is_over, push_ended, put_in_hand, placed_by_push, pop_begun, pop_look, pop_first, pop_next, pop_take, pop_is_idle, pop_is_over, pop_ended, placed_by_pop, Shape}
-use Rattle.iox_queues_rings.specs.RingMachine.{RingState, IsKept, IsTold, FollowsOrder, IsMade, Tells, StepsTo, RunsTo, ArePushesTold, ArePopsTold, ended_calls, first_words, start, fits, ends, happens, waiting, push_goes_on, pop_goes_on, push_begins, pop_begins}
+use Rattle.iox_queues_rings.specs.Ends.{overflows, push_idle, push_value, pop_idle, pop_looks, push_begun, push_next, push_take, push_is_idle, push_is_over, push_ended, put_in_hand, placed_by_push, pop_first, pop_next, pop_take, pop_is_idle, pop_is_over, pop_ended, placed_by_pop, Shape}
+use Rattle.iox_queues_rings.specs.RingMachine.{RingState, IsKept, IsTold, IsMade, Tells, StepsTo, RunsTo, ArePushesTold, ArePopsTold, ended_calls, first_words, start, fits, ends, happens, waiting, push_goes_on, pop_goes_on, push_begins, pop_begins}
 use Rattle.iox_queues_rings.specs.declared.ends.RingKind.{RingKind}
 use Rattle.iox_queues_rings.specs.declared.ends.RingKind.TheVariants as kind
 use Rattle.iox_queues_rings.specs.declared.ends.Push.{Push}
-use Rattle.iox_queues_rings.specs.declared.ends.Push.TheVariants as push
 use Rattle.iox_queues_rings.specs.declared.ends.Pop.{Pop}
-use Rattle.iox_queues_rings.specs.declared.ends.Pop.TheVariants as pop
 use Rattle.iox_queues_rings.proofs.EitherRing.{holds, push_goes, pop_goes, push_grows, pop_grows, push_ends_one, pop_ends_one, push_begins_shape, pop_begins_shape, start_overflowing, start_refusing}
 use Rattle.iox_queues_rings.proofs.Calls.{own_grows, push_begun_told, push_told, pop_begun_told, pop_told}
 
@@ -198,7 +196,6 @@ made m (Begin call.Pop) = record { event = record { party = Consumer; access = L
 made m (Begin call.Look) = record { event = record { party = Consumer; access = Local; answer = 0 }; added = refl; party = refl; asked = refl }
 made m (GoOn Producer) = record { event = record { party = Producer; access = push_next m.producer.push; answer = answer_of m.words (push_next m.producer.push) }; added = refl; party = refl; asked = tt }
 made m (GoOn Consumer) = record { event = record { party = Consumer; access = pop_next m.consumer.pop; answer = answer_of m.words (pop_next m.consumer.pop) }; added = refl; party = refl; asked = tt }
-
 
 ended_pushes : (m : RingState) (b : Bool) → push_is_over m.producer.push ≡ b → ended_calls (push_goes_on m) ≡ ended_calls m + (if b then 1 else 0)
 ended_pushes m true e = omega (arith, length-append m.producer.calls (map (push_call m.producer.first m.log.moments) (push_ended m.producer.push)), length-map (push_ended m.producer.push) (push_call m.producer.first m.log.moments), push_ends_one m.producer.push ∙ ap (λ (b : Bool). if b then 1 else 0) e)

@@ -1,5 +1,5 @@
 -- A ring of either kind as a machine: what each step does, and what it keeps.
-use Rattle.std.specs.Prelude.{ℕ, ◌≡◌, ◌+◌, ◌-◌, ◌^◌, ◌<◌, ◌≤◌, ◌⊎◌, Bool, true, false, not, List, [], ◌∷◌, ◌++◌, map, length, replicate}
+use Rattle.std.specs.Prelude.{ℕ, ◌≡◌, ◌+◌, ◌-◌, ◌≤◌, ◌⊎◌, Bool, true, false, not, List, [], ◌∷◌, ◌++◌, map, length, replicate}
 use Rattle.std.specs.List.{AllZip}
 use Rattle.iox_queues_steps.specs.Access.{RingWords, answer_of, after_access}
 use Rattle.iox_queues_steps.specs.Order.{Acts, after_acts, acts_of, Rises, puts, takes, push_call, pop_call, PutInside, TakeInside, Log, logged}

@@ -56,11 +56,7 @@ impl RingMachine {
 
     /// A ring where at most `limit` numbers wait, and these wait now. It refuses a push when it is
     /// full.
-    pub fn refusing(
-        alloc: Global,
-        limit: u64,
-        waiting: &[u64],
-    ) -> Result<RingMachine, AllocError>
+    pub fn refusing(alloc: Global, limit: u64, waiting: &[u64]) -> Result<RingMachine, AllocError>
         requires room { length waiting.now ≤ limit }
         ensures { IfOk result (λ m. m ≡ start RingKind.Refusing limit waiting.now) }
     {

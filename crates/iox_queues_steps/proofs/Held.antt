@@ -1,5 +1,5 @@
 -- The cells from a position on hold a list, one behind the other, going round.
-use Rattle.std.proofs.Common.{◌≡◌, ℕ, suc, ◌+◌, ◌-◌, ◌*◌, ◌/◌, ◌%◌, ◌^◌, ◌<◌, ◌≤◌, List, [], ◌∷◌, ◌++◌, length, set, drop, slice_index, sym, ◌∙◌, subst, inl, inr, arith, length-append, mul-le-mul_left}
+use Rattle.std.proofs.Common.{◌≡◌, ℕ, suc, ◌+◌, ◌*◌, ◌/◌, ◌%◌, ◌^◌, ◌<◌, ◌≤◌, List, [], ◌∷◌, ◌++◌, length, set, drop, slice_index, sym, ◌∙◌, subst, inl, inr, arith, length-append, mul-le-mul_left}
 use Rattle.std.proofs.Math.Seq.{get_or-set_same, get_or-set_other, get_or-append_seam}
 use Rattle.std.proofs.lemmas.Nat.{mod_below}
 use Rattle.iox_queues_steps.specs.Access.{successor}

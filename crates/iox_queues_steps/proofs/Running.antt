@@ -1,5 +1,5 @@
 -- A run with one more access.
-use Rattle.std.proofs.Common.{◌≡◌, ℕ, Bool, false, List, [], ◌∷◌, ◌++◌, refl, sym, subst, ap}
+use Rattle.std.proofs.Common.{◌≡◌, ℕ, Bool, false, List, [], ◌∷◌, ◌++◌, refl, subst, ap}
 use Rattle.iox_queues_steps.specs.Runs.{Runs}
 use Rattle.iox_queues_steps.specs.declared.access.Access.{Access}
 

@@ -1,9 +1,8 @@
 -- One more step goes on with the call in hand of its party, or ends it.
-use Rattle.std.proofs.Common.{◌≡◌, ℕ, suc, ◌+◌, Bool, true, false, if◌then◌else◌, List, [], ◌∷◌, ◌++◌, length, refl, sym, ◌∙◌, ap, subst, arith, append_assoc, append-nil}
+use Rattle.std.proofs.Common.{◌≡◌, ℕ, suc, ◌+◌, Bool, true, false, List, [], ◌∷◌, ◌++◌, length, refl, sym, ◌∙◌, ap, subst, arith, append_assoc, append-nil}
 use Rattle.iox_queues_steps.specs.Access.{RingWords, answer_of, after_access}
-use Rattle.iox_queues_steps.specs.Told.{Answered, Timed, same_party, own_one, own, local, Goes, IsWhole, IsOpen, InHand, Spans}
+use Rattle.iox_queues_steps.specs.Told.{Answered, Timed, own_one, own, local, Goes, IsWhole, InHand, Spans}
 use Rattle.iox_queues_steps.specs.declared.access.Access.{Access}
-use Rattle.iox_queues_steps.specs.declared.access.Access.TheVariants.{Local}
 use Rattle.iox_queues_steps.specs.declared.schedule.Event.{Event}
 use Rattle.iox_queues_steps.specs.declared.schedule.Party.{Party}
 

@@ -43,10 +43,8 @@ pub trait Memory {
 /// so many.
 #[inline(always)]
 pub fn run<E: End, M: Memory>(begun: E, memory: &mut M, most: u32) -> E
-    ensures {
-        (given : List ℕ) × Runs M.answers E.asks E.takes E.over given memory.old begun memory.new result
-            × (E.over result ≡ false → length given ≡ most)
-    }
+    ensures { (given : List ℕ) × Runs M.answers E.asks E.takes E.over given memory.old begun memory.new result
+        × (E.over result ≡ false → length given ≡ most) }
 {
     let mut end = begun;
     for i in 0..most {
