@@ -1,6 +1,5 @@
 //! Two schedules of the overflowing ring of capacity 1, where 1 waits, and a ring that is too large.
-use iox_queues::RingMachine;
-use iox_queues::{Call, Move, Party, PopAnswer, PushAnswer, Stepped};
+use iox_queues::{Call, Move, Party, PopAnswer, PushAnswer, RingMachine, Stepped};
 use std::process::Abort;
 use std::test::Fail;
 

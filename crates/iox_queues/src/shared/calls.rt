@@ -20,10 +20,8 @@ use iox_queues_steps::{Memory, PushAnswer};
 /// four accesses.
 #[inline(always)]
 pub(crate) fn push_refusing<M: Memory>(memory: &mut M, limit: u64, value: u64) -> bool
-    ensures {
-        (given : List ℕ) × (end : _) × Runs M.answers refusing.push_next refusing.push_take refusing.push_is_over given memory.old (refusing_push.Begun limit value) memory.new end
-            × (refusing.push_is_over end ≡ false → length given ≡ 4) × (result ≡ is_kept end)
-    }
+    ensures { (given : List ℕ) × (end : _) × Runs M.answers refusing.push_next refusing.push_take refusing.push_is_over given memory.old (refusing_push.Begun limit value) memory.new end
+        × (refusing.push_is_over end ≡ false → length given ≡ 4) × (result ≡ is_kept end) }
 {
     let push = run(RefusingPush::begin(limit, value), memory, 4);
     matches!(
@@ -38,10 +36,8 @@ pub(crate) fn push_refusing<M: Memory>(memory: &mut M, limit: u64, value: u64) -
 /// Takes the oldest number out; None if nothing waits. At most four accesses.
 #[inline(always)]
 pub(crate) fn pop_refusing<M: Memory>(memory: &mut M) -> Option<u64>
-    ensures {
-        (given : List ℕ) × (end : _) × Runs M.answers refusing.pop_next refusing.pop_take refusing.pop_is_over given memory.old refusing_pop.Begun memory.new end
-            × (refusing.pop_is_over end ≡ false → length given ≡ 4) × (result ≡ popped end)
-    }
+    ensures { (given : List ℕ) × (end : _) × Runs M.answers refusing.pop_next refusing.pop_take refusing.pop_is_over given memory.old refusing_pop.Begun memory.new end
+        × (refusing.pop_is_over end ≡ false → length given ≡ 4) × (result ≡ popped end) }
 {
     match run(RefusingPop::begin(), memory, 4) {
         RefusingPop::Popped { got } => got,
@@ -53,10 +49,8 @@ pub(crate) fn pop_refusing<M: Memory>(memory: &mut M) -> Option<u64>
 /// wait. At most six accesses.
 #[inline(always)]
 pub(crate) fn push_overflowing<M: Memory>(memory: &mut M, limit: u64, value: u64) -> Option<u64>
-    ensures {
-        (given : List ℕ) × (end : _) × Runs M.answers overflowing.push_next overflowing.push_take overflowing.push_is_over given memory.old (overflowing_push.Begun limit value) memory.new end
-            × (overflowing.push_is_over end ≡ false → length given ≡ 6) × (result ≡ left_by end)
-    }
+    ensures { (given : List ℕ) × (end : _) × Runs M.answers overflowing.push_next overflowing.push_take overflowing.push_is_over given memory.old (overflowing_push.Begun limit value) memory.new end
+        × (overflowing.push_is_over end ≡ false → length given ≡ 6) × (result ≡ left_by end) }
 {
     match run(OverflowingPush::begin(limit, value), memory, 6) {
         OverflowingPush::Pushed {
@@ -71,10 +65,8 @@ pub(crate) fn push_overflowing<M: Memory>(memory: &mut M, limit: u64, value: u64
 /// positions, then a load of a cell and an exchange each turn.
 #[inline(always)]
 pub(crate) fn pop_overflowing<M: Memory>(memory: &mut M) -> Option<u64>
-    ensures {
-        (given : List ℕ) × (end : _) × Runs M.answers overflowing.pop_next overflowing.pop_take overflowing.pop_is_over given memory.old overflowing_pop.Begun memory.new end
-            × (overflowing.pop_is_over end ≡ false → length given ≡ 2 ^ 21 + 2) × (result ≡ taken end)
-    }
+    ensures { (given : List ℕ) × (end : _) × Runs M.answers overflowing.pop_next overflowing.pop_take overflowing.pop_is_over given memory.old overflowing_pop.Begun memory.new end
+        × (overflowing.pop_is_over end ≡ false → length given ≡ 2 ^ 21 + 2) × (result ≡ taken end) }
 {
     match run(OverflowingPop::begin(), memory, 2 * LOST_TURNS + 2) {
         OverflowingPop::Popped { got } => got,

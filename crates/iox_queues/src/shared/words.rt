@@ -21,11 +21,7 @@ pub struct SharedWords {
 }
 
 impl SharedWords {
-    pub(crate) fn new(
-        cells: Vec<AtomicU64>,
-        count: usize,
-        width: usize,
-    ) -> SharedWords {
+    pub(crate) fn new(cells: Vec<AtomicU64>, count: usize, width: usize) -> SharedWords {
         SharedWords {
             cells,
             count,

@@ -50,7 +50,10 @@ fn overflowing_queue(rt: &impl Abort, alloc: Global, capacity: usize) -> Result<
         assert_eq!(rt; producer.push(value.saturating_add(room)), Some(value));
     }
     for value in 0..room {
-        assert_eq!(rt; consumer.pop(), Some(value.saturating_add(room).saturating_add(3)));
+        assert_eq!(rt;
+            consumer.pop(),
+            Some(value.saturating_add(room).saturating_add(3))
+        );
     }
     assert_eq!(rt; consumer.pop(), None);
     Ok(())
@@ -70,9 +73,9 @@ fn queues_of_fixed_size_give_each_answer(rt: HostRuntime) -> Result<(), Fail> {
     let Ok(refusing) = FixedSizeIndexQueue::<2>::new(rt.alloc())?.share(rt.alloc()) else {
         return Err(Fail::from("no memory"));
     };
-    let Ok(overflowing) = FixedSizeSafelyOverflowingIndexQueue::<2>::new(rt.alloc())?
-        .share(rt.alloc())
-    else {
+    let Ok(overflowing) = FixedSizeSafelyOverflowingIndexQueue::<2>::new(rt.alloc())?.share(
+        rt.alloc(),
+    ) else {
         return Err(Fail::from("no memory"));
     };
     assert_eq!(&rt; refusing.capacity(), 2);
