@@ -1,13 +1,15 @@
 //! Queues and bit sets: plain, shared among threads, and one word at a time.
 //!
 //! - [`shared`]: queues and single values that threads share, over atomics.
-//! - The plain forms come from `iox_queues_base`, the steps of the overflowing ring from
-//!   `iox_queues_steps` (here [`overflowing`]), those of the ring that refuses from
-//!   `iox_queues_bounded` (here [`refusing`]), those of bit sets from `iox_queues_bits` (here
-//!   [`sets`]).
+//! - The plain forms come from `iox_queues_base`, the vocabulary of steps from `iox_queues_steps`, the
+//!   ends of the two rings from `iox_queues_overflowing` and `iox_queues_refusing` (here
+//!   [`overflowing`] and [`refusing`]), either of them and their machine from `iox_queues_rings` (here
+//!   [`rings`]), steps of bit sets from `iox_queues_bits` (here [`sets`]).
 #![tactic(auto)]
 
+pub mod overflowing;
 pub mod refusing;
+pub mod rings;
 pub mod sets;
 pub mod shared;
 #[cfg(test)]
@@ -18,8 +20,9 @@ pub use iox_queues_base::{
     FixedSizeIndexQueue, FixedSizeSafelyOverflowingIndexQueue, IndexQueue, Queue,
     SafelyOverflowingIndexQueue, UnrestrictedAtomic, Words,
 };
+pub use iox_queues_rings::{RingKind, RingMachine};
 pub use iox_queues_steps::{
     Access, Act, Call, Event, Move, Party, Placed, PopAnswer, PopCall, PushAnswer, PushCall, Ring,
-    Stepped, Word, overflowing,
+    Stepped, Word,
 };
 pub use shared::{Consumer, Producer, Share, Shared};

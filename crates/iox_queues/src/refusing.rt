@@ -1,2 +1,2 @@
-//! The ring that refuses a push when it is full, one word at a time.
-pub use iox_queues_bounded::{Machine, Pop, Push};
+//! The ends of the ring that refuses a push when it is full, one word at a time.
+pub use iox_queues_refusing::{Pop, Push};

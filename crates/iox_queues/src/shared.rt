@@ -4,15 +4,17 @@
 //! is safe and returns. What the values are that other threads stored is not claimed.
 //!
 //! - [`words`]: the shared words.
+//! - [`calls`]: a push or a pop as one run of its party value.
 //! - [`index`]: the queues of numbers.
 //! - [`value`]: the queue of any copied value.
 //! - [`atomic`]: the single value.
 pub mod atomic;
+pub(crate) mod calls;
 pub mod index;
 pub mod value;
 pub mod words;
 
-ghost use Rattle.std.specs.Prelude.{◌≡◌, IfErr};
+ghost use Rattle.std.specs.Prelude.{◌≡◌, ℕ, IfErr, IfOk, IfSome};
 
 use std::alloc::{AllocError, Global};
 use std::marker::PhantomData;
@@ -24,6 +26,9 @@ pub const LOST_TURNS: u32 = 1 << 20;
 
 /// A form that may be shared: its values lie in cells of words.
 pub trait Shareable: Drop + Sized {
+    // how many values may wait
+    ghost room: { Self → ℕ };
+
     /// How many words a cell has; None where a value has more words than can be shared.
     fn width(&self) -> Option<usize>;
 
@@ -31,7 +36,8 @@ pub trait Shareable: Drop + Sized {
     fn cells(&self) -> usize;
 
     /// How many values may wait.
-    fn limit(&self) -> u64;
+    fn limit(&self) -> u64
+        ensures { result ≡ room self.now };
 
     /// Puts the oldest value into a cell; false if none is left.
     fn pour(&mut self, cell: &[AtomicU64]) -> bool;
@@ -44,15 +50,17 @@ pub trait SharedQueue: Shareable {}
 #[derive(Drop)]
 pub struct Shared<Q> {
     words: SharedWords,
+    limit: u64,
     form: PhantomData<Q>,
 }
 
 /// Puts a queue's or a single value's words where threads can share them.
-pub trait Share: Sized {
+pub trait Share: Shareable {
     /// The shared form, with the values that waited. The value itself comes back where no memory is
     /// found, or where one value has more than 16 words.
     fn share(self, alloc: Global) -> Result<Shared<Self>, Self>
-        ensures back { IfErr result (λ q. q ≡ self) };
+        ensures back { IfErr result (λ q. q ≡ self) }
+        ensures room { IfOk result (λ s. s.limit ≡ Self.room self) };
 }
 
 impl<Q: Shareable> Share for Q {
@@ -68,7 +76,8 @@ impl<Q: Shareable> Share for Q {
         let Ok(cells) = zeros(alloc, len) else {
             return Err(form);
         };
-        let mut words = SharedWords::new(cells, count, width, form.limit());
+        let limit = form.limit();
+        let mut words = SharedWords::new(cells, count, width);
         for _ in 0..count {
             if !form.pour(words.next_cell()) {
                 break;
@@ -77,6 +86,7 @@ impl<Q: Shareable> Share for Q {
         }
         Ok(Shared {
             words,
+            limit,
             form: PhantomData,
         })
     }
@@ -91,13 +101,23 @@ fn zeros(alloc: Global, count: usize) -> Result<Vec<AtomicU64>, AllocError> {
 }
 
 impl<Q> Shared<Q> {
+    /// How many values may wait.
+    pub fn capacity(&self) -> u64
+        ensures { result ≡ self.now.limit }
+    {
+        self.limit
+    }
+
     /// The role that pushes or stores; None while it is taken. The guard's drop gives it back.
-    pub fn acquire_producer(&self) -> Option<Producer<'_, Q>> {
+    pub fn acquire_producer(&self) -> Option<Producer<'_, Q>>
+        ensures { IfSome result (λ p. p.limit ≡ self.now.limit) }
+    {
         if self.words.producer_taken.swap(true, Ordering::SeqCst) {
             return None;
         }
         Some(Producer {
             words: &self.words,
+            limit: self.limit,
             form: PhantomData,
         })
     }
@@ -119,13 +139,18 @@ impl<Q: SharedQueue> Shared<Q> {
 /// The role that pushes or stores.
 pub struct Producer<'a, Q> {
     words: &'a SharedWords,
+    limit: u64,
     form: PhantomData<Q>,
 }
 
 impl<Q> Drop for Producer<'_, Q> {
     fn drop(self) {
         self.words.producer_taken.store(false, Ordering::SeqCst);
-        let Producer { words: _, form: _ } = self;
+        let Producer {
+            words: _,
+            limit: _,
+            form: _,
+        } = self;
     }
 }
 

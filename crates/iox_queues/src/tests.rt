@@ -1,2 +1,4 @@
+mod answers;
 mod roles;
 mod streams;
+mod turns;

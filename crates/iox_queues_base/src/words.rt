@@ -5,9 +5,9 @@ ghost use Rattle.std.specs.Prelude.{◌≡◌, ℕ, ◌+◌, ◌*◌, ◌/◌, �
 ghost use Rattle.std.proofs.Common.{arith, rules};
 ghost use Rattle.iox_queues_base.specs.Coding.{narrowed, narrowed-same, word_of_bool, wide-back};
 
-/// A value that is copied as a fixed number of 64-bit words.
+/// A value that is copied as a fixed number of 64-bit words, which may be none.
 ///
-/// The words of a value give it back.
+/// The words of a value give it back: so a type whose values have no words has one value.
 pub trait Words: Copy {
     // the words of a value
     ghost parts: { Self → List ℕ };
@@ -22,16 +22,22 @@ pub trait Words: Copy {
 
     ghost WORDS: { ℕ };
 
-    /// Word `i` of the value.
+    /// Word `i` of the value; 0 where it has no such word.
     fn word(&self, i: usize) -> u64
-        requires { i < WORDS }
         ensures part { result ≡ slice_index (parts self.now) i }
         ensures value { is_value self.now };
 
     /// The value that has these words, or any value where none has.
     fn of_words(words: &[u64]) -> Self
         requires { length words.now ≡ WORDS }
-        ensures { result ≡ of_parts words.now };
+        ensures same { result ≡ of_parts words.now }
+        ensures value { is_value result };
+
+    /// Does nothing: it says of each value, however few its words are, that they give it back. The
+    /// body of an integer reads it, which shows its range.
+    fn gives_back(&self)
+        ensures value { is_value self.now }
+        ensures same { of_parts (parts self.now) ≡ self.now };
 
     ghost as_many: { (x : Self) → length (parts x) ≡ WORDS };
 
@@ -49,8 +55,9 @@ impl Words for u8 {
 
     ghost WORDS = { 1 };
 
-    fn word(&self, _i: usize) -> u64 {
-        u64::from(*self)
+    fn word(&self, i: usize) -> u64 {
+        let value = u64::from(*self);
+        if i == 0 { value } else { 0 }
     }
 
     fn of_words(words: &[u64]) -> u8 {
@@ -60,6 +67,10 @@ impl Words for u8 {
         } else {
             0
         }
+    }
+
+    fn gives_back(&self) {
+        let _value = *self;
     }
 
     ghost as_many = { λ x. refl };
@@ -78,8 +89,9 @@ impl Words for u16 {
 
     ghost WORDS = { 1 };
 
-    fn word(&self, _i: usize) -> u64 {
-        u64::from(*self)
+    fn word(&self, i: usize) -> u64 {
+        let value = u64::from(*self);
+        if i == 0 { value } else { 0 }
     }
 
     fn of_words(words: &[u64]) -> u16 {
@@ -89,6 +101,10 @@ impl Words for u16 {
         } else {
             0
         }
+    }
+
+    fn gives_back(&self) {
+        let _value = *self;
     }
 
     ghost as_many = { λ x. refl };
@@ -107,8 +123,9 @@ impl Words for u32 {
 
     ghost WORDS = { 1 };
 
-    fn word(&self, _i: usize) -> u64 {
-        u64::from(*self)
+    fn word(&self, i: usize) -> u64 {
+        let value = u64::from(*self);
+        if i == 0 { value } else { 0 }
     }
 
     fn of_words(words: &[u64]) -> u32 {
@@ -118,6 +135,10 @@ impl Words for u32 {
         } else {
             0
         }
+    }
+
+    fn gives_back(&self) {
+        let _value = *self;
     }
 
     ghost as_many = { λ x. refl };
@@ -136,12 +157,17 @@ impl Words for u64 {
 
     ghost WORDS = { 1 };
 
-    fn word(&self, _i: usize) -> u64 {
-        *self
+    fn word(&self, i: usize) -> u64 {
+        let value = *self;
+        if i == 0 { value } else { 0 }
     }
 
     fn of_words(words: &[u64]) -> u64 {
         words[0]
+    }
+
+    fn gives_back(&self) {
+        let _value = *self;
     }
 
     ghost as_many = { λ x. refl };
@@ -160,12 +186,17 @@ impl Words for usize {
 
     ghost WORDS = { 1 };
 
-    fn word(&self, _i: usize) -> u64 {
-        *self as u64
+    fn word(&self, i: usize) -> u64 {
+        let value = *self as u64;
+        if i == 0 { value } else { 0 }
     }
 
     fn of_words(words: &[u64]) -> usize {
         words[0] as usize
+    }
+
+    fn gives_back(&self) {
+        let _value = *self;
     }
 
     ghost as_many = { λ x. refl };
@@ -187,15 +218,19 @@ impl Words for u128 {
 
     fn word(&self, i: usize) -> u64 {
         let value = *self;
-        if i == 0 {
-            (value % 0x1_0000_0000_0000_0000) as u64
-        } else {
-            (value / 0x1_0000_0000_0000_0000) as u64
+        match i {
+            0 => (value % 0x1_0000_0000_0000_0000) as u64,
+            1 => (value / 0x1_0000_0000_0000_0000) as u64,
+            _ => 0,
         }
     }
 
     fn of_words(words: &[u64]) -> u128 {
         u128::from(words[0]) + 0x1_0000_0000_0000_0000 * u128::from(words[1])
+    }
+
+    fn gives_back(&self) {
+        let _value = *self;
     }
 
     ghost as_many = { λ x. refl };
@@ -214,15 +249,42 @@ impl Words for bool {
 
     ghost WORDS = { 1 };
 
-    fn word(&self, _i: usize) -> u64 {
-        if *self { 1 } else { 0 }
+    fn word(&self, i: usize) -> u64 {
+        if i == 0 && *self { 1 } else { 0 }
     }
 
     fn of_words(words: &[u64]) -> bool {
         words[0] == 1
     }
 
+    fn gives_back(&self) {}
+
     ghost as_many = { λ x. refl };
 
     ghost given_back = { elim [ true ↦ λ h. refl | false ↦ λ h. refl ] };
+}
+
+/// No words: there is one value.
+impl Words for () {
+    ghost parts = { λ x. [] };
+
+    ghost of_parts = { λ ws. tt };
+
+    ghost is_value = { λ x. Unit {0} };
+
+    const WORDS: usize = 0;
+
+    ghost WORDS = { 0 };
+
+    fn word(&self, _i: usize) -> u64 {
+        0
+    }
+
+    fn of_words(_words: &[u64]) {}
+
+    fn gives_back(&self) {}
+
+    ghost as_many = { λ x. refl };
+
+    ghost given_back = { λ x h. refl };
 }

@@ -3,7 +3,7 @@ use Rattle.std.proofs.Common.{◌≡◌, ℕ, ◌+◌, ◌-◌, ◌%◌, ◌<◌
 use Rattle.std.proofs.Math.Seq.{get_or-set_same, get_or-set_other}
 use Rattle.std.proofs.lemmas.Bool.{ltb-true, ltb-false, eqb-true, eqb-false}
 use Rattle.std.proofs.lemmas.Nat.{mod_below}
-use Rattle.iox_queues_steps.specs.Access.{Words, successor, answer_of, after_access}
+use Rattle.iox_queues_steps.specs.Access.{RingWords, successor, answer_of, after_access}
 use Rattle.iox_queues_bits.specs.Steps.{call_next}
 use Rattle.iox_queues_bits.specs.Sums.{raised_by, taken_by, cleared_by, hits}
 use Rattle.iox_queues_bits.specs.Kept.{Knows}
@@ -12,7 +12,7 @@ use Rattle.iox_queues_bits.specs.declared.call.SetCall.TheVariants.{Idle, Add, A
 use Rattle.iox_queues_bits.specs.declared.machine.Event.{Event}
 
 -- what one exchange does to one place
-exchanged : (words : Words) (j i old new : ℕ) → j < length words.cells → i < length words.cells → (old < new → new ≡ old + 1) → (b b2 b3 : Bool) → (slice_index words.cells j == old) ≡ b → (j == i) ≡ b2 → nat_lt old new ≡ b3
+exchanged : (words : RingWords) (j i old new : ℕ) → j < length words.cells → i < length words.cells → (old < new → new ≡ old + 1) → (b b2 b3 : Bool) → (slice_index words.cells j == old) ≡ b → (j == i) ≡ b2 → nat_lt old new ≡ b3
     → slice_index (if b then record words { cells = set words.cells j new } else words).cells i + (if b2 && b then old - new else 0) ≡ slice_index words.cells i + (if (b2 && b) && b3 then 1 else 0)
 exchanged words j i old new at there one true true true e e2 e3 =
     let same : j ≡ i = eqb-true j i e2 in
@@ -38,11 +38,11 @@ exchanged words j i old new at there one true false b3 e e2 e3 =
 exchanged words j i old new at there one false true b3 e e2 e3 = refl
 exchanged words j i old new at there one false false b3 e e2 e3 = refl
 
-kept_length : (words : Words) (j new : ℕ) (b : Bool) → length (if b then record words { cells = set words.cells j new } else words).cells ≡ length words.cells
+kept_length : (words : RingWords) (j new : ℕ) (b : Bool) → length (if b then record words { cells = set words.cells j new } else words).cells ≡ length words.cells
 kept_length words j new true = length-set words.cells j new
 kept_length words j new false = refl
 
-pub same_length : (words : Words) (stage : SetCall) → length (after_access words (call_next stage)).cells ≡ length words.cells
+pub same_length : (words : RingWords) (stage : SetCall) → length (after_access words (call_next stage)).cells ≡ length words.cells
 same_length words Idle = refl
 same_length words (Add place max) = refl
 same_length words (Adding place max count) = kept_length words (place % length words.cells) (successor count) (slice_index words.cells (place % length words.cells) == count)
@@ -53,7 +53,7 @@ same_length words (Found place after) = refl
 same_length words (Done c answered) = refl
 
 -- what one step does to one place
-pub one_step : (words : Words) (stage : SetCall) (i : ℕ) → 0 < length words.cells → i < length words.cells
+pub one_step : (words : RingWords) (stage : SetCall) (i : ℕ) → 0 < length words.cells → i < length words.cells
     → slice_index (after_access words (call_next stage)).cells i + taken_by (length words.cells) i (call_next stage) (answer_of words (call_next stage)) ≡ slice_index words.cells i + raised_by (length words.cells) i (call_next stage) (answer_of words (call_next stage))
 one_step words Idle i some there = refl
 one_step words (Add place max) i some there = refl
@@ -77,12 +77,12 @@ stored cells j i new max at small within there false e =
     let other : slice_index (set cells j new) i ≡ slice_index cells i = get_or-set_other cells j i new 0 (λ same. eqb-false j i e (sym same)) in
     omega (arith, within i there)
 
-stored_if : (words : Words) (j i new max : ℕ) (b : Bool) → j < length words.cells → new ≤ max → ((k : ℕ) → k < length words.cells → slice_index words.cells k ≤ max) → i < length words.cells
+stored_if : (words : RingWords) (j i new max : ℕ) (b : Bool) → j < length words.cells → new ≤ max → ((k : ℕ) → k < length words.cells → slice_index words.cells k ≤ max) → i < length words.cells
     → slice_index (if b then record words { cells = set words.cells j new } else words).cells i ≤ max
 stored_if words j i new max true at small within there = stored words.cells j i new max at small within there (j == i) refl
 stored_if words j i new max false at small within there = within i there
 
-pub keeps_within : (max : ℕ) (words : Words) (own : List Event) (stage : SetCall) (i : ℕ) → max < 2 ^ 64 → 0 < length words.cells → Knows max (length words.cells) own stage
+pub keeps_within : (max : ℕ) (words : RingWords) (own : List Event) (stage : SetCall) (i : ℕ) → max < 2 ^ 64 → 0 < length words.cells → Knows max (length words.cells) own stage
     → ((k : ℕ) → k < length words.cells → slice_index words.cells k ≤ max) → i < length words.cells → slice_index (after_access words (call_next stage)).cells i ≤ max
 keeps_within max words own Idle i small some k within there = within i there
 keeps_within max words own (Add place top) i small some k within there = within i there
@@ -105,7 +105,7 @@ won_below k count m true false e h = omega arith
 won_below k count m false b e h = omega arith
 
 -- where no place passes 1, no step takes more
-takes_one : (words : Words) (own : List Event) (stage : SetCall) (i max : ℕ) → Knows max (length words.cells) own stage → max ≤ 1 → 0 < length words.cells → ((k : ℕ) → k < length words.cells → slice_index words.cells k ≤ max)
+takes_one : (words : RingWords) (own : List Event) (stage : SetCall) (i max : ℕ) → Knows max (length words.cells) own stage → max ≤ 1 → 0 < length words.cells → ((k : ℕ) → k < length words.cells → slice_index words.cells k ≤ max)
     → taken_by (length words.cells) i (call_next stage) (answer_of words (call_next stage)) ≤ 1
 takes_one words own Idle i max k one some within = omega arith
 takes_one words own (Add place top) i max k one some within = omega arith
@@ -123,7 +123,7 @@ once : (k : ℕ) (b : Bool) → nat_lt 0 k ≡ b → k ≤ 1 → ◌≡◌ {A = 
 once k true e h = let lt : 0 < k = ltb-true 0 k e in omega arith
 once k false e h = let le : k ≤ 0 = ltb-false 0 k e in omega arith
 
-pub clears_once : (words : Words) (own : List Event) (stage : SetCall) (i max : ℕ) → Knows max (length words.cells) own stage → max ≤ 1 → 0 < length words.cells → ((k : ℕ) → k < length words.cells → slice_index words.cells k ≤ max)
+pub clears_once : (words : RingWords) (own : List Event) (stage : SetCall) (i max : ℕ) → Knows max (length words.cells) own stage → max ≤ 1 → 0 < length words.cells → ((k : ℕ) → k < length words.cells → slice_index words.cells k ≤ max)
     → cleared_by (length words.cells) i (call_next stage) (answer_of words (call_next stage)) ≡ taken_by (length words.cells) i (call_next stage) (answer_of words (call_next stage))
 clears_once words own stage i max k one some within =
     once (taken_by (length words.cells) i (call_next stage) (answer_of words (call_next stage))) (nat_lt 0 (taken_by (length words.cells) i (call_next stage) (answer_of words (call_next stage)))) refl (takes_one words own stage i max k one some within)

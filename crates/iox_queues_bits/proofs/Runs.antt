@@ -13,7 +13,7 @@ use Rattle.iox_queues_steps.specs.declared.schedule.Stepped.TheVariants as stepp
 use Rattle.iox_queues_bits.specs.Steps.{call_begun, call_next, call_take}
 use Rattle.iox_queues_bits.specs.Sums.{increments, taken_out, cleared, raised_by, taken_by}
 use Rattle.iox_queues_bits.specs.Told.{Tells, own}
-use Rattle.iox_queues_bits.specs.Machine.{SetMachine, IsBalanced, IsToldBy, AreTold, StepsTo, RunsTo, begun, call_ended, fits, happens, idle_seat, seat_of, seat_at, stage_at, start, went}
+use Rattle.iox_queues_bits.specs.Machine.{SetState, IsBalanced, IsToldBy, AreTold, StepsTo, RunsTo, begun, call_ended, fits, happens, idle_seat, seat_of, seat_at, stage_at, start, went}
 use Rattle.iox_queues_bits.specs.Kept.{Knows, IsKept}
 use Rattle.iox_queues_bits.proofs.Knowing.{more_increments, more_taken, more_cleared, knows_on, knows_begun, eqb_same, eqb_differs}
 use Rattle.iox_queues_bits.proofs.Balance.{same_length, one_step, keeps_within, clears_once}
@@ -103,7 +103,7 @@ ended_told max n events e party first (Done c answer) h k = (
 )
 
 -- one access keeps the balance
-went_balanced : (m : SetMachine) (party : ℕ) → IsKept m → IsBalanced (went m party)
+went_balanced : (m : SetState) (party : ℕ) → IsKept m → IsBalanced (went m party)
 went_balanced m party k =
     let size : length (after_access m.words (call_next (stage_at m.seats party))).cells ≡ length m.words.cells = same_length m.words (stage_at m.seats party) in
     let b : IsBalanced m = k.balanced in
@@ -163,7 +163,7 @@ began_on seats events e party seat h within began q false other =
     let at : (seat_at (set seats party seat) q).first ≡ (seat_at seats q).first = ap (λ (s : Seat). s.first) (seat_else seats party q seat (eqb-false q party other)) in
     omega (arith, began q, length-append events (e ∷ []))
 
-went_keeps : (m : SetMachine) (party : ℕ) → party < length m.seats → IsKept m → IsKept (went m party)
+went_keeps : (m : SetState) (party : ℕ) → party < length m.seats → IsKept m → IsKept (went m party)
 went_keeps m party within k =
     let size : length (after_access m.words (call_next (stage_at m.seats party))).cells ≡ length m.words.cells = same_length m.words (stage_at m.seats party) in
     let event : Event = record { party = party; access = call_next (stage_at m.seats party); answer = answer_of m.words (call_next (stage_at m.seats party)) } in
@@ -189,7 +189,7 @@ own_begin : (party : ℕ) (e : Event) (b : Bool) → (e.party == party) ≡ b �
 own_begin party e true same is = ap (λ (b : Bool). if b then e ∷ [] else []) same
 own_begin party e false same is = absurd (cc)
 
-begun_keeps : (m : SetMachine) (party : ℕ) (c : Call) → fits m (Begin party c) ≡ true → IsKept m → IsKept (begun m party c)
+begun_keeps : (m : SetState) (party : ℕ) (c : Call) → fits m (Begin party c) ≡ true → IsKept m → IsKept (begun m party c)
 begun_keeps m party c fit k =
     let event : Event = record { party = party; access = Local; answer = 0 } in
     let seat : Seat = record { stage = call_begun m.max (length m.words.cells) c; first = length m.events } in
@@ -214,25 +214,25 @@ begun_keeps m party c fit k =
       began = λ q. began_on m.seats m.events event party seat (omega arith) within k.began q (q == party) refl;
     }
 
-happens_keeps : (m : SetMachine) (step : Move) → fits m step ≡ true → IsKept m → IsKept (happens m step)
+happens_keeps : (m : SetState) (step : Move) → fits m step ≡ true → IsKept m → IsKept (happens m step)
 happens_keeps m (Begin party c) fit k = begun_keeps m party c fit k
 happens_keeps m (GoOn party) fit k = went_keeps m party (ltb-true party (length m.seats) (and_left (nat_lt party (length m.seats)) _ fit)) k
 
-pub steps_keep : (m : SetMachine) (step : Move) (r : Stepped) (n : SetMachine) → StepsTo m step r n → IsKept m → IsKept n
+pub steps_keep : (m : SetState) (step : Move) (r : Stepped) (n : SetState) → StepsTo m step r n → IsKept m → IsKept n
 steps_keep m step stepped.Went n h k = subst IsKept (sym h.2) (happens_keeps m step h.0 k)
 steps_keep m step stepped.Finished n h k = subst IsKept (sym h.2) (happens_keeps m step h.0 k)
 steps_keep m step stepped.Skipped n h k = subst IsKept (sym h.1) k
 steps_keep m step stepped.NoMemory n h k = subst IsKept (sym h.1) k
 
-happens_length : (m : SetMachine) (step : Move) → length (happens m step).words.cells ≡ length m.words.cells
+happens_length : (m : SetState) (step : Move) → length (happens m step).words.cells ≡ length m.words.cells
 happens_length m (Begin party c) = refl
 happens_length m (GoOn party) = same_length m.words (stage_at m.seats party)
 
-pub steps_length : (m : SetMachine) (step : Move) (r : Stepped) (n : SetMachine) → StepsTo m step r n → length n.words.cells ≡ length m.words.cells
-steps_length m step stepped.Went n h = ap (λ (x : SetMachine). length x.words.cells) h.2 ∙ happens_length m step
-steps_length m step stepped.Finished n h = ap (λ (x : SetMachine). length x.words.cells) h.2 ∙ happens_length m step
-steps_length m step stepped.Skipped n h = ap (λ (x : SetMachine). length x.words.cells) h.1
-steps_length m step stepped.NoMemory n h = ap (λ (x : SetMachine). length x.words.cells) h.1
+pub steps_length : (m : SetState) (step : Move) (r : Stepped) (n : SetState) → StepsTo m step r n → length n.words.cells ≡ length m.words.cells
+steps_length m step stepped.Went n h = ap (λ (x : SetState). length x.words.cells) h.2 ∙ happens_length m step
+steps_length m step stepped.Finished n h = ap (λ (x : SetState). length x.words.cells) h.2 ∙ happens_length m step
+steps_length m step stepped.Skipped n h = ap (λ (x : SetState). length x.words.cells) h.1
+steps_length m step stepped.NoMemory n h = ap (λ (x : SetState). length x.words.cells) h.1
 
 pub start_kept : (max capacity parties : ℕ) → 0 < capacity → capacity < 2 ^ 64 → max < 2 ^ 64 → IsKept (start max capacity parties)
 start_kept max capacity parties some few small =
@@ -260,14 +260,14 @@ start_kept max capacity parties some few small =
     at q true e = get_or-replicate {A = Seat} parties q idle_seat idle_seat (ltb-true q parties e)
     at q false e = get_or_past (replicate parties idle_seat) q idle_seat (omega (arith, ltb-false q parties e, length-replicate {A = Seat} parties idle_seat))
 
-pub run_more : (m : SetMachine) (step : Move) (steps : List Move) (r : Stepped) (m' n : SetMachine) (k made : ℕ) → StepsTo m step r m' → is_stopped_of r ≡ false → made ≡ count_of r + k → RunsTo m' steps k n → RunsTo m (step ∷ steps) made n
-run_more m step steps stepped.Went m' n k made h go e g = inr (inl (h.0, (k, omega arith, subst (λ (x : SetMachine). RunsTo x steps k n) h.2 g)))
-run_more m step steps stepped.Finished m' n k made h go e g = inr (inl (h.0, (k, omega arith, subst (λ (x : SetMachine). RunsTo x steps k n) h.2 g)))
+pub run_more : (m : SetState) (step : Move) (steps : List Move) (r : Stepped) (m' n : SetState) (k made : ℕ) → StepsTo m step r m' → is_stopped_of r ≡ false → made ≡ count_of r + k → RunsTo m' steps k n → RunsTo m (step ∷ steps) made n
+run_more m step steps stepped.Went m' n k made h go e g = inr (inl (h.0, (k, omega arith, subst (λ (x : SetState). RunsTo x steps k n) h.2 g)))
+run_more m step steps stepped.Finished m' n k made h go e g = inr (inl (h.0, (k, omega arith, subst (λ (x : SetState). RunsTo x steps k n) h.2 g)))
 run_more m step steps stepped.Skipped m' n k made h go e g =
-    inl (h.0, subst (λ (i : ℕ). RunsTo m steps i n) (omega arith) (subst (λ (x : SetMachine). RunsTo x steps k n) h.1 g))
+    inl (h.0, subst (λ (i : ℕ). RunsTo m steps i n) (omega arith) (subst (λ (x : SetState). RunsTo x steps k n) h.1 g))
 run_more m step steps stepped.NoMemory m' n k made h go e g = absurd (cc)
 
-pub run_stops : (m : SetMachine) (step : Move) (steps : List Move) (r : Stepped) (m' : SetMachine) → StepsTo m step r m' → is_stopped_of r ≡ true → RunsTo m (step ∷ steps) 0 m'
+pub run_stops : (m : SetState) (step : Move) (steps : List Move) (r : Stepped) (m' : SetState) → StepsTo m step r m' → is_stopped_of r ≡ true → RunsTo m (step ∷ steps) 0 m'
 run_stops m step steps stepped.Went m' h go = absurd (cc)
 run_stops m step steps stepped.Finished m' h go = absurd (cc)
 run_stops m step steps stepped.Skipped m' h go = absurd (cc)

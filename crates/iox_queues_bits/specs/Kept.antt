@@ -1,7 +1,7 @@
 -- What every step of a set's machine keeps.
 use Rattle.std.specs.Prelude.{ℕ, ◌≡◌, ◌+◌, ◌<◌, ◌≤◌, ◌^◌, Bool, true, false, List, length, drop}
 use Rattle.std.specs.List.{list_any}
-use Rattle.iox_queues_bits.specs.Machine.{SetMachine, IsBalanced, IsTold, seat_at, stage_at}
+use Rattle.iox_queues_bits.specs.Machine.{SetState, IsBalanced, IsTold, seat_at, stage_at}
 use Rattle.iox_queues_bits.specs.Sums.{taken_out}
 use Rattle.iox_queues_bits.specs.Told.{AddNone, TakeNone, Tells, finds_none, own}
 use Rattle.iox_queues_bits.specs.declared.call.SetCall.{SetCall}
@@ -36,7 +36,7 @@ Knows max n events (Found place after) =
 Knows max n events (Done c answer) = Tells max n c answer events
 
 -- the words balance, each call that ended did what it answered, and each call in hand knows its steps
-pub record IsKept (m : SetMachine) : Type 0 where
+pub record IsKept (m : SetState) : Type 0 where
   pub balanced : IsBalanced m
   pub told : IsTold m
   pub some : 0 < length m.words.cells

@@ -1,6 +1,6 @@
 -- A bit set or counting bit set as a machine: its steps, and what they add up to.
 use Rattle.std.specs.Prelude.{ℕ, ◌≡◌, ◌+◌, ◌<◌, ◌≤◌, ◌⊎◌, Bool, true, false, not, ◌&&◌, nat_lt, Option, Some, None, List, [], ◌∷◌, ◌++◌, length, set, slice_get, slice_index, take, drop, replicate}
-use Rattle.iox_queues_steps.specs.Access.{Words, answer_of, after_access}
+use Rattle.iox_queues_steps.specs.Access.{RingWords, answer_of, after_access}
 use Rattle.iox_queues_steps.specs.declared.access.Access.TheVariants.{Local}
 use Rattle.iox_queues_steps.specs.declared.schedule.Stepped.{Stepped}
 use Rattle.iox_queues_steps.specs.declared.schedule.Stepped.TheVariants as stepped
@@ -18,9 +18,9 @@ use Rattle.iox_queues_bits.specs.declared.machine.Move.TheVariants.{Begin, GoOn}
 use Rattle.iox_queues_bits.specs.declared.state.Seat.{Seat}
 
 -- the largest count, the words, where each party stands, the steps made, and the calls that ended
-pub record SetMachine : Type 0 where
+pub record SetState : Type 0 where
   pub max : ℕ
-  pub words : Words
+  pub words : RingWords
   pub seats : List Seat
   pub events : List Event
   pub finished : List Finished
@@ -47,18 +47,18 @@ is_within capacity call.ResetNext = true
 is_within capacity call.ResetAll = true
 
 -- a begin fits a party that is there and between calls, a go on one inside a call
-abbrev pub fits : SetMachine → Move → Bool
+abbrev pub fits : SetState → Move → Bool
 fits m (Begin party c) =
     nat_lt party (length m.seats) && (call_is_idle (stage_at m.seats party) && is_within (length m.words.cells) c)
 fits m (GoOn party) = nat_lt party (length m.seats) && not (call_is_idle (stage_at m.seats party))
 
 -- the step is the last of its call
-abbrev pub ends : SetMachine → Move → Bool
+abbrev pub ends : SetState → Move → Bool
 ends m (Begin party c) = false
 ends m (GoOn party) = call_is_over (stage_at m.seats party)
 
 -- the machine after a begin
-abbrev pub begun : SetMachine → ℕ → Call → SetMachine
+abbrev pub begun : SetState → ℕ → Call → SetState
 begun m party c = record m {
   seats = set m.seats party (record { stage = call_begun m.max (length m.words.cells) c; first = length m.events });
   events = m.events ++ record { party = party; access = Local; answer = 0 } ∷ [];
@@ -77,7 +77,7 @@ call_ended party first last (Done c answer) =
     record { party = party; call = c; answer = answer; first = first; last = last } ∷ []
 
 -- the machine after one access of a party
-abbrev pub went : SetMachine → ℕ → SetMachine
+abbrev pub went : SetState → ℕ → SetState
 went m party = record m {
   words = after_access m.words (call_next (stage_at m.seats party));
   seats = set m.seats party (record {
@@ -93,19 +93,19 @@ went m party = record m {
 }
 
 -- the machine after a step that fits
-abbrev pub happens : SetMachine → Move → SetMachine
+abbrev pub happens : SetState → Move → SetState
 happens m (Begin party c) = begun m party c
 happens m (GoOn party) = went m party
 
 -- what a step answers, and what it leaves
-abbrev pub StepsTo : SetMachine → Move → Stepped → SetMachine → Type 0
+abbrev pub StepsTo : SetState → Move → Stepped → SetState → Type 0
 StepsTo m step stepped.Went n = (fits m step ≡ true) × (ends m step ≡ false) × (n ≡ happens m step)
 StepsTo m step stepped.Finished n = (fits m step ≡ true) × (ends m step ≡ true) × (n ≡ happens m step)
 StepsTo m step stepped.Skipped n = (fits m step ≡ false) × (n ≡ m)
 StepsTo m step stepped.NoMemory n = (fits m step ≡ true) × (n ≡ m)
 
 -- a list of steps, of which `made` were made; it may stop where a step that fits finds no memory
-abbrev pub RunsTo : SetMachine → List Move → ℕ → SetMachine → Type 0
+abbrev pub RunsTo : SetState → List Move → ℕ → SetState → Type 0
 RunsTo m [] made n = (made ≡ 0) × (n ≡ m)
 RunsTo m (step ∷ steps) made n =
     ((fits m step ≡ false) × RunsTo m steps made n)
@@ -114,7 +114,7 @@ RunsTo m (step ∷ steps) made n =
 
 -- for each place: increments are the counts taken out and the count now, and no count passes the
 -- largest. In a bit set: it went from clear to set as often as it was cleared, plus one if it is set
-pub record IsBalanced (m : SetMachine) : Type 0 where
+pub record IsBalanced (m : SetState) : Type 0 where
   pub each : (i : ℕ) → i < length m.words.cells
       → increments (length m.words.cells) i m.events ≡ taken_out (length m.words.cells) i m.events + slice_index m.words.cells i
   pub within : (i : ℕ) → i < length m.words.cells → slice_index m.words.cells i ≤ m.max
@@ -132,11 +132,11 @@ AreTold max n events [] = Unit {0}
 AreTold max n events (f ∷ finished) = IsToldBy max n events f × AreTold max n events finished
 
 -- each call that ended did what it answered
-abbrev pub IsTold : SetMachine → Type 0
+abbrev pub IsTold : SetState → Type 0
 IsTold m = AreTold m.max (length m.words.cells) m.events m.finished
 
 -- an empty set
-abbrev pub start : ℕ → ℕ → ℕ → SetMachine
+abbrev pub start : ℕ → ℕ → ℕ → SetState
 start max capacity parties = record {
   max = max;
   words = record { cells = replicate capacity 0; write = 0; read = 0 };

@@ -12,4 +12,4 @@ pub mod machine;
 mod state;
 
 pub use call::{Answer, Call, SetCall};
-pub use machine::{Event, Finished, Machine, Move};
+pub use machine::{Event, Finished, Move, SetMachine};

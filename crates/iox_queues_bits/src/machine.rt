@@ -37,15 +37,15 @@ pub struct Finished {
 /// Any party may stop anywhere. For each place, what was counted in is what was taken out and what
 /// is there now; no count passes the largest. What a call that ended did is what it answered.
 #[derive(Debug, Drop)]
-pub struct Machine {
+pub struct SetMachine {
     state: State,
 }
 
-impl Model for Machine {
-    ghost use Rattle.iox_queues_bits.specs.Machine.{SetMachine};
+impl Model for SetMachine {
+    ghost use Rattle.iox_queues_bits.specs.Machine.{SetState};
     ghost use Rattle.iox_queues_bits.specs.Kept.{IsKept};
 
-    ghost Value = { SetMachine };
+    ghost Value = { SetState };
 
     ghost use Rattle.std.specs.Prelude.{◌≡◌, length};
     ghost use Rattle.iox_queues_bits.specs.State.{machine_of};
@@ -55,7 +55,7 @@ impl Model for Machine {
     ghost invariant = { λ m. IsKept (machine_of m.state) × (length m.state.ring.cells ≡ m.state.capacity) };
 }
 
-impl Machine {
+impl SetMachine {
     ghost use Rattle.iox_queues_bits.specs.Machine.{IsBalanced, IsTold, StepsTo, RunsTo, start, stage_at};
 
     /// An empty set of this capacity, with this many parties. No count passes `max`, which is 1 for
@@ -65,11 +65,11 @@ impl Machine {
         max: u64,
         capacity: usize,
         parties: usize,
-    ) -> Result<Machine, AllocError>
+    ) -> Result<SetMachine, AllocError>
         requires { 0 < capacity }
         ensures { IfOk result (λ m. m ≡ start max capacity parties) }
     {
-        Ok(Machine {
+        Ok(SetMachine {
             state: State::new(alloc, max, capacity, parties)?,
         })
     }

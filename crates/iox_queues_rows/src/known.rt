@@ -1,10 +1,9 @@
 //! Two schedules of the overflowing ring of capacity 1, where 1 waits, and a ring that is too large.
-use iox_queues::overflowing::Machine;
-use iox_queues::{Call, Move, Party, PopAnswer, PushAnswer, Stepped};
+use iox_queues::{Call, Move, Party, PopAnswer, PushAnswer, RingMachine, Stepped};
 use std::process::Abort;
 use std::test::Fail;
 
-fn go_on(rt: &impl Abort, machine: &mut Machine, party: Party, times: usize) {
+fn go_on(rt: &impl Abort, machine: &mut RingMachine, party: Party, times: usize) {
     for _ in 0..times {
         if machine.moments() < 1000 {
             let stepped = machine.step(Move::GoOn(party));
@@ -13,7 +12,7 @@ fn go_on(rt: &impl Abort, machine: &mut Machine, party: Party, times: usize) {
     }
 }
 
-fn begin(rt: &impl Abort, machine: &mut Machine, call: Call) {
+fn begin(rt: &impl Abort, machine: &mut RingMachine, call: Call) {
     if machine.moments() < 1000 {
         assert_eq!(rt; machine.step(Move::Begin(call)), Stepped::Went);
     }
@@ -21,7 +20,7 @@ fn begin(rt: &impl Abort, machine: &mut Machine, call: Call) {
 
 #[test]
 fn a_pop_takes_the_oldest_before_the_push_looks(rt: HostRuntime) -> Result<(), Fail> {
-    let mut machine = Machine::new(rt.alloc(), 1, &[1])?;
+    let mut machine = RingMachine::overflowing(rt.alloc(), 1, &[1])?;
     begin(&rt, &mut machine, Call::Push(2));
     go_on(&rt, &mut machine, Party::Producer, 4);
     begin(&rt, &mut machine, Call::Pop);
@@ -41,7 +40,7 @@ fn a_pop_takes_the_oldest_before_the_push_looks(rt: HostRuntime) -> Result<(), F
 
 #[test]
 fn a_push_takes_the_oldest_before_the_pop_exchanges(rt: HostRuntime) -> Result<(), Fail> {
-    let mut machine = Machine::new(rt.alloc(), 1, &[1])?;
+    let mut machine = RingMachine::overflowing(rt.alloc(), 1, &[1])?;
     begin(&rt, &mut machine, Call::Pop);
     go_on(&rt, &mut machine, Party::Consumer, 3);
     begin(&rt, &mut machine, Call::Push(2));
@@ -58,6 +57,6 @@ fn a_push_takes_the_oldest_before_the_pop_exchanges(rt: HostRuntime) -> Result<(
 
 #[test]
 fn a_ring_that_no_memory_holds_is_refused(rt: HostRuntime) -> Result<(), Fail> {
-    assert!(rt; Machine::new(rt.alloc(), 1 << 62, &[]).is_err());
+    assert!(rt; RingMachine::overflowing(rt.alloc(), 1 << 62, &[]).is_err());
     Ok(())
 }

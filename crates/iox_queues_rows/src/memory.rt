@@ -5,7 +5,7 @@
 use iox_queues::{
     BitSet, Call, CountingBitSet, FixedSizeBitSet, FixedSizeCountingBitSet, FixedSizeIndexQueue,
     FixedSizeSafelyOverflowingIndexQueue, IndexQueue, Move, Party, PopAnswer, PushAnswer, Queue,
-    SafelyOverflowingIndexQueue, Share, Stepped, UnrestrictedAtomic, overflowing, refusing, sets,
+    RingMachine, SafelyOverflowingIndexQueue, Share, Stepped, UnrestrictedAtomic, sets,
 };
 use std::alloc::Global;
 use std::process::Abort;
@@ -92,7 +92,7 @@ const PUSH_THEN_POP: [Move; 14] = [
 
 // A step without memory changes nothing, and goes when it is asked again.
 fn overflowing_goes_again(rt: &impl Abort, alloc: Global) {
-    let Ok(mut machine) = overflowing::Machine::new(alloc, 1, &[1]) else {
+    let Ok(mut machine) = RingMachine::overflowing(alloc, 1, &[1]) else {
         return;
     };
     for step in PUSH_THEN_POP {
@@ -118,7 +118,7 @@ fn overflowing_goes_again(rt: &impl Abort, alloc: Global) {
 }
 
 fn refusing_goes_again(rt: &impl Abort, alloc: Global) {
-    let Ok(mut machine) = refusing::Machine::new(alloc, 1, &[1]) else {
+    let Ok(mut machine) = RingMachine::refusing(alloc, 1, &[1]) else {
         return;
     };
     for step in PUSH_THEN_POP {
@@ -157,7 +157,7 @@ const SET_THEN_RESET: [sets::Move; 10] = [
 ];
 
 fn a_set_goes_again(rt: &impl Abort, alloc: Global) {
-    let Ok(mut machine) = sets::Machine::new(alloc, 1, 2, 1) else {
+    let Ok(mut machine) = sets::SetMachine::new(alloc, 1, 2, 1) else {
         return;
     };
     for step in SET_THEN_RESET {
@@ -213,8 +213,8 @@ fn each_is_made_where_memory_is_found(rt: HostRuntime) -> Result<(), Fail> {
     );
     assert!(rt; Queue::<u128, 2>::new(alloc)?.share(alloc).is_ok());
     assert!(rt; UnrestrictedAtomic::new(7u64).share(alloc).is_ok());
-    assert_eq!(rt; overflowing::Machine::new(alloc, 1, &[1])?.moments(), 0);
-    assert_eq!(rt; refusing::Machine::new(alloc, 1, &[1])?.moments(), 0);
-    assert_eq!(rt; sets::Machine::new(alloc, 1, 2, 1)?.capacity(), 2);
+    assert_eq!(rt; RingMachine::overflowing(alloc, 1, &[1])?.moments(), 0);
+    assert_eq!(rt; RingMachine::refusing(alloc, 1, &[1])?.moments(), 0);
+    assert_eq!(rt; sets::SetMachine::new(alloc, 1, 2, 1)?.capacity(), 2);
     Ok(())
 }

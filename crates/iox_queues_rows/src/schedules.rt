@@ -1,6 +1,6 @@
 //! Every schedule of two whole calls on both rings, at capacities 1 and 2, against a plain list.
 use iox_queues::{
-    Act, Call, Move, Party, Placed, PopAnswer, PopCall, PushAnswer, PushCall, overflowing, refusing,
+    Act, Call, Move, Party, Placed, PopAnswer, PopCall, PushAnswer, PushCall, RingMachine,
 };
 use std::alloc::{AllocError, Global};
 use std::process::Abort;
@@ -138,7 +138,7 @@ fn overflowing_is_as_the_list(
     if capacity == 0 || 9 <= capacity || capacity < waiting.len() as u64 || 1000 <= moves.len() {
         return Ok(false);
     }
-    let mut machine = overflowing::Machine::new(alloc, capacity, waiting.as_slice())?;
+    let mut machine = RingMachine::overflowing(alloc, capacity, waiting.as_slice())?;
     machine.run(moves);
     let mut plain = Plain {
         overflows: true,
@@ -167,7 +167,7 @@ fn refusing_is_as_the_list(
     if 9 <= capacity || capacity < waiting.len() as u64 || 1000 <= moves.len() {
         return Ok(false);
     }
-    let mut machine = refusing::Machine::new(alloc, capacity, waiting.as_slice())?;
+    let mut machine = RingMachine::refusing(alloc, capacity, waiting.as_slice())?;
     machine.run(moves);
     let mut plain = Plain {
         overflows: false,

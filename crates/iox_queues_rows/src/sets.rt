@@ -1,6 +1,6 @@
 //! Bit sets and counting bit sets one word at a time: every schedule of two calls.
 use iox_queues::Stepped;
-use iox_queues::sets::{Answer, Call, Machine, Move};
+use iox_queues::sets::{Answer, Call, Move, SetMachine};
 use std::alloc::{AllocError, Global};
 use std::process::Abort;
 use std::test::Fail;
@@ -50,7 +50,7 @@ fn moves(alloc: Global, mask: u32, first: Call, second: Call) -> Result<Vec<Move
     Ok(moves)
 }
 
-fn held(machine: &Machine, place: usize) -> u64 {
+fn held(machine: &SetMachine, place: usize) -> u64 {
     if (place as u64) < machine.capacity() {
         machine.count(place)
     } else {
@@ -66,7 +66,7 @@ fn both_calls(
     first: Call,
     second: Call,
 ) -> Result<Ends, AllocError> {
-    let mut machine = Machine::new(alloc, max, 2, 2)?;
+    let mut machine = SetMachine::new(alloc, max, 2, 2)?;
     let moves = moves(alloc, mask, first, second)?;
     let made = machine.run(moves.as_slice());
     assert_eq!(rt; made, machine.events().len());
@@ -87,7 +87,7 @@ fn both_calls(
 
 #[test]
 fn a_step_begins_and_goes_on(rt: HostRuntime) -> Result<(), Fail> {
-    let mut machine = Machine::new(rt.alloc(), 1, 2, 1)?;
+    let mut machine = SetMachine::new(rt.alloc(), 1, 2, 1)?;
     assert_eq!(rt; machine.step(Move::GoOn(0)), Stepped::Skipped);
     assert_eq!(rt;
         machine.step(Move::Begin(0, Call::Set(2))),

@@ -1,6 +1,8 @@
 -- The cells from a position on hold a list, one behind the other, going round.
-use Rattle.std.proofs.Common.{◌≡◌, ℕ, suc, ◌+◌, ◌*◌, ◌/◌, ◌%◌, ◌<◌, ◌≤◌, List, [], ◌∷◌, ◌++◌, length, set, drop, slice_index, sym, ◌∙◌, inl, inr, arith, length-append, mul-le-mul_left}
-use Rattle.std.proofs.Math.Seq.{get_or-set_other, get_or-append_seam}
+use Rattle.std.proofs.Common.{◌≡◌, ℕ, suc, ◌+◌, ◌*◌, ◌/◌, ◌%◌, ◌^◌, ◌<◌, ◌≤◌, List, [], ◌∷◌, ◌++◌, length, set, drop, slice_index, sym, ◌∙◌, subst, inl, inr, arith, length-append, mul-le-mul_left}
+use Rattle.std.proofs.Math.Seq.{get_or-set_same, get_or-set_other, get_or-append_seam}
+use Rattle.std.proofs.lemmas.Nat.{mod_below}
+use Rattle.iox_queues_steps.specs.Access.{successor}
 use Rattle.std.proofs.Math.ListN.{get_or-append}
 use Rattle.std.proofs.lemmas.Bool.{cases_lt}
 use Rattle.iox_queues_steps.specs.Kept.{Held}
@@ -34,3 +36,16 @@ held-drop n cells read [] h = record { each = λ k below. absurd (omega arith) }
 held-drop n cells read (x ∷ q) h = record {
   each = λ k below. let e : read + 1 + k ≡ read + suc k = omega arith in rw e (h.each (suc k) (omega arith));
 }
+
+-- a store of a value behind the list, and what its cell holds then
+pub store_cell : (n : ℕ) (cells : List ℕ) (read : ℕ) (q : List ℕ) (write value : ℕ) → length cells ≡ n → write ≡ read + length q → length q < n → Held n cells read q → Held n (set cells (write % length cells) value) read q × (slice_index (set cells (write % length cells) value) (write % n) ≡ value)
+store_cell n cells read q write value size is room h = (
+  subst (λ (m : ℕ). Held n (set cells (write % m) value) read q) (sym size)
+      (subst (λ (p : ℕ). Held n (set cells (p % n) value) read q) (sym is) (held-set n cells read q value room h)),
+  subst (λ (m : ℕ). slice_index (set cells (write % m) value) (write % n) ≡ value) (sym size)
+      (get_or-set_same cells (write % n) value 0 (let b : write % n < n = mod_below write n (omega arith) in omega arith)),
+)
+
+-- a position that is not the largest
+pub successor_fits : (p : ℕ) → p + 1 < 2 ^ 64 → successor p ≡ p + 1
+successor_fits p h = omega arith

@@ -1,5 +1,4 @@
 pub mod Held
-pub mod OverflowingPush
-pub mod OverflowingPop
 pub mod Orders
-pub mod OverflowingRuns
+pub mod Told
+pub mod Running

@@ -67,7 +67,7 @@ later : (first m : ℕ) (xs : List PushCall) (hand : List PutNow) (ys : List Pus
 later first m [] [] ys h = h
 later first m [] (p ∷ hand) [] h = absurd h
 later first m [] (p ∷ hand) (y ∷ ys) h = (
-  record { same_value = (h.0).same_value; same_answer = (h.0).same_answer; begun = (h.0).begun; not_ended = longer y.first m (h.0).not_ended },
+  record { answer = record { same_value = (h.0).answer.same_value; same_answer = (h.0).answer.same_answer }; inside = record { begun = (h.0).inside.begun; not_ended = longer y.first m (h.0).inside.not_ended } },
   later first m [] hand ys h.1,
 )
   where
@@ -80,7 +80,7 @@ pop_later : (first m : ℕ) (xs : List PopCall) (hand : List PopAnswer) (ys : Li
 pop_later first m [] [] ys h = h
 pop_later first m [] (p ∷ hand) [] h = absurd h
 pop_later first m [] (p ∷ hand) (y ∷ ys) h = (
-  record { same_answer = (h.0).same_answer; begun = (h.0).begun; not_ended = longer y.first m (h.0).not_ended },
+  record { answer = record { same_answer = (h.0).answer.same_answer }; inside = record { begun = (h.0).inside.begun; not_ended = longer y.first m (h.0).inside.not_ended } },
   pop_later first m [] hand ys h.1,
 )
   where
@@ -91,11 +91,11 @@ pop_later first m (x ∷ xs) hand (y ∷ ys) h = (h.0, pop_later first m xs hand
 
 now_inside : (first last m : ℕ) (vs : List PutNow) → first ≤ m → m ≤ last → AllZip PutInside (map (push_call first last) vs) (map (push_call m m) vs)
 now_inside first last m [] h g = tt
-now_inside first last m (v ∷ vs) h g = (record { same_value = refl; same_answer = refl; begun = h; not_ended = g }, now_inside first last m vs h g)
+now_inside first last m (v ∷ vs) h g = (record { answer = record { same_value = refl; same_answer = refl }; inside = record { begun = h; not_ended = g } }, now_inside first last m vs h g)
 
 pop_now_inside : (first last m : ℕ) (vs : List PopAnswer) → first ≤ m → m ≤ last → AllZip TakeInside (map (pop_call first last) vs) (map (pop_call m m) vs)
 pop_now_inside first last m [] h g = tt
-pop_now_inside first last m (v ∷ vs) h g = (record { same_answer = refl; begun = h; not_ended = g }, pop_now_inside first last m vs h g)
+pop_now_inside first last m (v ∷ vs) h g = (record { answer = record { same_answer = refl }; inside = record { begun = h; not_ended = g } }, pop_now_inside first last m vs h g)
 
 -- a step places puts of the push in hand, and may end it
 pub put_step : (calls : List PushCall) (first m : ℕ) (ended hand hand' : List PutNow) (order : List Placed) (new : List Act) → first ≤ m

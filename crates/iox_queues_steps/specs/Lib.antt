@@ -1,9 +1,7 @@
 pub mod Access
 pub mod Schedule
 pub mod Order
+pub mod Told
 pub mod Recorded
 pub mod Kept
-pub mod Overflowing
-pub mod OverflowingRing
-pub mod OverflowingMachine
-pub mod OverflowingState
+pub mod Runs

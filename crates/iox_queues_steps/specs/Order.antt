@@ -114,18 +114,29 @@ abbrev pub takes : List Placed → List PopCall
 takes [] = []
 takes (placed ∷ order) = map (pop_call placed.moment placed.moment) (take_of placed.act) ++ takes order
 
--- a put stands inside its push, with the push's answer
-pub record PutInside (call : PushCall) (put : PushCall) : Type 0 where
+-- a moment lies between the first and the last one of a call
+pub record IsInside (first last moment : ℕ) : Type 0 where
+  pub begun : first ≤ moment
+  pub not_ended : moment ≤ last
+
+-- a put has the value and the answer of its push
+pub record IsPutOf (call : PushCall) (put : PushCall) : Type 0 where
   pub same_value : call.value ≡ put.value
   pub same_answer : call.answer ≡ put.answer
-  pub begun : call.first ≤ put.first
-  pub not_ended : put.first ≤ call.last
+
+-- a take or a look has the answer of its call
+pub record IsTakeOf (call : PopCall) (take : PopCall) : Type 0 where
+  pub same_answer : call.answer ≡ take.answer
+
+-- a put stands inside its push, with the push's answer
+pub record PutInside (call : PushCall) (put : PushCall) : Type 0 where
+  pub answer : IsPutOf call put
+  pub inside : IsInside call.first call.last put.first
 
 -- a take or a look stands inside its call, with the call's answer
 pub record TakeInside (call : PopCall) (take : PopCall) : Type 0 where
-  pub same_answer : call.answer ≡ take.answer
-  pub begun : call.first ≤ take.first
-  pub not_ended : take.first ≤ call.last
+  pub answer : IsTakeOf call take
+  pub inside : IsInside call.first call.last take.first
 
 -- what a machine has recorded: the order, the steps made, and how many
 pub record Log : Type 0 where

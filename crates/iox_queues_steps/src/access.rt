@@ -2,7 +2,7 @@
 //!
 //! One access reads or changes at most one word.
 ghost use Rattle.std.specs.Prelude.{◌≡◌, ◌<◌, ◌≤◌, ◌%◌, ◌^◌, length, set, slice_index, if◌then◌else◌, ◌==◌};
-ghost use Rattle.iox_queues_steps.specs.Access.{Words, word_of, after_store, answer_of, after_access};
+ghost use Rattle.iox_queues_steps.specs.Access.{RingWords, word_of, after_store, answer_of, after_access};
 
 use std::marker::Model;
 
@@ -39,9 +39,9 @@ pub struct Ring {
 }
 
 impl Model for Ring {
-    ghost use Rattle.iox_queues_steps.specs.Access.{Words};
+    ghost use Rattle.iox_queues_steps.specs.Access.{RingWords};
 
-    ghost Value = { Words };
+    ghost Value = { RingWords };
 
     ghost view = { λ r. record { cells = r.cells.items; write = r.write; read = r.read } };
 }

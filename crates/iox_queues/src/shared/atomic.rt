@@ -12,6 +12,8 @@ use iox_queues_steps::{Access, Word};
 use std::sync::atomic::AtomicU64;
 
 impl<T: Words> Shareable for UnrestrictedAtomic<T> {
+    ghost room = { λ a. 1 };
+
     fn width(&self) -> Option<usize>
         ensures { result ≡ (if nat_le T.WORDS 16 then Some T.WORDS else None) }
     {
@@ -24,9 +26,7 @@ impl<T: Words> Shareable for UnrestrictedAtomic<T> {
         2
     }
 
-    fn limit(&self) -> u64
-        ensures { result ≡ 1 }
-    {
+    fn limit(&self) -> u64 {
         1
     }
 

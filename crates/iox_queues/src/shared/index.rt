@@ -2,13 +2,13 @@
 ghost use Rattle.std.specs.Prelude.{◌≡◌, ◌+◌, ◌-◌, ◌^◌, min, Some, drop, slice_get};
 ghost use Rattle.std.specs.Option.{is_some};
 
-use super::words::{SharedWords, fill};
-use super::{Consumer, LOST_TURNS, Producer, Shareable, SharedQueue};
+use super::calls::{pop_overflowing, pop_refusing, push_overflowing, push_refusing};
+use super::words::{Numbers, SharedWords, fill};
+use super::{Consumer, Producer, Shareable, SharedQueue};
 use iox_queues_base::{
     FixedSizeIndexQueue, FixedSizeSafelyOverflowingIndexQueue, IndexQueue,
     SafelyOverflowingIndexQueue,
 };
-use iox_queues_steps::{PushAnswer, overflowing};
 use std::sync::atomic::AtomicU64;
 
 // Puts the number into the cell, if there is one.
@@ -25,6 +25,8 @@ fn pour_number(cell: &[AtomicU64], oldest: Option<u64>) -> bool
 }
 
 impl Shareable for IndexQueue {
+    ghost room = { λ q. q.capacity };
+
     fn width(&self) -> Option<usize>
         ensures { result ≡ Some 1 }
     {
@@ -37,9 +39,7 @@ impl Shareable for IndexQueue {
         self.capacity()
     }
 
-    fn limit(&self) -> u64
-        ensures { result ≡ self.now.capacity }
-    {
+    fn limit(&self) -> u64 {
         self.capacity() as u64
     }
 
@@ -54,6 +54,8 @@ impl Shareable for IndexQueue {
 impl SharedQueue for IndexQueue {}
 
 impl<const CAPACITY: usize> Shareable for FixedSizeIndexQueue<CAPACITY> {
+    ghost room = { λ q. CAPACITY };
+
     fn width(&self) -> Option<usize>
         ensures { result ≡ Some 1 }
     {
@@ -66,9 +68,7 @@ impl<const CAPACITY: usize> Shareable for FixedSizeIndexQueue<CAPACITY> {
         self.capacity()
     }
 
-    fn limit(&self) -> u64
-        ensures { result ≡ CAPACITY }
-    {
+    fn limit(&self) -> u64 {
         self.capacity() as u64
     }
 
@@ -83,6 +83,8 @@ impl<const CAPACITY: usize> Shareable for FixedSizeIndexQueue<CAPACITY> {
 impl<const CAPACITY: usize> SharedQueue for FixedSizeIndexQueue<CAPACITY> {}
 
 impl Shareable for SafelyOverflowingIndexQueue {
+    ghost room = { λ q. q.capacity };
+
     fn width(&self) -> Option<usize>
         ensures { result ≡ Some 1 }
     {
@@ -95,9 +97,7 @@ impl Shareable for SafelyOverflowingIndexQueue {
         self.capacity().saturating_add(1)
     }
 
-    fn limit(&self) -> u64
-        ensures { result ≡ self.now.capacity }
-    {
+    fn limit(&self) -> u64 {
         self.capacity() as u64
     }
 
@@ -112,6 +112,8 @@ impl Shareable for SafelyOverflowingIndexQueue {
 impl SharedQueue for SafelyOverflowingIndexQueue {}
 
 impl<const CAPACITY: usize> Shareable for FixedSizeSafelyOverflowingIndexQueue<CAPACITY> {
+    ghost room = { λ q. CAPACITY };
+
     fn width(&self) -> Option<usize>
         ensures { result ≡ Some 1 }
     {
@@ -124,9 +126,7 @@ impl<const CAPACITY: usize> Shareable for FixedSizeSafelyOverflowingIndexQueue<C
         self.capacity().saturating_add(1)
     }
 
-    fn limit(&self) -> u64
-        ensures { result ≡ CAPACITY }
-    {
+    fn limit(&self) -> u64 {
         self.capacity() as u64
     }
 
@@ -143,166 +143,68 @@ impl<const CAPACITY: usize> SharedQueue for FixedSizeSafelyOverflowingIndexQueue
 impl Producer<'_, IndexQueue> {
     /// Puts the number behind the rest; false if the queue is full.
     pub fn push(&mut self, value: u64) -> bool {
-        refusing_push(self.words, value)
+        push_refusing(&mut numbers(self.words), self.limit, value)
     }
 }
 
 impl<const CAPACITY: usize> Producer<'_, FixedSizeIndexQueue<CAPACITY>> {
     /// Puts the number behind the rest; false if the queue is full.
     pub fn push(&mut self, value: u64) -> bool {
-        refusing_push(self.words, value)
+        push_refusing(&mut numbers(self.words), self.limit, value)
     }
 }
 
 impl Producer<'_, SafelyOverflowingIndexQueue> {
     /// Puts the number behind the rest; a full queue hands its oldest number out.
     pub fn push(&mut self, value: u64) -> Option<u64> {
-        overflowing_push(self.words, value)
+        push_over(self.words, self.limit, value)
     }
 }
 
 impl<const CAPACITY: usize> Producer<'_, FixedSizeSafelyOverflowingIndexQueue<CAPACITY>> {
     /// Puts the number behind the rest; a full queue hands its oldest number out.
     pub fn push(&mut self, value: u64) -> Option<u64> {
-        overflowing_push(self.words, value)
+        push_over(self.words, self.limit, value)
     }
 }
 
 impl Consumer<'_, IndexQueue> {
     /// Takes the oldest number out; None if the queue is empty.
     pub fn pop(&mut self) -> Option<u64> {
-        plain_pop(self.words)
+        pop_refusing(&mut numbers(self.words))
     }
 }
 
 impl<const CAPACITY: usize> Consumer<'_, FixedSizeIndexQueue<CAPACITY>> {
     /// Takes the oldest number out; None if the queue is empty.
     pub fn pop(&mut self) -> Option<u64> {
-        plain_pop(self.words)
+        pop_refusing(&mut numbers(self.words))
     }
 }
 
 impl Consumer<'_, SafelyOverflowingIndexQueue> {
     /// Takes the oldest number out; None if the queue is empty, or after 2^20 lost exchanges.
     pub fn pop(&mut self) -> Option<u64> {
-        overflowing_pop(self.words)
+        pop_overflowing(&mut numbers(self.words))
     }
 }
 
 impl<const CAPACITY: usize> Consumer<'_, FixedSizeSafelyOverflowingIndexQueue<CAPACITY>> {
     /// Takes the oldest number out; None if the queue is empty, or after 2^20 lost exchanges.
     pub fn pop(&mut self) -> Option<u64> {
-        overflowing_pop(self.words)
+        pop_overflowing(&mut numbers(self.words))
     }
 }
 
-// One access of a push that is not over.
-#[inline(always)]
-fn refusing_push_on(
-    words: &SharedWords,
-    push: iox_queues_bounded::Push,
-) -> iox_queues_bounded::Push {
-    if push.is_over() {
-        push
-    } else {
-        push.take(words.apply(push.next()))
-    }
+// The words as the memory of a call.
+fn numbers(words: &SharedWords) -> Numbers<'_> {
+    Numbers { words }
 }
 
-// A push makes at most four accesses here.
-fn refusing_push(words: &SharedWords, value: u64) -> bool {
-    let push = iox_queues_bounded::Push::begin(words.limit, value);
-    let push = refusing_push_on(words, push);
-    let push = refusing_push_on(words, push);
-    let push = refusing_push_on(words, push);
-    let push = refusing_push_on(words, push);
-    matches!(
-        push,
-        iox_queues_bounded::Push::Pushed {
-            answer: PushAnswer::Kept,
-            ..
-        }
-    )
-}
-
-// One access of a pop that is not over.
-#[inline(always)]
-fn plain_pop_on(words: &SharedWords, pop: iox_queues_bounded::Pop) -> iox_queues_bounded::Pop {
-    if pop.is_over() {
-        pop
-    } else {
-        pop.take(words.apply(pop.next()))
-    }
-}
-
-// A pop makes at most four accesses here.
-fn plain_pop(words: &SharedWords) -> Option<u64> {
-    let pop = iox_queues_bounded::Pop::begin();
-    let pop = plain_pop_on(words, pop);
-    let pop = plain_pop_on(words, pop);
-    let pop = plain_pop_on(words, pop);
-    let pop = plain_pop_on(words, pop);
-    match pop {
-        iox_queues_bounded::Pop::Popped { got } => got,
-        _ => None,
-    }
-}
-
-// One access of a push that is not over.
-#[inline(always)]
-fn overflowing_push_on(words: &SharedWords, push: overflowing::Push) -> overflowing::Push {
-    if push.is_over() {
-        push
-    } else {
-        push.take(words.apply(push.next()))
-    }
-}
-
-// A push makes at most six accesses here. A queue of capacity 0 hands the number back.
-fn overflowing_push(words: &SharedWords, value: u64) -> Option<u64> {
-    if words.limit == 0 {
+// A queue of capacity 0 hands the number back.
+fn push_over(words: &SharedWords, limit: u64, value: u64) -> Option<u64> {
+    if limit == 0 {
         return Some(value);
     }
-    let push = overflowing::Push::begin(words.limit, value);
-    let push = overflowing_push_on(words, push);
-    let push = overflowing_push_on(words, push);
-    let push = overflowing_push_on(words, push);
-    let push = overflowing_push_on(words, push);
-    let push = overflowing_push_on(words, push);
-    let push = overflowing_push_on(words, push);
-    match push {
-        overflowing::Push::Pushed {
-            answer: PushAnswer::LeftOut(oldest),
-            ..
-        } => Some(oldest),
-        _ => None,
-    }
-}
-
-// One access of a pop that is not over.
-#[inline(always)]
-fn overflowing_pop_on(words: &SharedWords, pop: overflowing::Pop) -> overflowing::Pop {
-    if pop.is_over() {
-        pop
-    } else {
-        pop.take(words.apply(pop.next()))
-    }
-}
-
-// Two loads of positions, then a load of a cell and an exchange each turn.
-fn overflowing_pop(words: &SharedWords) -> Option<u64> {
-    let pop = overflowing::Pop::begin();
-    let pop = overflowing_pop_on(words, pop);
-    let mut pop = overflowing_pop_on(words, pop);
-    for _ in 0..LOST_TURNS {
-        pop = overflowing_pop_on(words, pop);
-        pop = overflowing_pop_on(words, pop);
-        if pop.is_over() {
-            break;
-        }
-    }
-    match pop {
-        overflowing::Pop::Popped { got } => got,
-        _ => None,
-    }
+    push_overflowing(&mut numbers(words), limit, value)
 }

@@ -2,7 +2,7 @@
 ghost use Rattle.std.specs.Prelude.{◌≡◌, Some, None, nat_le, if◌then◌else◌};
 
 use iox_queues_base::Words;
-use iox_queues_steps::{Access, Word};
+use iox_queues_steps::{Access, Memory, Word};
 use std::sync::atomic::{AtomicBool, AtomicU64, Ordering};
 
 /// How many words a shared value has at most.
@@ -16,25 +16,18 @@ pub struct SharedWords {
     width: usize,
     pub(crate) write: AtomicU64,
     read: AtomicU64,
-    pub(crate) limit: u64,
     pub(crate) producer_taken: AtomicBool,
     pub(crate) consumer_taken: AtomicBool,
 }
 
 impl SharedWords {
-    pub(crate) fn new(
-        cells: Vec<AtomicU64>,
-        count: usize,
-        width: usize,
-        limit: u64,
-    ) -> SharedWords {
+    pub(crate) fn new(cells: Vec<AtomicU64>, count: usize, width: usize) -> SharedWords {
         SharedWords {
             cells,
             count,
             width,
             write: AtomicU64::new(0),
             read: AtomicU64::new(0),
-            limit,
             producer_taken: AtomicBool::new(false),
             consumer_taken: AtomicBool::new(false),
         }
@@ -113,6 +106,50 @@ impl SharedWords {
             *word = atomic.load(Ordering::SeqCst);
         }
         Some(T::of_words(words.get(..T::WORDS)?))
+    }
+}
+
+/// The words of a queue of numbers, as the memory of a call. What other threads stored is not claimed.
+#[derive(Drop)]
+pub(crate) struct Numbers<'a> {
+    pub(crate) words: &'a SharedWords,
+}
+
+impl Memory for Numbers<'_> {
+    ghost answers = { λ before access answer after. Unit {0} };
+
+    #[inline(always)]
+    fn apply(&mut self, access: Access) -> u64 {
+        self.words.apply(access)
+    }
+}
+
+/// The words of a queue of values, as the memory of a call: an access to a cell goes over the words of
+/// `value`, one after the other.
+#[derive(Drop)]
+pub(crate) struct Values<'a, T: Words> {
+    pub(crate) words: &'a SharedWords,
+    pub(crate) value: Option<T>,
+}
+
+impl<T: Words> Memory for Values<'_, T> {
+    ghost answers = { λ before access answer after. Unit {0} };
+
+    #[inline(always)]
+    fn apply(&mut self, access: Access) -> u64 {
+        match access {
+            Access::Store(Word::Cell(position), _) => {
+                if let Some(value) = self.value {
+                    self.words.store_value(position, &value);
+                }
+                0
+            }
+            Access::Load(Word::Cell(position)) => {
+                self.value = self.words.load_value(position);
+                0
+            }
+            access => self.words.apply(access),
+        }
     }
 }
 

@@ -1,0 +1,59 @@
+-- What a shared call answers, from the stage where its run ended.
+use Rattle.std.specs.Prelude.{ℕ, Bool, true, false, Option, Some, None}
+use Rattle.iox_queues_steps.specs.declared.order.PushAnswer.TheVariants.{Kept, LeftOut, Refused}
+use Rattle.iox_queues_overflowing.specs.declared.push.Push.{Push as OverflowingPush}
+use Rattle.iox_queues_overflowing.specs.declared.push.Push.TheVariants as overflowing_push
+use Rattle.iox_queues_overflowing.specs.declared.pop.Pop.{Pop as OverflowingPop}
+use Rattle.iox_queues_overflowing.specs.declared.pop.Pop.TheVariants as overflowing_pop
+use Rattle.iox_queues_refusing.specs.declared.push.Push.{Push as RefusingPush}
+use Rattle.iox_queues_refusing.specs.declared.push.Push.TheVariants as refusing_push
+use Rattle.iox_queues_refusing.specs.declared.pop.Pop.{Pop as RefusingPop}
+use Rattle.iox_queues_refusing.specs.declared.pop.Pop.TheVariants as refusing_pop
+
+-- the push ended with its value kept
+abbrev pub is_kept : RefusingPush → Bool
+is_kept refusing_push.Idle = false
+is_kept (refusing_push.Begun limit value) = false
+is_kept (refusing_push.SawWrite limit value write next) = false
+is_kept (refusing_push.SawRoom value write next) = false
+is_kept (refusing_push.Filled value next) = false
+is_kept (refusing_push.Pushed value Kept) = true
+is_kept (refusing_push.Pushed value (LeftOut oldest)) = false
+is_kept (refusing_push.Pushed value Refused) = false
+
+-- what the pop ended with
+abbrev pub popped : RefusingPop → Option ℕ
+popped refusing_pop.Idle = None
+popped refusing_pop.Begun = None
+popped (refusing_pop.SawRead read) = None
+popped (refusing_pop.Nonempty read next) = None
+popped (refusing_pop.SawCell next value) = None
+popped (refusing_pop.Popped got) = got
+popped refusing_pop.LookBegun = None
+popped (refusing_pop.LookRead read) = None
+popped (refusing_pop.Looked some) = None
+
+-- the oldest value, if it left by the push
+abbrev pub left_by : OverflowingPush → Option ℕ
+left_by overflowing_push.Idle = None
+left_by (overflowing_push.Begun limit value) = None
+left_by (overflowing_push.SawWrite limit value write next) = None
+left_by (overflowing_push.SawRead limit value write next read) = None
+left_by (overflowing_push.Filled limit value write next read) = None
+left_by (overflowing_push.Full value read next) = None
+left_by (overflowing_push.SawOldest value read next oldest) = None
+left_by (overflowing_push.Pushed value Kept) = None
+left_by (overflowing_push.Pushed value (LeftOut oldest)) = Some oldest
+left_by (overflowing_push.Pushed value Refused) = None
+
+-- what the pop ended with; nothing, where its turns were used up
+abbrev pub taken : OverflowingPop → Option ℕ
+taken overflowing_pop.Idle = None
+taken overflowing_pop.Begun = None
+taken (overflowing_pop.SawRead read) = None
+taken (overflowing_pop.Nonempty read next) = None
+taken (overflowing_pop.SawCell read next value) = None
+taken (overflowing_pop.Popped got) = got
+taken overflowing_pop.LookBegun = None
+taken (overflowing_pop.LookRead read) = None
+taken (overflowing_pop.Looked waiting) = None

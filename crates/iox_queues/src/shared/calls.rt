@@ -1,0 +1,75 @@
+//! Pushes and pops on shared words, each one run of its party value: it makes the accesses that the
+//! value asks for, in that order, and no other.
+ghost use Rattle.std.specs.Prelude.{◌≡◌, ◌+◌, ◌^◌, ◌<◌, ℕ, List, length, false, Some};
+ghost use Rattle.iox_queues_steps.specs.Runs.{Runs};
+ghost use Rattle.iox_queues_overflowing.specs.Overflowing as overflowing;
+ghost use Rattle.iox_queues_refusing.specs.Refusing as refusing;
+ghost use Rattle.iox_queues_overflowing.specs.declared.push.Push.TheVariants as overflowing_push;
+ghost use Rattle.iox_queues_overflowing.specs.declared.pop.Pop.TheVariants as overflowing_pop;
+ghost use Rattle.iox_queues_refusing.specs.declared.push.Push.TheVariants as refusing_push;
+ghost use Rattle.iox_queues_refusing.specs.declared.pop.Pop.TheVariants as refusing_pop;
+ghost use Rattle.iox_queues.specs.Calls.{is_kept, left_by, popped, taken};
+
+use super::LOST_TURNS;
+use iox_queues_overflowing::{Pop as OverflowingPop, Push as OverflowingPush};
+use iox_queues_refusing::{Pop as RefusingPop, Push as RefusingPush};
+use iox_queues_steps::end::run;
+use iox_queues_steps::{Memory, PushAnswer};
+
+/// Puts the number behind the rest, where at most `limit` may wait; false if so many wait. At most
+/// four accesses.
+#[inline(always)]
+pub(crate) fn push_refusing<M: Memory>(memory: &mut M, limit: u64, value: u64) -> bool
+    ensures { (given : List ℕ) × (end : _) × Runs M.answers refusing.push_next refusing.push_take refusing.push_is_over given memory.old (refusing_push.Begun limit value) memory.new end
+        × (refusing.push_is_over end ≡ false → length given ≡ 4) × (result ≡ is_kept end) }
+{
+    let push = run(RefusingPush::begin(limit, value), memory, 4);
+    matches!(
+        push,
+        RefusingPush::Pushed {
+            answer: PushAnswer::Kept,
+            ..
+        }
+    )
+}
+
+/// Takes the oldest number out; None if nothing waits. At most four accesses.
+#[inline(always)]
+pub(crate) fn pop_refusing<M: Memory>(memory: &mut M) -> Option<u64>
+    ensures { (given : List ℕ) × (end : _) × Runs M.answers refusing.pop_next refusing.pop_take refusing.pop_is_over given memory.old refusing_pop.Begun memory.new end
+        × (refusing.pop_is_over end ≡ false → length given ≡ 4) × (result ≡ popped end) }
+{
+    match run(RefusingPop::begin(), memory, 4) {
+        RefusingPop::Popped { got } => got,
+        _ => None,
+    }
+}
+
+/// Puts the number behind the rest, where at most `limit` may wait; hands the oldest out if so many
+/// wait. At most six accesses.
+#[inline(always)]
+pub(crate) fn push_overflowing<M: Memory>(memory: &mut M, limit: u64, value: u64) -> Option<u64>
+    ensures { (given : List ℕ) × (end : _) × Runs M.answers overflowing.push_next overflowing.push_take overflowing.push_is_over given memory.old (overflowing_push.Begun limit value) memory.new end
+        × (overflowing.push_is_over end ≡ false → length given ≡ 6) × (result ≡ left_by end) }
+{
+    match run(OverflowingPush::begin(limit, value), memory, 6) {
+        OverflowingPush::Pushed {
+            answer: PushAnswer::LeftOut(oldest),
+            ..
+        } => Some(oldest),
+        _ => None,
+    }
+}
+
+/// Takes the oldest number out; None if nothing waits, or after 2^20 lost exchanges: two loads of
+/// positions, then a load of a cell and an exchange each turn.
+#[inline(always)]
+pub(crate) fn pop_overflowing<M: Memory>(memory: &mut M) -> Option<u64>
+    ensures { (given : List ℕ) × (end : _) × Runs M.answers overflowing.pop_next overflowing.pop_take overflowing.pop_is_over given memory.old overflowing_pop.Begun memory.new end
+        × (overflowing.pop_is_over end ≡ false → length given ≡ 2 ^ 21 + 2) × (result ≡ taken end) }
+{
+    match run(OverflowingPop::begin(), memory, 2 * LOST_TURNS + 2) {
+        OverflowingPop::Popped { got } => got,
+        _ => None,
+    }
+}

@@ -1,2 +1,0 @@
-pub mod BoundedSteps
-pub mod BoundedRuns

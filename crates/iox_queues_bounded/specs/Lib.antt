@@ -1,3 +1,0 @@
-pub mod Bounded
-pub mod BoundedMachine
-pub mod BoundedState

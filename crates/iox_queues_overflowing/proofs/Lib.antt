@@ -1,0 +1,2 @@
+pub mod OverflowingPush
+pub mod OverflowingPop

@@ -1,0 +1,2 @@
+pub mod Overflowing
+pub mod OverflowingRing

@@ -1,0 +1,11 @@
+//! The two ends of the ring that refuses a push when it is full, one word at a time.
+//!
+//! Ported from `IndexQueue` of iceoryx2. Each end is free of any ring: it says which access comes
+//! next, and takes that access's answer.
+#![tactic(auto)]
+
+pub mod pop;
+pub mod push;
+
+pub use pop::Pop;
+pub use push::Push;

@@ -1,0 +1,3 @@
+pub mod EitherRing
+pub mod Calls
+pub mod Runs
