@@ -218,3 +218,57 @@ fn each_is_made_where_memory_is_found(rt: HostRuntime) -> Result<(), Fail> {
     assert_eq!(rt; sets::SetMachine::new(alloc, 1, 2, 1)?.capacity(), 2);
     Ok(())
 }
+
+// Each kind with this many places, over and over.
+fn made_at(rt: &impl Abort, alloc: Global, size: usize) -> Result<(), Fail> {
+    for _ in 0..3 {
+        assert_eq!(rt; IndexQueue::new(alloc, size)?.capacity(), size);
+        assert_eq!(rt;
+            SafelyOverflowingIndexQueue::new(alloc, size)?.capacity(),
+            size
+        );
+        assert_eq!(rt; BitSet::new(alloc, size)?.capacity(), size);
+        assert_eq!(rt; CountingBitSet::new(alloc, size)?.capacity(), size);
+        assert!(rt; IndexQueue::new(alloc, size)?.share(alloc).is_ok());
+        assert_eq!(rt;
+            RingMachine::refusing(alloc, size as u64, &[])?.moments(),
+            0
+        );
+        if 0 < size {
+            assert_eq!(rt;
+                RingMachine::overflowing(alloc, size as u64, &[])?.moments(),
+                0
+            );
+            assert_eq!(rt;
+                sets::SetMachine::new(alloc, 1, size, 3)?.capacity(),
+                size as u64
+            );
+        }
+    }
+    Ok(())
+}
+
+#[test]
+fn each_is_made_at_each_size(rt: HostRuntime) -> Result<(), Fail> {
+    for size in [0, 1, 2, 7, 64, 100_000] {
+        made_at(&rt, rt.alloc(), size)?;
+    }
+    assert_eq!(rt; FixedSizeIndexQueue::<0>::new(rt.alloc())?.capacity(), 0);
+    assert_eq!(rt; FixedSizeIndexQueue::<7>::new(rt.alloc())?.capacity(), 7);
+    assert_eq!(rt;
+        FixedSizeSafelyOverflowingIndexQueue::<0>::new(rt.alloc())?.capacity(),
+        0
+    );
+    assert_eq!(rt;
+        FixedSizeSafelyOverflowingIndexQueue::<64>::new(rt.alloc())?.capacity(),
+        64
+    );
+    assert_eq!(rt; Queue::<u64, 0>::new(rt.alloc())?.capacity(), 0);
+    assert_eq!(rt; Queue::<u64, 64>::new(rt.alloc())?.capacity(), 64);
+    assert_eq!(rt; FixedSizeBitSet::<7>::new(rt.alloc())?.capacity(), 7);
+    assert_eq!(rt;
+        FixedSizeCountingBitSet::<64>::new(rt.alloc())?.capacity(),
+        64
+    );
+    Ok(())
+}

@@ -1,0 +1,3 @@
+pub mod PushSteps
+pub mod PopSteps
+pub mod EitherStep
