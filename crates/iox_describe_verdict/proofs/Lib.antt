@@ -1,1 +1,4 @@
 pub mod Earliest
+pub mod EventAsked
+pub mod PublishSubscribeAsked
+pub mod RequestResponseAsked

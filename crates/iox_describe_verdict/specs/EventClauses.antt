@@ -1,5 +1,5 @@
 -- What an opener requires of an event service, clause by clause.
-use Rattle.std.specs.Prelude.{◌∷◌, [], List, Bool, true, false, Option, None, option_map}
+use Rattle.std.specs.Prelude.{◌∷◌, [], List, Bool, true, false, Option, None, option_map, unwrap_or}
 use Rattle.iox_describe_verdict.specs.declared.requirement.event.Requirement.{Requirement}
 use Rattle.iox_describe_verdict.specs.declared.requirement.event.ClauseError.{ClauseError}
 use Rattle.iox_describe_verdict.specs.declared.requirement.event.ClauseError.TheVariants as error
@@ -44,6 +44,19 @@ named NotifierDroppedEvent r = option_map value.OptionalNumber r.notifier_droppe
 -- the settings that are asked for: each as it was named, each other one at its default
 abbrev pub asked : Requirement → StaticConfig
 asked r = overlaid settings.changed (λ setting. named setting r) settings.all settings.defaults
+
+-- the same in other words
+abbrev pub asked_fields : Requirement → StaticConfig
+asked_fields r = record {
+  deadline = unwrap_or r.deadline None;
+  event_id_max_value = unwrap_or r.event_id_max_value 4294967295;
+  max_listeners = unwrap_or r.max_listeners 16;
+  max_nodes = unwrap_or r.max_nodes 36;
+  max_notifiers = unwrap_or r.max_notifiers 16;
+  notifier_created_event = unwrap_or r.notifier_created_event None;
+  notifier_dead_event = unwrap_or r.notifier_dead_event None;
+  notifier_dropped_event = unwrap_or r.notifier_dropped_event None;
+}
 
 -- the error where it is not
 abbrev pub error_of : Setting → ClauseError

@@ -1,5 +1,5 @@
 -- What an opener requires of a publish-subscribe service, clause by clause.
-use Rattle.std.specs.Prelude.{◌∷◌, [], List, Bool, true, false, Option, Some, None, option_map}
+use Rattle.std.specs.Prelude.{◌∷◌, [], List, Bool, true, false, Option, Some, None, option_map, unwrap_or}
 use Rattle.iox_describe_base.specs.declared.message_type.MessageTypeDetails.{MessageTypeDetails}
 use Rattle.iox_describe_verdict.specs.declared.requirement.publish_subscribe.Requirement.{Requirement}
 use Rattle.iox_describe_verdict.specs.declared.requirement.publish_subscribe.ClauseError.{ClauseError}
@@ -45,6 +45,19 @@ named Types r = Some (value.Types r.types)
 -- the settings that are asked for: each as it was named, each other one at its default
 abbrev pub asked : Requirement → StaticConfig
 asked r = overlaid settings.changed (λ setting. named setting r) settings.all (settings.defaults r.types)
+
+-- the same in other words
+abbrev pub asked_fields : Requirement → StaticConfig
+asked_fields r = record {
+  enable_safe_overflow = unwrap_or r.enable_safe_overflow true;
+  history_size = unwrap_or r.history_size 0;
+  max_nodes = unwrap_or r.max_nodes 20;
+  max_publishers = unwrap_or r.max_publishers 2;
+  max_subscribers = unwrap_or r.max_subscribers 8;
+  subscriber_max_borrowed_samples = unwrap_or r.subscriber_max_borrowed_samples 2;
+  subscriber_max_buffer_size = unwrap_or r.subscriber_max_buffer_size 2;
+  types = r.types;
+}
 
 -- the error where it is not
 abbrev pub error_of : Setting → ClauseError

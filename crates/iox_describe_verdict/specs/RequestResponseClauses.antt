@@ -1,5 +1,5 @@
 -- What an opener requires of a request-response service, clause by clause.
-use Rattle.std.specs.Prelude.{◌∷◌, [], List, Bool, true, false, Option, Some, None, option_map}
+use Rattle.std.specs.Prelude.{◌∷◌, [], List, Bool, true, false, Option, Some, None, option_map, unwrap_or}
 use Rattle.iox_describe_base.specs.declared.message_type.MessageTypeDetails.{MessageTypeDetails}
 use Rattle.iox_describe_verdict.specs.declared.requirement.request_response.Requirement.{Requirement}
 use Rattle.iox_describe_verdict.specs.declared.requirement.request_response.ClauseError.{ClauseError}
@@ -53,6 +53,23 @@ named ResponseTypes r = Some (value.Types r.response_types)
 -- the settings that are asked for: each as it was named, each other one at its default
 abbrev pub asked : Requirement → StaticConfig
 asked r = overlaid settings.changed (λ setting. named setting r) settings.all (settings.defaults r.request_types r.response_types)
+
+-- the same in other words
+abbrev pub asked_fields : Requirement → StaticConfig
+asked_fields r = record {
+  enable_fire_and_forget_requests = unwrap_or r.enable_fire_and_forget_requests true;
+  enable_safe_overflow_for_requests = unwrap_or r.enable_safe_overflow_for_requests true;
+  enable_safe_overflow_for_responses = unwrap_or r.enable_safe_overflow_for_responses true;
+  max_active_requests_per_client = unwrap_or r.max_active_requests_per_client 4;
+  max_borrowed_responses_per_pending_response = unwrap_or r.max_borrowed_responses_per_pending_response 2;
+  max_clients = unwrap_or r.max_clients 8;
+  max_loaned_requests = unwrap_or r.max_loaned_requests 2;
+  max_nodes = unwrap_or r.max_nodes 20;
+  max_response_buffer_size = unwrap_or r.max_response_buffer_size 2;
+  max_servers = unwrap_or r.max_servers 2;
+  request_types = r.request_types;
+  response_types = r.response_types;
+}
 
 -- the error where it is not
 abbrev pub error_of : Setting → ClauseError

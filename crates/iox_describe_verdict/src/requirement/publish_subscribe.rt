@@ -73,7 +73,7 @@ pub struct Requirement {
 
 impl Requirement {
     ghost use Rattle.iox_describe_verdict.specs.Verdict.{first_unmet};
-    ghost use Rattle.iox_describe_verdict.specs.PublishSubscribeClauses.{asked, clauses, clauses_on, unnamed};
+    ghost use Rattle.iox_describe_verdict.specs.PublishSubscribeClauses.{asked, asked_fields, clauses, clauses_on, unnamed};
 
     /// A requirement that names no setting.
     pub fn new(types: MessageTypeDetails, attributes: AttributeVerifier) -> Self
@@ -111,7 +111,8 @@ impl Requirement {
 
     /// The settings that are asked for: each as it was named, each other one at its default.
     pub fn asked(&self) -> StaticConfig
-        ensures { result ≡ asked self.now }
+        ensures over_the_list { result ≡ asked self.now }
+        ensures fields { result ≡ asked_fields self.now }
     {
         asked::<Setting>(self, StaticConfig::new(self.types))
     }
