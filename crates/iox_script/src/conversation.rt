@@ -30,13 +30,13 @@ pub fn serve<R: Read, W: Write>(
     input: &mut Input<R>,
     output: &mut Output<W>,
 ) -> Result<(), ServeError>
-    requires { input.old.calls + READ_CALLS < 2 ^ 64 }
+    requires { input.old.calls + 2 ^ 20 < 2 ^ 64 }
     // The premise is that the reader tells the bytes that it has left.
     ensures conversation { OnOk result (IfSome (R.remaining input.old.reader) (λ bytes.
         (text : List ℕ) × Appends (W.contents output.old.writer) (W.contents output.new.writer) text
         × IsConversation config bytes text)) }
     ensures ended { OnOk result (input.new.ended ≡ true) }
-    ensures read_fault { result ≡ Err ServeError.ReadFault → (input.new.failed ≡ true) ⊎ (input.new.calls ≡ input.old.calls + READ_CALLS) }
+    ensures read_fault { result ≡ Err ServeError.ReadFault → (input.new.failed ≡ true) ⊎ (input.new.calls ≡ input.old.calls + 2 ^ 20) }
     ensures write_fault { result ≡ Err ServeError.WriteFault → output.new.failed ≡ true }
 {
     let Ok(mut session) = Session::new(alloc, config) else {
@@ -60,11 +60,11 @@ fn converse<R: Read, W: Write>(
     requires empty { out.old.items ≡ [] }
     requires piece { length piece.old ≡ PIECE }
     requires fresh { total session.old.hub ≡ 0 }
-    requires calls { input.old.calls + READ_CALLS < 2 ^ 64 }
+    requires calls { input.old.calls + 2 ^ 20 < 2 ^ 64 }
     ensures conversation { OnOk result (Converses session.old (R.remaining input.old.reader) (R.remaining input.new.reader)
         (W.contents output.old.writer) (W.contents output.new.writer)) }
     ensures ended { OnOk result (input.new.ended ≡ true) }
-    ensures read_fault { result ≡ Err ServeError.ReadFault → (input.new.failed ≡ true) ⊎ (input.new.calls ≡ input.old.calls + READ_CALLS) }
+    ensures read_fault { result ≡ Err ServeError.ReadFault → (input.new.failed ≡ true) ⊎ (input.new.calls ≡ input.old.calls + 2 ^ 20) }
     ensures write_fault { result ≡ Err ServeError.WriteFault → output.new.failed ≡ true }
 {
     for turn in 0..READ_CALLS {
