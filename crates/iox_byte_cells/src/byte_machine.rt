@@ -1,5 +1,5 @@
 //! A cell one byte step at a time.
-ghost use Rattle.std.specs.Prelude.{◌≡◌, ℕ, ◌<◌, List, [], ◌∷◌, length, IfOk, OnErr};
+ghost use Rattle.std.specs.Prelude.{◌≡◌, ℕ, ◌<◌, List, [], ◌∷◌, length, IsOk, IfOk, OnErr};
 ghost use Rattle.iox_byte_cells.specs.ByteSteps.{AnswersInTurn, HoldsAfter, answer_after};
 
 use std::alloc::{AllocError, Global};
@@ -80,11 +80,12 @@ impl<const SIZE: usize> ByteMachine<SIZE> {
     }
 
     /// Makes the steps one after another and returns their answers. It fails only where memory for the answers is
-    /// wanting, and then makes no step.
+    /// wanting, never for no steps, and then makes no step.
     pub fn run(&mut self, alloc: Global, steps: &[ByteStep]) -> Result<Vec<ByteAnswer>, AllocError>
         ensures answers { IfOk result (λ answers. AnswersInTurn self.old steps.now answers.items) }
         ensures bytes { IfOk result (λ _. HoldsAfter self.old steps.now self.new) }
         ensures err { OnErr result (self.new ≡ self.old) }
+        ensures succeeds { length steps.now ≡ 0 → IsOk result }
     {
         let mut answers = Vec::with_capacity(alloc, steps.len())?;
         for step in steps {

@@ -1,5 +1,5 @@
 //! Bytes that were read one by one.
-ghost use Rattle.std.specs.Prelude.{◌≡◌, ℕ, ◌↔◌, Some};
+ghost use Rattle.std.specs.Prelude.{◌≡◌, ℕ, ◌↔◌, Some, IfSome};
 
 use crate::Coded;
 use std::marker::{Model, PhantomData};
@@ -45,7 +45,8 @@ impl<T, const SIZE: usize> MaybeTorn<T, SIZE> {
     pub fn assume_consistent(&self) -> Option<T>
     where
         T: Coded<SIZE>,
-        ensures { (v : T) → T.is_value v → ((result ≡ Some v) ↔ (self.now ≡ T.bytes_of v)) }
+        ensures same { (v : T) → T.is_value v → ((result ≡ Some v) ↔ (self.now ≡ T.bytes_of v)) }
+        ensures value { IfSome result (λ v. T.is_value v × (self.now ≡ T.bytes_of v)) }
     {
         let value = T::of_bytes(&self.bytes);
         if value.to_bytes() == self.bytes {

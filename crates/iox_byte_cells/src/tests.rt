@@ -1,4 +1,4 @@
-ghost use Rattle.std.specs.Prelude.{◌≡◌, ℕ, [], ◌∷◌, List, slice_index, refl};
+ghost use Rattle.std.specs.Prelude.{◌≡◌, ℕ, [], ◌∷◌, List, slice_index, refl, Some};
 
 use super::*;
 use std::test::Fail;
@@ -106,5 +106,44 @@ fn a_load_tells_the_byte_stored_last(rt: HostRuntime) -> Result<(), Fail> {
     );
     let mut none = ByteMachine::new([]);
     assert_eq!(rt; none.step(ByteStep::Load(0)), ByteAnswer::Skipped);
+    Ok(())
+}
+
+// What was written is read, by the contracts alone.
+fn read_back(value: Twice) -> Option<Twice>
+    ensures { result ≡ Some value }
+{
+    let cell = FixedSizeByteAtomic::<Twice, 2>::new(value);
+    let read = cell.read();
+    read.assume_consistent()
+}
+
+#[test]
+fn what_was_written_is_read(rt: HostRuntime) -> Result<(), Fail> {
+    assert_eq!(rt; read_back(Twice { byte: 9 }), Some(Twice { byte: 9 }));
+    Ok(())
+}
+
+#[test]
+fn ample_memory_is_never_wanting(rt: HostRuntime) -> Result<(), Fail> {
+    let mut machine = ByteMachine::new([0; 2]);
+    for count in [0, 1, 2, 7, 64, 100_003] {
+        let steps = vec![in rt.alloc(); ByteStep::Store(1, 5); count]?;
+        assert_eq!(rt; machine.run(rt.alloc(), steps.as_slice())?.len(), count);
+    }
+    for _ in 0..300 {
+        let answers = machine.run(rt.alloc(), &[ByteStep::Load(1)])?;
+        assert_eq!(rt; answers.as_slice(), [ByteAnswer::Loaded(5)].as_slice());
+    }
+    assert_eq!(rt;
+        format!(in rt.alloc();
+            "{:?} {:?} {:?}",
+            ByteStep::Store(1, 5),
+            ByteAnswer::Loaded(5),
+            ByteAnswer::Skipped
+        )?
+        .as_str(),
+        "Store(1, 5) Loaded(5) Skipped"
+    );
     Ok(())
 }

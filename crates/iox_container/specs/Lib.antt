@@ -1,5 +1,6 @@
 pub mod BoundedList
 pub mod Callback
+pub mod ErrorTexts
 pub mod FixedSizeQueueLends
 pub mod QueueLends
 pub mod RelocatableOptionLends

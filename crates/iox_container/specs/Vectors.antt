@@ -1,5 +1,5 @@
-use Rattle.std.specs.Prelude.{ℕ, ◌≡◌, ◌+◌, ◌<◌, ◌≤◌, ◌↔◌, List, [], ◌∷◌, drop, length, Result, Err, IsOk}
-use Rattle.std.specs.List.{refill}
+use Rattle.std.specs.Prelude.{ℕ, ◌≡◌, ◌+◌, ◌<◌, ◌≤◌, ◌↔◌, List, [], ◌∷◌, ◌++◌, drop, length, Result, Err, IsOk}
+use Rattle.std.specs.List.{FoldsTo, refill}
 use Rattle.std.proofs.lemmas.List.{take_at}
 use Rattle.iox_container.specs.declared.vector.error.VectorModificationError.{VectorModificationError}
 use Rattle.iox_container.specs.declared.vector.error.VectorModificationError.TheVariants.{InsertWouldExceedCapacity, OutOfBounds}
@@ -14,6 +14,10 @@ pub record AnswersInsertionAt (capacity len index : ℕ) (answer : Result (Unit 
   pub accepted : IsOk answer ↔ ((len < capacity) × (index ≤ len))
   pub too_long : (answer ≡ Err InsertWouldExceedCapacity) ↔ (capacity < len + 1)
   pub out_of_bounds : (answer ≡ Err OutOfBounds) ↔ ((len < capacity) × (len < index))
+
+-- behind the items that stayed stand those that calls made, one a call, and `after` is the callback's state after just these
+abbrev pub AppendsMade : {F X : Type 0} → (F → X → F → Type 0) → F → List X → List X → F → Type 0
+AppendsMade {F} {X} step first kept items after = (made : List X) × (items ≡ kept ++ made) × FoldsTo step first made after
 
 -- the items that calls with 0, 1, 2 and so on give, one call after another
 abbrev pub MakesInTurn : {F X : Type 0} → (F → ℕ → X → F → Type 0) → F → ℕ → List X → F → Type 0

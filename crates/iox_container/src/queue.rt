@@ -1,5 +1,5 @@
 //! First in, first out, with a fixed number of places.
-ghost use Rattle.std.specs.Prelude.{◌≡◌, ℕ, ◌+◌, ◌<◌, ◌≤◌, ◌↔◌, List, [], ◌∷◌, ◌++◌, length, drop, IsTrue, IsSome, IfOk, IfNone, Option, Some, None, slice_get, slice_index_or, if◌then◌else◌};
+ghost use Rattle.std.specs.Prelude.{◌≡◌, ℕ, ◌+◌, ◌<◌, ◌≤◌, ◌↔◌, List, [], ◌∷◌, ◌++◌, length, drop, IsTrue, IsSome, IsOk, IfOk, IfNone, Option, Some, None, slice_get, slice_index_or, if◌then◌else◌};
 ghost use Rattle.std.specs.Option.{option_copied, option_copied_mut, option_to_list};
 ghost use Rattle.std.specs.Borrow.{sem};
 ghost use Rattle.std.specs.Cmp.{on_equiv, on_per};
@@ -41,10 +41,11 @@ impl<T> Model for Queue<T> {
 impl<T> Queue<T> {
     ghost use Rattle.iox_container.specs.QueueLends.{LendsOldest};
 
-    /// An empty queue of this capacity. It fails only where memory is wanting.
+    /// An empty queue of this capacity. It fails only where memory is wanting, and never at capacity 0.
     pub fn new(alloc: Global, capacity: usize) -> Result<Self, AllocError>
         ensures empty { IfOk result (λ q. q.items ≡ []) }
         ensures capacity { IfOk result (λ q. q.capacity ≡ capacity) }
+        ensures succeeds { capacity ≡ 0 → IsOk result }
     {
         Ok(Queue {
             ring: VecDeque::with_capacity(alloc, capacity)?,

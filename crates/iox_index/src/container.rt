@@ -99,25 +99,28 @@ impl<T: Copy, const CAPACITY: usize> FixedSizeContainer<T, CAPACITY> {
     }
 
     /// Calls `callback` with the handle and the value of each member of the owner, by rising index.
-    pub fn find<F: FnMut(ContainerHandle, T)>(&self, owner: OwnerId, callback: F)
-        requires { F.IsAlwaysCallable callback }
-        ensures { (last : F) × FoldsTo (λ p x q. F.step p x.0 x.1 tt q) callback (members_of owner self.now.id self.now.members) last }
+    pub fn find<F: FnMut(ContainerHandle, T)>(&self, owner: OwnerId, callback: &mut F)
+        requires { F.IsAlwaysCallable callback.old }
+        ensures called { FoldsTo (λ p x q. F.step p x.0 x.1 tt q) callback.old (members_of owner self.now.id self.now.members) callback.new }
+        ensures callable { F.IsAlwaysCallable callback.new }
     {
         self.container.find(owner, callback);
     }
 
     /// Asks `decide` about each member of the owner, by rising index, and removes those for which it answers true. With
-    /// `LockIfLastIndex`, the container is then locked for good if it has no member. This counts as one change.
+    /// `LockIfLastIndex`, the container is then locked for good if it has no member, also where none was removed. This
+    /// counts as one change.
     pub fn recover<F: FnMut(ContainerHandle, T) -> bool>(
         &mut self,
         owner: OwnerId,
         mode: ReleaseMode,
-        decide: F,
+        decide: &mut F,
     ) -> ReleaseState
         requires room { HasRoom self.old }
-        requires callable { F.IsAlwaysCallable decide }
-        ensures after { (members : List (Option (Member T))) × Recovered (λ p x answer q. F.step p x.0 x.1 answer q) owner self.old.id decide self.old.members members
+        requires may_call { F.IsAlwaysCallable decide.old }
+        ensures after { (members : List (Option (Member T))) × Recovered (λ p x answer q. F.step p x.0 x.1 answer q) owner self.old.id decide.old self.old.members members decide.new
             × (self.new ≡ settled mode (record self.old { members = members; changes = self.old.changes + 1 })) }
+        ensures callable { F.IsAlwaysCallable decide.new }
         ensures capacity { length self.new.members ≡ length self.old.members }
         ensures answer { result ≡ state_of self.new.locked }
     {

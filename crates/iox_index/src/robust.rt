@@ -75,24 +75,26 @@ impl<const CAPACITY: usize> StaticRobustUniqueIndexSet<CAPACITY> {
     }
 
     /// Calls `callback` with each index that the owner holds, rising.
-    pub fn find<F: FnMut(usize)>(&self, owner: OwnerId, callback: F)
-        requires { F.IsAlwaysCallable callback }
-        ensures { (last : F) × FoldsTo (λ p x q. F.step p x tt q) callback (held_by owner self.now.holders) last }
+    pub fn find<F: FnMut(usize)>(&self, owner: OwnerId, callback: &mut F)
+        requires { F.IsAlwaysCallable callback.old }
+        ensures called { FoldsTo (λ p x q. F.step p x tt q) callback.old (held_by owner self.now.holders) callback.new }
+        ensures callable { F.IsAlwaysCallable callback.new }
     {
         self.set.find(owner, callback);
     }
 
     /// Asks `decide` about each index that the owner holds, rising, and frees those for which it answers true. With
-    /// `LockIfLastIndex`, the set is then locked for good if no index is held any longer.
+    /// `LockIfLastIndex`, the set is then locked for good if no index is held any longer, also where none was freed.
     pub fn recover<F: FnMut(usize) -> bool>(
         &mut self,
         owner: OwnerId,
         mode: ReleaseMode,
-        decide: F,
+        decide: &mut F,
     ) -> ReleaseState
-        requires { F.IsAlwaysCallable decide }
-        ensures after { (holders : List (Option ℕ)) × Recovered (λ p index answer q. F.step p index answer q) owner decide self.old.holders holders
+        requires { F.IsAlwaysCallable decide.old }
+        ensures after { (holders : List (Option ℕ)) × Recovered (λ p index answer q. F.step p index answer q) owner decide.old self.old.holders holders decide.new
             × (self.new ≡ settled mode (record self.old { holders = holders })) }
+        ensures callable { F.IsAlwaysCallable decide.new }
         ensures capacity { length self.new.holders ≡ length self.old.holders }
         ensures answer { result ≡ state_of self.new.locked }
     {

@@ -85,10 +85,10 @@ fn a_search_shows_each_index_once(rt: HostRuntime) -> Result<(), Fail> {
     assert_eq!(rt; set.acquire(other), Ok(0));
     assert_eq!(rt; set.acquire(owner), Ok(1));
     let mut shown = 0;
-    set.find(owner, |index| shown ^= 1 << (index % 8));
+    set.find(owner, &mut |index| shown ^= 1 << (index % 8));
     assert_eq!(rt; shown, 2);
     assert_eq!(rt;
-        set.recover(owner, ReleaseMode::LockIfLastIndex, |_index| true),
+        set.recover(owner, ReleaseMode::LockIfLastIndex, &mut |_index| true),
         ReleaseState::Unlocked
     );
     assert_eq!(rt; set.borrowed_indices(), 1);
@@ -229,21 +229,25 @@ fn members_of_an_owner_are_found_and_recovered(rt: HostRuntime) -> Result<(), Fa
     added(&mut container, 20, other)?;
     added(&mut container, 40, owner)?;
     let mut values = 0;
-    container.find(owner, |_handle, value| values ^= value);
+    container.find(owner, &mut |_handle, value| values ^= value);
     assert_eq!(rt; values, 10 ^ 40);
     assert!(rt; container.has_room());
-    let state = container.recover(owner, ReleaseMode::Default, |_handle, value| value == 40);
+    let state = container.recover(
+        owner,
+        ReleaseMode::Default,
+        &mut |_handle, value| value == 40,
+    );
     assert_eq!(rt; state, ReleaseState::Unlocked);
     assert_eq!(rt; container.len(), 2);
     let copy = container.get_state(rt.alloc())?;
     let mut indices = 0;
-    copy.for_each(|handle, _value| {
+    copy.for_each(&mut |handle, _value| {
         indices ^= 1 << (handle.index() % 8);
         CallbackProgression::Continue
     });
     assert_eq!(rt; indices, 3);
     let mut calls = 0;
-    copy.for_each(|_handle, _value| {
+    copy.for_each(&mut |_handle, _value| {
         calls ^= 1;
         CallbackProgression::Stop
     });

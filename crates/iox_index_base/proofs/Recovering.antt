@@ -3,7 +3,7 @@ use Rattle.std.proofs.Common.{ℕ, suc, ◌≡◌, ◌+◌, ◌<◌, ◌≤◌, 
 use Rattle.std.proofs.Math.ListN.{get_or, set, drop_of_length-le}
 use Rattle.std.proofs.Math.Seq.{drop-cons}
 use Rattle.std.specs.List.{cons_option}
-use Rattle.std.specs.List.Retain.{IsFiltered}
+use Rattle.iox_string.specs.Retained.{KeepsAsAnswered}
 use Rattle.std.proofs.lemmas.List.{drop-set-lt}
 use Rattle.iox_index_base.specs.Recovery.{asked_from, without_each, Recovers}
 
@@ -20,33 +20,33 @@ module _ {C X F : Type 0} (asked : ℕ → C → Option X) (index_of : X → ℕ
 
   -- whatever is told of the cells from `at` on makes a whole recovery
   pub record Leads (first : F) (old : List C) (now : F) (at : ℕ) (cells : List C) : Type 0 where
-    pub whole : (told : List X) → IsFiltered R now (asked_from asked at (drop at cells)) told
-        → Recovers asked index_of empty R first old (without_each asked index_of empty told cells)
+    pub whole : (told : List X) (last : F) → KeepsAsAnswered R now (asked_from asked at (drop at cells)) told last
+        → Recovers asked index_of empty R first old (without_each asked index_of empty told cells) last
 
   pub Leads-start : (first : F) (old : List C) → Leads first old first 0 old
-  Leads-start first old = record { whole = λ told filtered. (told, filtered, refl) }
+  Leads-start first old = record { whole = λ told last filtered. (told, filtered, refl) }
 
   pub Leads-end : (first : F) (old : List C) (now : F) (at : ℕ) (cells : List C) → Leads first old now at cells → length cells ≤ at
-      → Recovers asked index_of empty R first old cells
-  Leads-end first old now at cells s done = s.whole [] (rw (drop_of_length-le cells done) ([], now, refl, refl, refl))
+      → Recovers asked index_of empty R first old cells now
+  Leads-end first old now at cells s done = s.whole [] now (rw (drop_of_length-le cells done) ([], refl, refl, refl))
 
   -- the cell at `at` isn't asked about
   pub Leads-other : (first : F) (old : List C) (now : F) (at : ℕ) (cells : List C) (cell : C) → Leads first old now at cells
       → at < length cells → cell ≡ get_or cells at cell → asked at cell ≡ None → Leads first old now (at + 1) cells
   Leads-other first old now at cells cell s more read other = record {
-    whole = λ told filtered.
-        let P : List X → Type 0 = λ xs. IsFiltered R now xs told in
-        s.whole told (subst P (sym (asked_next at cells cell None more read other)) filtered);
+    whole = λ told last filtered.
+        let P : List X → Type 0 = λ xs. KeepsAsAnswered R now xs told last in
+        s.whole told last (subst P (sym (asked_next at cells cell None more read other)) filtered);
   }
 
   -- the cell at `at` is asked about, and stays
   pub Leads-kept : (first : F) (old : List C) (now : F) (at : ℕ) (cells : List C) (cell : C) (x : X) (next : F) → Leads first old now at cells
       → at < length cells → cell ≡ get_or cells at cell → asked at cell ≡ Some x → R now x false next → Leads first old next (at + 1) cells
   Leads-kept first old now at cells cell x next s more read own call = record {
-    whole = λ told filtered.
-        let P : List X → Type 0 = λ xs. IsFiltered R now xs told in
-        s.whole told (subst P (sym (asked_next at cells cell (Some x) more read own))
-        (false ∷ filtered.0, filtered.1, ap (λ n. suc n) filtered.2, (next, call, filtered.3), filtered.4));
+    whole = λ told last filtered.
+        let P : List X → Type 0 = λ xs. KeepsAsAnswered R now xs told last in
+        s.whole told last (subst P (sym (asked_next at cells cell (Some x) more read own))
+        (false ∷ filtered.0, ap (λ n. suc n) filtered.1, (next, call, filtered.2), filtered.3));
   }
 
   -- the cell at `at` is asked about, and emptied
@@ -54,14 +54,14 @@ module _ {C X F : Type 0} (asked : ℕ → C → Option X) (index_of : X → ℕ
       → at < length cells → cell ≡ get_or cells at cell → asked at cell ≡ Some x → index_of x ≡ at → R now x true next
       → Leads first old next (at + 1) (set cells at empty)
   Leads-freed first old now at cells cell x next s more read own place call = record {
-    whole = λ told filtered.
-        let P : List X → Type 0 = λ xs. IsFiltered R now xs (x ∷ told) in
-        let Q : List C → Type 0 = λ cs. IsFiltered R next (asked_from asked (at + 1) cs) told in
-        let W : ℕ → Type 0 = λ i. Recovers asked index_of empty R first old (without_each asked index_of empty told (set cells i empty)) in
-        let rest : IsFiltered R next (asked_from asked (at + 1) (drop (at + 1) cells)) told =
+    whole = λ told last filtered.
+        let P : List X → Type 0 = λ xs. KeepsAsAnswered R now xs (x ∷ told) last in
+        let Q : List C → Type 0 = λ cs. KeepsAsAnswered R next (asked_from asked (at + 1) cs) told last in
+        let W : ℕ → Type 0 = λ i. Recovers asked index_of empty R first old (without_each asked index_of empty told (set cells i empty)) last in
+        let rest : KeepsAsAnswered R next (asked_from asked (at + 1) (drop (at + 1) cells)) told last =
         subst Q (drop-set-lt (at + 1) cells at empty (omega arith)) filtered in
-        subst W place (s.whole (x ∷ told) (subst P (sym (asked_next at cells cell (Some x) more read own))
-        (true ∷ rest.0, rest.1, ap (λ n. suc n) rest.2, (next, call, rest.3), ap (λ ts. x ∷ ts) rest.4)));
+        subst W place (s.whole (x ∷ told) last (subst P (sym (asked_next at cells cell (Some x) more read own))
+        (true ∷ rest.0, ap (λ n. suc n) rest.1, (next, call, rest.2), ap (λ ts. x ∷ ts) rest.3)));
   }
 
 -- what is asked about of cells of which the first is asked about

@@ -59,6 +59,7 @@ index_of owner index holder = if is_of owner holder then Some index else None
 abbrev pub held_by : ℕ → List (Option ℕ) → List ℕ
 held_by owner holders = asked_from (index_of owner) 0 holders
 
--- a decision was asked about each index that the owner holds, rising; those for which it answered true have no holder any longer
-abbrev pub Recovered : {F : Type 0} → (F → ℕ → Bool → F → Type 0) → ℕ → F → List (Option ℕ) → List (Option ℕ) → Type 0
-Recovered R owner decide old new = Recovers (index_of owner) (λ index. index) None R decide old new
+-- a decision was asked about each index that the owner holds, rising, and not again; those for which it answered true have no
+-- holder any longer
+abbrev pub Recovered : {F : Type 0} → (F → ℕ → Bool → F → Type 0) → ℕ → F → List (Option ℕ) → List (Option ℕ) → F → Type 0
+Recovered R owner decide old new after = Recovers (index_of owner) (λ index. index) None R decide old new after

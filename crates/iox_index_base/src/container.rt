@@ -212,25 +212,28 @@ impl<T: Copy> Container<T> {
     }
 
     /// Calls `callback` with the handle and the value of each member of the owner, by rising index.
-    pub fn find<F: FnMut(ContainerHandle, T)>(&self, owner: OwnerId, callback: F)
-        requires { F.IsAlwaysCallable callback }
-        ensures { (last : F) × FoldsTo (λ p x q. F.step p x.0 x.1 tt q) callback (members_of owner self.now.id self.now.members) last }
+    pub fn find<F: FnMut(ContainerHandle, T)>(&self, owner: OwnerId, callback: &mut F)
+        requires { F.IsAlwaysCallable callback.old }
+        ensures called { FoldsTo (λ p x q. F.step p x.0 x.1 tt q) callback.old (members_of owner self.now.id self.now.members) callback.new }
+        ensures callable { F.IsAlwaysCallable callback.new }
     {
         call_members(callback, owner, self.id, self.members.as_slice());
     }
 
     /// Asks `decide` about each member of the owner, by rising index, and removes those for which it answers true. With
-    /// `LockIfLastIndex`, the container is then locked for good if it has no member. This counts as one change.
+    /// `LockIfLastIndex`, the container is then locked for good if it has no member, also where none was removed. This
+    /// counts as one change.
     pub fn recover<F: FnMut(ContainerHandle, T) -> bool>(
         &mut self,
         owner: OwnerId,
         mode: ReleaseMode,
-        decide: F,
+        decide: &mut F,
     ) -> ReleaseState
         requires room { HasRoom self.old }
-        requires callable { F.IsAlwaysCallable decide }
-        ensures after { (members : List (Option (Member T))) × Recovered (λ p x answer q. F.step p x.0 x.1 answer q) owner self.old.id decide self.old.members members
+        requires may_call { F.IsAlwaysCallable decide.old }
+        ensures after { (members : List (Option (Member T))) × Recovered (λ p x answer q. F.step p x.0 x.1 answer q) owner self.old.id decide.old self.old.members members decide.new
             × (self.new ≡ settled mode (record self.old { members = members; changes = self.old.changes + 1 })) }
+        ensures callable { F.IsAlwaysCallable decide.new }
         ensures capacity { length self.new.members ≡ length self.old.members }
         ensures answer { result ≡ state_of self.new.locked }
     {
@@ -311,9 +314,10 @@ impl<T: Copy> Container<T> {
 impl<T: Copy> ContainerState<T> {
     /// Calls `callback` with the handle and the value of each member, by rising index, up to and with the first that it
     /// answers with `Stop`.
-    pub fn for_each<F: FnMut(ContainerHandle, T) -> CallbackProgression>(&self, callback: F)
-        requires { F.IsAlwaysCallable callback }
-        ensures { (last : F) × CallsUntilStop (λ p x answer q. F.step p x.0 x.1 answer q) callback (all_members self.now) last }
+    pub fn for_each<F: FnMut(ContainerHandle, T) -> CallbackProgression>(&self, callback: &mut F)
+        requires { F.IsAlwaysCallable callback.old }
+        ensures called { CallsUntilStop (λ p x answer q. F.step p x.0 x.1 answer q) callback.old (all_members self.now) callback.new }
+        ensures callable { F.IsAlwaysCallable callback.new }
     {
         call_until_stop(callback, self.id, self.members.as_slice());
     }
@@ -379,13 +383,14 @@ fn first_told<T: Copy>(
 }
 
 fn call_members<T: Copy, F: FnMut(ContainerHandle, T)>(
-    mut callback: F,
+    callback: &mut F,
     owner: OwnerId,
     id: u64,
     members: &[Option<Member<T>>],
 )
-    requires { F.IsAlwaysCallable callback }
-    ensures { (last : F) × FoldsTo (λ p x q. F.step p x.0 x.1 tt q) callback (members_of owner id members.now) last }
+    requires { F.IsAlwaysCallable callback.old }
+    ensures called { FoldsTo (λ p x q. F.step p x.0 x.1 tt q) callback.old (members_of owner id members.now) callback.new }
+    ensures callable { F.IsAlwaysCallable callback.new }
 {
     let mut rest = members;
     let mut at = 0usize;
@@ -401,12 +406,13 @@ fn call_members<T: Copy, F: FnMut(ContainerHandle, T)>(
 }
 
 fn call_until_stop<T: Copy, F: FnMut(ContainerHandle, T) -> CallbackProgression>(
-    mut callback: F,
+    callback: &mut F,
     id: u64,
     members: &[Option<Member<T>>],
 )
-    requires { F.IsAlwaysCallable callback }
-    ensures { (last : F) × CallsUntilStop (λ p x answer q. F.step p x.0 x.1 answer q) callback (asked_from (told id) 0 members.now) last }
+    requires { F.IsAlwaysCallable callback.old }
+    ensures called { CallsUntilStop (λ p x answer q. F.step p x.0 x.1 answer q) callback.old (asked_from (told id) 0 members.now) callback.new }
+    ensures callable { F.IsAlwaysCallable callback.new }
 {
     let mut rest = members;
     let mut at = 0usize;
@@ -426,13 +432,14 @@ fn call_until_stop<T: Copy, F: FnMut(ContainerHandle, T) -> CallbackProgression>
 
 // Removes each member of the owner for which `decide` answers true.
 fn remove_where<T: Copy, F: FnMut(ContainerHandle, T) -> bool>(
-    mut decide: F,
+    decide: &mut F,
     owner: OwnerId,
     id: u64,
     members: &mut Vec<Option<Member<T>>>,
 )
-    requires { F.IsAlwaysCallable decide }
-    ensures removed { Recovered (λ p x answer q. F.step p x.0 x.1 answer q) owner id decide members.old.items members.new.items }
+    requires { F.IsAlwaysCallable decide.old }
+    ensures removed { Recovered (λ p x answer q. F.step p x.0 x.1 answer q) owner id decide.old members.old.items members.new.items decide.new }
+    ensures callable { F.IsAlwaysCallable decide.new }
     ensures capacity { length members.new.items ≡ length members.old.items }
 {
     for index in 0..members.len() {

@@ -95,24 +95,26 @@ impl RobustUniqueIndexSet {
     }
 
     /// Calls `callback` with each index that the owner holds, rising.
-    pub fn find<F: FnMut(usize)>(&self, owner: OwnerId, callback: F)
-        requires { F.IsAlwaysCallable callback }
-        ensures { (last : F) × FoldsTo (λ p x q. F.step p x tt q) callback (held_by owner self.now.holders) last }
+    pub fn find<F: FnMut(usize)>(&self, owner: OwnerId, callback: &mut F)
+        requires { F.IsAlwaysCallable callback.old }
+        ensures called { FoldsTo (λ p x q. F.step p x tt q) callback.old (held_by owner self.now.holders) callback.new }
+        ensures callable { F.IsAlwaysCallable callback.new }
     {
         call_held(callback, owner, self.cells.as_slice());
     }
 
     /// Asks `decide` about each index that the owner holds, rising, and frees those for which it answers true. With
-    /// `LockIfLastIndex`, the set is then locked for good if no index is held any longer.
+    /// `LockIfLastIndex`, the set is then locked for good if no index is held any longer, also where none was freed.
     pub fn recover<F: FnMut(usize) -> bool>(
         &mut self,
         owner: OwnerId,
         mode: ReleaseMode,
-        decide: F,
+        decide: &mut F,
     ) -> ReleaseState
-        requires { F.IsAlwaysCallable decide }
-        ensures after { (holders : List (Option ℕ)) × Recovered (λ p index answer q. F.step p index answer q) owner decide self.old.holders holders
+        requires { F.IsAlwaysCallable decide.old }
+        ensures after { (holders : List (Option ℕ)) × Recovered (λ p index answer q. F.step p index answer q) owner decide.old self.old.holders holders decide.new
             × (self.new ≡ settled mode (record self.old { holders = holders })) }
+        ensures callable { F.IsAlwaysCallable decide.new }
         ensures capacity { length self.new.holders ≡ length self.old.holders }
         ensures answer { result ≡ state_of self.new.locked }
     {
@@ -160,9 +162,10 @@ fn lowest_free(cells: &[Option<OwnerId>]) -> Option<usize>
 }
 
 // Calls `callback` with each index that the owner holds, rising.
-fn call_held<F: FnMut(usize)>(mut callback: F, owner: OwnerId, cells: &[Option<OwnerId>])
-    requires { F.IsAlwaysCallable callback }
-    ensures { (last : F) × FoldsTo (λ p x q. F.step p x tt q) callback (held_by owner cells.now) last }
+fn call_held<F: FnMut(usize)>(callback: &mut F, owner: OwnerId, cells: &[Option<OwnerId>])
+    requires { F.IsAlwaysCallable callback.old }
+    ensures called { FoldsTo (λ p x q. F.step p x tt q) callback.old (held_by owner cells.now) callback.new }
+    ensures callable { F.IsAlwaysCallable callback.new }
 {
     let mut rest = cells;
     let mut at = 0usize;
@@ -178,12 +181,13 @@ fn call_held<F: FnMut(usize)>(mut callback: F, owner: OwnerId, cells: &[Option<O
 
 // Frees each index that the owner holds and for which `decide` answers true.
 fn free_where<F: FnMut(usize) -> bool>(
-    mut decide: F,
+    decide: &mut F,
     owner: OwnerId,
     cells: &mut Vec<Option<OwnerId>>,
 )
-    requires { F.IsAlwaysCallable decide }
-    ensures freed { Recovered (λ p index answer q. F.step p index answer q) owner decide cells.old.items cells.new.items }
+    requires { F.IsAlwaysCallable decide.old }
+    ensures freed { Recovered (λ p index answer q. F.step p index answer q) owner decide.old cells.old.items cells.new.items decide.new }
+    ensures callable { F.IsAlwaysCallable decide.new }
     ensures capacity { length cells.new.items ≡ length cells.old.items }
 {
     for index in 0..cells.len() {

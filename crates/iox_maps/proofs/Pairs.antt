@@ -192,10 +192,10 @@ module _ {K V : Type 0} where
   pub calls_stop : {F : Type 0} (step : F → K → CallbackProgression → F → Type 0) (first now next : F) (xs : List (Option (K × V))) (i : ℕ) (p : K × V)
       → i < length xs → value_at xs i ≡ Some p → step now p.0 Stop next
       → ((last : F) → CallsAtKeys step now (pairs (drop i xs)) last → CallsAtKeys step first (pairs xs) last)
-      → (last : F) × CallsAtKeys step first (pairs xs) last
+      → CallsAtKeys step first (pairs xs) next
   calls_stop step first now next xs i p within some call before =
       let C : List (K × V) → Type 0 = λ ps. CallsAtKeys step now ps next in
-      (next, before next (subst C (sym (pairs_at_some xs i p within some)) (Stop, next, call, refl)))
+      before next (subst C (sym (pairs_at_some xs i p within some)) (Stop, next, call, refl))
 
   -- a call that answers `Continue` leaves the calls at the other pairs
   pub calls_continue : {F : Type 0} (step : F → K → CallbackProgression → F → Type 0) (first now next : F) (xs : List (Option (K × V))) (i : ℕ) (p : K × V)
@@ -237,7 +237,7 @@ module _ {K V : Type 0} where
   pub calls_over : {F : Type 0} (step : F → K → CallbackProgression → F → Type 0) (first now : F) (xs : List (Option (K × V))) (i : ℕ)
       → length (pairs (drop i xs)) ≡ 0
       → ((last : F) → CallsAtKeys step now (pairs (drop i xs)) last → CallsAtKeys step first (pairs xs) last)
-      → (last : F) × CallsAtKeys step first (pairs xs) last
+      → CallsAtKeys step first (pairs xs) now
   calls_over step first now xs i seen before =
       let C : List (K × V) → Type 0 = λ ps. CallsAtKeys step now ps now in
-      (now, before now (subst C (sym (nil_from_length (pairs (drop i xs)) seen)) refl))
+      before now (subst C (sym (nil_from_length (pairs (drop i xs)) seen)) refl)

@@ -1,22 +1,26 @@
 //! Tables whose keys the caller brings.
-ghost use Rattle.std.specs.Prelude.{◌≡◌, ◌≢◌, ℕ, ◌<◌, ◌≤◌, ◌↔◌, [], ◌∷◌, length, replicate, IsTrue, IsOk, IsSome, IfOk, IfSome, IfNone, OnOk, OnErr, Ok, Err, Some, None, slice_get, option_copied, option_map};
+ghost use Rattle.std.specs.Prelude.{◌≡◌, ◌≢◌, ℕ, ◌+◌, ◌<◌, ◌≤◌, ◌↔◌, [], ◌∷◌, length, replicate, IsTrue, IsOk, IsSome, IfOk, IfSome, IfNone, OnOk, OnErr, Ok, Err, Some, None, slice_get, option_copied, option_map};
+ghost use Rattle.std.specs.Bool.{OnFalse};
 ghost use Rattle.std.specs.Borrow.{sem};
 ghost use Rattle.std.specs.Fn.{CalledAt};
 ghost use Rattle.std.specs.List.{range_with_len};
-ghost use Rattle.std.specs.Option.{option_copied_mut};
+ghost use Rattle.std.specs.Option.{ForSome, option_copied_mut};
 ghost use Rattle.iox_maps.specs.SlotTable.{held_count, released, stored};
 ghost use Rattle.iox_maps.specs.PairTable.{CallsAtKeys, KeysDiffer, pairs, place_of, value_of};
 
 use crate::slot_map::{SlotMap, SlotMapKey};
 use iox_container::CallbackProgression;
 use std::alloc::{AllocError, Global};
+use std::fmt;
 use std::marker::Model;
 
 mod error;
 mod fixed_size_flat_map;
+mod iter;
 
 pub use error::FlatMapError;
 pub use fixed_size_flat_map::FixedSizeFlatMap;
+pub use iter::Iter;
 
 /// Values beside keys that the caller brings, at most `capacity` pairs of them, no two with equal keys. `new` takes
 /// all its memory, and of the other calls only `get` may take some.
@@ -58,6 +62,8 @@ impl<K: Eq, V> FlatMap<K, V> {
     /// How many pairs the map holds.
     pub fn len(&self) -> usize
         ensures value { result ≡ length (pairs self.now.values) }
+        ensures fits { result ≤ length self.now.values }
+        ensures free { result + length self.now.free ≡ length self.now.values }
         ensures keys_differ { KeysDiffer K.eq self.now.values }
     {
         self.map.len()
@@ -77,9 +83,11 @@ impl<K: Eq, V> FlatMap<K, V> {
         self.len() == 0
     }
 
-    /// Whether no further pair fits.
+    /// Whether no further pair fits, which is whether there are as many pairs as the capacity.
     pub fn is_full(&self) -> bool
-        ensures { IsTrue result ↔ (self.now.free ≡ []) }
+        ensures none_free { IsTrue result ↔ (self.now.free ≡ []) }
+        ensures all_held { IsTrue result ↔ (length (pairs self.now.values) ≡ length self.now.values) }
+        ensures not_all_held { OnFalse result (length (pairs self.now.values) < length self.now.values) }
     {
         self.map.is_full()
     }
@@ -133,12 +141,15 @@ impl<K: Eq, V> FlatMap<K, V> {
         }
     }
 
-    /// A clone of the value of the key, if the map has it. It fails only where the clone does, as for want of memory.
+    /// A clone of the value of the key, if the map has it. It fails only where the map has the key and the clone of its
+    /// value fails, as for want of memory.
     pub fn get(&self, key: &K) -> Result<Option<V>, AllocError>
     where
         V: Clone,
         requires clones_equal { (x y : V) → V.is_clone x y → y ≡ x }
-        ensures { IfOk result (λ value. value ≡ value_of K.eq key.now self.now) }
+        ensures value { IfOk result (λ value. value ≡ value_of K.eq key.now self.now) }
+        ensures err { OnErr result (IsSome (value_of K.eq key.now self.now)) }
+        ensures refused { OnErr result (ForSome (value_of K.eq key.now self.now) (λ value. ¬ V.is_infallible value)) }
     {
         match self.get_ref(key) {
             Some(value) => Ok(Some(value.clone()?)),
@@ -157,13 +168,15 @@ impl<K: Eq, V> FlatMap<K, V> {
         ensures exists { (result ≡ Err FlatMapError.KeyAlreadyExists) ↔ IsSome (value_of K.eq key self.old) }
         ensures full { (result ≡ Err FlatMapError.IsFull) ↔ ((value_of K.eq key self.old ≡ None) × (self.old.free ≡ [])) }
         ensures accepted { IsOk result ↔ ((value_of K.eq key self.old ≡ None) × (self.old.free ≢ [])) }
+        ensures full_by_pairs { (result ≡ Err FlatMapError.IsFull) ↔ ((value_of K.eq key self.old ≡ None) × (length (pairs self.old.values) ≡ length self.old.values)) }
+        ensures accepted_by_pairs { IsOk result ↔ ((value_of K.eq key self.old ≡ None) × (length (pairs self.old.values) < length self.old.values)) }
         ensures ok { OnOk result (IfSome (slice_get self.old.free 0) (λ place. self.new ≡ stored self.old place (key, value))) }
         ensures err { OnErr result (self.new ≡ self.old) }
     {
         if self.contains(&key) {
             return Err(FlatMapError::KeyAlreadyExists);
         }
-        if self.map.is_full() {
+        if self.is_full() {
             return Err(FlatMapError::IsFull);
         }
         self.map.insert((key, value));
@@ -184,10 +197,12 @@ impl<K: Eq, V> FlatMap<K, V> {
         Some(value)
     }
 
-    /// Calls `callback` at each key in the order of the places, up to and with the first that it answers with `Stop`.
-    pub fn list_keys<F: FnMut(&K) -> CallbackProgression>(&self, mut callback: F)
-        requires { F.IsAlwaysCallable callback }
-        ensures { (last : F) × CallsAtKeys (CalledAt F.FnMut) callback (pairs self.now.values) last }
+    /// Calls `callback` at each key in the order of the places, up to and with the first that it answers with `Stop`,
+    /// and not again: the contract says in which state that leaves it.
+    pub fn list_keys<F: FnMut(&K) -> CallbackProgression>(&self, callback: &mut F)
+        requires { F.IsAlwaysCallable callback.old }
+        ensures called { CallsAtKeys (CalledAt F.FnMut) callback.old (pairs self.now.values) callback.new }
+        ensures callable { F.IsAlwaysCallable callback.new }
     {
         let mut unseen = self.map.len();
         for index in 0..self.map.capacity() {
@@ -203,6 +218,42 @@ impl<K: Eq, V> FlatMap<K, V> {
                 CallbackProgression::Stop => return,
             }
         }
+    }
+}
+
+impl<K: Eq, V> FlatMap<K, V> {
+    /// The keys with their values, each pair once, in the order of the places.
+    pub fn iter(&self) -> Iter<'_, K, V>
+        ensures pairs { result ≡ pairs self.now.values }
+        ensures keys_differ { KeysDiffer K.eq self.now.values }
+    {
+        Iter {
+            places: self.map.places(),
+        }
+    }
+}
+
+/// Goes over the pairs, in the order of the places.
+impl<'a, K: Eq, V> IntoIterator for &'a FlatMap<K, V> {
+    type Item = (&'a K, &'a V);
+
+    type IntoIter = Iter<'a, K, V>;
+
+    ghost into_iter_gives = { λ map iter. iter ≡ pairs map.now.values };
+
+    fn into_iter(self) -> Iter<'a, K, V> {
+        self.iter()
+    }
+}
+
+/// The pairs as a map, in the order of the places.
+impl<K: Eq + fmt::Debug, V: fmt::Debug> fmt::Debug for FlatMap<K, V> {
+    fn fmt<W: fmt::Write>(&self, f: &mut fmt::Formatter<W>) -> fmt::Result {
+        let mut out = f.debug_map();
+        for (key, value) in self {
+            out.entry(key, value);
+        }
+        out.finish()
     }
 }
 

@@ -8,6 +8,7 @@ ghost use Rattle.iox_maps.specs.SlotTable.{FreeKeysAreExact, ListsHeldKeys, held
 
 use crate::free_keys::FreeKeys;
 use std::alloc::{AllocError, Global};
+use std::fmt;
 use std::marker::Model;
 
 mod fixed_size_slot_map;
@@ -88,6 +89,7 @@ impl<T> SlotMap<T> {
     pub fn is_full(&self) -> bool
         ensures none_free { IsTrue result ↔ (self.now.free ≡ []) }
         ensures all_held { IsTrue result ↔ (held_count self.now ≡ length self.now.values) }
+        ensures not_all_held { OnFalse result (held_count self.now < length self.now.values) }
     {
         self.free.len() == 0
     }
@@ -204,6 +206,13 @@ impl<T> SlotMap<T> {
         value
     }
 
+    // What lies at each key.
+    pub(crate) fn places(&self) -> &[Option<T>]
+        ensures { result.now ≡ self.now.values }
+    {
+        self.values.as_slice()
+    }
+
     /// The keys that hold a value with it, each once, by rising key.
     pub fn iter(&self) -> Iter<'_, T>
         ensures items { result ≡ held_from 0 self.now.values }
@@ -213,6 +222,31 @@ impl<T> SlotMap<T> {
             values: self.values.as_slice(),
             key: 0,
         }
+    }
+}
+
+/// Goes over the keys that hold a value, with it, by rising key.
+impl<'a, T> IntoIterator for &'a SlotMap<T> {
+    type Item = (SlotMapKey, &'a T);
+
+    type IntoIter = Iter<'a, T>;
+
+    ghost into_iter_gives = { λ map iter. iter ≡ held_from 0 map.now.values };
+
+    fn into_iter(self) -> Iter<'a, T> {
+        self.iter()
+    }
+}
+
+/// The values beside the numbers of their keys as a map, by rising key.
+impl<T: fmt::Debug> fmt::Debug for SlotMap<T> {
+    fn fmt<W: fmt::Write>(&self, f: &mut fmt::Formatter<W>) -> fmt::Result {
+        let mut out = f.debug_map();
+        for (key, value) in self {
+            let number = key.value();
+            out.entry(&number, value);
+        }
+        out.finish()
     }
 }
 

@@ -1,6 +1,5 @@
 //! A text that its rules accept.
 ghost use Rattle.std.specs.Prelude.{◌≡◌, ℕ, ◌+◌, ◌-◌, ◌<◌, ◌≤◌, ◌↔◌, List, [], ◌∷◌, ◌++◌, length, take, remove, slice_get, IsTrue, IsOk, IfOk, OnOk, OnErr, Ok, Some, false, nat_eq, refl};
-ghost use Rattle.std.specs.List.Retain.{IsFiltered};
 ghost use Rattle.std.specs.Ordering.{nat_cmp};
 ghost use Rattle.std.specs.Hash as fed;
 ghost use Rattle.std.specs.Cmp.Rules.{hashing};
@@ -8,6 +7,7 @@ ghost use Rattle.std.proofs.Common.{rules};
 ghost use Rattle.std.specs.Bool.{OnTrue, OnFalse};
 ghost use Rattle.std.specs.Cmp.{on_equiv, on_per, on_po, on_total, partial_equiv_from_equiv};
 ghost use Rattle.std.specs.Cmp.Lexicographic.{pointwise, slice_cmp, nat_list_eq_equiv, nat_list_cmp_total, texts_po, texts_ties};
+ghost use Rattle.iox_string.specs.Retained.{KeepsAsAnswered};
 ghost use Rattle.iox_string.specs.StringBytes.{IsStringBytes};
 ghost use Rattle.iox_string.specs.Text.{bytes_inserted, range_replaced};
 ghost use Rattle.iox_semantic.specs.Accepted.{AnswersContent, IsAccepted};
@@ -76,6 +76,35 @@ impl<R: Rules<CAPACITY>, const CAPACITY: usize> Semantic<R, CAPACITY> {
         ensures { result.now ≡ self.now }
     {
         self.content.as_bytes()
+    }
+
+    /// The text, which is ASCII.
+    pub fn as_str(&self) -> &str
+        ensures { result.now ≡ self.now }
+    {
+        self.content.as_str()
+    }
+
+    /// How many bytes the text has.
+    pub fn len(&self) -> usize
+        ensures value { result ≡ length self.now }
+        ensures fits { result ≤ CAPACITY }
+    {
+        self.content.len()
+    }
+
+    /// Whether the text has no byte.
+    pub fn is_empty(&self) -> bool
+        ensures { IsTrue result ↔ (self.now ≡ []) }
+    {
+        self.content.is_empty()
+    }
+
+    /// How many bytes fit, which is `CAPACITY`.
+    pub fn capacity(&self) -> usize
+        ensures { result ≡ CAPACITY }
+    {
+        CAPACITY
     }
 
     /// The normal form of the text.
@@ -204,12 +233,14 @@ impl<R: Rules<CAPACITY>, const CAPACITY: usize> Semantic<R, CAPACITY> {
         self.truncate(0)
     }
 
-    /// Keeps the bytes for which `keeps` answers true. It is called at each byte once, in their order. Refused with
-    /// `InvalidContent` if the rules refuse the text that is kept.
-    pub fn retain<F: FnMut(u8) -> bool>(&mut self, keeps: F) -> Result<(), SemanticStringError>
-        requires { F.IsAlwaysCallable keeps }
-        ensures answer { (kept : List ℕ) × IsFiltered (λ p byte answer q. F.step p byte answer q) keeps self.old kept
+    /// Keeps the bytes for which `keeps` answers true. It is called at each byte once, in their order, and not again:
+    /// the contract says in which state that leaves it. Refused with `InvalidContent` if the rules refuse the text that
+    /// is kept.
+    pub fn retain<F: FnMut(u8) -> bool>(&mut self, keeps: &mut F) -> Result<(), SemanticStringError>
+        requires { F.IsAlwaysCallable keeps.old }
+        ensures answer { (kept : List ℕ) × KeepsAsAnswered (λ p byte answer q. F.step p byte answer q) keeps.old self.old kept keeps.new
             × AnswersContent CAPACITY R.refuses_content R.refuses_characters kept result × OnOk result (self.new ≡ kept) }
+        ensures callable { F.IsAlwaysCallable keeps.new }
         ensures err { OnErr result (self.new ≡ self.old) }
     {
         let mut changed = self.content;

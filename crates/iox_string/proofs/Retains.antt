@@ -2,6 +2,7 @@ use Rattle.std.proofs.Common.{ℕ, ◌≡◌, ◌+◌, ◌<◌, ◌≤◌, ◌++
 use Rattle.std.proofs.Math.ListN.{get_or, set}
 use Rattle.std.specs.List.{items_where_true}
 use Rattle.std.specs.List.Retain.{IsFiltered, ReturnsInTurn}
+use Rattle.iox_string.specs.Retained.{KeepsAsAnswered}
 use Rattle.std.proofs.lemmas.List.{append-nil, drop-drop, drop-set-lt, get_or-drop, length-set, length-take-le, length_push, take_all, take_more, take_more_set}
 
 -- the items at which the answers say true, once one more item has its answer
@@ -53,6 +54,14 @@ module _ {X P : Type 0} (R : P → X → Bool → P → Type 0) where
       let whole : take at old ≡ old = take_all at old done in
       let C : List X → Type 0 = λ xs. ReturnsInTurn R first s.answers xs now in
       (s.answers, now, s.count ∙ omega (arith, s.within), subst C whole s.calls, s.front ∙ ap (λ xs. items_where_true s.answers xs) whole)
+
+  -- the same, with the state that just these calls leave
+  pub RetainedSoFar-asked : (first : P) (old new : List X) (now : P) (kept at : ℕ) → RetainedSoFar first old new now kept at → length old ≤ at
+      → KeepsAsAnswered R first old (take kept new) now
+  RetainedSoFar-asked first old new now kept at s done =
+      let whole : take at old ≡ old = take_all at old done in
+      let C : List X → Type 0 = λ xs. ReturnsInTurn R first s.answers xs now in
+      (s.answers, s.count ∙ omega (arith, s.within), subst C whole s.calls, s.front ∙ ap (λ xs. items_where_true s.answers xs) whole)
 
   -- the calls so far and one more, whatever it answers
   next_calls : (first : P) (old new : List X) (now : P) (kept at : ℕ) (x : X) (b : Bool) (next : P) (s : RetainedSoFar first old new now kept at)

@@ -1,5 +1,7 @@
 pub mod BoundedText
 pub mod Bytes
+pub mod ErrorTexts
+pub mod Retained
 pub mod StringBytes
 pub mod Text
 pub mod TextRow

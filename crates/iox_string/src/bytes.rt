@@ -1,5 +1,5 @@
 //! Questions on bytes that may be no text.
-ghost use Rattle.std.specs.Prelude.{◌≡◌, ◌<◌, ◌++◌, ◌↔◌, IsTrue, IfOk, OnOk, string_bytes};
+ghost use Rattle.std.specs.Prelude.{◌≡◌, ◌<◌, ◌++◌, ◌↔◌, length, IsTrue, IsOk, IfOk, OnOk, string_bytes};
 ghost use Rattle.std.specs.List.{flat_map};
 ghost use Rattle.iox_string.specs.Bytes.{EndsAtZero, escape_of, hex_digit as digit_of};
 ghost use Rattle.iox_string.specs.StringBytes.{IsStringBytes};
@@ -26,11 +26,12 @@ pub fn strnlen(bytes: &[u8]) -> usize
 }
 
 /// The bytes as printable text: tab, line ends, quotes and the backslash behind a backslash, bytes that print as they
-/// are, and each other byte as `\x` and two lower-case hexadecimal digits. It fails only where memory is wanting.
+/// are, and each other byte as `\x` and two lower-case hexadecimal digits. It fails only where memory is wanting, and never for no bytes.
 ///
 /// Ported from `iceoryx2_bb_container::string::as_escaped_string`.
 pub fn as_escaped_string<A: Allocator>(alloc: A, bytes: &[u8]) -> Result<String<A>, AllocError>
-    ensures { IfOk result (λ text. string_bytes text ≡ flat_map escape_of bytes.now) }
+    ensures text { IfOk result (λ text. string_bytes text ≡ flat_map escape_of bytes.now) }
+    ensures succeeds { length bytes.now ≡ 0 → IsOk result }
 {
     let mut text = String::new(alloc);
     for &byte in bytes {

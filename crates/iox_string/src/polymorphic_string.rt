@@ -1,5 +1,5 @@
 //! A string whose capacity is chosen when it is made.
-ghost use Rattle.std.specs.Prelude.{◌≡◌, ℕ, ◌+◌, ◌-◌, ◌<◌, ◌≤◌, ◌↔◌, List, [], ◌∷◌, ◌++◌, length, take, drop, replicate, IfOk, Some, nat_eq, refl};
+ghost use Rattle.std.specs.Prelude.{◌≡◌, ℕ, ◌+◌, ◌-◌, ◌<◌, ◌≤◌, ◌↔◌, List, [], ◌∷◌, ◌++◌, length, take, drop, replicate, IsOk, IfOk, Some, nat_eq, refl};
 ghost use Rattle.std.specs.Ordering.{nat_cmp};
 ghost use Rattle.std.specs.Hash as fed;
 ghost use Rattle.std.specs.Cmp.Rules.{hashing};
@@ -39,15 +39,15 @@ impl<A: Allocator> Model for PolymorphicString<A> {
 }
 
 impl<A: Allocator> PolymorphicString<A> {
-    /// An empty string of this capacity. It fails only where memory is wanting.
+    /// An empty string of this capacity. It fails only where memory is wanting, and never at capacity 0.
     pub fn new(alloc: A, capacity: usize) -> Result<Self, AllocError>
         ensures empty { IfOk result (λ s. s.text ≡ []) }
         ensures capacity { IfOk result (λ s. s.capacity ≡ capacity) }
+        ensures succeeds { capacity ≡ 0 → IsOk result }
     {
-        Ok(PolymorphicString {
-            cells: vec![in alloc; 0; capacity]?,
-            len: 0,
-        })
+        let mut cells = Vec::with_capacity(alloc, capacity)?;
+        cells.resize(capacity, 0)?;
+        Ok(PolymorphicString { cells, len: 0 })
     }
 
     /// A copy with the same text and capacity. It fails only where memory is wanting.

@@ -6,6 +6,7 @@ ghost use Rattle.std.specs.List.Retain.{IsFiltered};
 ghost use Rattle.std.specs.Ordering.{nat_cmp};
 ghost use Rattle.std.specs.Hash as fed;
 ghost use Rattle.std.specs.Cmp.Lexicographic.{pointwise, slice_cmp};
+ghost use Rattle.iox_string.specs.Retained.{KeepsAsAnswered};
 ghost use Rattle.iox_string.specs.StringBytes.{IsStringByte, IsStringBytes};
 ghost use Rattle.iox_string.specs.Text.{AnswersInsertion, FindsFirst, FindsLast, bytes_inserted, range_replaced};
 
@@ -36,6 +37,8 @@ pub trait String: Ord + Hash {
         ensures { result ≡ room self.now };
 
     /// Puts `bytes` in the place of those from `from` up to `to`, where they fit.
+    ///
+    /// It is there for implementers: every edit below is made of it. Callers mostly want those, which test what it asks.
     fn replace_range(&mut self, from: usize, to: usize, bytes: &[u8])
         requires start_le_end { from ≤ to }
         requires in_bounds { to ≤ length (text self.old) }
@@ -45,6 +48,8 @@ pub trait String: Ord + Hash {
         ensures capacity { room self.new ≡ room self.old };
 
     /// Writes one byte over that at `idx`.
+    ///
+    /// It is there for implementers, as `replace_range` is: `retain` is made of it.
     fn set_byte(&mut self, idx: usize, byte: u8)
         requires in_bounds { idx < length (text self.old) }
         requires valid { IsStringByte byte }
@@ -243,10 +248,13 @@ pub trait String: Ord + Hash {
         self.truncate(0);
     }
 
-    /// Keeps the bytes for which `keeps` answers true. It is called at each byte once, in their order.
-    final fn retain<F: FnMut(u8) -> bool>(&mut self, mut keeps: F)
-        requires { F.IsAlwaysCallable keeps }
-        ensures filtered { IsFiltered (λ p byte answer q. F.step p byte answer q) keeps (text self.old) (text self.new) }
+    /// Keeps the bytes for which `keeps` answers true. It is called at each byte once, in their order, and not again:
+    /// the contract says in which state that leaves it.
+    final fn retain<F: FnMut(u8) -> bool>(&mut self, keeps: &mut F)
+        requires { F.IsAlwaysCallable keeps.old }
+        ensures asked { KeepsAsAnswered (λ p byte answer q. F.step p byte answer q) keeps.old (text self.old) (text self.new) keeps.new }
+        ensures filtered { IsFiltered (λ p byte answer q. F.step p byte answer q) keeps.old (text self.old) (text self.new) }
+        ensures callable { F.IsAlwaysCallable keeps.new }
         ensures capacity { room self.new ≡ room self.old }
     {
         let mut kept = 0;

@@ -1,5 +1,5 @@
 //! A queue whose capacity is part of its type.
-ghost use Rattle.std.specs.Prelude.{◌≡◌, ℕ, ◌+◌, ◌<◌, ◌≤◌, ◌↔◌, List, [], ◌∷◌, ◌++◌, length, drop, IsTrue, IsSome, IfOk, IfNone, Option, Some, None, slice_get, if◌then◌else◌};
+ghost use Rattle.std.specs.Prelude.{◌≡◌, ℕ, ◌+◌, ◌<◌, ◌≤◌, ◌↔◌, List, [], ◌∷◌, ◌++◌, length, drop, IsTrue, IsSome, IsOk, IfOk, IfNone, Option, Some, None, slice_get, if◌then◌else◌};
 ghost use Rattle.std.specs.Option.{option_copied, option_copied_mut, option_to_list};
 ghost use Rattle.std.specs.Borrow.{sem};
 ghost use Rattle.std.specs.Cmp.Lexicographic.{pointwise, lists_equiv, lists_per};
@@ -33,9 +33,10 @@ impl<T, const CAPACITY: usize> Model for FixedSizeQueue<T, CAPACITY> {
 impl<T, const CAPACITY: usize> FixedSizeQueue<T, CAPACITY> {
     ghost use Rattle.iox_container.specs.FixedSizeQueueLends.{LendsOldest};
 
-    /// An empty queue. It fails only where memory is wanting.
+    /// An empty queue. It fails only where memory is wanting, and never at capacity 0.
     pub fn new(alloc: Global) -> Result<Self, AllocError>
-        ensures { IfOk result (λ q. q ≡ []) }
+        ensures empty { IfOk result (λ q. q ≡ []) }
+        ensures succeeds { CAPACITY ≡ 0 → IsOk result }
     {
         Ok(FixedSizeQueue {
             queue: Queue::new(alloc, CAPACITY)?,

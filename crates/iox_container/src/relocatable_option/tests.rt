@@ -2,6 +2,7 @@ ghost use Rattle.std.specs.Prelude.{◌≡◌, IfSome, IfNone, Some, None};
 ghost use Rattle.iox_container.specs.RelocatableOptions.{option_of};
 
 use super::*;
+use serde_json::Value;
 use std::test::Fail;
 
 #[test]
@@ -46,7 +47,27 @@ fn goes_through_its_text_form(rt: HostRuntime) -> Result<(), Fail> {
         serde_json::from_str::<RelocatableOption<u8>>(rt.alloc(), "7")?,
         RelocatableOption::Some(7)
     );
-    assert!(rt; serde_json::from_str::<RelocatableOption<u8>>(rt.alloc(), "\"x\"").is_err());
+    for refused in ["\"x\"", "300", "[]", "nul", "7 7", ""] {
+        let read = serde_json::from_str::<RelocatableOption<u8>>(rt.alloc(), refused);
+        assert!(rt; read.is_err());
+    }
+    for (json, option) in [
+        ("null", RelocatableOption::None),
+        ("7", RelocatableOption::Some(7u8)),
+    ] {
+        let tree = Value::from_str(rt.alloc(), json)?;
+        assert_eq!(rt;
+            serde_json::from_value::<RelocatableOption<u8>>(rt.alloc(), tree)?,
+            option
+        );
+    }
+    let tree = Value::from_str(rt.alloc(), "300")?;
+    assert!(rt; serde_json::from_value::<RelocatableOption<u8>>(rt.alloc(), tree).is_err());
+    let both = [RelocatableOption::None, RelocatableOption::Some(7u8)];
+    assert_eq!(rt;
+        format!(in rt.alloc(); "{both:?}")?.as_str(),
+        "[None, Some(7)]"
+    );
     Ok(())
 }
 

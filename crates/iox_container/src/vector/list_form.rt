@@ -2,7 +2,9 @@
 ghost use Rattle.serde.specs.Event.{WritesSeq};
 
 use crate::vector::{StaticVec, Vector};
-use serde::{Described, Deserialize, Deserializer, Format, Serialize, Serializer};
+use serde::{
+    Described, Deserialize, DeserializeOwned, Deserializer, Format, Serialize, Serializer,
+};
 use std::alloc::Global;
 
 /// Its items are sent as a list, in their order.
@@ -32,6 +34,30 @@ impl<'de, T: Deserialize<'de> + Drop, const CAPACITY: usize> Deserialize<'de>
                 return Ok(items);
             }
             let item = T::deserialize(alloc, from)?;
+            let _ = items.push(item);
+        }
+        if from.next_item()? {
+            return Err(from.custom("list longer than capacity"));
+        }
+        Ok(items)
+    }
+}
+
+/// Refused are a value that is no list, an item that is refused, and more than `CAPACITY` items.
+impl<T: DeserializeOwned, const CAPACITY: usize> DeserializeOwned for StaticVec<T, CAPACITY> {
+    fn deserialize_owned<F: Format>(
+        alloc: Global,
+        from: &mut Deserializer<'_, '_, F>,
+    ) -> Result<Self, F::Error> {
+        let Ok(mut items) = StaticVec::new(alloc) else {
+            return Err(from.no_memory());
+        };
+        from.begin_seq()?;
+        for _ in 0..CAPACITY {
+            if !from.next_item()? {
+                return Ok(items);
+            }
+            let item = T::deserialize_owned(alloc, from)?;
             let _ = items.push(item);
         }
         if from.next_item()? {

@@ -1,14 +1,16 @@
 //! A vector whose capacity is chosen when it is made.
-ghost use Rattle.std.specs.Prelude.{◌≡◌, ℕ, ◌<◌, ◌≤◌, [], ◌∷◌, ◌++◌, length, IfOk, refl};
-ghost use Rattle.std.specs.List.{refill};
+ghost use Rattle.std.specs.Prelude.{◌≡◌, ℕ, ◌^◌, ◌<◌, ◌≤◌, [], ◌∷◌, ◌++◌, length, IsOk, IfOk, OnErr, refl};
+ghost use Rattle.std.specs.Iterator.Adapters.{IterYieldsInOrder};
+ghost use Rattle.std.specs.Slice.Iter.{iter_rest};
+ghost use Rattle.std.specs.List.{AllZip, refill};
 ghost use Rattle.std.specs.Cmp.{on_equiv, on_per};
 ghost use Rattle.std.specs.Cmp.Lexicographic.{pointwise, lists_equiv, lists_per};
 ghost use Rattle.iox_container.specs.Vectors.{MakesInTurn, refill_same};
 
 use crate::vector::Vector;
 use std::alloc::{AllocError, Allocator};
-use std::fmt;
 use std::marker::Model;
+use std::{fmt, slice};
 
 /// A vector whose capacity is chosen by `new`, which takes all its memory.
 ///
@@ -32,10 +34,11 @@ impl<T, A: Allocator> Model for PolymorphicVec<T, A> {
 }
 
 impl<T, A: Allocator> PolymorphicVec<T, A> {
-    /// An empty vector of this capacity. It fails only where memory is wanting.
+    /// An empty vector of this capacity. It fails only where memory is wanting, and never at capacity 0.
     pub fn new(alloc: A, capacity: usize) -> Result<Self, AllocError>
         ensures empty { IfOk result (λ v. v.items ≡ []) }
         ensures capacity { IfOk result (λ v. v.capacity ≡ capacity) }
+        ensures succeeds { capacity ≡ 0 → IsOk result }
     {
         Ok(PolymorphicVec {
             places: Vec::with_capacity(alloc, capacity)?,
@@ -43,17 +46,20 @@ impl<T, A: Allocator> PolymorphicVec<T, A> {
         })
     }
 
-    /// A full vector of what `make` returns at 0, 1 and so on, call by call. It fails only where memory is wanting;
-    /// `make` is then not called.
+    /// A full vector of what `make` returns at 0, 1 and so on, call by call: one call for each item, and no further
+    /// one. It fails only where memory is wanting, and never at capacity 0; `make` is then not called.
     pub fn from_fn<F: FnMut(usize) -> T>(
         alloc: A,
         capacity: usize,
-        mut make: F,
+        make: &mut F,
     ) -> Result<Self, AllocError>
-        requires { F.IsAlwaysCallable make }
-        ensures made { IfOk result (λ v. (last : F) × MakesInTurn (λ p i x q. F.step p i x q) make 0 v.items last) }
+        requires { F.IsAlwaysCallable make.old }
+        ensures made { IfOk result (λ v. MakesInTurn (λ p i x q. F.step p i x q) make.old 0 v.items make.new) }
         ensures full { IfOk result (λ v. length v.items ≡ capacity) }
         ensures capacity { IfOk result (λ v. v.capacity ≡ capacity) }
+        ensures not_called { OnErr result (make.new ≡ make.old) }
+        ensures callable { F.IsAlwaysCallable make.new }
+        ensures succeeds { capacity ≡ 0 → IsOk result }
     {
         let mut places = Vec::with_capacity(alloc, capacity)?;
         for i in 0..capacity {
@@ -69,6 +75,16 @@ impl<T: Clone + Drop, A: Allocator + Clone> PolymorphicVec<T, A> {
         requires clones_equal { (x y : T) → T.is_clone x y → y ≡ x }
         ensures { IfOk result (λ v. v ≡ self.now) }
     {
+        self.clone()
+    }
+}
+
+/// A vector of the same capacity with clones of the items, in their order. It fails only where memory is wanting, or the
+/// clone of an item fails.
+impl<T: Clone + Drop, A: Allocator + Clone> Clone for PolymorphicVec<T, A> {
+    ghost is_clone = { λ v w. AllZip T.is_clone v.items w.items × (w.capacity ≡ v.capacity) };
+
+    fn clone(&self) -> Result<Self, AllocError> {
         let mut places = Vec::with_capacity(self.places.allocator().clone()?, self.capacity)?;
         places.extend_with_clones(self.places.as_slice())?;
         Ok(PolymorphicVec {
@@ -130,6 +146,19 @@ impl<T: Drop, A: Allocator> Drop for PolymorphicVec<T, A> {
             places: _,
             capacity: _,
         } = self;
+    }
+}
+
+/// Goes over the items, in their order.
+impl<'a, T: Drop, A: Allocator> IntoIterator for &'a PolymorphicVec<T, A> {
+    type Item = &'a T;
+
+    type IntoIter = slice::Iter<'a, T>;
+
+    ghost into_iter_gives = { λ v iter. (iter_rest iter ≡ v.now.items) × (length (iter_rest iter) < 2 ^ 64) × IterYieldsInOrder T };
+
+    fn into_iter(self) -> slice::Iter<'a, T> {
+        self.as_slice().iter()
     }
 }
 

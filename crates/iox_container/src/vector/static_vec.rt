@@ -1,13 +1,15 @@
 //! A vector whose capacity is part of its type.
-ghost use Rattle.std.specs.Prelude.{◌≡◌, ℕ, ◌<◌, ◌≤◌, [], ◌∷◌, ◌++◌, length, IfOk, refl};
-ghost use Rattle.std.specs.List.{refill};
+ghost use Rattle.std.specs.Prelude.{◌≡◌, ℕ, ◌^◌, ◌<◌, ◌≤◌, [], ◌∷◌, ◌++◌, length, IsOk, IfOk, refl};
+ghost use Rattle.std.specs.List.{AllZip, refill};
+ghost use Rattle.std.specs.Iterator.Adapters.{IterYieldsInOrder};
+ghost use Rattle.std.specs.Slice.Iter.{iter_rest};
 ghost use Rattle.std.specs.Cmp.Lexicographic.{pointwise, lists_equiv, lists_per};
 ghost use Rattle.iox_container.specs.Vectors.{refill_same};
 
 use crate::vector::{PolymorphicVec, Vector};
 use std::alloc::{AllocError, Global};
-use std::fmt;
 use std::marker::Model;
+use std::{fmt, slice};
 
 /// A vector of at most `CAPACITY` items. `new` takes all its memory, and no other call takes any.
 ///
@@ -30,9 +32,10 @@ impl<T, const CAPACITY: usize> Model for StaticVec<T, CAPACITY> {
 }
 
 impl<T, const CAPACITY: usize> StaticVec<T, CAPACITY> {
-    /// An empty vector. It fails only where memory is wanting.
+    /// An empty vector. It fails only where memory is wanting, and never at capacity 0.
     pub fn new(alloc: Global) -> Result<Self, AllocError>
-        ensures { IfOk result (λ v. v ≡ []) }
+        ensures empty { IfOk result (λ v. v ≡ []) }
+        ensures succeeds { CAPACITY ≡ 0 → IsOk result }
     {
         Ok(StaticVec {
             vec: PolymorphicVec::new(alloc, CAPACITY)?,
@@ -78,6 +81,41 @@ impl<T: Drop, const CAPACITY: usize> Vector<T> for StaticVec<T, CAPACITY> {
     ghost items_of_changed = { λ v xs same. refill_same v xs same };
 
     ghost room_of_changed = { λ _ _. refl };
+}
+
+/// A vector with clones of the items, in their order. It fails only where memory is wanting, or the clone of an item
+/// fails.
+impl<T: Clone + Drop, const CAPACITY: usize> Clone for StaticVec<T, CAPACITY> {
+    ghost is_clone = { AllZip T.is_clone };
+
+    fn clone(&self) -> Result<Self, AllocError> {
+        Ok(StaticVec {
+            vec: self.vec.clone()?,
+        })
+    }
+}
+
+impl<T: Clone + Drop, const CAPACITY: usize> StaticVec<T, CAPACITY> {
+    /// A copy with the same items. It fails only where memory is wanting, or the clone of an item fails.
+    pub fn try_clone(&self) -> Result<Self, AllocError>
+        requires clones_equal { (x y : T) → T.is_clone x y → y ≡ x }
+        ensures { IfOk result (λ v. v ≡ self.now) }
+    {
+        self.clone()
+    }
+}
+
+/// Goes over the items, in their order.
+impl<'a, T: Drop, const CAPACITY: usize> IntoIterator for &'a StaticVec<T, CAPACITY> {
+    type Item = &'a T;
+
+    type IntoIter = slice::Iter<'a, T>;
+
+    ghost into_iter_gives = { λ v iter. (iter_rest iter ≡ v.now) × (length (iter_rest iter) < 2 ^ 64) × IterYieldsInOrder T };
+
+    fn into_iter(self) -> slice::Iter<'a, T> {
+        self.as_slice().iter()
+    }
 }
 
 /// Vectors are equal where their items are, in order.

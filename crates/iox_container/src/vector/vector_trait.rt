@@ -3,7 +3,7 @@ ghost use Rattle.std.specs.Prelude.{◌≡◌, ℕ, ◌+◌, ◌-◌, ◌<◌, �
 ghost use Rattle.std.specs.Option.{option_to_list};
 ghost use Rattle.std.specs.Borrow.{Array, Lends, sem};
 ghost use Rattle.std.specs.List.{AppendsResults};
-ghost use Rattle.iox_container.specs.Vectors.{AnswersGrowth, AnswersInsertionAt};
+ghost use Rattle.iox_container.specs.Vectors.{AnswersGrowth, AnswersInsertionAt, AppendsMade};
 
 use crate::vector::VectorModificationError;
 
@@ -34,12 +34,17 @@ pub trait Vector<T: Drop> {
         ensures { result ≡ room self.now };
 
     /// Appends an item, where one fits.
+    ///
+    /// It is there for implementers: `push` and all that grows a vector is made of it. Callers mostly want `push`, which
+    /// tests what it asks.
     fn push_reserved(&mut self, value: T)
         requires { length (items self.old) < room self.old }
         ensures pushed { items self.new ≡ items self.old ++ value ∷ [] }
         ensures capacity { room self.new ≡ room self.old };
 
     /// Inserts an item before that at `index`, or at the end, where one fits.
+    ///
+    /// It is there for implementers: `insert` is made of it, and tests what it asks.
     fn insert_reserved(&mut self, index: usize, element: T)
         requires in_bounds { index ≤ length (items self.old) }
         requires fits { length (items self.old) < room self.old }
@@ -159,21 +164,25 @@ pub trait Vector<T: Drop> {
         Ok(())
     }
 
-    /// Cuts the vector to `new_len` items, or fills it up to that number with what `make` returns, call by call.
-    /// Refused with `InsertWouldExceedCapacity` if they would not fit; `make` is then not called.
+    /// Cuts the vector to `new_len` items, or fills it up to that number with what `make` returns, call by call: one
+    /// call for each new item, and no further one. Refused with `InsertWouldExceedCapacity` if they would not fit;
+    /// `make` is then not called.
     final fn resize_with<F: FnMut() -> T>(
         &mut self,
         new_len: usize,
-        mut make: F,
+        make: &mut F,
     ) -> Result<(), VectorModificationError>
-        requires { F.IsAlwaysCallable make }
+        requires { F.IsAlwaysCallable make.old }
         ensures answer { AnswersGrowth (room self.old) new_len result }
-        ensures ok { OnOk result (AppendsResults F.step (take new_len (items self.old)) (items self.new) make) }
+        ensures made { OnOk result (AppendsMade F.step make.old (take new_len (items self.old)) (items self.new) make.new) }
+        ensures ok { OnOk result (AppendsResults F.step (take new_len (items self.old)) (items self.new) make.old) }
         ensures len { OnOk result (length (items self.new) ≡ new_len) }
         ensures err { OnErr result (self.new ≡ self.old) }
+        ensures not_called { OnErr result (make.new ≡ make.old) }
+        ensures callable { F.IsAlwaysCallable make.new }
         ensures capacity { room self.new ≡ room self.old }
     {
-        if self.capacity() < new_len {
+        if new_len > self.capacity() {
             return Err(VectorModificationError::InsertWouldExceedCapacity);
         }
         self.truncate(new_len);

@@ -1,15 +1,17 @@
 //! A flat map whose capacity is part of its type.
-ghost use Rattle.std.specs.Prelude.{◌≡◌, ◌≢◌, ℕ, ◌<◌, ◌≤◌, ◌↔◌, [], ◌∷◌, length, replicate, IsTrue, IsOk, IsSome, IfOk, IfSome, IfNone, OnOk, OnErr, Ok, Err, Some, None, slice_get, option_copied, option_map};
+ghost use Rattle.std.specs.Prelude.{◌≡◌, ◌≢◌, ℕ, ◌+◌, ◌<◌, ◌≤◌, ◌↔◌, [], ◌∷◌, length, replicate, IsTrue, IsOk, IsSome, IfOk, IfSome, IfNone, OnOk, OnErr, Ok, Err, Some, None, slice_get, option_copied, option_map};
+ghost use Rattle.std.specs.Bool.{OnFalse};
 ghost use Rattle.std.specs.Borrow.{sem};
 ghost use Rattle.std.specs.Fn.{CalledAt};
 ghost use Rattle.std.specs.List.{range_with_len};
-ghost use Rattle.std.specs.Option.{option_copied_mut};
+ghost use Rattle.std.specs.Option.{ForSome, option_copied_mut};
 ghost use Rattle.iox_maps.specs.SlotTable.{released, stored};
 ghost use Rattle.iox_maps.specs.PairTable.{CallsAtKeys, KeysDiffer, pairs, place_of, value_of};
 
-use crate::flat_map::{FlatMap, FlatMapError};
+use crate::flat_map::{FlatMap, FlatMapError, Iter};
 use iox_container::CallbackProgression;
 use std::alloc::{AllocError, Global};
+use std::fmt;
 use std::marker::Model;
 
 /// Values beside keys that the caller brings, at most `CAPACITY` pairs of them, no two with equal keys. `new` takes
@@ -50,6 +52,8 @@ impl<K: Eq, V, const CAPACITY: usize> FixedSizeFlatMap<K, V, CAPACITY> {
     /// How many pairs the map holds.
     pub fn len(&self) -> usize
         ensures value { result ≡ length (pairs self.now.values) }
+        ensures fits { result ≤ CAPACITY }
+        ensures free { result + length self.now.free ≡ CAPACITY }
         ensures keys_differ { KeysDiffer K.eq self.now.values }
         ensures capacity { length self.now.values ≡ CAPACITY }
     {
@@ -70,9 +74,11 @@ impl<K: Eq, V, const CAPACITY: usize> FixedSizeFlatMap<K, V, CAPACITY> {
         self.map.is_empty()
     }
 
-    /// Whether no further pair fits.
+    /// Whether no further pair fits, which is whether there are `CAPACITY` pairs.
     pub fn is_full(&self) -> bool
-        ensures { IsTrue result ↔ (self.now.free ≡ []) }
+        ensures none_free { IsTrue result ↔ (self.now.free ≡ []) }
+        ensures all_held { IsTrue result ↔ (length (pairs self.now.values) ≡ CAPACITY) }
+        ensures not_all_held { OnFalse result (length (pairs self.now.values) < CAPACITY) }
     {
         self.map.is_full()
     }
@@ -99,12 +105,15 @@ impl<K: Eq, V, const CAPACITY: usize> FixedSizeFlatMap<K, V, CAPACITY> {
         self.map.get_mut_ref(key)
     }
 
-    /// A clone of the value of the key, if the map has it. It fails only where the clone does, as for want of memory.
+    /// A clone of the value of the key, if the map has it. It fails only where the map has the key and the clone of its
+    /// value fails, as for want of memory.
     pub fn get(&self, key: &K) -> Result<Option<V>, AllocError>
     where
         V: Clone,
         requires clones_equal { (x y : V) → V.is_clone x y → y ≡ x }
-        ensures { IfOk result (λ value. value ≡ value_of K.eq key.now self.now) }
+        ensures value { IfOk result (λ value. value ≡ value_of K.eq key.now self.now) }
+        ensures err { OnErr result (IsSome (value_of K.eq key.now self.now)) }
+        ensures refused { OnErr result (ForSome (value_of K.eq key.now self.now) (λ value. ¬ V.is_infallible value)) }
     {
         self.map.get(key)
     }
@@ -120,6 +129,8 @@ impl<K: Eq, V, const CAPACITY: usize> FixedSizeFlatMap<K, V, CAPACITY> {
         ensures exists { (result ≡ Err FlatMapError.KeyAlreadyExists) ↔ IsSome (value_of K.eq key self.old) }
         ensures full { (result ≡ Err FlatMapError.IsFull) ↔ ((value_of K.eq key self.old ≡ None) × (self.old.free ≡ [])) }
         ensures accepted { IsOk result ↔ ((value_of K.eq key self.old ≡ None) × (self.old.free ≢ [])) }
+        ensures full_by_pairs { (result ≡ Err FlatMapError.IsFull) ↔ ((value_of K.eq key self.old ≡ None) × (length (pairs self.old.values) ≡ CAPACITY)) }
+        ensures accepted_by_pairs { IsOk result ↔ ((value_of K.eq key self.old ≡ None) × (length (pairs self.old.values) < CAPACITY)) }
         ensures ok { OnOk result (IfSome (slice_get self.old.free 0) (λ place. self.new ≡ stored self.old place (key, value))) }
         ensures err { OnErr result (self.new ≡ self.old) }
     {
@@ -138,11 +149,44 @@ impl<K: Eq, V, const CAPACITY: usize> FixedSizeFlatMap<K, V, CAPACITY> {
         self.map.remove(key)
     }
 
-    /// Calls `callback` at each key in the order of the places, up to and with the first that it answers with `Stop`.
-    pub fn list_keys<F: FnMut(&K) -> CallbackProgression>(&self, callback: F)
-        requires { F.IsAlwaysCallable callback }
-        ensures { (last : F) × CallsAtKeys (CalledAt F.FnMut) callback (pairs self.now.values) last }
+    /// Calls `callback` at each key in the order of the places, up to and with the first that it answers with `Stop`,
+    /// and not again: the contract says in which state that leaves it.
+    pub fn list_keys<F: FnMut(&K) -> CallbackProgression>(&self, callback: &mut F)
+        requires { F.IsAlwaysCallable callback.old }
+        ensures called { CallsAtKeys (CalledAt F.FnMut) callback.old (pairs self.now.values) callback.new }
+        ensures callable { F.IsAlwaysCallable callback.new }
     {
         self.map.list_keys(callback);
+    }
+}
+
+impl<K: Eq, V, const CAPACITY: usize> FixedSizeFlatMap<K, V, CAPACITY> {
+    /// The keys with their values, each pair once, in the order of the places.
+    pub fn iter(&self) -> Iter<'_, K, V>
+        ensures pairs { result ≡ pairs self.now.values }
+        ensures keys_differ { KeysDiffer K.eq self.now.values }
+    {
+        self.map.iter()
+    }
+}
+
+/// Goes over the pairs, in the order of the places.
+impl<'a, K: Eq, V, const CAPACITY: usize> IntoIterator for &'a FixedSizeFlatMap<K, V, CAPACITY> {
+    type Item = (&'a K, &'a V);
+
+    type IntoIter = Iter<'a, K, V>;
+
+    ghost into_iter_gives = { λ map iter. iter ≡ pairs map.now.values };
+
+    fn into_iter(self) -> Iter<'a, K, V> {
+        self.iter()
+    }
+}
+
+/// The pairs as a map, in the order of the places.
+impl<K: Eq + fmt::Debug, V: fmt::Debug, const CAPACITY: usize> fmt::Debug
+    for FixedSizeFlatMap<K, V, CAPACITY> {
+    fn fmt<W: fmt::Write>(&self, f: &mut fmt::Formatter<W>) -> fmt::Result {
+        fmt::Debug::fmt(&self.map, f)
     }
 }

@@ -1,5 +1,5 @@
 use super::*;
-use std::alloc::Global;
+use std::alloc::{AllocError, Global};
 use std::cell::Cell;
 use std::test::Fail;
 
@@ -38,7 +38,7 @@ fn an_equal_key_is_told_of_before_a_full_map(rt: HostRuntime) -> Result<(), Fail
 
 fn listed(map: &FlatMap<u8, u8>, until: u8) -> u64 {
     let keys = Cell::new(0u64);
-    map.list_keys(|key| {
+    map.list_keys(&mut |key| {
         keys.set((keys.get() % 100_000_000) * 10 + u64::from(*key));
         if *key == until {
             CallbackProgression::Stop
@@ -69,9 +69,82 @@ fn keys_are_listed_by_place_up_to_the_stop(rt: HostRuntime) -> Result<(), Fail> 
 #[test]
 fn a_refusal_reads_as_its_name(rt: HostRuntime) -> Result<(), Fail> {
     let alloc: Global = rt.alloc();
-    let exists = format!(in alloc; "{}", FlatMapError::KeyAlreadyExists)?;
-    assert_eq!(rt; exists.as_str(), "FlatMapError::KeyAlreadyExists");
-    let full = format!(in alloc; "{}", FlatMapError::IsFull)?;
-    assert_eq!(rt; full.as_str(), "FlatMapError::IsFull");
+    let exists = FlatMapError::KeyAlreadyExists;
+    assert_eq!(rt;
+        format!(in alloc; "{exists} {exists:?}")?.as_str(),
+        "FlatMapError::KeyAlreadyExists KeyAlreadyExists"
+    );
+    let full = FlatMapError::IsFull;
+    assert_eq!(rt;
+        format!(in alloc; "{full} {full:?}")?.as_str(),
+        "FlatMapError::IsFull IsFull"
+    );
+    Ok(())
+}
+
+#[test]
+fn pairs_are_gone_over_by_place(rt: HostRuntime) -> Result<(), Fail> {
+    let mut map = FixedSizeFlatMap::<u8, u16, 3>::new(rt.alloc())?;
+    assert_eq!(rt; format!(in rt.alloc(); "{map:?}")?.as_str(), "{}");
+    assert_eq!(rt; map.insert(9, 90), Ok(()));
+    assert_eq!(rt; map.insert(8, 80), Ok(()));
+    assert_eq!(rt; map.insert(7, 70), Ok(()));
+    assert_eq!(rt; map.remove(&9), Some(90));
+    assert_eq!(rt; map.insert(1, 10), Ok(()));
+    let mut seen = Vec::new(rt.alloc());
+    for (key, value) in &map {
+        seen.push((*key, *value))?;
+    }
+    assert_eq!(rt; seen.as_slice(), [(1, 10), (8, 80), (7, 70)].as_slice());
+    assert_eq!(rt; map.remove(&8), Some(80));
+    assert_eq!(rt;
+        format!(in rt.alloc(); "{map:?}")?.as_str(),
+        "{1: 10, 7: 70}"
+    );
+    let chosen = FlatMap::<u8, u8>::new(rt.alloc(), 2)?;
+    assert_eq!(rt; chosen.iter().count(), 0);
+    assert_eq!(rt; format!(in rt.alloc(); "{chosen:?}")?.as_str(), "{}");
+    Ok(())
+}
+
+// How many of these keys a map of this capacity takes and gives back.
+fn taken(alloc: Global, capacity: usize) -> Result<usize, AllocError> {
+    let mut map = FlatMap::new(alloc, capacity)?;
+    for key in 0..70u8 {
+        let _ = map.insert(key, u16::from(key));
+    }
+    let mut found = 0usize;
+    for key in 0..75u8 {
+        if map.get(&key)? == Some(u16::from(key)) {
+            found = found.saturating_add(1);
+        }
+    }
+    Ok(found)
+}
+
+#[test]
+fn ample_memory_is_never_wanting(rt: HostRuntime) -> Result<(), Fail> {
+    for capacity in [0, 1, 2, 7, 64, 1_000_003] {
+        assert_eq!(rt; taken(rt.alloc(), capacity)?, capacity.min(70));
+    }
+    for _ in 0..100 {
+        assert_eq!(rt; taken(rt.alloc(), 3)?, 3);
+    }
+    assert_eq!(rt;
+        FixedSizeFlatMap::<u8, u8, 0>::new(rt.alloc())?.capacity(),
+        0
+    );
+    assert_eq!(rt;
+        FixedSizeFlatMap::<u8, u8, 7>::new(rt.alloc())?.capacity(),
+        7
+    );
+    assert_eq!(rt;
+        FixedSizeFlatMap::<u8, u8, 64>::new(rt.alloc())?.capacity(),
+        64
+    );
+    assert_eq!(rt;
+        FixedSizeFlatMap::<u8, u8, 1_000_003>::new(rt.alloc())?.capacity(),
+        1_000_003
+    );
     Ok(())
 }

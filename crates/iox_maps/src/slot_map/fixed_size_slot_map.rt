@@ -8,6 +8,7 @@ ghost use Rattle.iox_maps.specs.SlotTable.{FreeKeysAreExact, ListsHeldKeys, held
 
 use crate::slot_map::{Iter, SlotMap, SlotMapKey};
 use std::alloc::{AllocError, Global};
+use std::fmt;
 use std::marker::Model;
 
 /// Values under keys that the map gives out, at most `CAPACITY` of them. `new` takes all its memory, and no other call
@@ -72,6 +73,7 @@ impl<T, const CAPACITY: usize> FixedSizeSlotMap<T, CAPACITY> {
     pub fn is_full(&self) -> bool
         ensures none_free { IsTrue result ↔ (self.now.free ≡ []) }
         ensures all_held { IsTrue result ↔ (held_count self.now ≡ CAPACITY) }
+        ensures not_all_held { OnFalse result (held_count self.now < CAPACITY) }
     {
         self.map.is_full()
     }
@@ -150,5 +152,25 @@ impl<T, const CAPACITY: usize> FixedSizeSlotMap<T, CAPACITY> {
         ensures each_once { ListsHeldKeys self.now.values result }
     {
         self.map.iter()
+    }
+}
+
+/// Goes over the keys that hold a value, with it, by rising key.
+impl<'a, T, const CAPACITY: usize> IntoIterator for &'a FixedSizeSlotMap<T, CAPACITY> {
+    type Item = (SlotMapKey, &'a T);
+
+    type IntoIter = Iter<'a, T>;
+
+    ghost into_iter_gives = { λ map iter. iter ≡ held_from 0 map.now.values };
+
+    fn into_iter(self) -> Iter<'a, T> {
+        self.iter()
+    }
+}
+
+/// The values beside the numbers of their keys as a map, by rising key.
+impl<T: fmt::Debug, const CAPACITY: usize> fmt::Debug for FixedSizeSlotMap<T, CAPACITY> {
+    fn fmt<W: fmt::Write>(&self, f: &mut fmt::Formatter<W>) -> fmt::Result {
+        fmt::Debug::fmt(&self.map, f)
     }
 }

@@ -1,4 +1,5 @@
 use super::*;
+use std::alloc::{AllocError, Global};
 use std::test::Fail;
 
 #[test]
@@ -81,5 +82,70 @@ fn no_memory_is_told_of(rt: HostRuntime) -> Result<(), Fail> {
     assert!(rt; !made);
     let made = SlotMap::<u64>::new(rt.alloc(), usize::MAX - 1).is_ok();
     assert!(rt; !made);
+    Ok(())
+}
+
+#[test]
+fn values_are_gone_over_by_key(rt: HostRuntime) -> Result<(), Fail> {
+    let mut map = FixedSizeSlotMap::<u8, 4>::new(rt.alloc())?;
+    assert_eq!(rt; format!(in rt.alloc(); "{map:?}")?.as_str(), "{}");
+    assert!(rt; map.insert_at(SlotMapKey::new(2), 7));
+    assert!(rt; map.insert_at(SlotMapKey::new(0), 9));
+    let mut seen = Vec::new(rt.alloc());
+    for (key, value) in &map {
+        seen.push((key.value(), *value))?;
+    }
+    assert_eq!(rt; seen.as_slice(), [(0, 9), (2, 7)].as_slice());
+    assert_eq!(rt; format!(in rt.alloc(); "{map:?}")?.as_str(), "{0: 9, 2: 7}");
+    let key = SlotMapKey::new(3);
+    assert_eq!(rt;
+        format!(in rt.alloc(); "{key:?}")?.as_str(),
+        "SlotMapKey { value: 3 }"
+    );
+    let chosen = SlotMap::<&str>::new(rt.alloc(), 2)?;
+    assert_eq!(rt; (&chosen).into_iter().count(), 0);
+    assert_eq!(rt; format!(in rt.alloc(); "{chosen:?}")?.as_str(), "{}");
+    Ok(())
+}
+
+// How many of 70 values a map of this capacity takes and gives back, twice over.
+fn taken(alloc: Global, capacity: usize) -> Result<u64, AllocError> {
+    let mut map = SlotMap::new(alloc, capacity)?;
+    let mut count = 0u64;
+    for _ in 0..2 {
+        for value in 0..70u8 {
+            if map.insert(value).is_some() {
+                count = count.saturating_add(1);
+            }
+        }
+        for key in 0..70 {
+            let _ = map.remove(SlotMapKey::new(key));
+        }
+    }
+    Ok(count)
+}
+
+#[test]
+fn ample_memory_is_never_wanting(rt: HostRuntime) -> Result<(), Fail> {
+    for (capacity, count) in [
+        (0, 0),
+        (1, 2),
+        (2, 4),
+        (5, 10),
+        (7, 14),
+        (64, 128),
+        (1_000_003, 140),
+    ] {
+        assert_eq!(rt; taken(rt.alloc(), capacity)?, count);
+    }
+    for _ in 0..100 {
+        assert_eq!(rt; taken(rt.alloc(), 5)?, 10);
+    }
+    assert_eq!(rt; FixedSizeSlotMap::<u8, 5>::new(rt.alloc())?.capacity(), 5);
+    assert_eq!(rt; FixedSizeSlotMap::<u8, 64>::new(rt.alloc())?.capacity(), 64);
+    assert_eq!(rt;
+        FixedSizeSlotMap::<u8, 1_000_003>::new(rt.alloc())?.capacity(),
+        1_000_003
+    );
     Ok(())
 }

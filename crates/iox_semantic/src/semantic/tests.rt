@@ -123,14 +123,16 @@ fn a_name_changes_within_its_rules(rt: HostRuntime) -> Result<(), Fail> {
     assert!(rt; !name.remove_range(4, 2)?);
     assert!(rt; name.strip_suffix(b"!?")?);
     assert!(rt; !name.strip_prefix(b"n")?);
-    name.retain(|byte| byte != b'n')?;
-    assert_eq!(rt; name.as_bytes(), b"oe".as_slice());
+    name.retain(&mut |byte| byte != b'n')?;
+    assert_eq!(rt; name.as_str(), "oe");
+    assert_eq!(rt; name.len(), 2);
+    assert_eq!(rt; name.capacity(), 8);
     name.truncate(1)?;
     assert_eq!(rt; name.as_string().as_str(), "o");
     assert_eq!(rt; name.pop(), Err(SemanticStringError::InvalidContent));
     assert_eq!(rt; name.truncate(0), Err(SemanticStringError::InvalidContent));
     assert_eq!(rt;
-        name.retain(|_byte| false),
+        name.retain(&mut |_byte| false),
         Err(SemanticStringError::InvalidContent)
     );
     assert_eq!(rt; name.as_bytes(), b"o".as_slice());
@@ -152,6 +154,7 @@ fn texts_are_told_apart_by_their_normal_form(rt: HostRuntime) -> Result<(), Fail
     let mut empty = Semantic::<AnyCase, 8>::new(b"")?;
     assert_eq!(rt; empty.pop()?, None);
     empty.clear()?;
+    assert!(rt; empty.is_empty());
     let one = Semantic::<FileName, 8>::new(b"abc")?;
     let other = Semantic::<FileName, 8>::new(b"ABC")?;
     assert!(rt; one != other);
@@ -175,5 +178,42 @@ fn a_clone_and_what_is_printed_are_the_text_itself(rt: HostRuntime) -> Result<()
     assert_eq!(rt; name.as_bytes(), b"A\"b".as_slice());
     assert_eq!(rt; format!(in rt.alloc(); "{name}")?.as_str(), "A\"b");
     assert_eq!(rt; format!(in rt.alloc(); "{name:?}")?.as_str(), "\"A\\\"b\"");
+    Ok(())
+}
+
+#[test]
+fn a_refusal_reads_as_its_name(rt: HostRuntime) -> Result<(), Fail> {
+    let invalid = SemanticStringError::InvalidContent;
+    assert_eq!(rt;
+        format!(in rt.alloc(); "{invalid} {invalid:?}")?.as_str(),
+        "SemanticStringError::InvalidContent InvalidContent"
+    );
+    let long = SemanticStringError::ExceedsMaximumLength;
+    assert_eq!(rt;
+        format!(in rt.alloc(); "{long} {long:?}")?.as_str(),
+        "SemanticStringError::ExceedsMaximumLength ExceedsMaximumLength"
+    );
+    Ok(())
+}
+
+#[test]
+fn retain_asks_about_each_byte_once(rt: HostRuntime) -> Result<(), Fail> {
+    let mut name = Semantic::<FileName, 8>::new(b"one")?;
+    let mut calls = 0u64;
+    name.retain(&mut |byte| {
+        calls = calls.saturating_add(1);
+        byte != b'n'
+    })?;
+    assert_eq!(rt; calls, 3);
+    let refused = name.retain(&mut |_byte| {
+        calls = calls.saturating_add(1);
+        false
+    });
+    assert_eq!(rt; refused, Err(SemanticStringError::InvalidContent));
+    assert_eq!(rt; calls, 5);
+    assert_eq!(rt; name.as_str(), "oe");
+    for _ in 0..300 {
+        assert!(rt; name.clone()? == name);
+    }
     Ok(())
 }

@@ -18,12 +18,10 @@ loop-split-preserved g c =
           (Continue, c.callback.new.self, c.in-Continue.ensures, rest)),
     )
 
-pub returns-in-Stop : goal.returns-in-Stop
-returns-in-Stop g c =
+pub returns-in-Stop-clause-called : goal.returns-in-Stop-clause-called
+returns-in-Stop-clause-called g c =
     let is : told c.args.id c.loop-split.at c.in-Some.split.0.now ≡ Some c.in-Some-told.found = sym c.told.ensures ∙ c.in-Some-told.is in
-    let split : c.loop-split.rest.now ≡ c.in-Some.split.0.now ∷ c.in-Some.split.1.now = c.in-Some.ensures.cases.0 in (
-      c.callback.new.self,
-      c.loop-split.invariant.3 c.callback.new.self
-          (rw (asked-first (told c.args.id) c.loop-split.at c.loop-split.rest.now c.in-Some.split.0.now c.in-Some.split.1.now c.in-Some-told.found split is)
-          (Stop, c.callback.new.self, c.in-Stop.ensures, refl)),
-    )
+    let split : c.loop-split.rest.now ≡ c.in-Some.split.0.now ∷ c.in-Some.split.1.now = c.in-Some.ensures.cases.0 in
+    c.loop-split.invariant.3 c.callback.new.self
+    (rw (asked-first (told c.args.id) c.loop-split.at c.loop-split.rest.now c.in-Some.split.0.now c.in-Some.split.1.now c.in-Some-told.found split is)
+    (Stop, c.callback.new.self, c.in-Stop.ensures, refl))

@@ -3,7 +3,7 @@ use borrow.Author.Rules.{of_calls}
 use Rattle.std.proofs.Math.ListN.{get_or}
 use Rattle.std.proofs.lemmas.List.Elements.{All-get_or}
 use Rattle.iox_string.specs.StringBytes.{IsStringByte}
-use Rattle.iox_string.proofs.Retains.{RetainedSoFar-all, RetainedSoFar-drop, RetainedSoFar-keep, RetainedSoFar-none}
+use Rattle.iox_string.proofs.Retains.{RetainedSoFar-all, RetainedSoFar-asked, RetainedSoFar-drop, RetainedSoFar-keep, RetainedSoFar-none}
 use Rattle.iox_string.proofs.string_trait.String.retain.Goals as goal
 use Rattle.iox_string.proofs.string_trait.String.retain.Goals.{then-keeps, else-keeps}
 
@@ -49,6 +49,10 @@ loop-at-preserved g c =
 pub returns-clause-filtered : goal.returns-clause-filtered
 returns-clause-filtered g c =
     rw c.truncate.ensures.kept (RetainedSoFar-all _ _ _ _ _ _ _ c.loop-at.invariant.2 (omega (arith, c.loop-at-test.false, c.len-at-end.ensures.value)))
+
+pub returns-clause-asked : goal.returns-clause-asked
+returns-clause-asked g c =
+    rw c.truncate.ensures.kept (RetainedSoFar-asked _ _ _ _ _ _ _ c.loop-at.invariant.2 (omega (arith, c.loop-at-test.false, c.len-at-end.ensures.value)))
 
 pub returns-clause-capacity : goal.returns-clause-capacity
 returns-clause-capacity g c = c.truncate.ensures.capacity ∙ c.loop-at.invariant.1

@@ -1,0 +1,8 @@
+use Rattle.std.specs.Prelude.{ℕ, List, codes}
+use Rattle.iox_container.specs.declared.vector.error.VectorModificationError.{VectorModificationError}
+use Rattle.iox_container.specs.declared.vector.error.VectorModificationError.TheVariants.{InsertWouldExceedCapacity, OutOfBounds}
+
+-- how a refusal reads: its type's name and its own
+abbrev pub vector_error_text : VectorModificationError → List ℕ
+vector_error_text OutOfBounds = codes "VectorModificationError::OutOfBounds"
+vector_error_text InsertWouldExceedCapacity = codes "VectorModificationError::InsertWouldExceedCapacity"
