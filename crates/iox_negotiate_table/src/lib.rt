@@ -1,0 +1,17 @@
+//! The table of services: descriptions and locks under hashes, and the nodes in each service.
+//!
+//! | Module | What it has, from the ground up |
+//! |---|---|
+//! | `node` | who acts |
+//! | `registry` | the nodes in a service |
+//! | `segment` | a registry, until its last node left |
+//! | `entry` | what lies under a hash |
+//! | `table` | the table, and its own calls |
+//! | `storage` | the table as a storage |
+#![tactic(auto)]
+
+pub mod entry;
+pub mod node;
+pub mod registry;
+
+pub use node::Node;
