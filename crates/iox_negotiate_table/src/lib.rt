@@ -13,5 +13,6 @@
 pub mod entry;
 pub mod node;
 pub mod registry;
+pub mod segment;
 
 pub use node::Node;
