@@ -1,5 +1,5 @@
 -- The nodes that are in a service.
-use Rattle.std.specs.Prelude.{ℕ, ◌+◌, ◌-◌, ◌≡◌, Bool, true, false, List, Option, None, Some, Result, Ok, Err, length, nat_eq, nat_lt, not, ◌&&◌, ◌^◌, if◌then◌else◌, ◌⊎◌}
+use Rattle.std.specs.Prelude.{ℕ, ◌+◌, ◌-◌, ◌≡◌, Bool, true, false, List, [], Option, None, Some, Result, Ok, Err, length, nat_eq, nat_lt, not, ◌&&◌, ◌^◌, if◌then◌else◌, ◌⊎◌}
 use Rattle.std.specs.Ordering.{nat_cmp}
 use Rattle.std.specs.BTreeMap.{insert_entry, is_at}
 use Rattle.std.specs.BTreeSet.{insert_key}
@@ -16,6 +16,10 @@ pub record Nodes : Type 0 where
   pub foreign : List ℕ
   pub max_nodes : ℕ
 
+-- none in, with room for so many
+abbrev pub none_in : ℕ → Nodes
+none_in max_nodes = record { own = []; foreign = []; max_nodes = max_nodes }
+
 -- how many nodes are in
 abbrev pub count_in : Nodes → ℕ
 count_in nodes = length nodes.own + length nodes.foreign
@@ -27,6 +31,10 @@ factories_of nodes node = lookup (is_at (nat_cmp node)) nodes.own
 -- an own node that was not in, with its first factory
 abbrev pub with_node : ℕ → Nodes → Nodes
 with_node node nodes = record nodes { own = insert_entry nat_cmp nodes.own node 1 }
+
+-- one own node with one factory
+abbrev pub first_node : ℕ → ℕ → Nodes
+first_node node max_nodes = with_node node (none_in max_nodes)
 
 -- another number of factories of an own node
 abbrev pub with_factories : ℕ → ℕ → Nodes → Nodes

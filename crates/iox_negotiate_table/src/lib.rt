@@ -14,5 +14,8 @@ pub mod entry;
 pub mod node;
 pub mod registry;
 pub mod segment;
+pub mod storage;
+pub mod table;
 
 pub use node::Node;
+pub use table::Table;

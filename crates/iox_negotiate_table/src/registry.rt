@@ -1,6 +1,6 @@
 //! The nodes in a service.
-ghost use Rattle.std.specs.Prelude.{◌≡◌, ◌+◌, ◌≤◌, ◌<◌, ◌^◌, length, IsSome, OnOk, OnErr, nat_eq, nat_lt, []};
-ghost use Rattle.iox_negotiate_table.specs.Nodes.{Nodes, count_in, factories_of, with_node, with_factories, without_foreign, has_foreign, left, Enters, Registers};
+ghost use Rattle.std.specs.Prelude.{◌≡◌, ◌+◌, ◌≤◌, ◌<◌, ◌^◌, length, IsSome, IfOk, OnOk, OnErr, nat_eq, nat_lt, []};
+ghost use Rattle.iox_negotiate_table.specs.Nodes.{none_in, first_node, count_in, factories_of, with_node, with_factories, without_foreign, has_foreign, left, Enters, Registers};
 
 use iox_negotiate_rounds::OpenSegmentAnswer;
 use std::alloc::{AllocError, Global};
@@ -26,13 +26,22 @@ impl Model for Registry {
 impl Registry {
     /// A registry with room for so many nodes, and none in it. It takes no memory.
     pub fn new(alloc: Global, max_nodes: u64) -> Self
-        ensures { result ≡ record { own = []; foreign = []; max_nodes = max_nodes } }
+        ensures { result ≡ none_in max_nodes }
     {
         Registry {
             own: BTreeMap::new(alloc),
             foreign: BTreeSet::new(alloc),
             max_nodes,
         }
+    }
+
+    /// A registry with room for so many nodes, and one own node in it, with one factory.
+    pub fn of_node(alloc: Global, node: u64, max_nodes: u64) -> Result<Self, AllocError>
+        ensures { IfOk result (λ registry. registry ≡ first_node node max_nodes) }
+    {
+        let mut registry = Registry::new(alloc, max_nodes);
+        registry.add(node)?;
+        Ok(registry)
     }
 
     /// How many nodes are in.
