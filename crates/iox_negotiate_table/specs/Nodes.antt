@@ -1,5 +1,5 @@
 -- The nodes that are in a service.
-use Rattle.std.specs.Prelude.{ℕ, ◌+◌, ◌-◌, ◌≡◌, Bool, true, false, List, [], Option, None, Some, Result, Ok, Err, length, nat_eq, nat_lt, not, ◌&&◌, ◌^◌, if◌then◌else◌, ◌⊎◌}
+use Rattle.std.specs.Prelude.{ℕ, ◌+◌, ◌-◌, ◌≡◌, Bool, true, false, List, [], ◌∷◌, Option, None, Some, Result, Ok, Err, length, nat_eq, nat_lt, not, ◌&&◌, ◌^◌, if◌then◌else◌, ◌⊎◌}
 use Rattle.std.specs.Ordering.{nat_cmp}
 use Rattle.std.specs.BTreeMap.{insert_entry, is_at}
 use Rattle.std.specs.BTreeSet.{insert_key}
@@ -35,6 +35,10 @@ with_node node nodes = record nodes { own = insert_entry nat_cmp nodes.own node 
 -- one own node with one factory
 abbrev pub first_node : ℕ → ℕ → Nodes
 first_node node max_nodes = with_node node (none_in max_nodes)
+
+-- one foreign node
+abbrev pub first_foreign : ℕ → ℕ → Nodes
+first_foreign node max_nodes = record { own = []; foreign = node ∷ []; max_nodes = max_nodes }
 
 -- another number of factories of an own node
 abbrev pub with_factories : ℕ → ℕ → Nodes → Nodes

@@ -10,12 +10,15 @@
 //! | `storage` | the table as a storage |
 #![tactic(auto)]
 
+pub mod acts;
 pub mod entry;
 pub mod node;
 pub mod registry;
 pub mod segment;
+pub mod step;
 pub mod storage;
 pub mod table;
 
 pub use node::Node;
+pub use step::ForeignStep;
 pub use table::Table;

@@ -1,6 +1,6 @@
 //! The nodes in a service.
 ghost use Rattle.std.specs.Prelude.{◌≡◌, ◌+◌, ◌≤◌, ◌<◌, ◌^◌, length, IsSome, IfOk, OnOk, OnErr, nat_eq, nat_lt, []};
-ghost use Rattle.iox_negotiate_table.specs.Nodes.{none_in, first_node, count_in, factories_of, with_node, with_factories, without_foreign, has_foreign, left, Enters, Registers};
+ghost use Rattle.iox_negotiate_table.specs.Nodes.{none_in, first_node, first_foreign, count_in, factories_of, with_node, with_factories, without_foreign, has_foreign, left, Enters, Registers};
 
 use iox_negotiate_rounds::OpenSegmentAnswer;
 use std::alloc::{AllocError, Global};
@@ -41,6 +41,15 @@ impl Registry {
     {
         let mut registry = Registry::new(alloc, max_nodes);
         registry.add(node)?;
+        Ok(registry)
+    }
+
+    /// A registry with room for so many nodes, and one foreign node in it.
+    pub fn of_foreign(alloc: Global, node: u64, max_nodes: u64) -> Result<Self, AllocError>
+        ensures { IfOk result (λ registry. registry ≡ first_foreign node max_nodes) }
+    {
+        let mut registry = Registry::new(alloc, max_nodes);
+        registry.foreign.insert(node)?;
         Ok(registry)
     }
 

@@ -55,11 +55,8 @@ impl Storage for Table {
         let Ok(registry) = Registry::of_node(self.alloc, node, max_nodes) else {
             return MakeSegmentAnswer::OutOfMemory;
         };
-        match self
-            .segments
-            .insert((hash.digest, number), Segment::Open(registry))
-        {
-            Ok(_) => MakeSegmentAnswer::Made,
+        match self.insert_segment(hash, number, Segment::Open(registry)) {
+            Ok(()) => MakeSegmentAnswer::Made,
             Err(_) => MakeSegmentAnswer::OutOfMemory,
         }
     }

@@ -1,6 +1,6 @@
 //! The table of services.
-ghost use Rattle.std.specs.Prelude.{◌≡◌, ◌-◌, ◌^◌, is_some, IsSome, nat_eq};
-ghost use Rattle.iox_negotiate_table.specs.Contents.{entry_at, with_entry, segment_at, may_make, may_publish, may_unlock, is_published, is_own_lock, is_lock_of, is_left};
+ghost use Rattle.std.specs.Prelude.{◌≡◌, ◌-◌, ◌^◌, is_some, IsSome, OnOk, OnErr, nat_eq};
+ghost use Rattle.iox_negotiate_table.specs.Contents.{entry_at, with_entry, with_new_segment, segment_at, may_make, may_publish, may_unlock, is_published, is_own_lock, is_lock_of, is_left};
 ghost use Rattle.iox_negotiate_table.specs.declared.entry.Entry.TheVariants.{Described};
 ghost use Rattle.iox_negotiate_table.specs.Sights.{Locks, LocksFree, OpensPublished, LeavesPublished};
 
@@ -9,7 +9,7 @@ use crate::node::Node;
 use crate::segment::Segment;
 use iox_describe::ServiceHash;
 use iox_negotiate_rounds::{LeaveAnswer, LockAnswer, OpenSegmentAnswer, StoredDescription};
-use std::alloc::Global;
+use std::alloc::{AllocError, Global};
 use std::collections::BTreeMap;
 use std::marker::Model;
 
@@ -151,6 +151,20 @@ impl Table {
             }
             Err(_) => LockAnswer::OutOfMemory,
         }
+    }
+
+    // Adds the segment of a service that has none.
+    pub(crate) fn insert_segment(
+        &mut self,
+        hash: &ServiceHash,
+        number: u64,
+        segment: Segment,
+    ) -> Result<(), AllocError>
+        ensures ok { OnOk result (self.new ≡ with_new_segment hash.now number segment self.old) }
+        ensures err { OnErr result (self.new ≡ self.old) }
+    {
+        self.segments.insert((hash.digest, number), segment)?;
+        Ok(())
     }
 
     // Puts the description in the place of the lock.
