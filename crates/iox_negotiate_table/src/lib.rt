@@ -16,9 +16,11 @@ pub mod node;
 pub mod registry;
 pub mod segment;
 pub mod step;
+pub mod steps;
 pub mod storage;
 pub mod table;
 
 pub use node::Node;
 pub use step::ForeignStep;
+pub use steps::{StepList, Stepped};
 pub use table::Table;
