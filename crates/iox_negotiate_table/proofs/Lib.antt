@@ -1,1 +1,3 @@
+pub mod Entries
 pub mod Found
+pub mod Staying

@@ -12,6 +12,7 @@
 
 pub mod acts;
 pub mod entry;
+pub mod laws;
 pub mod node;
 pub mod registry;
 pub mod segment;
