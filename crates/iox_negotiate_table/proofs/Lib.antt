@@ -1,3 +1,4 @@
 pub mod Entries
 pub mod Found
+pub mod Opening
 pub mod Staying

@@ -2,8 +2,7 @@
 use Rattle.std.specs.Prelude.{ℕ, ◌≡◌, ◌≤◌, List, Option, Some, IsSome, Result}
 use Rattle.std.specs.declared.alloc.AllocError.{AllocError}
 use Rattle.iox_describe_base.specs.declared.hash.ServiceHash.{ServiceHash}
-use Rattle.iox_negotiate_rounds.specs.Access.{Access, Lock, MakeSegment, Publish, OpenSegment}
-use Rattle.iox_negotiate_rounds.specs.declared.answer.LockAnswer.TheVariants.{Taken}
+use Rattle.iox_negotiate_rounds.specs.Access.{MakeSegment, Publish, OpenSegment}
 use Rattle.iox_negotiate_rounds.specs.declared.answer.MakeSegmentAnswer.TheVariants.{Made}
 use Rattle.iox_negotiate_rounds.specs.declared.answer.PublishAnswer.TheVariants.{Published}
 use Rattle.iox_negotiate_rounds.specs.declared.answer.OpenSegmentAnswer.TheVariants.{Registered}
@@ -34,3 +33,18 @@ StaysOpen = (hash : ServiceHash) (number node : ℕ) (bytes : List ℕ) (step : 
 abbrev pub StaysOpenThrough : Type 0
 StaysOpenThrough = (hash : ServiceHash) (number node : ℕ) (bytes : List ℕ) (steps : List ForeignStep) (old new : Contents) (result : Result (Unit {0}) AllocError)
     → IsOpenIn hash number node bytes old → ActsAll hash steps old result new → IsOpenIn hash number node bytes new
+
+-- no more nodes are in the segment than there is room for
+abbrev pub HasFew : ServiceHash → ℕ → Contents → Type 0
+HasFew hash number table = (nodes : Nodes) → segment_at hash number table ≡ Some (Open nodes) → count_in nodes ≤ nodes.max_nodes
+
+-- What is opened under a number is the service of just this number that stands, and after it the service is open.
+abbrev pub OpenedIsOpen : Type 0
+OpenedIsOpen = (hash : ServiceHash) (number node : ℕ) (old new : Contents) → HasFew hash number old → Sight old (OpenSegment hash number node Registered) new
+    → (bytes : List ℕ) × (entry_at hash old ≡ Some (Described number bytes)) × IsOpenIn hash number node bytes new
+
+-- what an own node makes and publishes is open for it
+abbrev pub CreatedIsOpen : Type 0
+CreatedIsOpen = (hash : ServiceHash) (number node max_nodes : ℕ) (bytes : List ℕ) (old mid new : Contents)
+    → Sight old (MakeSegment hash number node max_nodes Made) mid → Sight mid (Publish hash number bytes Published) new
+    → IsOpenIn hash number node bytes new
