@@ -35,15 +35,14 @@ entered node before after few h = by_count (factories_of before node) refl h
         differ : opening.Registered ≡ opening.Fault → ⊥
         differ e = cc
     again count false found h =
-        let same : length (with_factories node (count + 1) before).own ≡ length before.own = length-set_value (is_at (nat_cmp node)) before.own (count + 1) in
-        (
+        let same : length (with_factories node (count + 1) before).own ≡ length before.own = length-set_value (is_at (nat_cmp node)) before.own (count + 1) in (
           rw h.1 (some-of _ _ (lookup-set (is_at (nat_cmp node)) before.own (count + 1) found)),
           rw h.1 (omega (arith, same, few)),
         )
+
     first : (b : Bool) → nat_lt (count_in before) before.max_nodes ≡ b → EntersFirst b node before opening.Registered after → IsSome (factories_of after node) × (count_in after ≤ after.max_nodes)
     first true room (inl h) =
-        let longer : length (with_node node before).own ≤ length before.own + 1 = length-added nat_cmp node 1 before.own in
-        (
+        let longer : length (with_node node before).own ≤ length before.own + 1 = length-added nat_cmp node 1 before.own in (
           rw h.1 (some-of _ _ (lookup-added nat_cmp node 1 before.own (is-self nat_cmp nat_cmp_total node))),
           rw h.1 (grind (arith, room, longer)),
         )
@@ -55,6 +54,7 @@ entered node before after few h = by_count (factories_of before node) refl h
       where
         differ : opening.Registered ≡ opening.Full → ⊥
         differ e = cc
+
     by_count : (found : Option ℕ) → factories_of before node ≡ found → EntersWith found node before opening.Registered after → IsSome (factories_of after node) × (count_in after ≤ after.max_nodes)
     by_count (Some count) is h = again count (nat_eq count (2 ^ 64 - 1)) (some-of _ _ is) h
     by_count None is h = first (nat_lt (count_in before) before.max_nodes) refl h

@@ -78,8 +78,10 @@ module _ (hash : ServiceHash) (number node : ℕ) (bytes : List ℕ) where
     where
       shorter : length (without_foreign by is_open.nodes).foreign ≤ length is_open.nodes.foreign
       shorter = length-removed (is_at (nat_cmp by)) is_open.nodes.foreign
+
       some : 1 ≤ length is_open.nodes.own
       some = found-length (is_at (nat_cmp node)) is_open.nodes.own is_open.is_in
+
       closed : (b : Bool) → nat_eq (count_in (without_foreign by is_open.nodes)) 0 ≡ b → new ≡ with_segment hash number (closed_if b (Foreign by) (without_foreign by is_open.nodes)) old
           → IsOpenIn hash number node bytes new
       closed true none is = absurd (grind (arith, none, some))
@@ -101,12 +103,14 @@ module _ (hash : ServiceHash) (number node : ℕ) (bytes : List ℕ) where
     where
       at : RegistersAt (Some (Open is_open.nodes)) hash number by old result new → IsOpenIn hash number node bytes new
       at h = register old new by result is_open h.0 h.1 h.2
+
       registers : RegistersForeign (published_number (Some (Described number bytes))) hash by old result new → IsOpenIn hash number node bytes new
       registers h = at (subst (λ e. RegistersAt e hash number by old result new) is_open.stands h)
   stays (step.Leave by) old new result is_open h = leaves (subst (λ e. new ≡ after_leaving (published_number e) hash by old) is_open.published h.1)
     where
       at : new ≡ left_at (Some (Open is_open.nodes)) hash number by old → IsOpenIn hash number node bytes new
       at h = left old new by is_open (has_foreign by is_open.nodes) h
+
       leaves : new ≡ after_leaving (published_number (Some (Described number bytes))) hash by old → IsOpenIn hash number node bytes new
       leaves h = at (subst (λ e. new ≡ left_at e hash number by old) is_open.stands h)
   stays (step.Remove by) old new result is_open h =
@@ -114,6 +118,7 @@ module _ (hash : ServiceHash) (number node : ℕ) (bytes : List ℕ) where
     where
       at : (segment : Option Segment) → segment ≡ Some (Open is_open.nodes) → new ≡ cond (is_left_by by segment) (without_segment hash number (without_entry hash old)) old → new ≡ old
       at segment is h = subst (λ e. new ≡ cond (is_left_by by e) (without_segment hash number (without_entry hash old)) old) is h
+
       removes : new ≡ after_removal (published_number (Some (Described number bytes))) hash by old → new ≡ old
       removes h = at (segment_at hash number old) is_open.stands h
 

@@ -56,10 +56,12 @@ impl Table {
         ensures stands { OnSome result (IsSome (entry_at hash.now self.now)) }
     {
         match self.entries.get(&hash.digest) {
-            Some(Entry::Locked {
-                node: Node::Foreign(by),
-                number,
-            }) if *by == node => Some(*number),
+            Some(
+                Entry::Locked {
+                    node: Node::Foreign(by),
+                    number,
+                },
+            ) if *by == node => Some(*number),
             _ => None,
         }
     }

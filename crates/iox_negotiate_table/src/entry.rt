@@ -7,7 +7,10 @@ use iox_negotiate_rounds::StoredDescription;
 #[derive(Drop)]
 pub enum Entry {
     /// The node is about to create the service of this number.
-    Locked { node: Node, number: u64 },
+    Locked {
+        node: Node,
+        number: u64,
+    },
     /// The description of the service of this number.
     Described {
         number: u64,

@@ -25,3 +25,6 @@ pub use node::Node;
 pub use step::ForeignStep;
 pub use steps::{StepList, Stepped};
 pub use table::Table;
+
+#[cfg(test)]
+mod tests;

@@ -11,10 +11,7 @@ pub enum ForeignStep {
     GiveUp { node: u64 },
     /// Where the node has the lock, and the description is of this hash and within the limits, it is published, and the
     /// node is in.
-    Publish {
-        node: u64,
-        description: Description,
-    },
+    Publish { node: u64, description: Description },
     /// Where a service stands, the node is not in and there is room, it comes in.
     Register { node: u64 },
     /// Where the node is in, it leaves.

@@ -50,12 +50,16 @@ impl Table {
     }
 
     // Whether an own node may make the segment.
-    pub(crate) fn may_make(&self, hash: &ServiceHash, number: u64, node: u64, max_nodes: u64) -> bool
+    pub(crate) fn may_make(
+        &self,
+        hash: &ServiceHash,
+        number: u64,
+        node: u64,
+        max_nodes: u64,
+    ) -> bool
         ensures { result ≡ may_make hash.now number node max_nodes self.now }
     {
-        self.has_lock_of(hash, number, node)
-            && !self.has_segment(hash, number)
-            && max_nodes > 0
+        self.has_lock_of(hash, number, node) && !self.has_segment(hash, number) && max_nodes > 0
     }
 
     // Whether an own node has the lock, and of this number.
@@ -63,10 +67,12 @@ impl Table {
         ensures { result ≡ is_own_lock number (entry_at hash.now self.now) }
     {
         match self.entries.get(&hash.digest) {
-            Some(Entry::Locked {
-                node: Node::Own(_),
-                number: at,
-            }) => *at == number,
+            Some(
+                Entry::Locked {
+                    node: Node::Own(_),
+                    number: at,
+                },
+            ) => *at == number,
             _ => false,
         }
     }
@@ -76,10 +82,12 @@ impl Table {
         ensures { result ≡ is_lock_of node number (entry_at hash.now self.now) }
     {
         match self.entries.get(&hash.digest) {
-            Some(Entry::Locked {
-                node: Node::Own(by),
-                number: at,
-            }) => *by == node && *at == number,
+            Some(
+                Entry::Locked {
+                    node: Node::Own(by),
+                    number: at,
+                },
+            ) => *by == node && *at == number,
             _ => false,
         }
     }
@@ -144,7 +152,10 @@ impl Table {
             return LockAnswer::Fault;
         }
         let number = self.next;
-        match self.entries.insert(hash.digest, Entry::Locked { node, number }) {
+        match self
+            .entries
+            .insert(hash.digest, Entry::Locked { node, number })
+        {
             Ok(_) => {
                 self.next += 1;
                 LockAnswer::Taken(number)
@@ -168,7 +179,12 @@ impl Table {
     }
 
     // Puts the description in the place of the lock.
-    pub(crate) fn set_description(&mut self, hash: &ServiceHash, number: u64, bytes: StoredDescription)
+    pub(crate) fn set_description(
+        &mut self,
+        hash: &ServiceHash,
+        number: u64,
+        bytes: StoredDescription,
+    )
         requires { IsSome (entry_at hash.now self.old) }
         ensures { self.new ≡ with_entry hash.now (Described number bytes) self.old }
     {
@@ -194,7 +210,12 @@ impl Table {
     }
 
     // Takes a factory off the segment of a service whose description stands.
-    pub(crate) fn leave_published(&mut self, hash: &ServiceHash, number: u64, node: u64) -> LeaveAnswer
+    pub(crate) fn leave_published(
+        &mut self,
+        hash: &ServiceHash,
+        number: u64,
+        node: u64,
+    ) -> LeaveAnswer
         ensures { LeavesPublished (segment_at hash.now number self.old) hash.now number node self.old result self.new }
     {
         let Some(segment) = self.segments.get_mut(&(hash.digest, number)) else {
