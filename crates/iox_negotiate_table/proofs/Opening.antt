@@ -1,5 +1,5 @@
 -- What is opened, and what is created, is open.
-use Rattle.std.proofs.Common.{◌≡◌, ℕ, ◌+◌, ◌-◌, ◌^◌, ◌≤◌, Bool, true, false, not, ◌&&◌, List, [], Option, None, Some, IsSome, is_some, length, nat_eq, nat_lt, refl, subst, inl, inr, arith}
+use Rattle.std.proofs.Common.{◌≡◌, ℕ, ◌+◌, ◌-◌, ◌^◌, ◌≤◌, Bool, true, false, ◌&&◌, List, [], Option, None, Some, IsSome, is_some, length, nat_eq, nat_lt, refl, subst, inl, inr, arith}
 use Rattle.std.specs.declared.cmp.Ordering.TheVariants.{Equal}
 use Rattle.std.specs.Ordering.{nat_cmp}
 use Rattle.std.specs.Cmp.{nat_cmp_total}
@@ -16,7 +16,7 @@ use Rattle.iox_negotiate_table.specs.declared.segment.Segment.{Segment}
 use Rattle.iox_negotiate_table.specs.declared.segment.Segment.TheVariants.{Open, Emptied}
 use Rattle.iox_negotiate_table.specs.Nodes.{Nodes, count_in, factories_of, with_node, with_factories, first_node, Enters, EntersWith, EntersAgain, EntersFirst}
 use Rattle.iox_negotiate_table.specs.Segments.{Opens}
-use Rattle.iox_negotiate_table.specs.Contents.{Contents, entry_at, segment_at, with_entry, with_segment, with_new_segment, place_cmp, digest_cmp, is_description_of, is_left, is_own_lock, may_make, may_publish}
+use Rattle.iox_negotiate_table.specs.Contents.{Contents, entry_at, segment_at, with_segment, place_cmp, digest_cmp, is_description_of, is_left, is_own_lock, may_make, may_publish}
 use Rattle.iox_negotiate_table.specs.Sights.{OpensAt, unopened, Makes, Publishes}
 use Rattle.iox_negotiate_table.specs.Laws.{IsOpenIn, HasFew, OpenedIsOpen, CreatedIsOpen}
 use Rattle.iox_negotiate_table.proofs.Entries.{lookup-set, lookup-added, length-added, is-self}

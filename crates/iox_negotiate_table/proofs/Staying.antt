@@ -1,23 +1,21 @@
 -- A service that is is_open stays is_open through foreign steps.
-use Rattle.std.proofs.Common.{◌≡◌, ℕ, ◌+◌, ◌≤◌, Bool, true, false, cond, not, ◌&&◌, List, [], ◌∷◌, Option, None, Some, IsSome, is_some, Result, Ok, Err, length, nat_eq, nat_lt, refl, subst, arith}
+use Rattle.std.proofs.Common.{◌≡◌, ℕ, ◌+◌, ◌≤◌, Bool, true, false, cond, not, ◌&&◌, List, [], ◌∷◌, Option, Some, IsSome, is_some, Result, Ok, Err, length, nat_eq, nat_lt, refl, subst, arith}
 use Rattle.std.specs.declared.alloc.AllocError.{AllocError}
 use Rattle.std.specs.Ordering.{nat_cmp}
 use Rattle.std.specs.BTreeMap.{is_at}
 use Rattle.iox_describe_base.specs.declared.hash.ServiceHash.{ServiceHash}
-use Rattle.iox_describe_settings.specs.Agreement.{Agreement}
 use Rattle.iox_negotiate_table.specs.declared.node.Node.TheVariants.{Foreign}
-use Rattle.iox_negotiate_table.specs.declared.entry.Entry.{Entry}
-use Rattle.iox_negotiate_table.specs.declared.entry.Entry.TheVariants.{Locked, Described}
+use Rattle.iox_negotiate_table.specs.declared.entry.Entry.TheVariants.{Described}
 use Rattle.iox_negotiate_table.specs.declared.segment.Segment.{Segment}
 use Rattle.iox_negotiate_table.specs.declared.segment.Segment.TheVariants.{Open, Emptied}
 use Rattle.iox_negotiate_table.specs.declared.step.ForeignStep.{ForeignStep}
 use Rattle.iox_negotiate_table.specs.declared.step.ForeignStep.TheVariants as step
-use Rattle.iox_negotiate_table.specs.Nodes.{Nodes, count_in, factories_of, has_foreign, with_foreign, without_foreign, Registers, RegistersIf}
-use Rattle.iox_negotiate_table.specs.Segments.{RegistersIn, after_foreign_leave, foreign_left_if, settled, closed_if}
-use Rattle.iox_negotiate_table.specs.Contents.{Contents, entry_at, segment_at, with_segment, with_lock, without_entry, without_segment, place_cmp}
+use Rattle.iox_negotiate_table.specs.Nodes.{Nodes, count_in, factories_of, has_foreign, with_foreign, without_foreign, RegistersIf}
+use Rattle.iox_negotiate_table.specs.Segments.{RegistersIn, foreign_left_if, closed_if}
+use Rattle.iox_negotiate_table.specs.Contents.{Contents, segment_at, with_segment, with_lock, without_entry, without_segment, place_cmp}
 use Rattle.iox_negotiate_table.specs.Foreign.{Acts, DoneOrLacking, Done, foreign_lock, PublishesForeign, RegistersForeign, RegistersAt, published_number, after_leaving, left_at, after_removal, is_left_by}
 use Rattle.iox_negotiate_table.specs.Stepped.{ActsAll, GoesOn}
-use Rattle.iox_negotiate_table.specs.Laws.{IsOpenIn, StaysOpen, StaysOpenThrough}
+use Rattle.iox_negotiate_table.specs.Laws.{IsOpenIn}
 use Rattle.iox_negotiate_table.proofs.Entries.{lookup-set, length-insert_key, length-removed, found-length}
 
 module _ (hash : ServiceHash) (number node : ℕ) (bytes : List ℕ) where

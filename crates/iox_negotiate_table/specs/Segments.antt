@@ -1,5 +1,5 @@
 -- The segment of a service: the nodes that are in it, until the last one left.
-use Rattle.std.specs.Prelude.{ℕ, ◌≡◌, Bool, true, false, Option, None, Some, Result, Ok, Err, nat_eq}
+use Rattle.std.specs.Prelude.{ℕ, ◌≡◌, Bool, true, false, Result, Ok, nat_eq}
 use Rattle.std.specs.declared.alloc.AllocError.{AllocError}
 use Rattle.iox_negotiate_rounds.specs.declared.answer.OpenSegmentAnswer.{OpenSegmentAnswer}
 use Rattle.iox_negotiate_rounds.specs.declared.answer.OpenSegmentAnswer.TheVariants.{Marked}

@@ -1,5 +1,5 @@
 -- What each access finds in a table, and what it leaves.
-use Rattle.std.specs.Prelude.{ℕ, ◌≡◌, ◌+◌, ◌-◌, ◌^◌, Bool, true, false, List, Option, None, Some, nat_eq, ◌⊎◌}
+use Rattle.std.specs.Prelude.{ℕ, ◌≡◌, ◌-◌, ◌^◌, Bool, true, false, List, Option, None, Some, nat_eq, ◌⊎◌}
 use Rattle.iox_describe_base.specs.declared.hash.ServiceHash.{ServiceHash}
 use Rattle.iox_negotiate_rounds.specs.Access.{Access, Look, Lock, MakeSegment, Publish, Unlock, OpenSegment, Leave, RemoveDescription, RemoveSegment}
 use Rattle.iox_negotiate_rounds.specs.declared.answer.LookAnswer.{LookAnswer}
@@ -21,8 +21,8 @@ use Rattle.iox_negotiate_table.specs.declared.node.Node.TheVariants.{Own}
 use Rattle.iox_negotiate_table.specs.declared.entry.Entry.{Entry}
 use Rattle.iox_negotiate_table.specs.declared.entry.Entry.TheVariants.{Locked, Described}
 use Rattle.iox_negotiate_table.specs.declared.segment.Segment.{Segment}
-use Rattle.iox_negotiate_table.specs.declared.segment.Segment.TheVariants.{Open, Emptied}
-use Rattle.iox_negotiate_table.specs.Nodes.{Nodes, first_node}
+use Rattle.iox_negotiate_table.specs.declared.segment.Segment.TheVariants.{Open}
+use Rattle.iox_negotiate_table.specs.Nodes.{first_node}
 use Rattle.iox_negotiate_table.specs.Segments.{Opens, after_leave, leave_answer}
 use Rattle.iox_negotiate_table.specs.Contents.{Contents, entry_at, segment_at, with_entry, without_entry, with_new_segment, with_segment, without_segment, with_lock, may_make, may_publish, may_unlock, is_published, is_left, may_remove_description, may_remove_segment}
 

@@ -1,4 +1,4 @@
-use Rattle.std.proofs.Common.{◌≡◌, Result, length}
+use Rattle.std.proofs.Common.{Result, length}
 use Rattle.std.specs.declared.alloc.AllocError.{AllocError}
 use Rattle.iox_negotiate_table.specs.Contents.{Contents}
 use Rattle.iox_negotiate_table.specs.Stepped.{ActsAll}
