@@ -1,0 +1,4 @@
+pub mod Entries
+pub mod Found
+pub mod Opening
+pub mod Staying

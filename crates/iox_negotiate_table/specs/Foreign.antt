@@ -1,0 +1,94 @@
+-- What the steps of foreign nodes find in a table, and what they leave.
+use Rattle.std.specs.Prelude.{ℕ, ◌≡◌, ◌-◌, ◌^◌, ◌↔◌, Bool, true, false, not, ◌&&◌, Option, None, Some, is_some, Result, Ok, Err, nat_eq, IsTrue, if◌then◌else◌}
+use Rattle.std.specs.declared.alloc.AllocError.{AllocError}
+use Rattle.iox_describe_base.specs.declared.hash.ServiceHash.{ServiceHash}
+use Rattle.iox_describe_settings.specs.Agreement.{Agreement, max_nodes_of}
+use Rattle.iox_describe.specs.Line.{line}
+use Rattle.iox_describe.specs.Within.{IsWithinLimits}
+use Rattle.iox_negotiate_table.specs.declared.node.Node.TheVariants.{Foreign}
+use Rattle.iox_negotiate_table.specs.declared.entry.Entry.{Entry}
+use Rattle.iox_negotiate_table.specs.declared.entry.Entry.TheVariants.{Locked, Described}
+use Rattle.iox_negotiate_table.specs.declared.segment.Segment.{Segment}
+use Rattle.iox_negotiate_table.specs.declared.segment.Segment.TheVariants.{Open}
+use Rattle.iox_negotiate_table.specs.declared.step.ForeignStep.{ForeignStep}
+use Rattle.iox_negotiate_table.specs.declared.step.ForeignStep.TheVariants.{Lock, GiveUp, Publish, Register, Leave, Remove}
+use Rattle.iox_negotiate_table.specs.Nodes.{first_foreign}
+use Rattle.iox_negotiate_table.specs.Segments.{RegistersIn, after_foreign_leave, is_emptied_by}
+use Rattle.iox_negotiate_table.specs.Contents.{Contents, entry_at, segment_at, with_entry, without_entry, with_new_segment, with_segment, without_segment, with_lock}
+
+-- It is done, or memory is wanting; where it doesn't fit, nothing changes and no memory is wanted.
+abbrev pub DoneOrLacking : Bool → Contents → Contents → Result (Unit {0}) AllocError → Contents → Type 0
+DoneOrLacking true done old (Ok happened) new = new ≡ done
+DoneOrLacking true done old (Err lacking) new = new ≡ old
+DoneOrLacking false done old (Ok happened) new = new ≡ old
+DoneOrLacking false done old (Err lacking) new = ⊥
+
+-- it is done where it fits, and wants no memory
+abbrev pub Done : Bool → Contents → Contents → Result (Unit {0}) AllocError → Contents → Type 0
+Done true done old result new = (result ≡ Ok tt) × (new ≡ done)
+Done false done old result new = (result ≡ Ok tt) × (new ≡ old)
+
+-- the number of the lock that this foreign node has
+abbrev pub foreign_lock : ℕ → Option Entry → Option ℕ
+foreign_lock node (Some (Locked (Foreign by) number)) = if nat_eq by node then Some number else None
+foreign_lock node entry = None
+
+-- the number of the service whose description stands
+abbrev pub published_number : Option Entry → Option ℕ
+published_number (Some (Described number bytes)) = Some number
+published_number entry = None
+
+-- the description is of this hash, and within the limits
+abbrev pub IsFor : ServiceHash → Agreement → Type 0
+IsFor hash agreed = IsWithinLimits agreed × (agreed.service_hash ≡ hash)
+
+-- the service stands, with this foreign node in it
+abbrev pub with_service : ServiceHash → ℕ → ℕ → Agreement → Contents → Contents
+with_service hash number node agreed table =
+    with_entry hash (Described number (line agreed)) (with_new_segment hash number (Open (first_foreign node (max_nodes_of agreed.settings))) table)
+
+-- where the node has the lock, its description is published, if it is one for this hash
+abbrev pub PublishesForeign : Option ℕ → ServiceHash → ℕ → Agreement → Contents → Result (Unit {0}) AllocError → Contents → Type 0
+PublishesForeign (Some number) hash node agreed old result new =
+    (fits : Bool) × (IsTrue fits ↔ IsFor hash agreed) × DoneOrLacking fits (with_service hash number node agreed old) old result new
+PublishesForeign None hash node agreed old result new = (result ≡ Ok tt) × (new ≡ old)
+
+-- the node comes into the segment
+abbrev pub RegistersAt : Option Segment → ServiceHash → ℕ → ℕ → Contents → Result (Unit {0}) AllocError → Contents → Type 0
+RegistersAt (Some segment) hash number node old result new =
+    (after : Segment) × RegistersIn node segment result after × (new ≡ with_segment hash number after old)
+RegistersAt None hash number node old result new = (result ≡ Ok tt) × (new ≡ old)
+
+abbrev pub RegistersForeign : Option ℕ → ServiceHash → ℕ → Contents → Result (Unit {0}) AllocError → Contents → Type 0
+RegistersForeign (Some number) hash node old result new = RegistersAt (segment_at hash number old) hash number node old result new
+RegistersForeign None hash node old result new = (result ≡ Ok tt) × (new ≡ old)
+
+-- the node leaves the segment
+abbrev pub left_at : Option Segment → ServiceHash → ℕ → ℕ → Contents → Contents
+left_at (Some segment) hash number node old = with_segment hash number (after_foreign_leave node segment) old
+left_at None hash number node old = old
+
+abbrev pub after_leaving : Option ℕ → ServiceHash → ℕ → Contents → Contents
+after_leaving (Some number) hash node old = left_at (segment_at hash number old) hash number node old
+after_leaving None hash node old = old
+
+-- the segment stands, and this foreign node was the last to leave it
+abbrev pub is_left_by : ℕ → Option Segment → Bool
+is_left_by node (Some segment) = is_emptied_by node segment
+is_left_by node None = false
+
+-- the node that left last removes description and segment
+abbrev pub after_removal : Option ℕ → ServiceHash → ℕ → Contents → Contents
+after_removal (Some number) hash node old =
+    if is_left_by node (segment_at hash number old) then without_segment hash number (without_entry hash old) else old
+after_removal None hash node old = old
+
+-- what the step of a foreign node under a hash leaves
+abbrev pub Acts : ServiceHash → ForeignStep → Contents → Result (Unit {0}) AllocError → Contents → Type 0
+Acts hash (Lock node) old result new =
+    DoneOrLacking (not (is_some (entry_at hash old)) && not (nat_eq old.next (2 ^ 64 - 1))) (with_lock hash (Foreign node) old) old result new
+Acts hash (GiveUp node) old result new = Done (is_some (foreign_lock node (entry_at hash old))) (without_entry hash old) old result new
+Acts hash (Publish node agreed) old result new = PublishesForeign (foreign_lock node (entry_at hash old)) hash node agreed old result new
+Acts hash (Register node) old result new = RegistersForeign (published_number (entry_at hash old)) hash node old result new
+Acts hash (Leave node) old result new = (result ≡ Ok tt) × (new ≡ after_leaving (published_number (entry_at hash old)) hash node old)
+Acts hash (Remove node) old result new = (result ≡ Ok tt) × (new ≡ after_removal (published_number (entry_at hash old)) hash node old)

@@ -1,0 +1,30 @@
+//! The table of services: descriptions and locks under hashes, and the nodes in each service.
+//!
+//! | Module | What it has, from the ground up |
+//! |---|---|
+//! | `node` | who acts |
+//! | `registry` | the nodes in a service |
+//! | `segment` | a registry, until its last node left |
+//! | `entry` | what lies under a hash |
+//! | `table` | the table, and its own calls |
+//! | `storage` | the table as a storage |
+#![tactic(auto)]
+
+pub mod acts;
+pub mod entry;
+pub mod laws;
+pub mod node;
+pub mod registry;
+pub mod segment;
+pub mod step;
+pub mod steps;
+pub mod storage;
+pub mod table;
+
+pub use node::Node;
+pub use step::ForeignStep;
+pub use steps::{StepList, Stepped};
+pub use table::Table;
+
+#[cfg(test)]
+mod tests;

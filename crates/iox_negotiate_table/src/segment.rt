@@ -1,0 +1,89 @@
+//! The segment of a service.
+
+use crate::node::Node;
+use crate::registry::Registry;
+use iox_negotiate_rounds::{LeaveAnswer, OpenSegmentAnswer};
+use std::alloc::AllocError;
+
+/// The segment of a service.
+#[derive(Drop)]
+pub enum Segment {
+    /// These nodes are in.
+    Open(Registry),
+    /// The last node left; no other comes in again.
+    Emptied(Node),
+}
+
+impl Segment {
+    ghost use Rattle.std.specs.Prelude.{◌≡◌};
+    ghost use Rattle.iox_negotiate_table.specs.Segments.{Opens, after_leave, leave_answer, RegistersIn, after_foreign_leave, is_emptied, is_emptied_by};
+
+    /// Opens the service for an own node; `Marked` where the last node left.
+    pub fn open(&mut self, node: u64) -> OpenSegmentAnswer
+        ensures { Opens node self.old result self.new }
+    {
+        match self {
+            Segment::Open(registry) => registry.enter(node),
+            Segment::Emptied(_) => OpenSegmentAnswer::Marked,
+        }
+    }
+
+    /// Takes one factory of an own node off, and answers whether this was the last of the last node.
+    pub fn leave(&mut self, node: u64) -> LeaveAnswer
+        ensures after { self.new ≡ after_leave node self.old }
+        ensures answer { result ≡ leave_answer self.old self.new }
+    {
+        let Segment::Open(registry) = self else {
+            return LeaveAnswer::Stays;
+        };
+        registry.leave(node);
+        if registry.is_empty() {
+            *self = Segment::Emptied(Node::Own(node));
+            return LeaveAnswer::Emptied;
+        }
+        LeaveAnswer::Stays
+    }
+
+    /// Lets a foreign node in, if it is not in and there is room.
+    pub fn register(&mut self, node: u64) -> Result<(), AllocError>
+        ensures { RegistersIn node self.old result self.new }
+    {
+        match self {
+            Segment::Open(registry) => registry.register(node),
+            Segment::Emptied(_) => Ok(()),
+        }
+    }
+
+    /// Takes a foreign node out, if it is in.
+    pub fn take_out(&mut self, node: u64)
+        ensures { self.new ≡ after_foreign_leave node self.old }
+    {
+        let Segment::Open(registry) = self else {
+            return;
+        };
+        if !registry.has_foreign(node) {
+            return;
+        }
+        registry.take_out(node);
+        if registry.is_empty() {
+            *self = Segment::Emptied(Node::Foreign(node));
+        }
+    }
+
+    /// Whether the last node left.
+    pub fn is_emptied(&self) -> bool
+        ensures { result ≡ is_emptied self.now }
+    {
+        matches!(self, Segment::Emptied(_))
+    }
+
+    /// Whether this foreign node was the last to leave.
+    pub fn is_emptied_by(&self, node: u64) -> bool
+        ensures { result ≡ is_emptied_by node self.now }
+    {
+        match self {
+            Segment::Emptied(Node::Foreign(by)) => *by == node,
+            _ => false,
+        }
+    }
+}
