@@ -1,0 +1,13 @@
+//! Builders of services, whatever the storage, and what they give: factories of ports.
+//!
+//! | Module | What it has, from the ground up |
+//! |---|---|
+//! | `asked` | what a builder asks of a service, as a request of the rounds |
+//! | `patterns` | the three patterns with their errors |
+#![tactic(auto)]
+
+pub mod asked;
+pub mod patterns;
+
+pub use asked::Asked;
+pub use patterns::Negotiated;
