@@ -4,10 +4,13 @@
 //! |---|---|
 //! | `asked` | what a builder asks of a service, as a request of the rounds |
 //! | `patterns` | the three patterns with their errors |
+//! | `factory` | an open service: what is agreed, and its closing |
 #![tactic(auto)]
 
 pub mod asked;
+pub mod factory;
 pub mod patterns;
 
 pub use asked::Asked;
+pub use factory::{Membership, NotClosed, PortFactory};
 pub use patterns::Negotiated;
