@@ -1,2 +1,3 @@
 pub mod Asked
 pub mod Factory
+pub mod Laws

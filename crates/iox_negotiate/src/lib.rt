@@ -5,10 +5,12 @@
 //! | `asked` | what a builder asks of a service, as a request of the rounds |
 //! | `patterns` | the three patterns with their errors |
 //! | `factory` | an open service: what is agreed, and its closing |
+//! | `laws` | what holds of every open service |
 #![tactic(auto)]
 
 pub mod asked;
 pub mod factory;
+pub mod laws;
 pub mod patterns;
 
 pub use asked::Asked;
