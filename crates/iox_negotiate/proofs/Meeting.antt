@@ -1,5 +1,5 @@
 -- What is opened was read, and meets what is asked.
-use Rattle.std.proofs.Common.{◌≡◌, ℕ, List, ◌∷◌, ◌⊎◌, ⊎_elim, inl, inr, Option, None, Some, Result, Ok, Err, refl, sym, ap, subst, ◌∙◌}
+use Rattle.std.proofs.Common.{rules, IsSome, ◌≡◌, ℕ, List, ◌∷◌, ◌⊎◌, ⊎_elim, inl, inr, Option, None, Some, Result, Ok, Err, refl, sym, ap, subst, ◌∙◌}
 use Rattle.iox_describe_base.specs.declared.hash.ServiceHash.{ServiceHash}
 use Rattle.iox_describe_settings.specs.Agreement.{Agreement}
 use Rattle.iox_negotiate_rounds.specs.Access.{Access, Look, OpenSegment}
@@ -131,3 +131,7 @@ opens-met V hash node verdict made service h =
 pub either-met : (V : Type 0) → EitherIsMet V
 either-met V hash node verdict agreed refusal made service h =
     ⊎_elim (λ ending. either-is hash node verdict agreed refusal h.last service ending.1) (λ ending. absurd (not-ok-err service _ ending.2)) h.ends
+
+-- what is known to be Some is
+pub some-is : {T : Type 0} (found : Option T) (value : T) → found ≡ Some value → IsSome found
+some-is found value is = search rules

@@ -1,3 +1,4 @@
 pub mod Asked
 pub mod Factory
 pub mod Laws
+pub mod Negotiation
