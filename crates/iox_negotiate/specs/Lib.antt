@@ -2,3 +2,4 @@ pub mod Asked
 pub mod Factory
 pub mod Laws
 pub mod Negotiation
+pub mod Types
