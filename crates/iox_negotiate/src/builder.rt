@@ -17,10 +17,14 @@ use crate::negotiation;
 use crate::patterns::Negotiated;
 use crate::payload::{Payload, types_of};
 use iox_describe::pattern::{Event, PublishSubscribe, RequestResponse};
-use iox_describe::requirement::{event, publish_subscribe, request_response};
+use iox_describe::requirement;
 use iox_describe::{AttributeSpecifier, AttributeVerifier, ServiceName};
 use iox_negotiate_rounds::Storage;
 use std::alloc::{AllocError, Global};
+
+pub mod event;
+pub mod publish_subscribe;
+pub mod request_response;
 
 /// A node and the name of a service, of which the pattern isn't said yet.
 ///
@@ -49,7 +53,7 @@ impl Builder {
         Ok(ServiceBuilder {
             node: self.node,
             name: self.name,
-            requirement: event::Requirement::new(attributes),
+            requirement: requirement::event::Requirement::new(attributes),
         })
     }
 
@@ -65,7 +69,7 @@ impl Builder {
         Ok(ServiceBuilder {
             node: self.node,
             name: self.name,
-            requirement: publish_subscribe::Requirement::new(types_of(M::type_detail()), attributes),
+            requirement: requirement::publish_subscribe::Requirement::new(types_of(M::type_detail()), attributes),
         })
     }
 
@@ -83,7 +87,7 @@ impl Builder {
         Ok(ServiceBuilder {
             node: self.node,
             name: self.name,
-            requirement: request_response::Requirement::new(requests, responses, attributes),
+            requirement: requirement::request_response::Requirement::new(requests, responses, attributes),
         })
     }
 }

@@ -2,7 +2,7 @@
 ghost use Rattle.std.specs.Prelude.{◌≡◌, codes};
 ghost use Rattle.iox_describe_base.specs.Detail.{Detail, detail};
 ghost use Rattle.iox_describe_base.specs.declared.type_detail.TypeVariant.TheVariants.{FixedSize, Dynamic};
-ghost use Rattle.iox_negotiate.specs.Types.{types_of, no_header};
+ghost use Rattle.iox_negotiate.specs.Types.{types_of, no_header, aligned};
 
 use iox_describe::{Header, MessageTypeDetails, TypeDetail, TypeVariant, ZeroCopySend};
 use std::marker::PhantomData;
@@ -159,4 +159,12 @@ fn no_header() -> TypeDetail
     ensures { result ≡ no_header }
 {
     TypeDetail::new(TypeVariant::FixedSize, b"()", 0, 1).unwrap()
+}
+
+/// This payload with the larger of its alignment and this one.
+pub(crate) fn aligned(payload: &TypeDetail, alignment: u64) -> TypeDetail
+    ensures { result ≡ aligned payload.now alignment }
+{
+    let alignment = payload.alignment().max(alignment);
+    TypeDetail::new(payload.variant(), payload.type_name(), payload.size(), alignment).unwrap()
 }
