@@ -3,9 +3,8 @@ use Rattle.std.proofs.Common.{rules, IsSome, ◌≡◌, ℕ, List, ◌∷◌, �
 use Rattle.iox_describe_base.specs.declared.hash.ServiceHash.{ServiceHash}
 use Rattle.iox_describe_settings.specs.Agreement.{Agreement}
 use Rattle.iox_negotiate_rounds.specs.Access.{Access, Look, OpenSegment}
-use Rattle.iox_negotiate_rounds.specs.Creating.{Locks}
 use Rattle.iox_negotiate_rounds.specs.Failing.{opened, entered, created, created_or_again, opened_or_again}
-use Rattle.iox_negotiate_rounds.specs.Opening.{Registers, OpensJudged, OpensSeen, OpenRound, Opens, EitherCreates, EitherSeen, EitherRound, OpensOrCreates}
+use Rattle.iox_negotiate_rounds.specs.Opening.{Registers, OpensJudged, OpensSeen, OpenRound, EitherCreates, EitherSeen, EitherRound}
 use Rattle.iox_negotiate_rounds.specs.Sight.{IsSight}
 use Rattle.iox_negotiate_rounds.specs.declared.answer.LookAnswer.{LookAnswer}
 use Rattle.iox_negotiate_rounds.specs.declared.answer.LookAnswer.TheVariants as look
@@ -18,7 +17,6 @@ use Rattle.iox_negotiate_rounds.specs.declared.creation.Attempt.{Attempt}
 use Rattle.iox_negotiate_rounds.specs.declared.creation.Attempt.TheVariants as attempt
 use Rattle.iox_negotiate_rounds.specs.declared.failure.CreateFailure.{CreateFailure}
 use Rattle.iox_negotiate_rounds.specs.declared.failure.OpenFailure.{OpenFailure}
-use Rattle.iox_negotiate_rounds.specs.declared.failure.OpenOrCreateFailure.{OpenOrCreateFailure}
 use Rattle.iox_negotiate_rounds.specs.declared.request.Opened.{Opened}
 use Rattle.iox_negotiate_rounds.proofs.Counting.{creates-service}
 use Rattle.iox_negotiate.specs.Laws.{IsMet, OpenedIsMet, EitherIsMet}

@@ -1,5 +1,5 @@
 -- The same negotiation of equal things.
-use Rattle.std.proofs.Common.{◌≡◌, ℕ, List, Option, Result, subst}
+use Rattle.std.proofs.Common.{◌≡◌, ℕ, Option, Result, subst}
 use Rattle.iox_describe_base.specs.declared.hash.ServiceHash.{ServiceHash}
 use Rattle.iox_describe_settings.specs.Agreement.{Agreement}
 use Rattle.iox_negotiate_rounds.specs.Access.{Access}

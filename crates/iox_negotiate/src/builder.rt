@@ -17,8 +17,7 @@ use crate::negotiation;
 use crate::patterns::Negotiated;
 use crate::payload::{Payload, types_of};
 use iox_describe::pattern::{Event, PublishSubscribe, RequestResponse};
-use iox_describe::requirement;
-use iox_describe::{AttributeSpecifier, AttributeVerifier, ServiceName};
+use iox_describe::{AttributeSpecifier, AttributeVerifier, ServiceName, requirement};
 use iox_negotiate_rounds::Storage;
 use std::alloc::{AllocError, Global};
 
@@ -69,7 +68,10 @@ impl Builder {
         Ok(ServiceBuilder {
             node: self.node,
             name: self.name,
-            requirement: requirement::publish_subscribe::Requirement::new(types_of(M::type_detail()), attributes),
+            requirement: requirement::publish_subscribe::Requirement::new(
+                types_of(M::type_detail()),
+                attributes,
+            ),
         })
     }
 
@@ -87,7 +89,9 @@ impl Builder {
         Ok(ServiceBuilder {
             node: self.node,
             name: self.name,
-            requirement: requirement::request_response::Requirement::new(requests, responses, attributes),
+            requirement: requirement::request_response::Requirement::new(
+                requests, responses, attributes,
+            ),
         })
     }
 }
@@ -123,7 +127,11 @@ impl<P: Negotiated> ServiceBuilder<P> {
     ) -> Result<PortFactory<P>, P::CreateError>
         ensures { Creates S.gives (S.id storage.old) (service_hash_of P.pattern self.name) self.node (agreement self.name (service_hash_of P.pattern self.name) (P.settings (P.adjusted (P.asked self.requirement))) (P.attributes self.requirement).pairs) (P.IsWithinLimits (P.adjusted (P.asked self.requirement))) (P.IsHistoryTooLong (P.adjusted (P.asked self.requirement))) P.create_error storage.old (result_map_both (λ factory. factory.membership) (λ error. error) result) storage.new }
     {
-        self.created(alloc, P::attributes(&self.requirement).attributes(), storage)
+        self.created(
+            alloc,
+            P::attributes(&self.requirement).attributes(),
+            storage,
+        )
     }
 
     /// Creates the service with these attributes, in six accesses at most.

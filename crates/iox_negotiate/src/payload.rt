@@ -166,5 +166,11 @@ pub(crate) fn aligned(payload: &TypeDetail, alignment: u64) -> TypeDetail
     ensures { result ≡ aligned payload.now alignment }
 {
     let alignment = payload.alignment().max(alignment);
-    TypeDetail::new(payload.variant(), payload.type_name(), payload.size(), alignment).unwrap()
+    TypeDetail::new(
+        payload.variant(),
+        payload.type_name(),
+        payload.size(),
+        alignment,
+    )
+    .unwrap()
 }

@@ -59,16 +59,24 @@ impl EventOpenError {
         ensures { result.now ≡ open_text self.now }
     {
         match self {
-            EventOpenError::IncompatibleMessagingPattern => "EventOpenError::IncompatibleMessagingPattern",
+            EventOpenError::IncompatibleMessagingPattern =>
+                "EventOpenError::IncompatibleMessagingPattern",
             EventOpenError::IncompatibleAttributes => "EventOpenError::IncompatibleAttributes",
             EventOpenError::IncompatibleDeadline => "EventOpenError::IncompatibleDeadline",
-            EventOpenError::DoesNotSupportRequestedAmountOfNotifiers => "EventOpenError::DoesNotSupportRequestedAmountOfNotifiers",
-            EventOpenError::DoesNotSupportRequestedAmountOfListeners => "EventOpenError::DoesNotSupportRequestedAmountOfListeners",
-            EventOpenError::DoesNotSupportRequestedMaxEventId => "EventOpenError::DoesNotSupportRequestedMaxEventId",
-            EventOpenError::IncompatibleNotifierCreatedEvent => "EventOpenError::IncompatibleNotifierCreatedEvent",
-            EventOpenError::IncompatibleNotifierDroppedEvent => "EventOpenError::IncompatibleNotifierDroppedEvent",
-            EventOpenError::IncompatibleNotifierDeadEvent => "EventOpenError::IncompatibleNotifierDeadEvent",
-            EventOpenError::DoesNotSupportRequestedAmountOfNodes => "EventOpenError::DoesNotSupportRequestedAmountOfNodes",
+            EventOpenError::DoesNotSupportRequestedAmountOfNotifiers =>
+                "EventOpenError::DoesNotSupportRequestedAmountOfNotifiers",
+            EventOpenError::DoesNotSupportRequestedAmountOfListeners =>
+                "EventOpenError::DoesNotSupportRequestedAmountOfListeners",
+            EventOpenError::DoesNotSupportRequestedMaxEventId =>
+                "EventOpenError::DoesNotSupportRequestedMaxEventId",
+            EventOpenError::IncompatibleNotifierCreatedEvent =>
+                "EventOpenError::IncompatibleNotifierCreatedEvent",
+            EventOpenError::IncompatibleNotifierDroppedEvent =>
+                "EventOpenError::IncompatibleNotifierDroppedEvent",
+            EventOpenError::IncompatibleNotifierDeadEvent =>
+                "EventOpenError::IncompatibleNotifierDeadEvent",
+            EventOpenError::DoesNotSupportRequestedAmountOfNodes =>
+                "EventOpenError::DoesNotSupportRequestedAmountOfNodes",
             EventOpenError::DoesNotExist => "EventOpenError::DoesNotExist",
             EventOpenError::InsufficientPermissions => "EventOpenError::InsufficientPermissions",
             EventOpenError::ServiceInCorruptedState => "EventOpenError::ServiceInCorruptedState",
@@ -110,11 +118,14 @@ impl EventCreateError {
     {
         match self {
             EventCreateError::AlreadyExists => "EventCreateError::AlreadyExists",
-            EventCreateError::InsufficientPermissions => "EventCreateError::InsufficientPermissions",
+            EventCreateError::InsufficientPermissions =>
+                "EventCreateError::InsufficientPermissions",
             EventCreateError::InternalFailure => "EventCreateError::InternalFailure",
-            EventCreateError::IsBeingCreatedByAnotherInstance => "EventCreateError::IsBeingCreatedByAnotherInstance",
+            EventCreateError::IsBeingCreatedByAnotherInstance =>
+                "EventCreateError::IsBeingCreatedByAnotherInstance",
             EventCreateError::HangsInCreation => "EventCreateError::HangsInCreation",
-            EventCreateError::ServiceInCorruptedState => "EventCreateError::ServiceInCorruptedState",
+            EventCreateError::ServiceInCorruptedState =>
+                "EventCreateError::ServiceInCorruptedState",
             EventCreateError::OutOfMemory => "EventCreateError::OutOfMemory",
         }
     }
@@ -140,31 +151,63 @@ impl EventOpenOrCreateError {
         ensures { result.now ≡ open_or_create_text self.now }
     {
         match self {
-            EventOpenOrCreateError::EventOpenError(EventOpenError::IncompatibleMessagingPattern) => "EventOpenOrCreateError::EventOpenError(IncompatibleMessagingPattern)",
-            EventOpenOrCreateError::EventOpenError(EventOpenError::IncompatibleAttributes) => "EventOpenOrCreateError::EventOpenError(IncompatibleAttributes)",
-            EventOpenOrCreateError::EventOpenError(EventOpenError::IncompatibleDeadline) => "EventOpenOrCreateError::EventOpenError(IncompatibleDeadline)",
-            EventOpenOrCreateError::EventOpenError(EventOpenError::DoesNotSupportRequestedAmountOfNotifiers) => "EventOpenOrCreateError::EventOpenError(DoesNotSupportRequestedAmountOfNotifiers)",
-            EventOpenOrCreateError::EventOpenError(EventOpenError::DoesNotSupportRequestedAmountOfListeners) => "EventOpenOrCreateError::EventOpenError(DoesNotSupportRequestedAmountOfListeners)",
-            EventOpenOrCreateError::EventOpenError(EventOpenError::DoesNotSupportRequestedMaxEventId) => "EventOpenOrCreateError::EventOpenError(DoesNotSupportRequestedMaxEventId)",
-            EventOpenOrCreateError::EventOpenError(EventOpenError::IncompatibleNotifierCreatedEvent) => "EventOpenOrCreateError::EventOpenError(IncompatibleNotifierCreatedEvent)",
-            EventOpenOrCreateError::EventOpenError(EventOpenError::IncompatibleNotifierDroppedEvent) => "EventOpenOrCreateError::EventOpenError(IncompatibleNotifierDroppedEvent)",
-            EventOpenOrCreateError::EventOpenError(EventOpenError::IncompatibleNotifierDeadEvent) => "EventOpenOrCreateError::EventOpenError(IncompatibleNotifierDeadEvent)",
-            EventOpenOrCreateError::EventOpenError(EventOpenError::DoesNotSupportRequestedAmountOfNodes) => "EventOpenOrCreateError::EventOpenError(DoesNotSupportRequestedAmountOfNodes)",
-            EventOpenOrCreateError::EventOpenError(EventOpenError::DoesNotExist) => "EventOpenOrCreateError::EventOpenError(DoesNotExist)",
-            EventOpenOrCreateError::EventOpenError(EventOpenError::InsufficientPermissions) => "EventOpenOrCreateError::EventOpenError(InsufficientPermissions)",
-            EventOpenOrCreateError::EventOpenError(EventOpenError::ServiceInCorruptedState) => "EventOpenOrCreateError::EventOpenError(ServiceInCorruptedState)",
-            EventOpenOrCreateError::EventOpenError(EventOpenError::InternalFailure) => "EventOpenOrCreateError::EventOpenError(InternalFailure)",
-            EventOpenOrCreateError::EventOpenError(EventOpenError::HangsInCreation) => "EventOpenOrCreateError::EventOpenError(HangsInCreation)",
-            EventOpenOrCreateError::EventOpenError(EventOpenError::ExceedsMaxNumberOfNodes) => "EventOpenOrCreateError::EventOpenError(ExceedsMaxNumberOfNodes)",
-            EventOpenOrCreateError::EventOpenError(EventOpenError::IsMarkedForDestruction) => "EventOpenOrCreateError::EventOpenError(IsMarkedForDestruction)",
-            EventOpenOrCreateError::EventOpenError(EventOpenError::OutOfMemory) => "EventOpenOrCreateError::EventOpenError(OutOfMemory)",
-            EventOpenOrCreateError::EventCreateError(EventCreateError::AlreadyExists) => "EventOpenOrCreateError::EventCreateError(AlreadyExists)",
-            EventOpenOrCreateError::EventCreateError(EventCreateError::InsufficientPermissions) => "EventOpenOrCreateError::EventCreateError(InsufficientPermissions)",
-            EventOpenOrCreateError::EventCreateError(EventCreateError::InternalFailure) => "EventOpenOrCreateError::EventCreateError(InternalFailure)",
-            EventOpenOrCreateError::EventCreateError(EventCreateError::IsBeingCreatedByAnotherInstance) => "EventOpenOrCreateError::EventCreateError(IsBeingCreatedByAnotherInstance)",
-            EventOpenOrCreateError::EventCreateError(EventCreateError::HangsInCreation) => "EventOpenOrCreateError::EventCreateError(HangsInCreation)",
-            EventOpenOrCreateError::EventCreateError(EventCreateError::ServiceInCorruptedState) => "EventOpenOrCreateError::EventCreateError(ServiceInCorruptedState)",
-            EventOpenOrCreateError::EventCreateError(EventCreateError::OutOfMemory) => "EventOpenOrCreateError::EventCreateError(OutOfMemory)",
+            EventOpenOrCreateError::EventOpenError(EventOpenError::IncompatibleMessagingPattern) =>
+                "EventOpenOrCreateError::EventOpenError(IncompatibleMessagingPattern)",
+            EventOpenOrCreateError::EventOpenError(EventOpenError::IncompatibleAttributes) =>
+                "EventOpenOrCreateError::EventOpenError(IncompatibleAttributes)",
+            EventOpenOrCreateError::EventOpenError(EventOpenError::IncompatibleDeadline) =>
+                "EventOpenOrCreateError::EventOpenError(IncompatibleDeadline)",
+            EventOpenOrCreateError::EventOpenError(
+                EventOpenError::DoesNotSupportRequestedAmountOfNotifiers,
+            ) => "EventOpenOrCreateError::EventOpenError(DoesNotSupportRequestedAmountOfNotifiers)",
+            EventOpenOrCreateError::EventOpenError(
+                EventOpenError::DoesNotSupportRequestedAmountOfListeners,
+            ) => "EventOpenOrCreateError::EventOpenError(DoesNotSupportRequestedAmountOfListeners)",
+            EventOpenOrCreateError::EventOpenError(
+                EventOpenError::DoesNotSupportRequestedMaxEventId,
+            ) => "EventOpenOrCreateError::EventOpenError(DoesNotSupportRequestedMaxEventId)",
+            EventOpenOrCreateError::EventOpenError(
+                EventOpenError::IncompatibleNotifierCreatedEvent,
+            ) => "EventOpenOrCreateError::EventOpenError(IncompatibleNotifierCreatedEvent)",
+            EventOpenOrCreateError::EventOpenError(
+                EventOpenError::IncompatibleNotifierDroppedEvent,
+            ) => "EventOpenOrCreateError::EventOpenError(IncompatibleNotifierDroppedEvent)",
+            EventOpenOrCreateError::EventOpenError(EventOpenError::IncompatibleNotifierDeadEvent) =>
+                "EventOpenOrCreateError::EventOpenError(IncompatibleNotifierDeadEvent)",
+            EventOpenOrCreateError::EventOpenError(
+                EventOpenError::DoesNotSupportRequestedAmountOfNodes,
+            ) => "EventOpenOrCreateError::EventOpenError(DoesNotSupportRequestedAmountOfNodes)",
+            EventOpenOrCreateError::EventOpenError(EventOpenError::DoesNotExist) =>
+                "EventOpenOrCreateError::EventOpenError(DoesNotExist)",
+            EventOpenOrCreateError::EventOpenError(EventOpenError::InsufficientPermissions) =>
+                "EventOpenOrCreateError::EventOpenError(InsufficientPermissions)",
+            EventOpenOrCreateError::EventOpenError(EventOpenError::ServiceInCorruptedState) =>
+                "EventOpenOrCreateError::EventOpenError(ServiceInCorruptedState)",
+            EventOpenOrCreateError::EventOpenError(EventOpenError::InternalFailure) =>
+                "EventOpenOrCreateError::EventOpenError(InternalFailure)",
+            EventOpenOrCreateError::EventOpenError(EventOpenError::HangsInCreation) =>
+                "EventOpenOrCreateError::EventOpenError(HangsInCreation)",
+            EventOpenOrCreateError::EventOpenError(EventOpenError::ExceedsMaxNumberOfNodes) =>
+                "EventOpenOrCreateError::EventOpenError(ExceedsMaxNumberOfNodes)",
+            EventOpenOrCreateError::EventOpenError(EventOpenError::IsMarkedForDestruction) =>
+                "EventOpenOrCreateError::EventOpenError(IsMarkedForDestruction)",
+            EventOpenOrCreateError::EventOpenError(EventOpenError::OutOfMemory) =>
+                "EventOpenOrCreateError::EventOpenError(OutOfMemory)",
+            EventOpenOrCreateError::EventCreateError(EventCreateError::AlreadyExists) =>
+                "EventOpenOrCreateError::EventCreateError(AlreadyExists)",
+            EventOpenOrCreateError::EventCreateError(EventCreateError::InsufficientPermissions) =>
+                "EventOpenOrCreateError::EventCreateError(InsufficientPermissions)",
+            EventOpenOrCreateError::EventCreateError(EventCreateError::InternalFailure) =>
+                "EventOpenOrCreateError::EventCreateError(InternalFailure)",
+            EventOpenOrCreateError::EventCreateError(
+                EventCreateError::IsBeingCreatedByAnotherInstance,
+            ) => "EventOpenOrCreateError::EventCreateError(IsBeingCreatedByAnotherInstance)",
+            EventOpenOrCreateError::EventCreateError(EventCreateError::HangsInCreation) =>
+                "EventOpenOrCreateError::EventCreateError(HangsInCreation)",
+            EventOpenOrCreateError::EventCreateError(EventCreateError::ServiceInCorruptedState) =>
+                "EventOpenOrCreateError::EventCreateError(ServiceInCorruptedState)",
+            EventOpenOrCreateError::EventCreateError(EventCreateError::OutOfMemory) =>
+                "EventOpenOrCreateError::EventCreateError(OutOfMemory)",
             EventOpenOrCreateError::SystemInFlux => "EventOpenOrCreateError::SystemInFlux",
         }
     }
@@ -176,16 +219,24 @@ impl From<ClauseError> for EventOpenError {
 
     fn from(unmet: ClauseError) -> Self {
         match unmet {
-            ClauseError::IncompatibleMessagingPattern => EventOpenError::IncompatibleMessagingPattern,
+            ClauseError::IncompatibleMessagingPattern =>
+                EventOpenError::IncompatibleMessagingPattern,
             ClauseError::IncompatibleAttributes => EventOpenError::IncompatibleAttributes,
             ClauseError::IncompatibleDeadline => EventOpenError::IncompatibleDeadline,
-            ClauseError::DoesNotSupportRequestedAmountOfNotifiers => EventOpenError::DoesNotSupportRequestedAmountOfNotifiers,
-            ClauseError::DoesNotSupportRequestedAmountOfListeners => EventOpenError::DoesNotSupportRequestedAmountOfListeners,
-            ClauseError::DoesNotSupportRequestedMaxEventId => EventOpenError::DoesNotSupportRequestedMaxEventId,
-            ClauseError::IncompatibleNotifierCreatedEvent => EventOpenError::IncompatibleNotifierCreatedEvent,
-            ClauseError::IncompatibleNotifierDroppedEvent => EventOpenError::IncompatibleNotifierDroppedEvent,
-            ClauseError::IncompatibleNotifierDeadEvent => EventOpenError::IncompatibleNotifierDeadEvent,
-            ClauseError::DoesNotSupportRequestedAmountOfNodes => EventOpenError::DoesNotSupportRequestedAmountOfNodes,
+            ClauseError::DoesNotSupportRequestedAmountOfNotifiers =>
+                EventOpenError::DoesNotSupportRequestedAmountOfNotifiers,
+            ClauseError::DoesNotSupportRequestedAmountOfListeners =>
+                EventOpenError::DoesNotSupportRequestedAmountOfListeners,
+            ClauseError::DoesNotSupportRequestedMaxEventId =>
+                EventOpenError::DoesNotSupportRequestedMaxEventId,
+            ClauseError::IncompatibleNotifierCreatedEvent =>
+                EventOpenError::IncompatibleNotifierCreatedEvent,
+            ClauseError::IncompatibleNotifierDroppedEvent =>
+                EventOpenError::IncompatibleNotifierDroppedEvent,
+            ClauseError::IncompatibleNotifierDeadEvent =>
+                EventOpenError::IncompatibleNotifierDeadEvent,
+            ClauseError::DoesNotSupportRequestedAmountOfNodes =>
+                EventOpenError::DoesNotSupportRequestedAmountOfNodes,
         }
     }
 }
@@ -218,11 +269,13 @@ impl From<CreateFailure> for EventCreateError {
             CreateFailure::AlreadyExists => EventCreateError::AlreadyExists,
             CreateFailure::InsufficientPermissions => EventCreateError::InsufficientPermissions,
             CreateFailure::InternalFailure => EventCreateError::InternalFailure,
-            CreateFailure::IsBeingCreatedByAnotherInstance => EventCreateError::IsBeingCreatedByAnotherInstance,
+            CreateFailure::IsBeingCreatedByAnotherInstance =>
+                EventCreateError::IsBeingCreatedByAnotherInstance,
             CreateFailure::HangsInCreation => EventCreateError::HangsInCreation,
             CreateFailure::ServiceInCorruptedState => EventCreateError::ServiceInCorruptedState,
             CreateFailure::OutOfMemory => EventCreateError::OutOfMemory,
-            CreateFailure::SubscriberBufferMustBeLargerThanHistorySize => EventCreateError::InternalFailure,
+            CreateFailure::SubscriberBufferMustBeLargerThanHistorySize =>
+                EventCreateError::InternalFailure,
         }
     }
 }
@@ -251,8 +304,12 @@ impl From<OpenOrCreateFailure<ClauseError>> for EventOpenOrCreateError {
 
     fn from(failure: OpenOrCreateFailure<ClauseError>) -> Self {
         match failure {
-            OpenOrCreateFailure::Open(failure) => EventOpenOrCreateError::EventOpenError(EventOpenError::from(failure)),
-            OpenOrCreateFailure::Create(failure) => EventOpenOrCreateError::EventCreateError(EventCreateError::from(failure)),
+            OpenOrCreateFailure::Open(failure) => EventOpenOrCreateError::EventOpenError(
+                EventOpenError::from(failure),
+            ),
+            OpenOrCreateFailure::Create(failure) => EventOpenOrCreateError::EventCreateError(
+                EventCreateError::from(failure),
+            ),
             OpenOrCreateFailure::SystemInFlux => EventOpenOrCreateError::SystemInFlux,
         }
     }

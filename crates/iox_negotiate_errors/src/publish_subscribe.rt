@@ -59,23 +59,39 @@ impl PublishSubscribeOpenError {
         ensures { result.now ≡ open_text self.now }
     {
         match self {
-            PublishSubscribeOpenError::IncompatibleMessagingPattern => "PublishSubscribeOpenError::IncompatibleMessagingPattern",
-            PublishSubscribeOpenError::IncompatibleTypes => "PublishSubscribeOpenError::IncompatibleTypes",
-            PublishSubscribeOpenError::IncompatibleAttributes => "PublishSubscribeOpenError::IncompatibleAttributes",
-            PublishSubscribeOpenError::IncompatibleOverflowBehavior => "PublishSubscribeOpenError::IncompatibleOverflowBehavior",
-            PublishSubscribeOpenError::DoesNotSupportRequestedAmountOfPublishers => "PublishSubscribeOpenError::DoesNotSupportRequestedAmountOfPublishers",
-            PublishSubscribeOpenError::DoesNotSupportRequestedAmountOfSubscribers => "PublishSubscribeOpenError::DoesNotSupportRequestedAmountOfSubscribers",
-            PublishSubscribeOpenError::DoesNotSupportRequestedMinBufferSize => "PublishSubscribeOpenError::DoesNotSupportRequestedMinBufferSize",
-            PublishSubscribeOpenError::DoesNotSupportRequestedMinHistorySize => "PublishSubscribeOpenError::DoesNotSupportRequestedMinHistorySize",
-            PublishSubscribeOpenError::DoesNotSupportRequestedMinSubscriberBorrowedSamples => "PublishSubscribeOpenError::DoesNotSupportRequestedMinSubscriberBorrowedSamples",
-            PublishSubscribeOpenError::DoesNotSupportRequestedAmountOfNodes => "PublishSubscribeOpenError::DoesNotSupportRequestedAmountOfNodes",
+            PublishSubscribeOpenError::IncompatibleMessagingPattern =>
+                "PublishSubscribeOpenError::IncompatibleMessagingPattern",
+            PublishSubscribeOpenError::IncompatibleTypes =>
+                "PublishSubscribeOpenError::IncompatibleTypes",
+            PublishSubscribeOpenError::IncompatibleAttributes =>
+                "PublishSubscribeOpenError::IncompatibleAttributes",
+            PublishSubscribeOpenError::IncompatibleOverflowBehavior =>
+                "PublishSubscribeOpenError::IncompatibleOverflowBehavior",
+            PublishSubscribeOpenError::DoesNotSupportRequestedAmountOfPublishers =>
+                "PublishSubscribeOpenError::DoesNotSupportRequestedAmountOfPublishers",
+            PublishSubscribeOpenError::DoesNotSupportRequestedAmountOfSubscribers =>
+                "PublishSubscribeOpenError::DoesNotSupportRequestedAmountOfSubscribers",
+            PublishSubscribeOpenError::DoesNotSupportRequestedMinBufferSize =>
+                "PublishSubscribeOpenError::DoesNotSupportRequestedMinBufferSize",
+            PublishSubscribeOpenError::DoesNotSupportRequestedMinHistorySize =>
+                "PublishSubscribeOpenError::DoesNotSupportRequestedMinHistorySize",
+            PublishSubscribeOpenError::DoesNotSupportRequestedMinSubscriberBorrowedSamples =>
+                "PublishSubscribeOpenError::DoesNotSupportRequestedMinSubscriberBorrowedSamples",
+            PublishSubscribeOpenError::DoesNotSupportRequestedAmountOfNodes =>
+                "PublishSubscribeOpenError::DoesNotSupportRequestedAmountOfNodes",
             PublishSubscribeOpenError::DoesNotExist => "PublishSubscribeOpenError::DoesNotExist",
-            PublishSubscribeOpenError::InsufficientPermissions => "PublishSubscribeOpenError::InsufficientPermissions",
-            PublishSubscribeOpenError::ServiceInCorruptedState => "PublishSubscribeOpenError::ServiceInCorruptedState",
-            PublishSubscribeOpenError::InternalFailure => "PublishSubscribeOpenError::InternalFailure",
-            PublishSubscribeOpenError::HangsInCreation => "PublishSubscribeOpenError::HangsInCreation",
-            PublishSubscribeOpenError::ExceedsMaxNumberOfNodes => "PublishSubscribeOpenError::ExceedsMaxNumberOfNodes",
-            PublishSubscribeOpenError::IsMarkedForDestruction => "PublishSubscribeOpenError::IsMarkedForDestruction",
+            PublishSubscribeOpenError::InsufficientPermissions =>
+                "PublishSubscribeOpenError::InsufficientPermissions",
+            PublishSubscribeOpenError::ServiceInCorruptedState =>
+                "PublishSubscribeOpenError::ServiceInCorruptedState",
+            PublishSubscribeOpenError::InternalFailure =>
+                "PublishSubscribeOpenError::InternalFailure",
+            PublishSubscribeOpenError::HangsInCreation =>
+                "PublishSubscribeOpenError::HangsInCreation",
+            PublishSubscribeOpenError::ExceedsMaxNumberOfNodes =>
+                "PublishSubscribeOpenError::ExceedsMaxNumberOfNodes",
+            PublishSubscribeOpenError::IsMarkedForDestruction =>
+                "PublishSubscribeOpenError::IsMarkedForDestruction",
             PublishSubscribeOpenError::OutOfMemory => "PublishSubscribeOpenError::OutOfMemory",
         }
     }
@@ -111,13 +127,20 @@ impl PublishSubscribeCreateError {
         ensures { result.now ≡ create_text self.now }
     {
         match self {
-            PublishSubscribeCreateError::AlreadyExists => "PublishSubscribeCreateError::AlreadyExists",
-            PublishSubscribeCreateError::InsufficientPermissions => "PublishSubscribeCreateError::InsufficientPermissions",
-            PublishSubscribeCreateError::InternalFailure => "PublishSubscribeCreateError::InternalFailure",
-            PublishSubscribeCreateError::IsBeingCreatedByAnotherInstance => "PublishSubscribeCreateError::IsBeingCreatedByAnotherInstance",
-            PublishSubscribeCreateError::HangsInCreation => "PublishSubscribeCreateError::HangsInCreation",
-            PublishSubscribeCreateError::ServiceInCorruptedState => "PublishSubscribeCreateError::ServiceInCorruptedState",
-            PublishSubscribeCreateError::SubscriberBufferMustBeLargerThanHistorySize => "PublishSubscribeCreateError::SubscriberBufferMustBeLargerThanHistorySize",
+            PublishSubscribeCreateError::AlreadyExists =>
+                "PublishSubscribeCreateError::AlreadyExists",
+            PublishSubscribeCreateError::InsufficientPermissions =>
+                "PublishSubscribeCreateError::InsufficientPermissions",
+            PublishSubscribeCreateError::InternalFailure =>
+                "PublishSubscribeCreateError::InternalFailure",
+            PublishSubscribeCreateError::IsBeingCreatedByAnotherInstance =>
+                "PublishSubscribeCreateError::IsBeingCreatedByAnotherInstance",
+            PublishSubscribeCreateError::HangsInCreation =>
+                "PublishSubscribeCreateError::HangsInCreation",
+            PublishSubscribeCreateError::ServiceInCorruptedState =>
+                "PublishSubscribeCreateError::ServiceInCorruptedState",
+            PublishSubscribeCreateError::SubscriberBufferMustBeLargerThanHistorySize =>
+                "PublishSubscribeCreateError::SubscriberBufferMustBeLargerThanHistorySize",
             PublishSubscribeCreateError::OutOfMemory => "PublishSubscribeCreateError::OutOfMemory",
         }
     }
@@ -143,33 +166,103 @@ impl PublishSubscribeOpenOrCreateError {
         ensures { result.now ≡ open_or_create_text self.now }
     {
         match self {
-            PublishSubscribeOpenOrCreateError::PublishSubscribeOpenError(PublishSubscribeOpenError::IncompatibleMessagingPattern) => "PublishSubscribeOpenOrCreateError::PublishSubscribeOpenError(IncompatibleMessagingPattern)",
-            PublishSubscribeOpenOrCreateError::PublishSubscribeOpenError(PublishSubscribeOpenError::IncompatibleTypes) => "PublishSubscribeOpenOrCreateError::PublishSubscribeOpenError(IncompatibleTypes)",
-            PublishSubscribeOpenOrCreateError::PublishSubscribeOpenError(PublishSubscribeOpenError::IncompatibleAttributes) => "PublishSubscribeOpenOrCreateError::PublishSubscribeOpenError(IncompatibleAttributes)",
-            PublishSubscribeOpenOrCreateError::PublishSubscribeOpenError(PublishSubscribeOpenError::IncompatibleOverflowBehavior) => "PublishSubscribeOpenOrCreateError::PublishSubscribeOpenError(IncompatibleOverflowBehavior)",
-            PublishSubscribeOpenOrCreateError::PublishSubscribeOpenError(PublishSubscribeOpenError::DoesNotSupportRequestedAmountOfPublishers) => "PublishSubscribeOpenOrCreateError::PublishSubscribeOpenError(DoesNotSupportRequestedAmountOfPublishers)",
-            PublishSubscribeOpenOrCreateError::PublishSubscribeOpenError(PublishSubscribeOpenError::DoesNotSupportRequestedAmountOfSubscribers) => "PublishSubscribeOpenOrCreateError::PublishSubscribeOpenError(DoesNotSupportRequestedAmountOfSubscribers)",
-            PublishSubscribeOpenOrCreateError::PublishSubscribeOpenError(PublishSubscribeOpenError::DoesNotSupportRequestedMinBufferSize) => "PublishSubscribeOpenOrCreateError::PublishSubscribeOpenError(DoesNotSupportRequestedMinBufferSize)",
-            PublishSubscribeOpenOrCreateError::PublishSubscribeOpenError(PublishSubscribeOpenError::DoesNotSupportRequestedMinHistorySize) => "PublishSubscribeOpenOrCreateError::PublishSubscribeOpenError(DoesNotSupportRequestedMinHistorySize)",
-            PublishSubscribeOpenOrCreateError::PublishSubscribeOpenError(PublishSubscribeOpenError::DoesNotSupportRequestedMinSubscriberBorrowedSamples) => "PublishSubscribeOpenOrCreateError::PublishSubscribeOpenError(DoesNotSupportRequestedMinSubscriberBorrowedSamples)",
-            PublishSubscribeOpenOrCreateError::PublishSubscribeOpenError(PublishSubscribeOpenError::DoesNotSupportRequestedAmountOfNodes) => "PublishSubscribeOpenOrCreateError::PublishSubscribeOpenError(DoesNotSupportRequestedAmountOfNodes)",
-            PublishSubscribeOpenOrCreateError::PublishSubscribeOpenError(PublishSubscribeOpenError::DoesNotExist) => "PublishSubscribeOpenOrCreateError::PublishSubscribeOpenError(DoesNotExist)",
-            PublishSubscribeOpenOrCreateError::PublishSubscribeOpenError(PublishSubscribeOpenError::InsufficientPermissions) => "PublishSubscribeOpenOrCreateError::PublishSubscribeOpenError(InsufficientPermissions)",
-            PublishSubscribeOpenOrCreateError::PublishSubscribeOpenError(PublishSubscribeOpenError::ServiceInCorruptedState) => "PublishSubscribeOpenOrCreateError::PublishSubscribeOpenError(ServiceInCorruptedState)",
-            PublishSubscribeOpenOrCreateError::PublishSubscribeOpenError(PublishSubscribeOpenError::InternalFailure) => "PublishSubscribeOpenOrCreateError::PublishSubscribeOpenError(InternalFailure)",
-            PublishSubscribeOpenOrCreateError::PublishSubscribeOpenError(PublishSubscribeOpenError::HangsInCreation) => "PublishSubscribeOpenOrCreateError::PublishSubscribeOpenError(HangsInCreation)",
-            PublishSubscribeOpenOrCreateError::PublishSubscribeOpenError(PublishSubscribeOpenError::ExceedsMaxNumberOfNodes) => "PublishSubscribeOpenOrCreateError::PublishSubscribeOpenError(ExceedsMaxNumberOfNodes)",
-            PublishSubscribeOpenOrCreateError::PublishSubscribeOpenError(PublishSubscribeOpenError::IsMarkedForDestruction) => "PublishSubscribeOpenOrCreateError::PublishSubscribeOpenError(IsMarkedForDestruction)",
-            PublishSubscribeOpenOrCreateError::PublishSubscribeOpenError(PublishSubscribeOpenError::OutOfMemory) => "PublishSubscribeOpenOrCreateError::PublishSubscribeOpenError(OutOfMemory)",
-            PublishSubscribeOpenOrCreateError::PublishSubscribeCreateError(PublishSubscribeCreateError::AlreadyExists) => "PublishSubscribeOpenOrCreateError::PublishSubscribeCreateError(AlreadyExists)",
-            PublishSubscribeOpenOrCreateError::PublishSubscribeCreateError(PublishSubscribeCreateError::InsufficientPermissions) => "PublishSubscribeOpenOrCreateError::PublishSubscribeCreateError(InsufficientPermissions)",
-            PublishSubscribeOpenOrCreateError::PublishSubscribeCreateError(PublishSubscribeCreateError::InternalFailure) => "PublishSubscribeOpenOrCreateError::PublishSubscribeCreateError(InternalFailure)",
-            PublishSubscribeOpenOrCreateError::PublishSubscribeCreateError(PublishSubscribeCreateError::IsBeingCreatedByAnotherInstance) => "PublishSubscribeOpenOrCreateError::PublishSubscribeCreateError(IsBeingCreatedByAnotherInstance)",
-            PublishSubscribeOpenOrCreateError::PublishSubscribeCreateError(PublishSubscribeCreateError::HangsInCreation) => "PublishSubscribeOpenOrCreateError::PublishSubscribeCreateError(HangsInCreation)",
-            PublishSubscribeOpenOrCreateError::PublishSubscribeCreateError(PublishSubscribeCreateError::ServiceInCorruptedState) => "PublishSubscribeOpenOrCreateError::PublishSubscribeCreateError(ServiceInCorruptedState)",
-            PublishSubscribeOpenOrCreateError::PublishSubscribeCreateError(PublishSubscribeCreateError::SubscriberBufferMustBeLargerThanHistorySize) => "PublishSubscribeOpenOrCreateError::PublishSubscribeCreateError(SubscriberBufferMustBeLargerThanHistorySize)",
-            PublishSubscribeOpenOrCreateError::PublishSubscribeCreateError(PublishSubscribeCreateError::OutOfMemory) => "PublishSubscribeOpenOrCreateError::PublishSubscribeCreateError(OutOfMemory)",
-            PublishSubscribeOpenOrCreateError::SystemInFlux => "PublishSubscribeOpenOrCreateError::SystemInFlux",
+            PublishSubscribeOpenOrCreateError::PublishSubscribeOpenError(
+                PublishSubscribeOpenError::IncompatibleMessagingPattern,
+            ) =>
+                "PublishSubscribeOpenOrCreateError::PublishSubscribeOpenError(IncompatibleMessagingPattern)",
+            PublishSubscribeOpenOrCreateError::PublishSubscribeOpenError(
+                PublishSubscribeOpenError::IncompatibleTypes,
+            ) => "PublishSubscribeOpenOrCreateError::PublishSubscribeOpenError(IncompatibleTypes)",
+            PublishSubscribeOpenOrCreateError::PublishSubscribeOpenError(
+                PublishSubscribeOpenError::IncompatibleAttributes,
+            ) =>
+                "PublishSubscribeOpenOrCreateError::PublishSubscribeOpenError(IncompatibleAttributes)",
+            PublishSubscribeOpenOrCreateError::PublishSubscribeOpenError(
+                PublishSubscribeOpenError::IncompatibleOverflowBehavior,
+            ) =>
+                "PublishSubscribeOpenOrCreateError::PublishSubscribeOpenError(IncompatibleOverflowBehavior)",
+            PublishSubscribeOpenOrCreateError::PublishSubscribeOpenError(
+                PublishSubscribeOpenError::DoesNotSupportRequestedAmountOfPublishers,
+            ) =>
+                "PublishSubscribeOpenOrCreateError::PublishSubscribeOpenError(DoesNotSupportRequestedAmountOfPublishers)",
+            PublishSubscribeOpenOrCreateError::PublishSubscribeOpenError(
+                PublishSubscribeOpenError::DoesNotSupportRequestedAmountOfSubscribers,
+            ) =>
+                "PublishSubscribeOpenOrCreateError::PublishSubscribeOpenError(DoesNotSupportRequestedAmountOfSubscribers)",
+            PublishSubscribeOpenOrCreateError::PublishSubscribeOpenError(
+                PublishSubscribeOpenError::DoesNotSupportRequestedMinBufferSize,
+            ) =>
+                "PublishSubscribeOpenOrCreateError::PublishSubscribeOpenError(DoesNotSupportRequestedMinBufferSize)",
+            PublishSubscribeOpenOrCreateError::PublishSubscribeOpenError(
+                PublishSubscribeOpenError::DoesNotSupportRequestedMinHistorySize,
+            ) =>
+                "PublishSubscribeOpenOrCreateError::PublishSubscribeOpenError(DoesNotSupportRequestedMinHistorySize)",
+            PublishSubscribeOpenOrCreateError::PublishSubscribeOpenError(
+                PublishSubscribeOpenError::DoesNotSupportRequestedMinSubscriberBorrowedSamples,
+            ) =>
+                "PublishSubscribeOpenOrCreateError::PublishSubscribeOpenError(DoesNotSupportRequestedMinSubscriberBorrowedSamples)",
+            PublishSubscribeOpenOrCreateError::PublishSubscribeOpenError(
+                PublishSubscribeOpenError::DoesNotSupportRequestedAmountOfNodes,
+            ) =>
+                "PublishSubscribeOpenOrCreateError::PublishSubscribeOpenError(DoesNotSupportRequestedAmountOfNodes)",
+            PublishSubscribeOpenOrCreateError::PublishSubscribeOpenError(
+                PublishSubscribeOpenError::DoesNotExist,
+            ) => "PublishSubscribeOpenOrCreateError::PublishSubscribeOpenError(DoesNotExist)",
+            PublishSubscribeOpenOrCreateError::PublishSubscribeOpenError(
+                PublishSubscribeOpenError::InsufficientPermissions,
+            ) =>
+                "PublishSubscribeOpenOrCreateError::PublishSubscribeOpenError(InsufficientPermissions)",
+            PublishSubscribeOpenOrCreateError::PublishSubscribeOpenError(
+                PublishSubscribeOpenError::ServiceInCorruptedState,
+            ) =>
+                "PublishSubscribeOpenOrCreateError::PublishSubscribeOpenError(ServiceInCorruptedState)",
+            PublishSubscribeOpenOrCreateError::PublishSubscribeOpenError(
+                PublishSubscribeOpenError::InternalFailure,
+            ) => "PublishSubscribeOpenOrCreateError::PublishSubscribeOpenError(InternalFailure)",
+            PublishSubscribeOpenOrCreateError::PublishSubscribeOpenError(
+                PublishSubscribeOpenError::HangsInCreation,
+            ) => "PublishSubscribeOpenOrCreateError::PublishSubscribeOpenError(HangsInCreation)",
+            PublishSubscribeOpenOrCreateError::PublishSubscribeOpenError(
+                PublishSubscribeOpenError::ExceedsMaxNumberOfNodes,
+            ) =>
+                "PublishSubscribeOpenOrCreateError::PublishSubscribeOpenError(ExceedsMaxNumberOfNodes)",
+            PublishSubscribeOpenOrCreateError::PublishSubscribeOpenError(
+                PublishSubscribeOpenError::IsMarkedForDestruction,
+            ) =>
+                "PublishSubscribeOpenOrCreateError::PublishSubscribeOpenError(IsMarkedForDestruction)",
+            PublishSubscribeOpenOrCreateError::PublishSubscribeOpenError(
+                PublishSubscribeOpenError::OutOfMemory,
+            ) => "PublishSubscribeOpenOrCreateError::PublishSubscribeOpenError(OutOfMemory)",
+            PublishSubscribeOpenOrCreateError::PublishSubscribeCreateError(
+                PublishSubscribeCreateError::AlreadyExists,
+            ) => "PublishSubscribeOpenOrCreateError::PublishSubscribeCreateError(AlreadyExists)",
+            PublishSubscribeOpenOrCreateError::PublishSubscribeCreateError(
+                PublishSubscribeCreateError::InsufficientPermissions,
+            ) =>
+                "PublishSubscribeOpenOrCreateError::PublishSubscribeCreateError(InsufficientPermissions)",
+            PublishSubscribeOpenOrCreateError::PublishSubscribeCreateError(
+                PublishSubscribeCreateError::InternalFailure,
+            ) => "PublishSubscribeOpenOrCreateError::PublishSubscribeCreateError(InternalFailure)",
+            PublishSubscribeOpenOrCreateError::PublishSubscribeCreateError(
+                PublishSubscribeCreateError::IsBeingCreatedByAnotherInstance,
+            ) =>
+                "PublishSubscribeOpenOrCreateError::PublishSubscribeCreateError(IsBeingCreatedByAnotherInstance)",
+            PublishSubscribeOpenOrCreateError::PublishSubscribeCreateError(
+                PublishSubscribeCreateError::HangsInCreation,
+            ) => "PublishSubscribeOpenOrCreateError::PublishSubscribeCreateError(HangsInCreation)",
+            PublishSubscribeOpenOrCreateError::PublishSubscribeCreateError(
+                PublishSubscribeCreateError::ServiceInCorruptedState,
+            ) =>
+                "PublishSubscribeOpenOrCreateError::PublishSubscribeCreateError(ServiceInCorruptedState)",
+            PublishSubscribeOpenOrCreateError::PublishSubscribeCreateError(
+                PublishSubscribeCreateError::SubscriberBufferMustBeLargerThanHistorySize,
+            ) =>
+                "PublishSubscribeOpenOrCreateError::PublishSubscribeCreateError(SubscriberBufferMustBeLargerThanHistorySize)",
+            PublishSubscribeOpenOrCreateError::PublishSubscribeCreateError(
+                PublishSubscribeCreateError::OutOfMemory,
+            ) => "PublishSubscribeOpenOrCreateError::PublishSubscribeCreateError(OutOfMemory)",
+            PublishSubscribeOpenOrCreateError::SystemInFlux =>
+                "PublishSubscribeOpenOrCreateError::SystemInFlux",
         }
     }
 }
@@ -180,16 +273,25 @@ impl From<ClauseError> for PublishSubscribeOpenError {
 
     fn from(unmet: ClauseError) -> Self {
         match unmet {
-            ClauseError::IncompatibleMessagingPattern => PublishSubscribeOpenError::IncompatibleMessagingPattern,
+            ClauseError::IncompatibleMessagingPattern =>
+                PublishSubscribeOpenError::IncompatibleMessagingPattern,
             ClauseError::IncompatibleTypes => PublishSubscribeOpenError::IncompatibleTypes,
-            ClauseError::IncompatibleAttributes => PublishSubscribeOpenError::IncompatibleAttributes,
-            ClauseError::IncompatibleOverflowBehavior => PublishSubscribeOpenError::IncompatibleOverflowBehavior,
-            ClauseError::DoesNotSupportRequestedAmountOfPublishers => PublishSubscribeOpenError::DoesNotSupportRequestedAmountOfPublishers,
-            ClauseError::DoesNotSupportRequestedAmountOfSubscribers => PublishSubscribeOpenError::DoesNotSupportRequestedAmountOfSubscribers,
-            ClauseError::DoesNotSupportRequestedMinBufferSize => PublishSubscribeOpenError::DoesNotSupportRequestedMinBufferSize,
-            ClauseError::DoesNotSupportRequestedMinHistorySize => PublishSubscribeOpenError::DoesNotSupportRequestedMinHistorySize,
-            ClauseError::DoesNotSupportRequestedMinSubscriberBorrowedSamples => PublishSubscribeOpenError::DoesNotSupportRequestedMinSubscriberBorrowedSamples,
-            ClauseError::DoesNotSupportRequestedAmountOfNodes => PublishSubscribeOpenError::DoesNotSupportRequestedAmountOfNodes,
+            ClauseError::IncompatibleAttributes =>
+                PublishSubscribeOpenError::IncompatibleAttributes,
+            ClauseError::IncompatibleOverflowBehavior =>
+                PublishSubscribeOpenError::IncompatibleOverflowBehavior,
+            ClauseError::DoesNotSupportRequestedAmountOfPublishers =>
+                PublishSubscribeOpenError::DoesNotSupportRequestedAmountOfPublishers,
+            ClauseError::DoesNotSupportRequestedAmountOfSubscribers =>
+                PublishSubscribeOpenError::DoesNotSupportRequestedAmountOfSubscribers,
+            ClauseError::DoesNotSupportRequestedMinBufferSize =>
+                PublishSubscribeOpenError::DoesNotSupportRequestedMinBufferSize,
+            ClauseError::DoesNotSupportRequestedMinHistorySize =>
+                PublishSubscribeOpenError::DoesNotSupportRequestedMinHistorySize,
+            ClauseError::DoesNotSupportRequestedMinSubscriberBorrowedSamples =>
+                PublishSubscribeOpenError::DoesNotSupportRequestedMinSubscriberBorrowedSamples,
+            ClauseError::DoesNotSupportRequestedAmountOfNodes =>
+                PublishSubscribeOpenError::DoesNotSupportRequestedAmountOfNodes,
         }
     }
 }
@@ -202,12 +304,16 @@ impl From<OpenFailure<ClauseError>> for PublishSubscribeOpenError {
         match failure {
             OpenFailure::Clause(unmet) => PublishSubscribeOpenError::from(unmet),
             OpenFailure::DoesNotExist => PublishSubscribeOpenError::DoesNotExist,
-            OpenFailure::InsufficientPermissions => PublishSubscribeOpenError::InsufficientPermissions,
-            OpenFailure::ServiceInCorruptedState => PublishSubscribeOpenError::ServiceInCorruptedState,
+            OpenFailure::InsufficientPermissions =>
+                PublishSubscribeOpenError::InsufficientPermissions,
+            OpenFailure::ServiceInCorruptedState =>
+                PublishSubscribeOpenError::ServiceInCorruptedState,
             OpenFailure::InternalFailure => PublishSubscribeOpenError::InternalFailure,
             OpenFailure::HangsInCreation => PublishSubscribeOpenError::HangsInCreation,
-            OpenFailure::ExceedsMaxNumberOfNodes => PublishSubscribeOpenError::ExceedsMaxNumberOfNodes,
-            OpenFailure::IsMarkedForDestruction => PublishSubscribeOpenError::IsMarkedForDestruction,
+            OpenFailure::ExceedsMaxNumberOfNodes =>
+                PublishSubscribeOpenError::ExceedsMaxNumberOfNodes,
+            OpenFailure::IsMarkedForDestruction =>
+                PublishSubscribeOpenError::IsMarkedForDestruction,
             OpenFailure::OutOfMemory => PublishSubscribeOpenError::OutOfMemory,
         }
     }
@@ -220,12 +326,16 @@ impl From<CreateFailure> for PublishSubscribeCreateError {
     fn from(failure: CreateFailure) -> Self {
         match failure {
             CreateFailure::AlreadyExists => PublishSubscribeCreateError::AlreadyExists,
-            CreateFailure::InsufficientPermissions => PublishSubscribeCreateError::InsufficientPermissions,
+            CreateFailure::InsufficientPermissions =>
+                PublishSubscribeCreateError::InsufficientPermissions,
             CreateFailure::InternalFailure => PublishSubscribeCreateError::InternalFailure,
-            CreateFailure::IsBeingCreatedByAnotherInstance => PublishSubscribeCreateError::IsBeingCreatedByAnotherInstance,
+            CreateFailure::IsBeingCreatedByAnotherInstance =>
+                PublishSubscribeCreateError::IsBeingCreatedByAnotherInstance,
             CreateFailure::HangsInCreation => PublishSubscribeCreateError::HangsInCreation,
-            CreateFailure::ServiceInCorruptedState => PublishSubscribeCreateError::ServiceInCorruptedState,
-            CreateFailure::SubscriberBufferMustBeLargerThanHistorySize => PublishSubscribeCreateError::SubscriberBufferMustBeLargerThanHistorySize,
+            CreateFailure::ServiceInCorruptedState =>
+                PublishSubscribeCreateError::ServiceInCorruptedState,
+            CreateFailure::SubscriberBufferMustBeLargerThanHistorySize =>
+                PublishSubscribeCreateError::SubscriberBufferMustBeLargerThanHistorySize,
             CreateFailure::OutOfMemory => PublishSubscribeCreateError::OutOfMemory,
         }
     }
@@ -255,8 +365,14 @@ impl From<OpenOrCreateFailure<ClauseError>> for PublishSubscribeOpenOrCreateErro
 
     fn from(failure: OpenOrCreateFailure<ClauseError>) -> Self {
         match failure {
-            OpenOrCreateFailure::Open(failure) => PublishSubscribeOpenOrCreateError::PublishSubscribeOpenError(PublishSubscribeOpenError::from(failure)),
-            OpenOrCreateFailure::Create(failure) => PublishSubscribeOpenOrCreateError::PublishSubscribeCreateError(PublishSubscribeCreateError::from(failure)),
+            OpenOrCreateFailure::Open(failure) =>
+                PublishSubscribeOpenOrCreateError::PublishSubscribeOpenError(
+                    PublishSubscribeOpenError::from(failure),
+                ),
+            OpenOrCreateFailure::Create(failure) =>
+                PublishSubscribeOpenOrCreateError::PublishSubscribeCreateError(
+                    PublishSubscribeCreateError::from(failure),
+                ),
             OpenOrCreateFailure::SystemInFlux => PublishSubscribeOpenOrCreateError::SystemInFlux,
         }
     }

@@ -67,27 +67,47 @@ impl RequestResponseOpenError {
         ensures { result.now ≡ open_text self.now }
     {
         match self {
-            RequestResponseOpenError::IncompatibleMessagingPattern => "RequestResponseOpenError::IncompatibleMessagingPattern",
-            RequestResponseOpenError::IncompatibleRequestType => "RequestResponseOpenError::IncompatibleRequestType",
-            RequestResponseOpenError::IncompatibleResponseType => "RequestResponseOpenError::IncompatibleResponseType",
-            RequestResponseOpenError::IncompatibleAttributes => "RequestResponseOpenError::IncompatibleAttributes",
-            RequestResponseOpenError::IncompatibleOverflowBehaviorForRequests => "RequestResponseOpenError::IncompatibleOverflowBehaviorForRequests",
-            RequestResponseOpenError::IncompatibleOverflowBehaviorForResponses => "RequestResponseOpenError::IncompatibleOverflowBehaviorForResponses",
-            RequestResponseOpenError::IncompatibleBehaviorForFireAndForgetRequests => "RequestResponseOpenError::IncompatibleBehaviorForFireAndForgetRequests",
-            RequestResponseOpenError::DoesNotSupportRequestedAmountOfClientRequestLoans => "RequestResponseOpenError::DoesNotSupportRequestedAmountOfClientRequestLoans",
-            RequestResponseOpenError::DoesNotSupportRequestedAmountOfActiveRequestsPerClient => "RequestResponseOpenError::DoesNotSupportRequestedAmountOfActiveRequestsPerClient",
-            RequestResponseOpenError::DoesNotSupportRequestedResponseBufferSize => "RequestResponseOpenError::DoesNotSupportRequestedResponseBufferSize",
-            RequestResponseOpenError::DoesNotSupportRequestedAmountOfServers => "RequestResponseOpenError::DoesNotSupportRequestedAmountOfServers",
-            RequestResponseOpenError::DoesNotSupportRequestedAmountOfClients => "RequestResponseOpenError::DoesNotSupportRequestedAmountOfClients",
-            RequestResponseOpenError::DoesNotSupportRequestedAmountOfBorrowedResponsesPerPendingResponse => "RequestResponseOpenError::DoesNotSupportRequestedAmountOfBorrowedResponsesPerPendingResponse",
-            RequestResponseOpenError::DoesNotSupportRequestedAmountOfNodes => "RequestResponseOpenError::DoesNotSupportRequestedAmountOfNodes",
+            RequestResponseOpenError::IncompatibleMessagingPattern =>
+                "RequestResponseOpenError::IncompatibleMessagingPattern",
+            RequestResponseOpenError::IncompatibleRequestType =>
+                "RequestResponseOpenError::IncompatibleRequestType",
+            RequestResponseOpenError::IncompatibleResponseType =>
+                "RequestResponseOpenError::IncompatibleResponseType",
+            RequestResponseOpenError::IncompatibleAttributes =>
+                "RequestResponseOpenError::IncompatibleAttributes",
+            RequestResponseOpenError::IncompatibleOverflowBehaviorForRequests =>
+                "RequestResponseOpenError::IncompatibleOverflowBehaviorForRequests",
+            RequestResponseOpenError::IncompatibleOverflowBehaviorForResponses =>
+                "RequestResponseOpenError::IncompatibleOverflowBehaviorForResponses",
+            RequestResponseOpenError::IncompatibleBehaviorForFireAndForgetRequests =>
+                "RequestResponseOpenError::IncompatibleBehaviorForFireAndForgetRequests",
+            RequestResponseOpenError::DoesNotSupportRequestedAmountOfClientRequestLoans =>
+                "RequestResponseOpenError::DoesNotSupportRequestedAmountOfClientRequestLoans",
+            RequestResponseOpenError::DoesNotSupportRequestedAmountOfActiveRequestsPerClient =>
+                "RequestResponseOpenError::DoesNotSupportRequestedAmountOfActiveRequestsPerClient",
+            RequestResponseOpenError::DoesNotSupportRequestedResponseBufferSize =>
+                "RequestResponseOpenError::DoesNotSupportRequestedResponseBufferSize",
+            RequestResponseOpenError::DoesNotSupportRequestedAmountOfServers =>
+                "RequestResponseOpenError::DoesNotSupportRequestedAmountOfServers",
+            RequestResponseOpenError::DoesNotSupportRequestedAmountOfClients =>
+                "RequestResponseOpenError::DoesNotSupportRequestedAmountOfClients",
+            RequestResponseOpenError::DoesNotSupportRequestedAmountOfBorrowedResponsesPerPendingResponse =>
+                "RequestResponseOpenError::DoesNotSupportRequestedAmountOfBorrowedResponsesPerPendingResponse",
+            RequestResponseOpenError::DoesNotSupportRequestedAmountOfNodes =>
+                "RequestResponseOpenError::DoesNotSupportRequestedAmountOfNodes",
             RequestResponseOpenError::DoesNotExist => "RequestResponseOpenError::DoesNotExist",
-            RequestResponseOpenError::InsufficientPermissions => "RequestResponseOpenError::InsufficientPermissions",
-            RequestResponseOpenError::ServiceInCorruptedState => "RequestResponseOpenError::ServiceInCorruptedState",
-            RequestResponseOpenError::InternalFailure => "RequestResponseOpenError::InternalFailure",
-            RequestResponseOpenError::HangsInCreation => "RequestResponseOpenError::HangsInCreation",
-            RequestResponseOpenError::ExceedsMaxNumberOfNodes => "RequestResponseOpenError::ExceedsMaxNumberOfNodes",
-            RequestResponseOpenError::IsMarkedForDestruction => "RequestResponseOpenError::IsMarkedForDestruction",
+            RequestResponseOpenError::InsufficientPermissions =>
+                "RequestResponseOpenError::InsufficientPermissions",
+            RequestResponseOpenError::ServiceInCorruptedState =>
+                "RequestResponseOpenError::ServiceInCorruptedState",
+            RequestResponseOpenError::InternalFailure =>
+                "RequestResponseOpenError::InternalFailure",
+            RequestResponseOpenError::HangsInCreation =>
+                "RequestResponseOpenError::HangsInCreation",
+            RequestResponseOpenError::ExceedsMaxNumberOfNodes =>
+                "RequestResponseOpenError::ExceedsMaxNumberOfNodes",
+            RequestResponseOpenError::IsMarkedForDestruction =>
+                "RequestResponseOpenError::IsMarkedForDestruction",
             RequestResponseOpenError::OutOfMemory => "RequestResponseOpenError::OutOfMemory",
         }
     }
@@ -121,12 +141,18 @@ impl RequestResponseCreateError {
         ensures { result.now ≡ create_text self.now }
     {
         match self {
-            RequestResponseCreateError::AlreadyExists => "RequestResponseCreateError::AlreadyExists",
-            RequestResponseCreateError::InsufficientPermissions => "RequestResponseCreateError::InsufficientPermissions",
-            RequestResponseCreateError::InternalFailure => "RequestResponseCreateError::InternalFailure",
-            RequestResponseCreateError::IsBeingCreatedByAnotherInstance => "RequestResponseCreateError::IsBeingCreatedByAnotherInstance",
-            RequestResponseCreateError::HangsInCreation => "RequestResponseCreateError::HangsInCreation",
-            RequestResponseCreateError::ServiceInCorruptedState => "RequestResponseCreateError::ServiceInCorruptedState",
+            RequestResponseCreateError::AlreadyExists =>
+                "RequestResponseCreateError::AlreadyExists",
+            RequestResponseCreateError::InsufficientPermissions =>
+                "RequestResponseCreateError::InsufficientPermissions",
+            RequestResponseCreateError::InternalFailure =>
+                "RequestResponseCreateError::InternalFailure",
+            RequestResponseCreateError::IsBeingCreatedByAnotherInstance =>
+                "RequestResponseCreateError::IsBeingCreatedByAnotherInstance",
+            RequestResponseCreateError::HangsInCreation =>
+                "RequestResponseCreateError::HangsInCreation",
+            RequestResponseCreateError::ServiceInCorruptedState =>
+                "RequestResponseCreateError::ServiceInCorruptedState",
             RequestResponseCreateError::OutOfMemory => "RequestResponseCreateError::OutOfMemory",
         }
     }
@@ -152,36 +178,116 @@ impl RequestResponseOpenOrCreateError {
         ensures { result.now ≡ open_or_create_text self.now }
     {
         match self {
-            RequestResponseOpenOrCreateError::RequestResponseOpenError(RequestResponseOpenError::IncompatibleMessagingPattern) => "RequestResponseOpenOrCreateError::RequestResponseOpenError(IncompatibleMessagingPattern)",
-            RequestResponseOpenOrCreateError::RequestResponseOpenError(RequestResponseOpenError::IncompatibleRequestType) => "RequestResponseOpenOrCreateError::RequestResponseOpenError(IncompatibleRequestType)",
-            RequestResponseOpenOrCreateError::RequestResponseOpenError(RequestResponseOpenError::IncompatibleResponseType) => "RequestResponseOpenOrCreateError::RequestResponseOpenError(IncompatibleResponseType)",
-            RequestResponseOpenOrCreateError::RequestResponseOpenError(RequestResponseOpenError::IncompatibleAttributes) => "RequestResponseOpenOrCreateError::RequestResponseOpenError(IncompatibleAttributes)",
-            RequestResponseOpenOrCreateError::RequestResponseOpenError(RequestResponseOpenError::IncompatibleOverflowBehaviorForRequests) => "RequestResponseOpenOrCreateError::RequestResponseOpenError(IncompatibleOverflowBehaviorForRequests)",
-            RequestResponseOpenOrCreateError::RequestResponseOpenError(RequestResponseOpenError::IncompatibleOverflowBehaviorForResponses) => "RequestResponseOpenOrCreateError::RequestResponseOpenError(IncompatibleOverflowBehaviorForResponses)",
-            RequestResponseOpenOrCreateError::RequestResponseOpenError(RequestResponseOpenError::IncompatibleBehaviorForFireAndForgetRequests) => "RequestResponseOpenOrCreateError::RequestResponseOpenError(IncompatibleBehaviorForFireAndForgetRequests)",
-            RequestResponseOpenOrCreateError::RequestResponseOpenError(RequestResponseOpenError::DoesNotSupportRequestedAmountOfClientRequestLoans) => "RequestResponseOpenOrCreateError::RequestResponseOpenError(DoesNotSupportRequestedAmountOfClientRequestLoans)",
-            RequestResponseOpenOrCreateError::RequestResponseOpenError(RequestResponseOpenError::DoesNotSupportRequestedAmountOfActiveRequestsPerClient) => "RequestResponseOpenOrCreateError::RequestResponseOpenError(DoesNotSupportRequestedAmountOfActiveRequestsPerClient)",
-            RequestResponseOpenOrCreateError::RequestResponseOpenError(RequestResponseOpenError::DoesNotSupportRequestedResponseBufferSize) => "RequestResponseOpenOrCreateError::RequestResponseOpenError(DoesNotSupportRequestedResponseBufferSize)",
-            RequestResponseOpenOrCreateError::RequestResponseOpenError(RequestResponseOpenError::DoesNotSupportRequestedAmountOfServers) => "RequestResponseOpenOrCreateError::RequestResponseOpenError(DoesNotSupportRequestedAmountOfServers)",
-            RequestResponseOpenOrCreateError::RequestResponseOpenError(RequestResponseOpenError::DoesNotSupportRequestedAmountOfClients) => "RequestResponseOpenOrCreateError::RequestResponseOpenError(DoesNotSupportRequestedAmountOfClients)",
-            RequestResponseOpenOrCreateError::RequestResponseOpenError(RequestResponseOpenError::DoesNotSupportRequestedAmountOfBorrowedResponsesPerPendingResponse) => "RequestResponseOpenOrCreateError::RequestResponseOpenError(DoesNotSupportRequestedAmountOfBorrowedResponsesPerPendingResponse)",
-            RequestResponseOpenOrCreateError::RequestResponseOpenError(RequestResponseOpenError::DoesNotSupportRequestedAmountOfNodes) => "RequestResponseOpenOrCreateError::RequestResponseOpenError(DoesNotSupportRequestedAmountOfNodes)",
-            RequestResponseOpenOrCreateError::RequestResponseOpenError(RequestResponseOpenError::DoesNotExist) => "RequestResponseOpenOrCreateError::RequestResponseOpenError(DoesNotExist)",
-            RequestResponseOpenOrCreateError::RequestResponseOpenError(RequestResponseOpenError::InsufficientPermissions) => "RequestResponseOpenOrCreateError::RequestResponseOpenError(InsufficientPermissions)",
-            RequestResponseOpenOrCreateError::RequestResponseOpenError(RequestResponseOpenError::ServiceInCorruptedState) => "RequestResponseOpenOrCreateError::RequestResponseOpenError(ServiceInCorruptedState)",
-            RequestResponseOpenOrCreateError::RequestResponseOpenError(RequestResponseOpenError::InternalFailure) => "RequestResponseOpenOrCreateError::RequestResponseOpenError(InternalFailure)",
-            RequestResponseOpenOrCreateError::RequestResponseOpenError(RequestResponseOpenError::HangsInCreation) => "RequestResponseOpenOrCreateError::RequestResponseOpenError(HangsInCreation)",
-            RequestResponseOpenOrCreateError::RequestResponseOpenError(RequestResponseOpenError::ExceedsMaxNumberOfNodes) => "RequestResponseOpenOrCreateError::RequestResponseOpenError(ExceedsMaxNumberOfNodes)",
-            RequestResponseOpenOrCreateError::RequestResponseOpenError(RequestResponseOpenError::IsMarkedForDestruction) => "RequestResponseOpenOrCreateError::RequestResponseOpenError(IsMarkedForDestruction)",
-            RequestResponseOpenOrCreateError::RequestResponseOpenError(RequestResponseOpenError::OutOfMemory) => "RequestResponseOpenOrCreateError::RequestResponseOpenError(OutOfMemory)",
-            RequestResponseOpenOrCreateError::RequestResponseCreateError(RequestResponseCreateError::AlreadyExists) => "RequestResponseOpenOrCreateError::RequestResponseCreateError(AlreadyExists)",
-            RequestResponseOpenOrCreateError::RequestResponseCreateError(RequestResponseCreateError::InsufficientPermissions) => "RequestResponseOpenOrCreateError::RequestResponseCreateError(InsufficientPermissions)",
-            RequestResponseOpenOrCreateError::RequestResponseCreateError(RequestResponseCreateError::InternalFailure) => "RequestResponseOpenOrCreateError::RequestResponseCreateError(InternalFailure)",
-            RequestResponseOpenOrCreateError::RequestResponseCreateError(RequestResponseCreateError::IsBeingCreatedByAnotherInstance) => "RequestResponseOpenOrCreateError::RequestResponseCreateError(IsBeingCreatedByAnotherInstance)",
-            RequestResponseOpenOrCreateError::RequestResponseCreateError(RequestResponseCreateError::HangsInCreation) => "RequestResponseOpenOrCreateError::RequestResponseCreateError(HangsInCreation)",
-            RequestResponseOpenOrCreateError::RequestResponseCreateError(RequestResponseCreateError::ServiceInCorruptedState) => "RequestResponseOpenOrCreateError::RequestResponseCreateError(ServiceInCorruptedState)",
-            RequestResponseOpenOrCreateError::RequestResponseCreateError(RequestResponseCreateError::OutOfMemory) => "RequestResponseOpenOrCreateError::RequestResponseCreateError(OutOfMemory)",
-            RequestResponseOpenOrCreateError::SystemInFlux => "RequestResponseOpenOrCreateError::SystemInFlux",
+            RequestResponseOpenOrCreateError::RequestResponseOpenError(
+                RequestResponseOpenError::IncompatibleMessagingPattern,
+            ) =>
+                "RequestResponseOpenOrCreateError::RequestResponseOpenError(IncompatibleMessagingPattern)",
+            RequestResponseOpenOrCreateError::RequestResponseOpenError(
+                RequestResponseOpenError::IncompatibleRequestType,
+            ) =>
+                "RequestResponseOpenOrCreateError::RequestResponseOpenError(IncompatibleRequestType)",
+            RequestResponseOpenOrCreateError::RequestResponseOpenError(
+                RequestResponseOpenError::IncompatibleResponseType,
+            ) =>
+                "RequestResponseOpenOrCreateError::RequestResponseOpenError(IncompatibleResponseType)",
+            RequestResponseOpenOrCreateError::RequestResponseOpenError(
+                RequestResponseOpenError::IncompatibleAttributes,
+            ) =>
+                "RequestResponseOpenOrCreateError::RequestResponseOpenError(IncompatibleAttributes)",
+            RequestResponseOpenOrCreateError::RequestResponseOpenError(
+                RequestResponseOpenError::IncompatibleOverflowBehaviorForRequests,
+            ) =>
+                "RequestResponseOpenOrCreateError::RequestResponseOpenError(IncompatibleOverflowBehaviorForRequests)",
+            RequestResponseOpenOrCreateError::RequestResponseOpenError(
+                RequestResponseOpenError::IncompatibleOverflowBehaviorForResponses,
+            ) =>
+                "RequestResponseOpenOrCreateError::RequestResponseOpenError(IncompatibleOverflowBehaviorForResponses)",
+            RequestResponseOpenOrCreateError::RequestResponseOpenError(
+                RequestResponseOpenError::IncompatibleBehaviorForFireAndForgetRequests,
+            ) =>
+                "RequestResponseOpenOrCreateError::RequestResponseOpenError(IncompatibleBehaviorForFireAndForgetRequests)",
+            RequestResponseOpenOrCreateError::RequestResponseOpenError(
+                RequestResponseOpenError::DoesNotSupportRequestedAmountOfClientRequestLoans,
+            ) =>
+                "RequestResponseOpenOrCreateError::RequestResponseOpenError(DoesNotSupportRequestedAmountOfClientRequestLoans)",
+            RequestResponseOpenOrCreateError::RequestResponseOpenError(
+                RequestResponseOpenError::DoesNotSupportRequestedAmountOfActiveRequestsPerClient,
+            ) =>
+                "RequestResponseOpenOrCreateError::RequestResponseOpenError(DoesNotSupportRequestedAmountOfActiveRequestsPerClient)",
+            RequestResponseOpenOrCreateError::RequestResponseOpenError(
+                RequestResponseOpenError::DoesNotSupportRequestedResponseBufferSize,
+            ) =>
+                "RequestResponseOpenOrCreateError::RequestResponseOpenError(DoesNotSupportRequestedResponseBufferSize)",
+            RequestResponseOpenOrCreateError::RequestResponseOpenError(
+                RequestResponseOpenError::DoesNotSupportRequestedAmountOfServers,
+            ) =>
+                "RequestResponseOpenOrCreateError::RequestResponseOpenError(DoesNotSupportRequestedAmountOfServers)",
+            RequestResponseOpenOrCreateError::RequestResponseOpenError(
+                RequestResponseOpenError::DoesNotSupportRequestedAmountOfClients,
+            ) =>
+                "RequestResponseOpenOrCreateError::RequestResponseOpenError(DoesNotSupportRequestedAmountOfClients)",
+            RequestResponseOpenOrCreateError::RequestResponseOpenError(
+                RequestResponseOpenError::DoesNotSupportRequestedAmountOfBorrowedResponsesPerPendingResponse,
+            ) =>
+                "RequestResponseOpenOrCreateError::RequestResponseOpenError(DoesNotSupportRequestedAmountOfBorrowedResponsesPerPendingResponse)",
+            RequestResponseOpenOrCreateError::RequestResponseOpenError(
+                RequestResponseOpenError::DoesNotSupportRequestedAmountOfNodes,
+            ) =>
+                "RequestResponseOpenOrCreateError::RequestResponseOpenError(DoesNotSupportRequestedAmountOfNodes)",
+            RequestResponseOpenOrCreateError::RequestResponseOpenError(
+                RequestResponseOpenError::DoesNotExist,
+            ) => "RequestResponseOpenOrCreateError::RequestResponseOpenError(DoesNotExist)",
+            RequestResponseOpenOrCreateError::RequestResponseOpenError(
+                RequestResponseOpenError::InsufficientPermissions,
+            ) =>
+                "RequestResponseOpenOrCreateError::RequestResponseOpenError(InsufficientPermissions)",
+            RequestResponseOpenOrCreateError::RequestResponseOpenError(
+                RequestResponseOpenError::ServiceInCorruptedState,
+            ) =>
+                "RequestResponseOpenOrCreateError::RequestResponseOpenError(ServiceInCorruptedState)",
+            RequestResponseOpenOrCreateError::RequestResponseOpenError(
+                RequestResponseOpenError::InternalFailure,
+            ) => "RequestResponseOpenOrCreateError::RequestResponseOpenError(InternalFailure)",
+            RequestResponseOpenOrCreateError::RequestResponseOpenError(
+                RequestResponseOpenError::HangsInCreation,
+            ) => "RequestResponseOpenOrCreateError::RequestResponseOpenError(HangsInCreation)",
+            RequestResponseOpenOrCreateError::RequestResponseOpenError(
+                RequestResponseOpenError::ExceedsMaxNumberOfNodes,
+            ) =>
+                "RequestResponseOpenOrCreateError::RequestResponseOpenError(ExceedsMaxNumberOfNodes)",
+            RequestResponseOpenOrCreateError::RequestResponseOpenError(
+                RequestResponseOpenError::IsMarkedForDestruction,
+            ) =>
+                "RequestResponseOpenOrCreateError::RequestResponseOpenError(IsMarkedForDestruction)",
+            RequestResponseOpenOrCreateError::RequestResponseOpenError(
+                RequestResponseOpenError::OutOfMemory,
+            ) => "RequestResponseOpenOrCreateError::RequestResponseOpenError(OutOfMemory)",
+            RequestResponseOpenOrCreateError::RequestResponseCreateError(
+                RequestResponseCreateError::AlreadyExists,
+            ) => "RequestResponseOpenOrCreateError::RequestResponseCreateError(AlreadyExists)",
+            RequestResponseOpenOrCreateError::RequestResponseCreateError(
+                RequestResponseCreateError::InsufficientPermissions,
+            ) =>
+                "RequestResponseOpenOrCreateError::RequestResponseCreateError(InsufficientPermissions)",
+            RequestResponseOpenOrCreateError::RequestResponseCreateError(
+                RequestResponseCreateError::InternalFailure,
+            ) => "RequestResponseOpenOrCreateError::RequestResponseCreateError(InternalFailure)",
+            RequestResponseOpenOrCreateError::RequestResponseCreateError(
+                RequestResponseCreateError::IsBeingCreatedByAnotherInstance,
+            ) =>
+                "RequestResponseOpenOrCreateError::RequestResponseCreateError(IsBeingCreatedByAnotherInstance)",
+            RequestResponseOpenOrCreateError::RequestResponseCreateError(
+                RequestResponseCreateError::HangsInCreation,
+            ) => "RequestResponseOpenOrCreateError::RequestResponseCreateError(HangsInCreation)",
+            RequestResponseOpenOrCreateError::RequestResponseCreateError(
+                RequestResponseCreateError::ServiceInCorruptedState,
+            ) =>
+                "RequestResponseOpenOrCreateError::RequestResponseCreateError(ServiceInCorruptedState)",
+            RequestResponseOpenOrCreateError::RequestResponseCreateError(
+                RequestResponseCreateError::OutOfMemory,
+            ) => "RequestResponseOpenOrCreateError::RequestResponseCreateError(OutOfMemory)",
+            RequestResponseOpenOrCreateError::SystemInFlux =>
+                "RequestResponseOpenOrCreateError::SystemInFlux",
         }
     }
 }
@@ -192,20 +298,33 @@ impl From<ClauseError> for RequestResponseOpenError {
 
     fn from(unmet: ClauseError) -> Self {
         match unmet {
-            ClauseError::IncompatibleMessagingPattern => RequestResponseOpenError::IncompatibleMessagingPattern,
-            ClauseError::IncompatibleRequestType => RequestResponseOpenError::IncompatibleRequestType,
-            ClauseError::IncompatibleResponseType => RequestResponseOpenError::IncompatibleResponseType,
+            ClauseError::IncompatibleMessagingPattern =>
+                RequestResponseOpenError::IncompatibleMessagingPattern,
+            ClauseError::IncompatibleRequestType =>
+                RequestResponseOpenError::IncompatibleRequestType,
+            ClauseError::IncompatibleResponseType =>
+                RequestResponseOpenError::IncompatibleResponseType,
             ClauseError::IncompatibleAttributes => RequestResponseOpenError::IncompatibleAttributes,
-            ClauseError::IncompatibleOverflowBehaviorForRequests => RequestResponseOpenError::IncompatibleOverflowBehaviorForRequests,
-            ClauseError::IncompatibleOverflowBehaviorForResponses => RequestResponseOpenError::IncompatibleOverflowBehaviorForResponses,
-            ClauseError::IncompatibleBehaviorForFireAndForgetRequests => RequestResponseOpenError::IncompatibleBehaviorForFireAndForgetRequests,
-            ClauseError::DoesNotSupportRequestedAmountOfClientRequestLoans => RequestResponseOpenError::DoesNotSupportRequestedAmountOfClientRequestLoans,
-            ClauseError::DoesNotSupportRequestedAmountOfActiveRequestsPerClient => RequestResponseOpenError::DoesNotSupportRequestedAmountOfActiveRequestsPerClient,
-            ClauseError::DoesNotSupportRequestedResponseBufferSize => RequestResponseOpenError::DoesNotSupportRequestedResponseBufferSize,
-            ClauseError::DoesNotSupportRequestedAmountOfServers => RequestResponseOpenError::DoesNotSupportRequestedAmountOfServers,
-            ClauseError::DoesNotSupportRequestedAmountOfClients => RequestResponseOpenError::DoesNotSupportRequestedAmountOfClients,
-            ClauseError::DoesNotSupportRequestedAmountOfBorrowedResponsesPerPendingResponse => RequestResponseOpenError::DoesNotSupportRequestedAmountOfBorrowedResponsesPerPendingResponse,
-            ClauseError::DoesNotSupportRequestedAmountOfNodes => RequestResponseOpenError::DoesNotSupportRequestedAmountOfNodes,
+            ClauseError::IncompatibleOverflowBehaviorForRequests =>
+                RequestResponseOpenError::IncompatibleOverflowBehaviorForRequests,
+            ClauseError::IncompatibleOverflowBehaviorForResponses =>
+                RequestResponseOpenError::IncompatibleOverflowBehaviorForResponses,
+            ClauseError::IncompatibleBehaviorForFireAndForgetRequests =>
+                RequestResponseOpenError::IncompatibleBehaviorForFireAndForgetRequests,
+            ClauseError::DoesNotSupportRequestedAmountOfClientRequestLoans =>
+                RequestResponseOpenError::DoesNotSupportRequestedAmountOfClientRequestLoans,
+            ClauseError::DoesNotSupportRequestedAmountOfActiveRequestsPerClient =>
+                RequestResponseOpenError::DoesNotSupportRequestedAmountOfActiveRequestsPerClient,
+            ClauseError::DoesNotSupportRequestedResponseBufferSize =>
+                RequestResponseOpenError::DoesNotSupportRequestedResponseBufferSize,
+            ClauseError::DoesNotSupportRequestedAmountOfServers =>
+                RequestResponseOpenError::DoesNotSupportRequestedAmountOfServers,
+            ClauseError::DoesNotSupportRequestedAmountOfClients =>
+                RequestResponseOpenError::DoesNotSupportRequestedAmountOfClients,
+            ClauseError::DoesNotSupportRequestedAmountOfBorrowedResponsesPerPendingResponse =>
+                RequestResponseOpenError::DoesNotSupportRequestedAmountOfBorrowedResponsesPerPendingResponse,
+            ClauseError::DoesNotSupportRequestedAmountOfNodes =>
+                RequestResponseOpenError::DoesNotSupportRequestedAmountOfNodes,
         }
     }
 }
@@ -218,11 +337,14 @@ impl From<OpenFailure<ClauseError>> for RequestResponseOpenError {
         match failure {
             OpenFailure::Clause(unmet) => RequestResponseOpenError::from(unmet),
             OpenFailure::DoesNotExist => RequestResponseOpenError::DoesNotExist,
-            OpenFailure::InsufficientPermissions => RequestResponseOpenError::InsufficientPermissions,
-            OpenFailure::ServiceInCorruptedState => RequestResponseOpenError::ServiceInCorruptedState,
+            OpenFailure::InsufficientPermissions =>
+                RequestResponseOpenError::InsufficientPermissions,
+            OpenFailure::ServiceInCorruptedState =>
+                RequestResponseOpenError::ServiceInCorruptedState,
             OpenFailure::InternalFailure => RequestResponseOpenError::InternalFailure,
             OpenFailure::HangsInCreation => RequestResponseOpenError::HangsInCreation,
-            OpenFailure::ExceedsMaxNumberOfNodes => RequestResponseOpenError::ExceedsMaxNumberOfNodes,
+            OpenFailure::ExceedsMaxNumberOfNodes =>
+                RequestResponseOpenError::ExceedsMaxNumberOfNodes,
             OpenFailure::IsMarkedForDestruction => RequestResponseOpenError::IsMarkedForDestruction,
             OpenFailure::OutOfMemory => RequestResponseOpenError::OutOfMemory,
         }
@@ -236,13 +358,17 @@ impl From<CreateFailure> for RequestResponseCreateError {
     fn from(failure: CreateFailure) -> Self {
         match failure {
             CreateFailure::AlreadyExists => RequestResponseCreateError::AlreadyExists,
-            CreateFailure::InsufficientPermissions => RequestResponseCreateError::InsufficientPermissions,
+            CreateFailure::InsufficientPermissions =>
+                RequestResponseCreateError::InsufficientPermissions,
             CreateFailure::InternalFailure => RequestResponseCreateError::InternalFailure,
-            CreateFailure::IsBeingCreatedByAnotherInstance => RequestResponseCreateError::IsBeingCreatedByAnotherInstance,
+            CreateFailure::IsBeingCreatedByAnotherInstance =>
+                RequestResponseCreateError::IsBeingCreatedByAnotherInstance,
             CreateFailure::HangsInCreation => RequestResponseCreateError::HangsInCreation,
-            CreateFailure::ServiceInCorruptedState => RequestResponseCreateError::ServiceInCorruptedState,
+            CreateFailure::ServiceInCorruptedState =>
+                RequestResponseCreateError::ServiceInCorruptedState,
             CreateFailure::OutOfMemory => RequestResponseCreateError::OutOfMemory,
-            CreateFailure::SubscriberBufferMustBeLargerThanHistorySize => RequestResponseCreateError::InternalFailure,
+            CreateFailure::SubscriberBufferMustBeLargerThanHistorySize =>
+                RequestResponseCreateError::InternalFailure,
         }
     }
 }
@@ -271,8 +397,14 @@ impl From<OpenOrCreateFailure<ClauseError>> for RequestResponseOpenOrCreateError
 
     fn from(failure: OpenOrCreateFailure<ClauseError>) -> Self {
         match failure {
-            OpenOrCreateFailure::Open(failure) => RequestResponseOpenOrCreateError::RequestResponseOpenError(RequestResponseOpenError::from(failure)),
-            OpenOrCreateFailure::Create(failure) => RequestResponseOpenOrCreateError::RequestResponseCreateError(RequestResponseCreateError::from(failure)),
+            OpenOrCreateFailure::Open(failure) =>
+                RequestResponseOpenOrCreateError::RequestResponseOpenError(
+                    RequestResponseOpenError::from(failure),
+                ),
+            OpenOrCreateFailure::Create(failure) =>
+                RequestResponseOpenOrCreateError::RequestResponseCreateError(
+                    RequestResponseCreateError::from(failure),
+                ),
             OpenOrCreateFailure::SystemInFlux => RequestResponseOpenOrCreateError::SystemInFlux,
         }
     }

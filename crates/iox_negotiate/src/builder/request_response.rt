@@ -30,7 +30,10 @@ impl ServiceBuilder<RequestResponse> {
     pub fn request_payload_alignment(mut self, alignment: u64) -> Self
         ensures { result ≡ record self { requirement = record self.requirement { request_types = record self.requirement.request_types { payload = aligned self.requirement.request_types.payload alignment } } } }
     {
-        self.requirement.request_types.payload = aligned(&self.requirement.request_types.payload, alignment);
+        self.requirement.request_types.payload = aligned(
+            &self.requirement.request_types.payload,
+            alignment,
+        );
         self
     }
 
@@ -38,7 +41,10 @@ impl ServiceBuilder<RequestResponse> {
     pub fn response_payload_alignment(mut self, alignment: u64) -> Self
         ensures { result ≡ record self { requirement = record self.requirement { response_types = record self.requirement.response_types { payload = aligned self.requirement.response_types.payload alignment } } } }
     {
-        self.requirement.response_types.payload = aligned(&self.requirement.response_types.payload, alignment);
+        self.requirement.response_types.payload = aligned(
+            &self.requirement.response_types.payload,
+            alignment,
+        );
         self
     }
 

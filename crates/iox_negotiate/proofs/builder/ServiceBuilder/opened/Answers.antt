@@ -1,4 +1,3 @@
-use Rattle.std.proofs.Common.{ap, ◌∙◌}
 use Rattle.iox_negotiate.proofs.Moving.{opens-as}
 use Rattle.iox_negotiate.proofs.builder.ServiceBuilder.opened.Goals as goal
 
