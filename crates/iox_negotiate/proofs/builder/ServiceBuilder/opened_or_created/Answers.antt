@@ -1,0 +1,21 @@
+use Rattle.std.proofs.Common.{rules}
+use Rattle.iox_describe_base.specs.Hash.{service_hash_of}
+use Rattle.iox_describe_settings.specs.Agreement.{agreement}
+use Rattle.iox_negotiate.proofs.Moving.{either-as}
+use Rattle.iox_negotiate.proofs.builder.ServiceBuilder.opened_or_created.Goals as goal
+
+pub returns : goal.returns
+returns g c =
+    let p = g.P.Pattern in
+    let s = c.args.self.now in
+    let a = c.new-asked.result in
+    record {
+      refusal = a.refusal;
+      refused = c.new-asked.ensures.refusal;
+      negotiated =
+          either-as _ _ p.verdict _ _ _ _ _ _ _ _ _ _ _
+          (agreement a.name (service_hash_of p.pattern a.name) (p.settings a.config) a.attributes.now)
+          (agreement s.name (service_hash_of p.pattern s.name) (p.settings (p.adjusted (p.asked s.requirement))) (p.attributes s.requirement).pairs)
+          c.new-asked.ensures.hash c.new-asked.ensures.node c.new-asked.ensures.requirement (search rules)
+          c.open_or_create.ensures;
+    }

@@ -1,0 +1,106 @@
+//! What a builder asks of a service, as a request of the rounds.
+ghost use Rattle.std.specs.Prelude.{◌≡◌};
+ghost use Rattle.iox_describe_base.specs.Hash.{service_hash_of};
+ghost use Rattle.iox_describe_settings.specs.Agreement.{agreement};
+ghost use Rattle.iox_negotiate.specs.Asked.{IsRefusal};
+
+use iox_describe::pattern::{Pattern, describe};
+use iox_describe::{AttributeSpecifier, Description, ServiceHash, ServiceName, service_hash};
+use iox_negotiate_rounds::{CreateFailure, Request};
+use std::alloc::{AllocError, Global};
+
+/// What a node asks of a service: what it must be to be opened, and the settings and attributes that it is created with.
+///
+/// It borrows the requirement and the attributes, so that asking takes no memory.
+#[derive(Drop)]
+pub struct Asked<'a, P: Pattern> {
+    name: ServiceName,
+    hash: ServiceHash,
+    node: u64,
+    requirement: &'a P::Requirement,
+    config: P::StaticConfig,
+    attributes: &'a AttributeSpecifier,
+    refusal: Option<CreateFailure>,
+}
+
+impl<'a, P: Pattern> Asked<'a, P> {
+    /// What this node asks of the service of this name. It is created with the settings of the requirement, adjusted, and
+    /// with these attributes.
+    pub fn new(
+        name: ServiceName,
+        node: u64,
+        requirement: &'a P::Requirement,
+        attributes: &'a AttributeSpecifier,
+    ) -> Self
+        ensures name { result.name ≡ name }
+        ensures hash { result.hash ≡ service_hash_of P.pattern name }
+        ensures node { result.node ≡ node }
+        ensures requirement { result.requirement.now ≡ requirement.now }
+        ensures config { result.config ≡ P.adjusted (P.asked requirement.now) }
+        ensures attributes { result.attributes.now ≡ attributes.now }
+        ensures refusal { let config = P.adjusted (P.asked requirement.now) in IsRefusal (P.IsWithinLimits config) (P.IsHistoryTooLong config) result.refusal }
+    {
+        let config = P::adjusted(P::asked(requirement));
+        Asked {
+            name,
+            hash: service_hash(P::pattern(), &name),
+            node,
+            requirement,
+            config,
+            attributes,
+            refusal: refusal_of::<P>(&config),
+        }
+    }
+}
+
+/// Why no service is created with these settings.
+fn refusal_of<P: Pattern>(config: &P::StaticConfig) -> Option<CreateFailure>
+    ensures { IsRefusal (P.IsWithinLimits config.now) (P.IsHistoryTooLong config.now) result }
+{
+    if !P::is_within_limits(config) {
+        return Some(CreateFailure::InternalFailure);
+    }
+    if P::is_history_too_long(config) {
+        return Some(CreateFailure::SubscriberBufferMustBeLargerThanHistorySize);
+    }
+    None
+}
+
+impl<'a, P: Pattern> Request for Asked<'a, P> {
+    type ClauseError = P::ClauseError;
+
+    ghost hash = { λ a. a.hash };
+
+    ghost node = { λ a. a.node };
+
+    ghost verdict = { λ a given. P.verdict a.requirement.now given };
+
+    ghost refusal = { λ a. a.refusal };
+
+    ghost created = { λ a. agreement a.name (service_hash_of P.pattern a.name) (P.settings a.config) a.attributes.now };
+
+    fn hash(&self) -> &ServiceHash {
+        &self.hash
+    }
+
+    fn node(&self) -> u64 {
+        self.node
+    }
+
+    fn verdict(&self, description: &Description) -> Result<(), Self::ClauseError> {
+        P::verdict(self.requirement, description)
+    }
+
+    fn refusal(&self) -> Option<CreateFailure> {
+        self.refusal
+    }
+
+    fn max_nodes(&self) -> u64 {
+        P::settings(self.config).max_nodes()
+    }
+
+    fn describe(&self, alloc: Global) -> Result<Description, AllocError> {
+        let attributes = self.attributes.try_clone(alloc)?;
+        Ok(describe::<P>(self.name, self.config, attributes))
+    }
+}

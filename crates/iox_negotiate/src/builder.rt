@@ -1,0 +1,248 @@
+//! Builders: what is asked of a service is said setting by setting, and the service then created or opened.
+ghost use Rattle.std.specs.Prelude.{◌≡◌, [], IfOk};
+ghost use Rattle.std.specs.Result.{result_map_both};
+ghost use Rattle.iox_describe_base.specs.Attributes.{required};
+ghost use Rattle.iox_describe_base.specs.Hash.{service_hash_of};
+ghost use Rattle.iox_describe_settings.specs.Agreement.{agreement};
+ghost use Rattle.iox_describe_verdict.specs.PublishSubscribeClauses as publish_subscribe_of;
+ghost use Rattle.iox_describe_verdict.specs.EventClauses as event_of;
+ghost use Rattle.iox_describe_verdict.specs.RequestResponseClauses as request_response_of;
+ghost use Rattle.iox_negotiate_rounds.specs.Opening.{Opens};
+ghost use Rattle.iox_negotiate.specs.Negotiation.{Negotiates, Creates, Either};
+ghost use Rattle.iox_negotiate.specs.Types.{types_of};
+
+use crate::asked::Asked;
+use crate::factory::PortFactory;
+use crate::negotiation;
+use crate::patterns::Negotiated;
+use crate::payload::{Payload, types_of};
+use iox_describe::pattern::{Event, PublishSubscribe, RequestResponse};
+use iox_describe::{AttributeSpecifier, AttributeVerifier, ServiceName, requirement};
+use iox_negotiate_rounds::Storage;
+use std::alloc::{AllocError, Global};
+
+pub mod event;
+pub mod publish_subscribe;
+pub mod request_response;
+
+/// A node and the name of a service, of which the pattern isn't said yet.
+///
+/// Ported from `iceoryx2::service::builder::Builder`.
+#[derive(Clone, Copy, Debug)]
+pub struct Builder {
+    node: u64,
+    name: ServiceName,
+}
+
+impl Builder {
+    /// A builder of the service of this name, for this node.
+    pub fn new(node: u64, name: ServiceName) -> Self
+        ensures node { result.node ≡ node }
+        ensures name { result.name ≡ name }
+    {
+        Builder { node, name }
+    }
+
+    /// A builder of an event service, of which no setting is named. Refused only for want of memory, which the room for
+    /// attributes takes.
+    pub fn event(self, alloc: Global) -> Result<ServiceBuilder<Event>, AllocError>
+        ensures { IfOk result (λ builder. builder ≡ record { node = self.node; name = self.name; requirement = event_of.unnamed (required [] []) }) }
+    {
+        let attributes = AttributeVerifier::new(alloc)?;
+        Ok(ServiceBuilder {
+            node: self.node,
+            name: self.name,
+            requirement: requirement::event::Requirement::new(attributes),
+        })
+    }
+
+    /// A builder of a publish-subscribe service with this payload and no user header, of which no setting is named. Refused
+    /// only for want of memory, which the room for attributes takes.
+    pub fn publish_subscribe<M: Payload>(
+        self,
+        alloc: Global,
+    ) -> Result<ServiceBuilder<PublishSubscribe>, AllocError>
+        ensures { IfOk result (λ builder. builder ≡ record { node = self.node; name = self.name; requirement = publish_subscribe_of.unnamed (types_of M.detail) (required [] []) }) }
+    {
+        let attributes = AttributeVerifier::new(alloc)?;
+        Ok(ServiceBuilder {
+            node: self.node,
+            name: self.name,
+            requirement: requirement::publish_subscribe::Requirement::new(
+                types_of(M::type_detail()),
+                attributes,
+            ),
+        })
+    }
+
+    /// A builder of a request-response service with these payloads and no user headers, of which no setting is named.
+    /// Refused only for want of memory, which the room for attributes takes.
+    pub fn request_response<M: Payload, N: Payload>(
+        self,
+        alloc: Global,
+    ) -> Result<ServiceBuilder<RequestResponse>, AllocError>
+        ensures { IfOk result (λ builder. builder ≡ record { node = self.node; name = self.name; requirement = request_response_of.unnamed (types_of M.detail) (types_of N.detail) (required [] []) }) }
+    {
+        let attributes = AttributeVerifier::new(alloc)?;
+        let requests = types_of(M::type_detail());
+        let responses = types_of(N::type_detail());
+        Ok(ServiceBuilder {
+            node: self.node,
+            name: self.name,
+            requirement: requirement::request_response::Requirement::new(
+                requests, responses, attributes,
+            ),
+        })
+    }
+}
+
+/// A builder of a service of a pattern. A setting that is named is required of a service that is opened, and becomes the
+/// setting of one that is created, where each other one is at its default.
+///
+/// Ported from the builders of `iceoryx2::service::builder::{publish_subscribe, event, request_response}`.
+#[derive(Drop)]
+pub struct ServiceBuilder<P: Negotiated> {
+    node: u64,
+    name: ServiceName,
+    requirement: P::Requirement,
+}
+
+impl<P: Negotiated> ServiceBuilder<P> {
+    /// The same builder, in memory of its own. Refused only for want of memory.
+    pub fn try_clone(&self, alloc: Global) -> Result<Self, AllocError>
+        ensures { IfOk result (λ builder. builder ≡ self.now) }
+    {
+        Ok(ServiceBuilder {
+            node: self.node,
+            name: self.name,
+            requirement: P::try_clone(&self.requirement, alloc)?,
+        })
+    }
+
+    /// Creates the service, with no attributes but those that were asked for. See `create_with_attributes`.
+    pub fn create<S: Storage>(
+        self,
+        alloc: Global,
+        storage: &mut S,
+    ) -> Result<PortFactory<P>, P::CreateError>
+        ensures { Creates S.gives (S.id storage.old) (service_hash_of P.pattern self.name) self.node (agreement self.name (service_hash_of P.pattern self.name) (P.settings (P.adjusted (P.asked self.requirement))) (P.attributes self.requirement).pairs) (P.IsWithinLimits (P.adjusted (P.asked self.requirement))) (P.IsHistoryTooLong (P.adjusted (P.asked self.requirement))) P.create_error storage.old (result_map_both (λ factory. factory.membership) (λ error. error) result) storage.new }
+    {
+        self.created(
+            alloc,
+            P::attributes(&self.requirement).attributes(),
+            storage,
+        )
+    }
+
+    /// Creates the service with these attributes, in six accesses at most.
+    ///
+    /// Refused as `iox_negotiate_rounds::create` refuses it, told as the error of the pattern of the same name. A number
+    /// past the limits is `InternalFailure`, with no access.
+    pub fn create_with_attributes<S: Storage>(
+        self,
+        alloc: Global,
+        attributes: &AttributeSpecifier,
+        storage: &mut S,
+    ) -> Result<PortFactory<P>, P::CreateError>
+        ensures { Creates S.gives (S.id storage.old) (service_hash_of P.pattern self.name) self.node (agreement self.name (service_hash_of P.pattern self.name) (P.settings (P.adjusted (P.asked self.requirement))) attributes.now) (P.IsWithinLimits (P.adjusted (P.asked self.requirement))) (P.IsHistoryTooLong (P.adjusted (P.asked self.requirement))) P.create_error storage.old (result_map_both (λ factory. factory.membership) (λ error. error) result) storage.new }
+    {
+        self.created(alloc, attributes, storage)
+    }
+
+    /// Opens the service, whatever its attributes. See `open_with_attributes`.
+    pub fn open<S: Storage>(
+        self,
+        alloc: Global,
+        storage: &mut S,
+    ) -> Result<PortFactory<P>, P::OpenError>
+        ensures { Negotiates S.gives (S.id storage.old) self.node P.open_error (λ made answer. Opens (service_hash_of P.pattern self.name) self.node (λ given. P.verdict self.requirement given) made answer) storage.old (result_map_both (λ factory. factory.membership) (λ error. error) result) storage.new }
+    {
+        self.opened(alloc, storage)
+    }
+
+    /// Opens the service if it has these attributes too, in ten accesses at most.
+    ///
+    /// Refused as `iox_negotiate_rounds::open` refuses it, told as the error of the pattern of the same name.
+    pub fn open_with_attributes<S: Storage>(
+        self,
+        alloc: Global,
+        attributes: AttributeVerifier,
+        storage: &mut S,
+    ) -> Result<PortFactory<P>, P::OpenError>
+        ensures { Negotiates S.gives (S.id storage.old) self.node P.open_error (λ made answer. Opens (service_hash_of P.pattern self.name) self.node (λ given. P.verdict (P.with_attributes self.requirement attributes) given) made answer) storage.old (result_map_both (λ factory. factory.membership) (λ error. error) result) storage.new }
+    {
+        let builder = ServiceBuilder {
+            node: self.node,
+            name: self.name,
+            requirement: P::with_attributes(self.requirement, attributes),
+        };
+        builder.opened(alloc, storage)
+    }
+
+    /// Opens the service, whatever its attributes, or creates it with none. See `open_or_create_with_attributes`.
+    pub fn open_or_create<S: Storage>(
+        self,
+        alloc: Global,
+        storage: &mut S,
+    ) -> Result<PortFactory<P>, P::OpenOrCreateError>
+        ensures { Either S.gives (S.id storage.old) (service_hash_of P.pattern self.name) self.node (λ given. P.verdict self.requirement given) (agreement self.name (service_hash_of P.pattern self.name) (P.settings (P.adjusted (P.asked self.requirement))) (P.attributes self.requirement).pairs) (P.IsWithinLimits (P.adjusted (P.asked self.requirement))) (P.IsHistoryTooLong (P.adjusted (P.asked self.requirement))) P.open_or_create_error storage.old (result_map_both (λ factory. factory.membership) (λ error. error) result) storage.new }
+    {
+        self.opened_or_created(alloc, storage)
+    }
+
+    /// Opens the service if it has these attributes too, or creates it with the required pairs where none stands, in fourteen
+    /// accesses at most.
+    ///
+    /// Refused as `iox_negotiate_rounds::open_or_create` refuses it, told as the error of the pattern of the same name.
+    pub fn open_or_create_with_attributes<S: Storage>(
+        self,
+        alloc: Global,
+        attributes: AttributeVerifier,
+        storage: &mut S,
+    ) -> Result<PortFactory<P>, P::OpenOrCreateError>
+        ensures { Either S.gives (S.id storage.old) (service_hash_of P.pattern self.name) self.node (λ given. P.verdict (P.with_attributes self.requirement attributes) given) (agreement self.name (service_hash_of P.pattern self.name) (P.settings (P.adjusted (P.asked (P.with_attributes self.requirement attributes)))) (P.attributes (P.with_attributes self.requirement attributes)).pairs) (P.IsWithinLimits (P.adjusted (P.asked (P.with_attributes self.requirement attributes)))) (P.IsHistoryTooLong (P.adjusted (P.asked (P.with_attributes self.requirement attributes)))) P.open_or_create_error storage.old (result_map_both (λ factory. factory.membership) (λ error. error) result) storage.new }
+    {
+        let builder = ServiceBuilder {
+            node: self.node,
+            name: self.name,
+            requirement: P::with_attributes(self.requirement, attributes),
+        };
+        builder.opened_or_created(alloc, storage)
+    }
+
+    fn created<S: Storage>(
+        &self,
+        alloc: Global,
+        attributes: &AttributeSpecifier,
+        storage: &mut S,
+    ) -> Result<PortFactory<P>, P::CreateError>
+        ensures { Creates S.gives (S.id storage.old) (service_hash_of P.pattern self.now.name) self.now.node (agreement self.now.name (service_hash_of P.pattern self.now.name) (P.settings (P.adjusted (P.asked self.now.requirement))) attributes.now) (P.IsWithinLimits (P.adjusted (P.asked self.now.requirement))) (P.IsHistoryTooLong (P.adjusted (P.asked self.now.requirement))) P.create_error storage.old (result_map_both (λ factory. factory.membership) (λ error. error) result) storage.new }
+    {
+        let asked = Asked::<P>::new(self.name, self.node, &self.requirement, attributes);
+        negotiation::create(alloc, &asked, storage)
+    }
+
+    fn opened<S: Storage>(
+        &self,
+        alloc: Global,
+        storage: &mut S,
+    ) -> Result<PortFactory<P>, P::OpenError>
+        ensures { Negotiates S.gives (S.id storage.old) self.now.node P.open_error (λ made answer. Opens (service_hash_of P.pattern self.now.name) self.now.node (λ given. P.verdict self.now.requirement given) made answer) storage.old (result_map_both (λ factory. factory.membership) (λ error. error) result) storage.new }
+    {
+        let attributes = P::attributes(&self.requirement).attributes();
+        let asked = Asked::<P>::new(self.name, self.node, &self.requirement, attributes);
+        negotiation::open(alloc, &asked, storage)
+    }
+
+    fn opened_or_created<S: Storage>(
+        &self,
+        alloc: Global,
+        storage: &mut S,
+    ) -> Result<PortFactory<P>, P::OpenOrCreateError>
+        ensures { Either S.gives (S.id storage.old) (service_hash_of P.pattern self.now.name) self.now.node (λ given. P.verdict self.now.requirement given) (agreement self.now.name (service_hash_of P.pattern self.now.name) (P.settings (P.adjusted (P.asked self.now.requirement))) (P.attributes self.now.requirement).pairs) (P.IsWithinLimits (P.adjusted (P.asked self.now.requirement))) (P.IsHistoryTooLong (P.adjusted (P.asked self.now.requirement))) P.open_or_create_error storage.old (result_map_both (λ factory. factory.membership) (λ error. error) result) storage.new }
+    {
+        let attributes = P::attributes(&self.requirement).attributes();
+        let asked = Asked::<P>::new(self.name, self.node, &self.requirement, attributes);
+        negotiation::open_or_create(alloc, &asked, storage)
+    }
+}

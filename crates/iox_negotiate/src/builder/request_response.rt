@@ -1,0 +1,169 @@
+//! Setters of a builder of request-response services. Each names one thing, and all else stays.
+ghost use Rattle.std.specs.Prelude.{◌≡◌, Some};
+ghost use Rattle.iox_describe_base.specs.Detail.{detail};
+ghost use Rattle.iox_describe_base.specs.declared.type_detail.TypeVariant.TheVariants.{FixedSize};
+ghost use Rattle.iox_negotiate.specs.Types.{aligned};
+
+use crate::builder::ServiceBuilder;
+use crate::payload::aligned;
+use iox_describe::pattern::RequestResponse;
+use iox_describe::{TypeDetail, TypeVariant, ZeroCopySend};
+
+impl ServiceBuilder<RequestResponse> {
+    /// Asks for this user header of requests.
+    pub fn request_user_header<U: ZeroCopySend>(mut self) -> Self
+        ensures { result ≡ record self { requirement = record self.requirement { request_types = record self.requirement.request_types { user_header = detail FixedSize U.name U.size U.alignment } } } }
+    {
+        self.requirement.request_types.user_header = U::type_detail(TypeVariant::FixedSize);
+        self
+    }
+
+    /// Asks for this user header of responses.
+    pub fn response_user_header<U: ZeroCopySend>(mut self) -> Self
+        ensures { result ≡ record self { requirement = record self.requirement { response_types = record self.requirement.response_types { user_header = detail FixedSize U.name U.size U.alignment } } } }
+    {
+        self.requirement.response_types.user_header = U::type_detail(TypeVariant::FixedSize);
+        self
+    }
+
+    /// Asks for this alignment of the payload of requests, in bytes, or for that of its type where it is larger.
+    pub fn request_payload_alignment(mut self, alignment: u64) -> Self
+        ensures { result ≡ record self { requirement = record self.requirement { request_types = record self.requirement.request_types { payload = aligned self.requirement.request_types.payload alignment } } } }
+    {
+        self.requirement.request_types.payload = aligned(
+            &self.requirement.request_types.payload,
+            alignment,
+        );
+        self
+    }
+
+    /// Asks for this alignment of the payload of responses, in bytes, or for that of its type where it is larger.
+    pub fn response_payload_alignment(mut self, alignment: u64) -> Self
+        ensures { result ≡ record self { requirement = record self.requirement { response_types = record self.requirement.response_types { payload = aligned self.requirement.response_types.payload alignment } } } }
+    {
+        self.requirement.response_types.payload = aligned(
+            &self.requirement.response_types.payload,
+            alignment,
+        );
+        self
+    }
+
+    /// Asks for this payload of requests, whatever type it is of.
+    pub fn internal_set_request_payload_type_details(mut self, value: TypeDetail) -> Self
+        ensures { result ≡ record self { requirement = record self.requirement { request_types = record self.requirement.request_types { payload = value } } } }
+    {
+        self.requirement.request_types.payload = value;
+        self
+    }
+
+    /// Asks for this payload of responses, whatever type it is of.
+    pub fn internal_set_response_payload_type_details(mut self, value: TypeDetail) -> Self
+        ensures { result ≡ record self { requirement = record self.requirement { response_types = record self.requirement.response_types { payload = value } } } }
+    {
+        self.requirement.response_types.payload = value;
+        self
+    }
+
+    /// Asks for this user header of requests, whatever type it is of.
+    pub fn internal_set_request_header_type_details(mut self, value: TypeDetail) -> Self
+        ensures { result ≡ record self { requirement = record self.requirement { request_types = record self.requirement.request_types { user_header = value } } } }
+    {
+        self.requirement.request_types.user_header = value;
+        self
+    }
+
+    /// Asks for this user header of responses, whatever type it is of.
+    pub fn internal_set_response_header_type_details(mut self, value: TypeDetail) -> Self
+        ensures { result ≡ record self { requirement = record self.requirement { response_types = record self.requirement.response_types { user_header = value } } } }
+    {
+        self.requirement.response_types.user_header = value;
+        self
+    }
+
+    /// Names whether a full buffer of requests drops its oldest.
+    pub fn enable_safe_overflow_for_requests(mut self, value: bool) -> Self
+        ensures { result ≡ record self { requirement = record self.requirement { enable_safe_overflow_for_requests = Some value } } }
+    {
+        self.requirement.enable_safe_overflow_for_requests = Some(value);
+        self
+    }
+
+    /// Names whether a full buffer of responses drops its oldest.
+    pub fn enable_safe_overflow_for_responses(mut self, value: bool) -> Self
+        ensures { result ≡ record self { requirement = record self.requirement { enable_safe_overflow_for_responses = Some value } } }
+    {
+        self.requirement.enable_safe_overflow_for_responses = Some(value);
+        self
+    }
+
+    /// Names whether a request may be sent of which no response is awaited.
+    pub fn enable_fire_and_forget_requests(mut self, value: bool) -> Self
+        ensures { result ≡ record self { requirement = record self.requirement { enable_fire_and_forget_requests = Some value } } }
+    {
+        self.requirement.enable_fire_and_forget_requests = Some(value);
+        self
+    }
+
+    /// Names the number of requests of a client that may be answered at once: at least so many of a service that is opened,
+    /// and so many of one that is created.
+    pub fn max_active_requests_per_client(mut self, value: u64) -> Self
+        ensures { result ≡ record self { requirement = record self.requirement { max_active_requests_per_client = Some value } } }
+    {
+        self.requirement.max_active_requests_per_client = Some(value);
+        self
+    }
+
+    /// Names the number of requests that a client may have on loan at once: at least so many of a service that is opened,
+    /// and so many of one that is created.
+    pub fn max_loaned_requests(mut self, value: u64) -> Self
+        ensures { result ≡ record self { requirement = record self.requirement { max_loaned_requests = Some value } } }
+    {
+        self.requirement.max_loaned_requests = Some(value);
+        self
+    }
+
+    /// Names the number of responses that may wait for a client in a connection: at least so many of a service that is opened,
+    /// and so many of one that is created.
+    pub fn max_response_buffer_size(mut self, value: u64) -> Self
+        ensures { result ≡ record self { requirement = record self.requirement { max_response_buffer_size = Some value } } }
+    {
+        self.requirement.max_response_buffer_size = Some(value);
+        self
+    }
+
+    /// Names the number of servers of the service: at least so many of a service that is opened,
+    /// and so many of one that is created.
+    pub fn max_servers(mut self, value: u64) -> Self
+        ensures { result ≡ record self { requirement = record self.requirement { max_servers = Some value } } }
+    {
+        self.requirement.max_servers = Some(value);
+        self
+    }
+
+    /// Names the number of clients of the service: at least so many of a service that is opened,
+    /// and so many of one that is created.
+    pub fn max_clients(mut self, value: u64) -> Self
+        ensures { result ≡ record self { requirement = record self.requirement { max_clients = Some value } } }
+    {
+        self.requirement.max_clients = Some(value);
+        self
+    }
+
+    /// Names the number of responses to a request that a client may hold at once: at least so many of a service that is opened,
+    /// and so many of one that is created.
+    pub fn max_borrowed_responses_per_pending_response(mut self, value: u64) -> Self
+        ensures { result ≡ record self { requirement = record self.requirement { max_borrowed_responses_per_pending_response = Some value } } }
+    {
+        self.requirement.max_borrowed_responses_per_pending_response = Some(value);
+        self
+    }
+
+    /// Names the number of nodes in the service: at least so many of a service that is opened,
+    /// and so many of one that is created.
+    pub fn max_nodes(mut self, value: u64) -> Self
+        ensures { result ≡ record self { requirement = record self.requirement { max_nodes = Some value } } }
+    {
+        self.requirement.max_nodes = Some(value);
+        self
+    }
+}

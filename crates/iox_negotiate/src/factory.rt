@@ -1,0 +1,161 @@
+//! What an open service is to a node: a factory of ports.
+ghost use Rattle.std.specs.Prelude.{◌≡◌, ◌≢◌, Some, None, Ok, Err, IsSome, MatchResult};
+ghost use Rattle.std.specs.Result.{result_map_both};
+ghost use Rattle.iox_negotiate_rounds.specs.Runs.{Does};
+ghost use Rattle.iox_negotiate_errors.specs.declared.close.CloseError.TheVariants.{NotThisStorage};
+ghost use Rattle.iox_negotiate.specs.Factory.{membership, segment_removed, RemovesSegment, RemovalGoes, Removes, Closes};
+
+use iox_describe::pattern::Pattern;
+use iox_describe::{AttributeSpecifier, ServiceName};
+use iox_negotiate_errors::CloseError;
+use iox_negotiate_rounds::{LeaveAnswer, Opened, RemoveAnswer, Storage};
+
+/// That a node is in a service of a storage.
+#[derive(Drop)]
+pub struct Membership {
+    storage: u64,
+    node: u64,
+    service: Opened,
+}
+
+impl Membership {
+    /// Leaves the service, and removes it if this was the last node.
+    fn leave<S: Storage>(&self, storage: &mut S) -> Result<(), CloseError>
+        ensures { Does S.gives storage.old (λ made. Closes self.now.service.description.service_hash self.now.service.number self.now.node made result) storage.new }
+    {
+        let hash = self.service.description.service_hash();
+        let answer = storage.leave(hash, self.service.number, self.node);
+        match answer {
+            LeaveAnswer::Stays => Ok(()),
+            LeaveAnswer::Emptied => self.remove(storage),
+        }
+    }
+
+    // Removes the description, and then the segment.
+    fn remove<S: Storage>(&self, storage: &mut S) -> Result<(), CloseError>
+        ensures { Does S.gives storage.old (λ made. Removes self.now.service.description.service_hash self.now.service.number made result) storage.new }
+    {
+        let hash = self.service.description.service_hash();
+        let answer = storage.remove_description(hash, self.service.number);
+        match answer {
+            RemoveAnswer::Removed => self.remove_segment(storage),
+            RemoveAnswer::Fault => Err(CloseError::UnableToRemoveDescription),
+        }
+    }
+
+    fn remove_segment<S: Storage>(&self, storage: &mut S) -> Result<(), CloseError>
+        ensures { Does S.gives storage.old (λ made. RemovesSegment self.now.service.description.service_hash self.now.service.number made result) storage.new }
+    {
+        let hash = self.service.description.service_hash();
+        let answer = storage.remove_segment(hash, self.service.number);
+        segment_removed(answer)
+    }
+}
+
+fn segment_removed(answer: RemoveAnswer) -> Result<(), CloseError>
+    ensures { result ≡ segment_removed answer }
+{
+    match answer {
+        RemoveAnswer::Removed => Ok(()),
+        RemoveAnswer::Fault => Err(CloseError::UnableToRemoveSegment),
+    }
+}
+
+/// A service that is open to a node, from which its ports are made. It is to be closed in the storage that it was opened
+/// in; one that is let go leaves its node registered.
+///
+/// Ported from `iceoryx2::service::port_factory`, as one type for the three patterns.
+#[derive(Drop)]
+pub struct PortFactory<P: Pattern> {
+    membership: Membership,
+    config: P::StaticConfig,
+    ghost agreed: { P.static_config membership.service.description.settings ≡ Some config },
+}
+
+/// A factory that wasn't closed, or left something behind.
+#[derive(Drop)]
+pub struct NotClosed<P: Pattern> {
+    /// Why.
+    pub error: CloseError,
+    /// The factory, where it is handed back: at `NotThisStorage`.
+    pub factory: Option<PortFactory<P>>,
+}
+
+impl<P: Pattern> PortFactory<P> {
+    /// The factory of a node in a service of this pattern.
+    pub(crate) fn new(storage: u64, node: u64, service: Opened) -> Self
+        requires { IsSome (P.static_config service.description.settings) }
+        ensures { result.membership ≡ membership storage node service }
+    {
+        let config = P::static_config(service.description.settings()).unwrap();
+        PortFactory {
+            membership: Membership {
+                storage,
+                node,
+                service,
+            },
+            config,
+        }
+    }
+
+    /// The name of the service.
+    pub fn name(&self) -> &ServiceName
+        ensures { result.now ≡ self.now.membership.service.description.name }
+    {
+        self.membership.service.description.name()
+    }
+
+    /// The settings that are agreed.
+    pub fn static_config(&self) -> &P::StaticConfig
+        ensures { P.static_config self.now.membership.service.description.settings ≡ Some result.now }
+    {
+        &self.config
+    }
+
+    /// The attributes of the service.
+    pub fn attributes(&self) -> &AttributeSpecifier
+        ensures { result.now ≡ self.now.membership.service.description.attributes }
+    {
+        self.membership.service.description.attributes()
+    }
+
+    /// The number of the service.
+    pub fn number(&self) -> u64
+        ensures { result ≡ self.now.membership.service.number }
+    {
+        self.membership.service.number
+    }
+
+    /// The node that the factory is of.
+    pub fn node(&self) -> u64
+        ensures { result ≡ self.now.membership.node }
+    {
+        self.membership.node
+    }
+
+    /// Closes the factory: takes it off the segment of the service, and removes description and segment if its node was
+    /// the last.
+    ///
+    /// Refused with `NotThisStorage` where the storage has another id than the one it was opened in; nothing is accessed
+    /// then, and the factory is handed back. `UnableToRemoveDescription` and `UnableToRemoveSegment` as the storage
+    /// answers; the factory is spent then.
+    pub fn close<S: Storage>(self, storage: &mut S) -> Result<(), NotClosed<P>>
+        ensures other_storage { S.id storage.old ≢ self.membership.storage → (storage.new ≡ storage.old) × (result ≡ Err (record { error = NotThisStorage; factory = Some self })) }
+        ensures this_storage { S.id storage.old ≡ self.membership.storage → Does S.gives storage.old (λ made. Closes self.membership.service.description.service_hash self.membership.service.number self.membership.node made (result_map_both (λ done. done) (λ refused. refused.error) result)) storage.new }
+        ensures spent { S.id storage.old ≡ self.membership.storage → MatchResult result (λ done. Unit {0}) (λ refused. refused.factory ≡ None) }
+    {
+        if storage.id() != self.membership.storage {
+            return Err(NotClosed {
+                error: CloseError::NotThisStorage,
+                factory: Some(self),
+            });
+        }
+        match self.membership.leave(storage) {
+            Ok(()) => Ok(()),
+            Err(error) => Err(NotClosed {
+                error,
+                factory: None,
+            }),
+        }
+    }
+}

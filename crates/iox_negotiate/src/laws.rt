@@ -1,0 +1,15 @@
+//! What holds of every service that was opened, said in other words than its accesses one by one. Each function does
+//! nothing: its contract is the law.
+ghost use Rattle.iox_negotiate.specs.Laws.{OpenedIsMet, EitherIsMet};
+
+use iox_negotiate_rounds::Request;
+
+/// A service that is opened is the one of the hash, and meets what is asked.
+pub fn opened_is_met<R: Request>()
+    ensures { OpenedIsMet R.ClauseError }
+{}
+
+/// A service that is opened or created is the one of the hash and meets what is asked, or is what was to be agreed.
+pub fn opened_or_created_is_met<R: Request>()
+    ensures { EitherIsMet R.ClauseError }
+{}

@@ -1,0 +1,26 @@
+//! Builders of services, whatever the storage, and what they give: factories of ports.
+//!
+//! | Module | What it has, from the ground up |
+//! |---|---|
+//! | `asked` | what a builder asks of a service, as a request of the rounds |
+//! | `patterns` | the three patterns with their errors |
+//! | `factory` | an open service: what is agreed, and its closing |
+//! | `negotiation` | from what is asked to a factory |
+//! | `payload` | what messages carry: a type, or a slice of one |
+//! | `builder` | builders of the three patterns |
+//! | `laws` | what holds of every open service |
+#![tactic(auto)]
+
+pub mod asked;
+pub mod builder;
+pub mod factory;
+pub mod laws;
+mod negotiation;
+pub mod patterns;
+pub mod payload;
+
+pub use asked::Asked;
+pub use builder::{Builder, ServiceBuilder};
+pub use factory::{Membership, NotClosed, PortFactory};
+pub use patterns::Negotiated;
+pub use payload::{Payload, Slice};
