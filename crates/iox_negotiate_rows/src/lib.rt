@@ -1,8 +1,8 @@
 //! Builders and factories on storages of a test's own: what no contract of `iox_negotiate` can say, as that a call made once
 //! with ample memory goes well.
 //!
-//! It has no items of its own, only tests: `rounds` counts the rounds that lead to nothing, `lines` holds the line
-//! of a service at its defaults against one from outside, `closing` the three refusals of `close`, `texts` what errors display as.
+//! It has no items of its own, only tests: `rounds` counts the rounds that lead to nothing, `lines` holds the lines
+//! that builders publish against rows from outside, `closing` the three refusals of `close`, `texts` what errors display as.
 //! `shared` is what they share.
 #![tactic(auto)]
 
