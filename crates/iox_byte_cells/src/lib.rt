@@ -18,6 +18,3 @@ pub use byte_atomic::FixedSizeByteAtomic;
 pub use byte_machine::{ByteAnswer, ByteMachine, ByteStep};
 pub use coded::Coded;
 pub use maybe_torn::MaybeTorn;
-
-#[cfg(test)]
-mod tests;

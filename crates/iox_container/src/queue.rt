@@ -177,6 +177,3 @@ impl<T: fmt::Debug> fmt::Debug for Queue<T> {
         fmt::Debug::fmt(&self.ring, f)
     }
 }
-
-#[cfg(test)]
-mod tests;

@@ -265,6 +265,3 @@ impl<'de, T: Deserialize<'de>> Deserialize<'de> for RelocatableOption<T> {
         Ok(RelocatableOption::from(Option::<T>::deserialize(alloc, from)?))
     }
 }
-
-#[cfg(test)]
-mod tests;

@@ -9,6 +9,3 @@ pub use error::VectorModificationError;
 pub use polymorphic_vec::PolymorphicVec;
 pub use static_vec::StaticVec;
 pub use vector_trait::Vector;
-
-#[cfg(test)]
-mod tests;

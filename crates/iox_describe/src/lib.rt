@@ -27,6 +27,3 @@ pub use iox_describe_settings::{
 pub use iox_describe_verdict::{pattern, requirement};
 pub use reader::{decode, is_within_limits};
 pub use writer::encode;
-
-#[cfg(test)]
-mod tests;

@@ -1,7 +1,9 @@
 //! Openers that fail one clause and all later ones: the verdict is the error of the first.
 use crate::shared::{event_service, publish_subscribe_service, request_response_service, types};
 use iox_describe::requirement::{event, publish_subscribe, request_response};
-use iox_describe::{AttributeVerifier, Header, MessageTypeDetails, TypeDetail, TypeVariant};
+use iox_describe::{
+    AttributeVerifier, Description, Header, MessageTypeDetails, TypeDetail, TypeVariant,
+};
 use std::alloc::Global;
 use std::test::Fail;
 
@@ -45,37 +47,50 @@ fn publish_subscribe_from(
     Ok(required)
 }
 
+/// What the service answers to a requirement that fails the clause at a place, and all later ones.
+fn publish_subscribe_verdict(
+    alloc: Global,
+    service: &Description,
+    place: usize,
+) -> Result<Result<(), publish_subscribe::ClauseError>, Fail> {
+    Ok(publish_subscribe_from(alloc, place)?.verdict(service))
+}
+
 #[test]
 fn clauses_of_publish_subscribe_stand_in_order(rt: HostRuntime) -> Result<(), Fail> {
     use publish_subscribe::ClauseError;
-    let service = publish_subscribe_service(rt.alloc())?;
     let other = event_service(rt.alloc())?;
-    let required = publish_subscribe_from(rt.alloc(), 0)?;
-    assert_eq!(rt;
-        required.verdict(&other),
-        Err(ClauseError::IncompatibleMessagingPattern)
+    assert!(rt;
+        publish_subscribe_verdict(rt.alloc(), &other, 0)?
+            == Err(ClauseError::IncompatibleMessagingPattern)
     );
-    for (place, error) in [
-        (1, ClauseError::IncompatibleTypes),
-        (2, ClauseError::IncompatibleAttributes),
-        (3, ClauseError::IncompatibleOverflowBehavior),
-        (4, ClauseError::DoesNotSupportRequestedAmountOfPublishers),
-        (5, ClauseError::DoesNotSupportRequestedAmountOfSubscribers),
-        (6, ClauseError::DoesNotSupportRequestedMinBufferSize),
-        (7, ClauseError::DoesNotSupportRequestedMinHistorySize),
+    let service = publish_subscribe_service(rt.alloc())?;
+    for (place, answer) in [
+        (1, Err(ClauseError::IncompatibleTypes)),
+        (2, Err(ClauseError::IncompatibleAttributes)),
+        (3, Err(ClauseError::IncompatibleOverflowBehavior)),
+        (
+            4,
+            Err(ClauseError::DoesNotSupportRequestedAmountOfPublishers),
+        ),
+        (
+            5,
+            Err(ClauseError::DoesNotSupportRequestedAmountOfSubscribers),
+        ),
+        (6, Err(ClauseError::DoesNotSupportRequestedMinBufferSize)),
+        (7, Err(ClauseError::DoesNotSupportRequestedMinHistorySize)),
         (
             8,
-            ClauseError::DoesNotSupportRequestedMinSubscriberBorrowedSamples,
+            Err(ClauseError::DoesNotSupportRequestedMinSubscriberBorrowedSamples),
         ),
-        (9, ClauseError::DoesNotSupportRequestedAmountOfNodes),
+        (9, Err(ClauseError::DoesNotSupportRequestedAmountOfNodes)),
+        (10, Ok(())),
     ] {
-        let required = publish_subscribe_from(rt.alloc(), place)?;
-        assert_eq!(rt; required.verdict(&service), Err(error));
+        assert!(rt;
+            publish_subscribe_verdict(rt.alloc(), &service, place)? == answer,
+            "{place}"
+        );
     }
-    assert_eq!(rt;
-        publish_subscribe_from(rt.alloc(), 10)?.verdict(&service),
-        Ok(())
-    );
     Ok(())
 }
 
@@ -93,31 +108,46 @@ fn event_from(alloc: Global, place: usize) -> Result<event::Requirement, Fail> {
     Ok(required)
 }
 
+/// What the service answers to a requirement that fails the clause at a place, and all later ones.
+fn event_verdict(
+    alloc: Global,
+    service: &Description,
+    place: usize,
+) -> Result<Result<(), event::ClauseError>, Fail> {
+    Ok(event_from(alloc, place)?.verdict(service))
+}
+
 #[test]
 fn clauses_of_event_stand_in_order(rt: HostRuntime) -> Result<(), Fail> {
     use event::ClauseError;
-    let service = event_service(rt.alloc())?;
     let other = request_response_service(rt.alloc())?;
-    let required = event_from(rt.alloc(), 0)?;
-    assert_eq!(rt;
-        required.verdict(&other),
-        Err(ClauseError::IncompatibleMessagingPattern)
+    assert!(rt;
+        event_verdict(rt.alloc(), &other, 0)? == Err(ClauseError::IncompatibleMessagingPattern)
     );
-    for (place, error) in [
-        (1, ClauseError::IncompatibleAttributes),
-        (2, ClauseError::IncompatibleDeadline),
-        (3, ClauseError::DoesNotSupportRequestedAmountOfNotifiers),
-        (4, ClauseError::DoesNotSupportRequestedAmountOfListeners),
-        (5, ClauseError::DoesNotSupportRequestedMaxEventId),
-        (6, ClauseError::IncompatibleNotifierCreatedEvent),
-        (7, ClauseError::IncompatibleNotifierDroppedEvent),
-        (8, ClauseError::IncompatibleNotifierDeadEvent),
-        (9, ClauseError::DoesNotSupportRequestedAmountOfNodes),
+    let service = event_service(rt.alloc())?;
+    for (place, answer) in [
+        (1, Err(ClauseError::IncompatibleAttributes)),
+        (2, Err(ClauseError::IncompatibleDeadline)),
+        (
+            3,
+            Err(ClauseError::DoesNotSupportRequestedAmountOfNotifiers),
+        ),
+        (
+            4,
+            Err(ClauseError::DoesNotSupportRequestedAmountOfListeners),
+        ),
+        (5, Err(ClauseError::DoesNotSupportRequestedMaxEventId)),
+        (6, Err(ClauseError::IncompatibleNotifierCreatedEvent)),
+        (7, Err(ClauseError::IncompatibleNotifierDroppedEvent)),
+        (8, Err(ClauseError::IncompatibleNotifierDeadEvent)),
+        (9, Err(ClauseError::DoesNotSupportRequestedAmountOfNodes)),
+        (10, Ok(())),
     ] {
-        let required = event_from(rt.alloc(), place)?;
-        assert_eq!(rt; required.verdict(&service), Err(error));
+        assert!(rt;
+            event_verdict(rt.alloc(), &service, place)? == answer,
+            "{place}"
+        );
     }
-    assert_eq!(rt; event_from(rt.alloc(), 10)?.verdict(&service), Ok(()));
     Ok(())
 }
 
@@ -143,63 +173,96 @@ fn request_response_from(
     Ok(required)
 }
 
+/// What the service answers to a requirement that fails the clause at a place, and all later ones.
+fn request_response_verdict(
+    alloc: Global,
+    service: &Description,
+    place: usize,
+) -> Result<Result<(), request_response::ClauseError>, Fail> {
+    Ok(request_response_from(alloc, place)?.verdict(service))
+}
+
 #[test]
 fn clauses_of_request_response_stand_in_order(rt: HostRuntime) -> Result<(), Fail> {
     use request_response::ClauseError;
-    let service = request_response_service(rt.alloc())?;
     let other = publish_subscribe_service(rt.alloc())?;
-    let required = request_response_from(rt.alloc(), 0)?;
-    assert_eq!(rt;
-        required.verdict(&other),
-        Err(ClauseError::IncompatibleMessagingPattern)
+    assert!(rt;
+        request_response_verdict(rt.alloc(), &other, 0)?
+            == Err(ClauseError::IncompatibleMessagingPattern)
     );
-    for (place, error) in [
-        (1, ClauseError::IncompatibleRequestType),
-        (2, ClauseError::IncompatibleResponseType),
-        (3, ClauseError::IncompatibleAttributes),
-        (4, ClauseError::IncompatibleOverflowBehaviorForRequests),
-        (5, ClauseError::IncompatibleOverflowBehaviorForResponses),
-        (6, ClauseError::IncompatibleBehaviorForFireAndForgetRequests),
+    let service = request_response_service(rt.alloc())?;
+    for (place, answer) in [
+        (1, Err(ClauseError::IncompatibleRequestType)),
+        (2, Err(ClauseError::IncompatibleResponseType)),
+        (3, Err(ClauseError::IncompatibleAttributes)),
+        (4, Err(ClauseError::IncompatibleOverflowBehaviorForRequests)),
+        (
+            5,
+            Err(ClauseError::IncompatibleOverflowBehaviorForResponses),
+        ),
+        (
+            6,
+            Err(ClauseError::IncompatibleBehaviorForFireAndForgetRequests),
+        ),
         (
             7,
-            ClauseError::DoesNotSupportRequestedAmountOfClientRequestLoans,
+            Err(ClauseError::DoesNotSupportRequestedAmountOfClientRequestLoans),
         ),
         (
             8,
-            ClauseError::DoesNotSupportRequestedAmountOfActiveRequestsPerClient,
+            Err(ClauseError::DoesNotSupportRequestedAmountOfActiveRequestsPerClient),
         ),
-        (9, ClauseError::DoesNotSupportRequestedResponseBufferSize),
-        (10, ClauseError::DoesNotSupportRequestedAmountOfServers),
-        (11, ClauseError::DoesNotSupportRequestedAmountOfClients),
+        (
+            9,
+            Err(ClauseError::DoesNotSupportRequestedResponseBufferSize),
+        ),
+        (10, Err(ClauseError::DoesNotSupportRequestedAmountOfServers)),
+        (11, Err(ClauseError::DoesNotSupportRequestedAmountOfClients)),
         (
             12,
-            ClauseError::DoesNotSupportRequestedAmountOfBorrowedResponsesPerPendingResponse,
+            Err(ClauseError::DoesNotSupportRequestedAmountOfBorrowedResponsesPerPendingResponse),
         ),
-        (13, ClauseError::DoesNotSupportRequestedAmountOfNodes),
+        (13, Err(ClauseError::DoesNotSupportRequestedAmountOfNodes)),
+        (14, Ok(())),
     ] {
-        let required = request_response_from(rt.alloc(), place)?;
-        assert_eq!(rt; required.verdict(&service), Err(error));
+        assert!(rt;
+            request_response_verdict(rt.alloc(), &service, place)? == answer,
+            "{place}"
+        );
     }
-    assert_eq!(rt;
-        request_response_from(rt.alloc(), 14)?.verdict(&service),
-        Ok(())
-    );
     Ok(())
+}
+
+/// Whether a service of each pattern meets a requirement that names nothing.
+fn are_met(alloc: Global) -> Result<(bool, bool, bool), Fail> {
+    let required = publish_subscribe::Requirement::new(types(), verifier(alloc, true)?);
+    let first = required.verdict(&publish_subscribe_service(alloc)?).is_ok();
+    let required = event::Requirement::new(verifier(alloc, true)?);
+    let second = required.verdict(&event_service(alloc)?).is_ok();
+    let required = request_response::Requirement::new(types(), types(), verifier(alloc, true)?);
+    Ok((
+        first,
+        second,
+        required.verdict(&request_response_service(alloc)?).is_ok(),
+    ))
 }
 
 #[test]
 fn what_was_not_named_is_not_tested(rt: HostRuntime) -> Result<(), Fail> {
-    let service = publish_subscribe_service(rt.alloc())?;
-    let required = publish_subscribe::Requirement::new(types(), verifier(rt.alloc(), true)?);
-    assert_eq!(rt; required.verdict(&service), Ok(()));
-    let service = event_service(rt.alloc())?;
-    let required = event::Requirement::new(verifier(rt.alloc(), true)?);
-    assert_eq!(rt; required.verdict(&service), Ok(()));
-    let service = request_response_service(rt.alloc())?;
-    let verifier = verifier(rt.alloc(), true)?;
-    let required = request_response::Requirement::new(types(), types(), verifier);
-    assert_eq!(rt; required.verdict(&service), Ok(()));
+    assert!(rt; are_met(rt.alloc())? == (true, true, true));
     Ok(())
+}
+
+/// What the service answers where a payload of this alignment is required.
+fn verdict_on_alignment(
+    alloc: Global,
+    service: &Description,
+    alignment: u64,
+) -> Result<Result<(), publish_subscribe::ClauseError>, Fail> {
+    let mut types = types();
+    types.payload = TypeDetail::new(TypeVariant::Dynamic, b"u64", 8, alignment)?;
+    let required = publish_subscribe::Requirement::new(types, verifier(alloc, true)?);
+    Ok(required.verdict(service))
 }
 
 #[test]
@@ -210,10 +273,10 @@ fn at_most_the_services_alignment_is_asked(rt: HostRuntime) -> Result<(), Fail> 
         (8, Ok(())),
         (4, Ok(())),
     ] {
-        let mut types = types();
-        types.payload = TypeDetail::new(TypeVariant::Dynamic, b"u64", 8, alignment)?;
-        let required = publish_subscribe::Requirement::new(types, verifier(rt.alloc(), true)?);
-        assert_eq!(rt; required.verdict(&service), answer);
+        assert!(rt;
+            verdict_on_alignment(rt.alloc(), &service, alignment)? == answer,
+            "{alignment}"
+        );
     }
     Ok(())
 }

@@ -1,127 +1,163 @@
 //! The calls that make the parts of a description: at their limits, one past them, and with ample memory.
 use crate::shared::{PUBLISH_SUBSCRIBE, publish_subscribe_service};
 use iox_describe::{
-    AttributeSpecifier, AttributeVerifier, LimitError, ServiceName, TypeDetail, TypeVariant, encode,
+    AttributeSpecifier, AttributeVerifier, LimitError, MessagingPattern, ServiceName, TypeDetail,
+    TypeVariant, encode, service_hash,
 };
-use std::alloc::Global;
+use std::alloc::{AllocError, Global};
 use std::test::Fail;
 
-/// A text of so many letters.
-fn letters(alloc: Global, length: usize) -> Result<String, Fail> {
-    Ok("x".repeat(alloc, length)?)
+#[test]
+fn hashes_are_those_of_sha1(rt: HostRuntime) -> Result<(), Fail> {
+    let rows: [(&[u8], &[u8]); 3] = [
+        (b"23", b"40bd001563085fc35165329ea1ff5c5ecbdbbeef"),
+        (b"234", b"7110eda4d09e062aa5e4a390b0a572ac0d2c0220"),
+        (b"23456", b"7c4a8d09ca3762af61e59520943dc26494f8941b"),
+    ];
+    for (name, digits) in rows {
+        let hash = service_hash(MessagingPattern::PublishSubscribe, &ServiceName::new(name)?);
+        assert!(rt; hash.text().as_slice() == digits);
+    }
+    Ok(())
+}
+
+/// Whether a name of so many letters is a service's.
+fn is_name(alloc: Global, length: usize) -> Result<bool, AllocError> {
+    let name = "x".repeat(alloc, length)?;
+    Ok(ServiceName::new(name.as_bytes()).is_ok())
 }
 
 #[test]
 fn a_service_name_has_1_to_255_bytes_of_1_to_127(rt: HostRuntime) -> Result<(), Fail> {
-    for (length, accepted) in [(0, false), (1, true), (255, true), (256, false)] {
-        let name = letters(rt.alloc(), length)?;
-        assert!(rt; ServiceName::new(name.as_bytes()).is_ok() == accepted);
+    for (length, accepted) in [(0usize, false), (1, true), (255, true), (256, false)] {
+        assert!(rt; is_name(rt.alloc(), length)? == accepted, "{length}");
     }
     for (byte, accepted) in [(0u8, false), (1, true), (127, true), (128, false)] {
-        assert!(rt; ServiceName::new(&[byte]).is_ok() == accepted);
+        assert!(rt; ServiceName::new(&[byte]).is_ok() == accepted, "{byte}");
     }
-    assert_eq!(rt;
-        ServiceName::new(b"").err(),
-        Some(LimitError::OutsideLimits)
-    );
+    assert!(rt; ServiceName::new(b"").err() == Some(LimitError::OutsideLimits));
     Ok(())
+}
+
+/// Whether a type may have a name of so many letters, and this alignment.
+fn is_type(alloc: Global, length: usize, alignment: u64) -> Result<bool, AllocError> {
+    let name = "x".repeat(alloc, length)?;
+    Ok(TypeDetail::new(TypeVariant::Dynamic, name.as_bytes(), 0, alignment).is_ok())
 }
 
 #[test]
 fn a_type_has_a_name_and_an_alignment(rt: HostRuntime) -> Result<(), Fail> {
     for (length, alignment, accepted) in [
-        (0, 1, false),
+        (0usize, 1, false),
         (1, 1, true),
         (255, 1, true),
         (256, 1, false),
         (1, 0, false),
         (1, u64::MAX, true),
     ] {
-        let name = letters(rt.alloc(), length)?;
-        let detail = TypeDetail::new(TypeVariant::Dynamic, name.as_bytes(), 0, alignment);
-        assert!(rt; detail.is_ok() == accepted);
+        assert!(rt;
+            is_type(rt.alloc(), length, alignment)? == accepted,
+            "{length} {alignment}"
+        );
     }
     Ok(())
 }
 
-/// Whether an attribute of so many letters is defined, and required.
-fn is_attribute(alloc: Global, key: usize, value: usize) -> Result<(bool, bool), Fail> {
-    let key = letters(alloc, key)?;
-    let value = letters(alloc, value)?;
+/// Whether an attribute of so many letters is defined, required, and its key required alone.
+fn is_attribute(alloc: Global, key: usize, value: usize) -> Result<(bool, bool, bool), Fail> {
+    let key = "x".repeat(alloc, key)?;
+    let value = "x".repeat(alloc, value)?;
     let mut attributes = AttributeSpecifier::new(alloc)?;
     let mut verifier = AttributeVerifier::new(alloc)?;
     let defined = attributes.define(key.as_bytes(), value.as_bytes()).is_ok();
+    let required = verifier.require(key.as_bytes(), value.as_bytes()).is_ok();
     Ok((
         defined,
-        verifier.require(key.as_bytes(), value.as_bytes()).is_ok(),
+        required,
+        verifier.require_key(key.as_bytes()).is_ok(),
     ))
 }
 
 #[test]
 fn an_attribute_has_a_key_and_a_value(rt: HostRuntime) -> Result<(), Fail> {
-    for (key, value, accepted) in [
-        (0, 0, false),
-        (1, 0, true),
-        (64, 256, true),
-        (65, 256, false),
-        (64, 257, false),
+    for (key, value, accepted, alone) in [
+        (0usize, 0usize, false, false),
+        (1, 0, true, true),
+        (64, 256, true, true),
+        (65, 256, false, false),
+        (64, 257, false, true),
     ] {
-        let (defined, required) = is_attribute(rt.alloc(), key, value)?;
-        assert!(rt; defined == accepted && required == accepted);
+        let told = is_attribute(rt.alloc(), key, value)?;
+        assert!(rt; told == (accepted, accepted, alone), "{key} {value}");
     }
     Ok(())
 }
 
-#[test]
-fn a_key_alone_is_required(rt: HostRuntime) -> Result<(), Fail> {
-    for (length, accepted) in [(0, false), (1, true), (64, true), (65, false)] {
-        let key = letters(rt.alloc(), length)?;
-        let mut verifier = AttributeVerifier::new(rt.alloc())?;
-        assert!(rt; verifier.require_key(key.as_bytes()).is_ok() == accepted);
-    }
-    Ok(())
+/// Whether one more attribute is defined, one more required, and one more key.
+fn takes_one_more(
+    attributes: &mut AttributeSpecifier,
+    verifier: &mut AttributeVerifier,
+) -> (bool, bool, bool) {
+    (
+        attributes.define(b"color", b"red").is_ok(),
+        verifier.require(b"color", b"red").is_ok(),
+        verifier.require_key(b"color").is_ok(),
+    )
 }
 
 #[test]
 fn at_most_eight_stand(rt: HostRuntime) -> Result<(), Fail> {
     let mut attributes = AttributeSpecifier::new(rt.alloc())?;
     let mut verifier = AttributeVerifier::new(rt.alloc())?;
-    for _ in 0..8 {
-        attributes.define(b"color", b"red")?;
-        verifier.require(b"color", b"red")?;
-        verifier.require_key(b"color")?;
+    for count in 0..9u8 {
+        let more = count < 8;
+        assert!(rt; takes_one_more(&mut attributes, &mut verifier) == (more, more, more));
     }
-    assert!(rt; attributes.define(b"color", b"red").is_err());
-    assert!(rt; verifier.require(b"color", b"red").is_err());
-    assert!(rt; verifier.require_key(b"color").is_err());
     assert!(rt; verifier.is_met_by(&attributes));
     Ok(())
+}
+
+/// Whether this key is the first that isn't met.
+fn is_unmet(verifier: &AttributeVerifier, attributes: &AttributeSpecifier, key: &[u8]) -> bool {
+    match verifier.verify_requirements(attributes) {
+        Ok(()) => false,
+        Err(unmet) => unmet.as_bytes() == key,
+    }
 }
 
 #[test]
 fn the_first_key_that_is_not_met_is_told(rt: HostRuntime) -> Result<(), Fail> {
     let mut attributes = AttributeSpecifier::new(rt.alloc())?;
-    attributes.define(b"color", b"red")?;
     let mut verifier = AttributeVerifier::new(rt.alloc())?;
-    verifier.require_key(b"shape")?;
-    verifier.require(b"color", b"red")?;
-    let unmet = verifier.verify_requirements(&attributes).err();
-    assert!(rt; unmet.is_some_and(|key| key.as_bytes() == b"shape".as_slice()));
-    verifier.require(b"color", b"green")?;
-    let unmet = verifier.verify_requirements(&attributes).err();
-    assert!(rt; unmet.is_some_and(|key| key.as_bytes() == b"color".as_slice()));
+    assert!(rt; attributes.define(b"color", b"red").is_ok());
+    assert!(rt;
+        verifier.require_key(b"shape").is_ok() && verifier.require(b"color", b"red").is_ok()
+    );
+    assert!(rt; is_unmet(&verifier, &attributes, b"shape"));
+    assert!(rt; verifier.require(b"color", b"green").is_ok());
+    assert!(rt; is_unmet(&verifier, &attributes, b"color"));
     Ok(())
+}
+
+/// Whether a copy of a description is spelled as it is.
+fn is_description_copied(alloc: Global) -> Result<bool, Fail> {
+    let copy = publish_subscribe_service(alloc)?.try_clone(alloc)?;
+    let line = encode(alloc, &copy)?;
+    Ok(line.as_slice() == PUBLISH_SUBSCRIBE.as_bytes())
+}
+
+/// Whether copies of requirements and of attributes say what they do.
+fn is_verifier_copied(alloc: Global) -> Result<bool, Fail> {
+    let mut verifier = AttributeVerifier::new(alloc)?;
+    verifier.require(b"color", b"red")?;
+    let copy = verifier.try_clone(alloc)?;
+    let attributes = copy.attributes().try_clone(alloc)?;
+    Ok(copy.is_met_by(&attributes))
 }
 
 #[test]
 fn a_copy_says_the_same(rt: HostRuntime) -> Result<(), Fail> {
-    let copy = publish_subscribe_service(rt.alloc())?.try_clone(rt.alloc())?;
-    let line = encode(rt.alloc(), &copy)?;
-    assert_eq!(rt; line.as_slice(), PUBLISH_SUBSCRIBE.as_bytes());
-    let mut verifier = AttributeVerifier::new(rt.alloc())?;
-    verifier.require(b"color", b"red")?;
-    let verifier = verifier.try_clone(rt.alloc())?;
-    let attributes = verifier.attributes().try_clone(rt.alloc())?;
-    assert!(rt; verifier.is_met_by(&attributes));
+    assert!(rt; is_description_copied(rt.alloc())?);
+    assert!(rt; is_verifier_copied(rt.alloc())?);
     Ok(())
 }

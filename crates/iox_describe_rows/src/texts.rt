@@ -178,26 +178,12 @@ fn errors_of_request_response_are_told_by_name(rt: HostRuntime) -> Result<(), Fa
 
 #[test]
 fn other_errors_are_told_by_name(rt: HostRuntime) -> Result<(), Fail> {
-    assert!(rt;
-        is_told(
-            rt.alloc(),
-            &LimitError::OutsideLimits,
-            "LimitError::OutsideLimits"
-        )?
-    );
-    assert!(rt;
-        is_told(
-            rt.alloc(),
-            &DescriptionError::Invalid,
-            "DescriptionError::Invalid"
-        )?
-    );
-    assert!(rt;
-        is_told(
-            rt.alloc(),
-            &DescriptionError::OutOfMemory,
-            "DescriptionError::OutOfMemory"
-        )?
-    );
+    let alloc: Global = rt.alloc();
+    let outside = LimitError::OutsideLimits;
+    assert!(rt; is_told(alloc, &outside, "LimitError::OutsideLimits")?);
+    let invalid = DescriptionError::Invalid;
+    assert!(rt; is_told(alloc, &invalid, "DescriptionError::Invalid")?);
+    let wanting = DescriptionError::OutOfMemory;
+    assert!(rt; is_told(alloc, &wanting, "DescriptionError::OutOfMemory")?);
     Ok(())
 }

@@ -12,8 +12,6 @@
 
 pub mod container;
 pub mod robust;
-#[cfg(test)]
-mod tests;
 pub mod unique;
 
 pub use container::FixedSizeContainer;

@@ -256,6 +256,3 @@ impl<K: Eq + fmt::Debug, V: fmt::Debug> fmt::Debug for FlatMap<K, V> {
         out.finish()
     }
 }
-
-#[cfg(test)]
-mod tests;

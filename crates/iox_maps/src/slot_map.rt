@@ -249,6 +249,3 @@ impl<T: fmt::Debug> fmt::Debug for SlotMap<T> {
         out.finish()
     }
 }
-
-#[cfg(test)]
-mod tests;

@@ -12,8 +12,6 @@ pub mod refusing;
 pub mod rings;
 pub mod sets;
 pub mod shared;
-#[cfg(test)]
-mod tests;
 
 pub use iox_queues_base::{
     BitSet, BitState, CountingBitSet, FixedSizeBitSet, FixedSizeCountingBitSet,

@@ -7,7 +7,7 @@ use iox_queues::{
     FixedSizeSafelyOverflowingIndexQueue, IndexQueue, Move, Party, PopAnswer, PushAnswer, Queue,
     RingMachine, SafelyOverflowingIndexQueue, Share, Stepped, UnrestrictedAtomic, sets,
 };
-use std::alloc::Global;
+use std::alloc::{AllocError, Global};
 use std::process::Abort;
 use std::test::Fail;
 
@@ -184,91 +184,80 @@ fn a_refused_request_changes_nothing(rt: HostRuntime) {
     a_set_goes_again(&rt, rt.alloc());
 }
 
-#[test]
-fn each_is_made_where_memory_is_found(rt: HostRuntime) -> Result<(), Fail> {
-    let alloc = rt.alloc();
-    assert_eq!(rt; IndexQueue::new(alloc, 2)?.capacity(), 2);
-    assert_eq!(rt; FixedSizeIndexQueue::<2>::new(alloc)?.capacity(), 2);
-    assert_eq!(rt; SafelyOverflowingIndexQueue::new(alloc, 2)?.capacity(), 2);
-    assert_eq!(rt;
-        FixedSizeSafelyOverflowingIndexQueue::<2>::new(alloc)?.capacity(),
-        2
-    );
-    assert_eq!(rt; Queue::<u128, 2>::new(alloc)?.capacity(), 2);
-    assert_eq!(rt; BitSet::new(alloc, 3)?.capacity(), 3);
-    assert_eq!(rt; FixedSizeBitSet::<3>::new(alloc)?.capacity(), 3);
-    assert_eq!(rt; CountingBitSet::new(alloc, 3)?.capacity(), 3);
-    assert_eq!(rt; FixedSizeCountingBitSet::<3>::new(alloc)?.capacity(), 3);
-    assert!(rt; IndexQueue::new(alloc, 2)?.share(alloc).is_ok());
-    assert!(rt; FixedSizeIndexQueue::<2>::new(alloc)?.share(alloc).is_ok());
-    assert!(rt;
-        SafelyOverflowingIndexQueue::new(alloc, 2)?
-            .share(alloc)
-            .is_ok()
-    );
-    assert!(rt;
-        FixedSizeSafelyOverflowingIndexQueue::<2>::new(alloc)?
-            .share(alloc)
-            .is_ok()
-    );
-    assert!(rt; Queue::<u128, 2>::new(alloc)?.share(alloc).is_ok());
-    assert!(rt; UnrestrictedAtomic::new(7u64).share(alloc).is_ok());
-    assert_eq!(rt; RingMachine::overflowing(alloc, 1, &[1])?.moments(), 0);
-    assert_eq!(rt; RingMachine::refusing(alloc, 1, &[1])?.moments(), 0);
-    assert_eq!(rt; sets::SetMachine::new(alloc, 1, 2, 1)?.capacity(), 2);
-    Ok(())
+// Whether plain queues of so many places are made, and the first of them is shared.
+fn are_queues(alloc: Global, size: usize) -> Result<bool, AllocError> {
+    let refusing = IndexQueue::new(alloc, size)?;
+    let overflowing = SafelyOverflowingIndexQueue::new(alloc, size)?;
+    let made = refusing.capacity() == size && overflowing.capacity() == size;
+    Ok(made && refusing.share(alloc).is_ok() && overflowing.share(alloc).is_ok())
 }
 
-// Each kind with this many places, over and over.
-fn made_at(rt: &impl Abort, alloc: Global, size: usize) -> Result<(), Fail> {
-    for _ in 0..3 {
-        assert_eq!(rt; IndexQueue::new(alloc, size)?.capacity(), size);
-        assert_eq!(rt;
-            SafelyOverflowingIndexQueue::new(alloc, size)?.capacity(),
-            size
-        );
-        assert_eq!(rt; BitSet::new(alloc, size)?.capacity(), size);
-        assert_eq!(rt; CountingBitSet::new(alloc, size)?.capacity(), size);
-        assert!(rt; IndexQueue::new(alloc, size)?.share(alloc).is_ok());
-        assert_eq!(rt;
-            RingMachine::refusing(alloc, size as u64, &[])?.moments(),
-            0
-        );
-        if 0 < size {
-            assert_eq!(rt;
-                RingMachine::overflowing(alloc, size as u64, &[])?.moments(),
-                0
-            );
-            assert_eq!(rt;
-                sets::SetMachine::new(alloc, 1, size, 3)?.capacity(),
-                size as u64
-            );
-        }
+// Whether sets of so many places are made.
+fn are_sets(alloc: Global, size: usize) -> Result<bool, AllocError> {
+    let bits = BitSet::new(alloc, size)?.capacity();
+    Ok(bits == size && CountingBitSet::new(alloc, size)?.capacity() == size)
+}
+
+// Whether machines of so many places are made.
+fn are_machines(alloc: Global, size: usize) -> Result<bool, AllocError> {
+    let refusing = RingMachine::refusing(alloc, size as u64, &[])?.moments() == 0;
+    if size == 0 {
+        return Ok(refusing);
     }
-    Ok(())
+    let overflowing = RingMachine::overflowing(alloc, size as u64, &[])?.moments() == 0;
+    let set = sets::SetMachine::new(alloc, 1, size, 3)?.capacity() == size as u64;
+    Ok(refusing && overflowing && set)
+}
+
+// Whether rings in which a number waits are made.
+fn are_rings(alloc: Global) -> Result<bool, AllocError> {
+    let overflowing = RingMachine::overflowing(alloc, 1, &[1])?.moments();
+    Ok(overflowing == 0 && RingMachine::refusing(alloc, 1, &[1])?.moments() == 0)
+}
+
+// Whether queues whose size is fixed are made, and shared.
+fn are_fixed_queues<const SIZE: usize>(alloc: Global) -> Result<bool, AllocError> {
+    let refusing = FixedSizeIndexQueue::<SIZE>::new(alloc)?;
+    let overflowing = FixedSizeSafelyOverflowingIndexQueue::<SIZE>::new(alloc)?;
+    let made = refusing.capacity() == SIZE && overflowing.capacity() == SIZE;
+    Ok(made && refusing.share(alloc).is_ok() && overflowing.share(alloc).is_ok())
+}
+
+// Whether a queue of values of fixed size is made, and shared.
+fn is_value_queue<const SIZE: usize>(alloc: Global) -> Result<bool, AllocError> {
+    let values = Queue::<u128, SIZE>::new(alloc)?;
+    Ok(values.capacity() == SIZE && values.share(alloc).is_ok())
+}
+
+// Whether sets of fixed size are made.
+fn are_fixed_sets<const SIZE: usize>(alloc: Global) -> Result<bool, AllocError> {
+    let bits = FixedSizeBitSet::<SIZE>::new(alloc)?.capacity();
+    Ok(bits == SIZE && FixedSizeCountingBitSet::<SIZE>::new(alloc)?.capacity() == SIZE)
 }
 
 #[test]
 fn each_is_made_at_each_size(rt: HostRuntime) -> Result<(), Fail> {
-    for size in [0, 1, 2, 7, 64, 100_000] {
-        made_at(&rt, rt.alloc(), size)?;
+    let alloc: Global = rt.alloc();
+    for size in [0usize, 1, 2, 3, 7, 64, 100_000] {
+        for _ in 0..3 {
+            assert!(rt;
+                are_queues(alloc, size)? && are_sets(alloc, size)?,
+                "{size}"
+            );
+            assert!(rt; are_machines(alloc, size)?, "{size}");
+        }
     }
-    assert_eq!(rt; FixedSizeIndexQueue::<0>::new(rt.alloc())?.capacity(), 0);
-    assert_eq!(rt; FixedSizeIndexQueue::<7>::new(rt.alloc())?.capacity(), 7);
-    assert_eq!(rt;
-        FixedSizeSafelyOverflowingIndexQueue::<0>::new(rt.alloc())?.capacity(),
-        0
-    );
-    assert_eq!(rt;
-        FixedSizeSafelyOverflowingIndexQueue::<64>::new(rt.alloc())?.capacity(),
-        64
-    );
-    assert_eq!(rt; Queue::<u64, 0>::new(rt.alloc())?.capacity(), 0);
-    assert_eq!(rt; Queue::<u64, 64>::new(rt.alloc())?.capacity(), 64);
-    assert_eq!(rt; FixedSizeBitSet::<7>::new(rt.alloc())?.capacity(), 7);
-    assert_eq!(rt;
-        FixedSizeCountingBitSet::<64>::new(rt.alloc())?.capacity(),
-        64
-    );
+    assert!(rt; are_rings(alloc)? && UnrestrictedAtomic::new(7u64).share(alloc).is_ok());
+    Ok(())
+}
+
+#[test]
+fn each_is_made_at_a_fixed_size(rt: HostRuntime) -> Result<(), Fail> {
+    let alloc: Global = rt.alloc();
+    assert!(rt; are_fixed_queues::<0>(alloc)? && is_value_queue::<0>(alloc)?);
+    assert!(rt; are_fixed_queues::<2>(alloc)? && is_value_queue::<2>(alloc)?);
+    assert!(rt; are_fixed_queues::<7>(alloc)? && are_fixed_sets::<7>(alloc)?);
+    assert!(rt; are_fixed_queues::<64>(alloc)? && is_value_queue::<64>(alloc)?);
+    assert!(rt; are_fixed_sets::<3>(alloc)? && are_fixed_sets::<64>(alloc)?);
     Ok(())
 }

@@ -353,6 +353,3 @@ impl<R: Rules<CAPACITY>, const CAPACITY: usize> fmt::Display for Semantic<R, CAP
         fmt::Display::fmt(&self.content, f)
     }
 }
-
-#[cfg(test)]
-mod tests;

@@ -27,6 +27,3 @@ pub use error::StringModificationError;
 pub use polymorphic_string::PolymorphicString;
 pub use static_string::StaticString;
 pub use string_trait::String;
-
-#[cfg(test)]
-mod tests;

@@ -179,6 +179,3 @@ impl<const CAPACITY: usize> fmt::Display for StaticString<CAPACITY> {
         f.pad(self.as_str())
     }
 }
-
-#[cfg(test)]
-mod tests;

@@ -154,6 +154,3 @@ impl<T: fmt::Debug, const CAPACITY: usize> fmt::Debug for FixedSizeQueue<T, CAPA
         fmt::Debug::fmt(&self.queue, f)
     }
 }
-
-#[cfg(test)]
-mod tests;

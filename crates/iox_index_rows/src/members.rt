@@ -1,0 +1,171 @@
+//! The container of members, and the copies that follow it.
+use iox_container::CallbackProgression;
+use iox_index::{
+    Container, ContainerAddFailure, ContainerHandle, ContainerRemoveError, ContainerState,
+    FixedSizeContainer, OwnerId, ReleaseMode, ReleaseState,
+};
+use std::alloc::Global;
+use std::test::Fail;
+
+const NOT_OWNED: ContainerRemoveError = ContainerRemoveError::ContainerHandleNotOwnedByContainer;
+
+/// The handle of a new member; None where it is refused, or the counts have no room for one more change.
+fn added(container: &mut Container<u64>, value: u64, owner: OwnerId) -> Option<ContainerHandle> {
+    if container.has_room() {
+        container.add(value, owner).ok()
+    } else {
+        None
+    }
+}
+
+/// What a removal answers; None where the counts have no room for one more change.
+fn removed(
+    container: &mut Container<u64>,
+    handle: ContainerHandle,
+    mode: ReleaseMode,
+) -> Option<Result<ReleaseState, ContainerRemoveError>> {
+    if container.has_room() {
+        Some(container.remove(handle, mode))
+    } else {
+        None
+    }
+}
+
+/// Whether a copy that has member 10 follows its container, where 11 takes its place.
+fn is_followed(
+    container: &mut Container<u64>,
+    copy: &mut ContainerState<u64>,
+    first: ContainerHandle,
+    owner: OwnerId,
+) -> bool {
+    let before = copy.get(0) == Some(10) && copy.get(2) == None;
+    let gone = removed(container, first, ReleaseMode::Default) == Some(Ok(ReleaseState::Unlocked));
+    let second = added(container, 11, owner).map(|handle| handle.index()) == Some(0);
+    let changed = container.is_state_of(copy) && container.update_state(copy);
+    let after = copy.get(0) == Some(11);
+    let same = container.is_state_of(copy) && !container.update_state(copy);
+    before && gone && second && changed && after && same
+}
+
+#[test]
+fn a_copy_follows_members_that_come_and_go(rt: HostRuntime) -> Result<(), Fail> {
+    let owner = OwnerId::new(313)?;
+    let mut container = Container::<u64>::new(rt.alloc(), 5, 2)?;
+    let first = added(&mut container, 10, owner).ok_or("not added")?;
+    let mut copy = container.get_state(rt.alloc())?;
+    assert!(rt; is_followed(&mut container, &mut copy, first, owner));
+    // The first member is gone, though its index is in use.
+    assert!(rt; removed(&mut container, first, ReleaseMode::Default) == Some(Err(NOT_OWNED)));
+    Ok(())
+}
+
+/// Whether the last removal locked the container, for good.
+fn is_locked(container: &mut Container<u64>, owner: OwnerId) -> bool {
+    container.is_locked()
+        && container.is_empty()
+        && container.has_room()
+        && container.add(1, owner).err() == Some(ContainerAddFailure::IsLocked)
+}
+
+#[test]
+fn a_handle_is_of_one_container(rt: HostRuntime) -> Result<(), Fail> {
+    let owner = OwnerId::new(313)?;
+    let mut container = Container::<u64>::new(rt.alloc(), 5, 2)?;
+    let handle = added(&mut container, 10, owner).ok_or("not added")?;
+    let mut other = Container::<u64>::new(rt.alloc(), 6, 2)?;
+    assert!(rt; added(&mut other, 10, owner).is_some());
+    assert!(rt; removed(&mut other, handle, ReleaseMode::Default) == Some(Err(NOT_OWNED)));
+    let last = removed(&mut container, handle, ReleaseMode::LockIfLastIndex);
+    assert!(rt; last == Some(Ok(ReleaseState::Locked)));
+    assert!(rt; is_locked(&mut container, owner));
+    Ok(())
+}
+
+/// The values of an owner's members, each once.
+fn found(container: &Container<u64>, owner: OwnerId) -> u64 {
+    let mut values = 0;
+    container.find(owner, &mut |_handle, value| values ^= value);
+    values
+}
+
+/// Whether the members of an owner that have this value are recovered, and the set stays open.
+fn is_recovered(container: &mut Container<u64>, owner: OwnerId, gone: u64) -> bool {
+    container.has_room()
+        && container.recover(
+            owner,
+            ReleaseMode::Default,
+            &mut |_handle, value| value == gone,
+        ) == ReleaseState::Unlocked
+}
+
+/// The indices of a copy's members, each once, as bits.
+fn indices(copy: &ContainerState<u64>) -> u64 {
+    let mut indices = 0;
+    copy.for_each(&mut |handle, _value| {
+        indices ^= 1 << (handle.index() % 8);
+        CallbackProgression::Continue
+    });
+    indices
+}
+
+/// How many members, modulo two, are shown to who stops at the first.
+fn stopped(copy: &ContainerState<u64>) -> u64 {
+    let mut calls = 0;
+    copy.for_each(&mut |_handle, _value| {
+        calls ^= 1;
+        CallbackProgression::Stop
+    });
+    calls
+}
+
+#[test]
+fn members_of_an_owner_are_found_and_recovered(rt: HostRuntime) -> Result<(), Fail> {
+    let owner = OwnerId::new(1)?;
+    let mut container = Container::<u64>::new(rt.alloc(), 5, 3)?;
+    for (value, owner) in [(10, owner), (20, OwnerId::new(2)?), (40, owner)] {
+        assert!(rt; added(&mut container, value, owner).is_some());
+    }
+    assert!(rt; found(&container, owner) == 10 ^ 40);
+    assert!(rt; is_recovered(&mut container, owner, 40) && container.len() == 2);
+    let copy = container.get_state(rt.alloc())?;
+    assert!(rt; indices(&copy) == 3 && stopped(&copy) == 1);
+    Ok(())
+}
+
+/// Whether a container of fixed size takes this member.
+fn is_added(container: &mut FixedSizeContainer<u64, 3>, value: u64, owner: OwnerId) -> bool {
+    container.has_room() && container.add(value, owner).is_ok()
+}
+
+/// Whether members 10, of another, and 20, 30, of the owner, are looked up.
+fn are_looked_up(container: &FixedSizeContainer<u64, 3>, owner: OwnerId) -> bool {
+    let second = container.handle(1);
+    second.map(|handle| handle.index()) == Some(1)
+        && container.first_of(owner) == second
+        && container.handle(3) == None
+        && container.get(2).map(|member| member.value) == Some(30)
+        && container.get(3).is_none()
+}
+
+/// Whether a container of one place takes one member, and no second.
+fn is_of_one(one: &mut FixedSizeContainer<bool, 1>, owner: OwnerId) -> bool {
+    one.has_room()
+        && one.add(true, owner).is_ok()
+        && one.has_room()
+        && one.add(true, owner).err() == Some(ContainerAddFailure::OutOfSpace)
+}
+
+#[test]
+fn members_are_looked_up(rt: HostRuntime) -> Result<(), Fail> {
+    let owner = OwnerId::new(1)?;
+    let other = OwnerId::new(2)?;
+    let alloc: Global = rt.alloc();
+    let mut container = FixedSizeContainer::<u64, 3>::new(alloc, 5)?;
+    assert!(rt; container.first_of(owner) == None);
+    assert!(rt; is_added(&mut container, 10, other));
+    assert!(rt; is_added(&mut container, 20, owner));
+    assert!(rt; is_added(&mut container, 30, owner));
+    assert!(rt; are_looked_up(&container, owner));
+    assert!(rt; is_of_one(&mut FixedSizeContainer::new(alloc, 1)?, owner));
+    Ok(())
+}

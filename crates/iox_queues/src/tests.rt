@@ -1,4 +1,0 @@
-mod answers;
-mod roles;
-mod streams;
-mod turns;

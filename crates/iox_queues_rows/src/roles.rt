@@ -1,0 +1,87 @@
+//! A role is handed out at most once at a time, and comes back on drop; what waited is kept.
+use crate::ends::{ends, shared};
+use iox_queues::shared::SharedQueue;
+use iox_queues::{
+    FixedSizeIndexQueue, FixedSizeSafelyOverflowingIndexQueue, IndexQueue, Queue,
+    SafelyOverflowingIndexQueue, Shared, UnrestrictedAtomic,
+};
+use std::alloc::Global;
+use std::test::Fail;
+
+fn producer_is_taken_once<Q>(shared: &Shared<Q>) -> bool {
+    let first = shared.acquire_producer();
+    let once = first.is_some() && shared.acquire_producer().is_none();
+    drop(first);
+    let second = shared.acquire_producer();
+    once && second.is_some() && shared.acquire_producer().is_none()
+}
+
+fn consumer_is_taken_once<Q: SharedQueue>(shared: &Shared<Q>) -> bool {
+    let first = shared.acquire_consumer();
+    let once = first.is_some() && shared.acquire_consumer().is_none();
+    // One role does not take the other.
+    let other = shared.acquire_producer().is_some();
+    drop(first);
+    let second = shared.acquire_consumer();
+    once && other && second.is_some() && shared.acquire_consumer().is_none()
+}
+
+fn both_are_taken_once<Q: SharedQueue>(alloc: Global, queue: Q) -> Result<bool, Fail> {
+    let shared = shared(alloc, queue)?;
+    Ok(producer_is_taken_once(&shared) && consumer_is_taken_once(&shared))
+}
+
+#[test]
+fn roles_are_taken_once_at_a_time(rt: HostRuntime) -> Result<(), Fail> {
+    let alloc: Global = rt.alloc();
+    assert!(rt; both_are_taken_once(alloc, IndexQueue::new(alloc, 2)?)?);
+    assert!(rt; both_are_taken_once(alloc, FixedSizeIndexQueue::<2>::new(alloc)?)?);
+    assert!(rt; both_are_taken_once(alloc, SafelyOverflowingIndexQueue::new(alloc, 2)?)?);
+    let queue = FixedSizeSafelyOverflowingIndexQueue::<2>::new(alloc)?;
+    assert!(rt; both_are_taken_once(alloc, queue)?);
+    assert!(rt; both_are_taken_once(alloc, Queue::<u128, 2>::new(alloc)?)?);
+    assert!(rt; producer_is_taken_once(&shared(alloc, UnrestrictedAtomic::new(7u64))?));
+    Ok(())
+}
+
+/// Whether a queue of two wide values keeps the one that waited.
+fn keeps_what_waited(alloc: Global) -> Result<bool, Fail> {
+    let wide = 5u128 << 64;
+    let mut queue = Queue::<u128, 2>::new(alloc)?;
+    let waits = queue.push(&wide);
+    let shared = shared(alloc, queue)?;
+    let (mut producer, mut consumer) = ends(&shared)?;
+    let pushed = producer.push(&6) && !producer.push(&7);
+    let popped = consumer.pop() == Some(wide) && consumer.pop() == Some(6);
+    Ok(waits && pushed && popped && consumer.pop() == None)
+}
+
+/// Whether an overflowing queue of two hands out the number that waited.
+fn hands_out_what_waited(alloc: Global) -> Result<bool, Fail> {
+    let mut queue = SafelyOverflowingIndexQueue::new(alloc, 2)?;
+    let waits = queue.push(1) == None;
+    let shared = shared(alloc, queue)?;
+    let (mut producer, mut consumer) = ends(&shared)?;
+    let pushed = producer.push(2) == None && producer.push(3) == Some(1);
+    let popped = consumer.pop() == Some(2) && consumer.pop() == Some(3);
+    Ok(waits && pushed && popped && consumer.pop() == None)
+}
+
+#[test]
+fn a_shared_queue_keeps_what_waited(rt: HostRuntime) -> Result<(), Fail> {
+    assert!(rt; keeps_what_waited(rt.alloc())?);
+    assert!(rt; hands_out_what_waited(rt.alloc())?);
+    Ok(())
+}
+
+#[test]
+fn a_shared_value_is_the_last_one_stored(rt: HostRuntime) -> Result<(), Fail> {
+    let shared = shared(rt.alloc(), UnrestrictedAtomic::new(7u128 << 64))?;
+    assert!(rt; shared.load() == Some(7 << 64));
+    let mut producer = shared.acquire_producer().ok_or("no role")?;
+    for value in 0..5u64 {
+        producer.store(u128::from(value) << 64);
+        assert!(rt; shared.load() == Some(u128::from(value) << 64));
+    }
+    Ok(())
+}
