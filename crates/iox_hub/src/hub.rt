@@ -517,6 +517,3 @@ fn numbered<X: Copy>(items: &[X], number: u64) -> Option<X>
     }
     items.get(number as usize - 1).copied()
 }
-
-#[cfg(test)]
-mod tests;

@@ -1,7 +1,18 @@
 //! The same command again and again, with ample memory: nothing is refused for want of it.
-use crate::talk::check;
+use crate::talk::{CONFIG, check};
+use iox_hub::Hub;
 use std::fmt::Write;
 use std::test::Fail;
+
+#[test]
+fn a_hundred_nodes_are_made(rt: HostRuntime) -> Result<(), Fail> {
+    let mut hub: Hub<u8, bool> = Hub::new(rt.alloc(), CONFIG);
+    for number in 1..=100 {
+        assert!(rt; hub.has_room(1));
+        assert!(rt; hub.new_node()?.number == number);
+    }
+    Ok(())
+}
 
 #[test]
 fn a_hundred_of_each(rt: HostRuntime) -> Result<(), Fail> {
