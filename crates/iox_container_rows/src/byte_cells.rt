@@ -101,19 +101,28 @@ fn a_torn_value_is_told(rt: HostRuntime) {
 #[test]
 fn a_load_tells_the_byte_stored_last(rt: HostRuntime) -> Result<(), Fail> {
     let mut machine = ByteMachine::new([10, 20]);
-    for (step, answer) in [
-        (ByteStep::Load(1), ByteAnswer::Loaded(20)),
-        (ByteStep::Store(1, 21), ByteAnswer::Stored),
-        (ByteStep::Store(0, 11), ByteAnswer::Stored),
-        (ByteStep::Store(1, 22), ByteAnswer::Stored),
-        (ByteStep::Load(1), ByteAnswer::Loaded(22)),
-        (ByteStep::Load(0), ByteAnswer::Loaded(11)),
-        (ByteStep::Store(2, 30), ByteAnswer::Skipped),
-        (ByteStep::Load(2), ByteAnswer::Skipped),
-    ] {
-        let answers = machine.run(rt.alloc(), &[step])?;
-        assert!(rt; answers.as_slice() == [answer].as_slice());
-    }
+    let steps = [
+        ByteStep::Load(1),
+        ByteStep::Store(1, 21),
+        ByteStep::Store(0, 11),
+        ByteStep::Store(1, 22),
+        ByteStep::Load(1),
+        ByteStep::Load(0),
+        ByteStep::Store(2, 30),
+        ByteStep::Load(2),
+    ];
+    let wanted = [
+        ByteAnswer::Loaded(20),
+        ByteAnswer::Stored,
+        ByteAnswer::Stored,
+        ByteAnswer::Stored,
+        ByteAnswer::Loaded(22),
+        ByteAnswer::Loaded(11),
+        ByteAnswer::Skipped,
+        ByteAnswer::Skipped,
+    ];
+    let answers = machine.run(rt.alloc(), &steps)?;
+    assert!(rt; answers.as_slice() == wanted.as_slice());
     let mut none = ByteMachine::new([]);
     assert!(rt; none.step(ByteStep::Load(0)) == ByteAnswer::Skipped);
     Ok(())

@@ -21,16 +21,17 @@ fn is_filled<V: Vector<u8>>(vec: &mut V) -> bool {
         && vec.pop() == Some(7)
         && vec.insert(5, 9) == Err(PAST)
         && vec.as_slice() == [5].as_slice()
+        && vec.push(7).is_ok()
 }
 
 #[test]
 fn both_vectors_meet_the_trait(rt: HostRuntime) -> Result<(), Fail> {
     let mut fixed = StaticVec::<u8, 2>::new(rt.alloc())?;
     assert!(rt; is_filled(&mut fixed));
-    assert!(rt; format!(in rt.alloc(); "{fixed:?}")?.as_str() == "[5]");
+    assert!(rt; format!(in rt.alloc(); "{fixed:?}")?.as_str() == "[5, 7]");
     let mut chosen = PolymorphicVec::new(rt.alloc(), 2)?;
     assert!(rt; is_filled(&mut chosen));
-    assert!(rt; format!(in rt.alloc(); "{chosen:?}")?.as_str() == "[5]");
+    assert!(rt; format!(in rt.alloc(); "{chosen:?}")?.as_str() == "[5, 7]");
     Ok(())
 }
 
@@ -110,7 +111,7 @@ fn is_made(alloc: Global) -> Result<bool, AllocError> {
         },
     )?;
     let copy = vec.try_clone()?;
-    let same = copy == vec && copy.capacity() == 3;
+    let same = copy == vec && copy.capacity() == 3 && vec.capacity() == 3;
     Ok(calls == 3 && vec.as_slice() == [0, 0, 1].as_slice() && same)
 }
 
