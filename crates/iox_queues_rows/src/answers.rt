@@ -2,7 +2,7 @@
 use crate::ends::{Overflows, Refuses, ends, shared};
 use iox_queues::{
     Consumer, FixedSizeIndexQueue, FixedSizeSafelyOverflowingIndexQueue, IndexQueue, Producer,
-    Queue, SafelyOverflowingIndexQueue, Share, Shared, UnrestrictedAtomic,
+    Queue, SafelyOverflowingIndexQueue, Shared, UnrestrictedAtomic,
 };
 use std::alloc::Global;
 use std::test::Fail;
