@@ -1,0 +1,3 @@
+pub mod Maps
+pub mod Few
+pub mod Tables
