@@ -1,3 +1,5 @@
 pub mod Maps
 pub mod Few
 pub mod Tables
+pub mod Changes
+pub mod Lives

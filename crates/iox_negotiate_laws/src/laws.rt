@@ -1,6 +1,21 @@
 //! What holds of every table of services that can be reached, whatever its own nodes and those of others do. Each function
 //! does nothing: its contract is the law.
-ghost use Rattle.iox_negotiate_laws.specs.Lives.{FewAreIn, OpenedStands};
+ghost use Rattle.iox_negotiate_laws.specs.Lives.{TakenOnce, OneLife, PublishedByItsLock, FewAreIn, OpenedStands};
+
+/// A number is never taken twice: each life's is above those of all lives before.
+pub fn taken_once()
+    ensures { TakenOnce }
+{}
+
+/// A number belongs to one hash for good, and no other description is ever published under it.
+pub fn one_life()
+    ensures { OneLife }
+{}
+
+/// A description is published under a number in place of the lock of this number, by who has it.
+pub fn published_by_its_lock()
+    ensures { PublishedByItsLock }
+{}
 
 /// No more nodes are in any segment than there is room for.
 pub fn few_are_in()
