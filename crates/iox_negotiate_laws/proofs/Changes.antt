@@ -211,7 +211,7 @@ same-place : (place : List ℕ × ℕ) → place_cmp place place ≡ Equal
 same-place place = rw (is-self (slice_cmp nat_cmp) nat_list_cmp_total place.0) (is-self nat_cmp nat_cmp_total place.1)
 
 -- tests of keys that differ
-apart-of : {K : Type 0} (cmp : K → K → Ordering) → ((x y : K) → cmp x y ≡ Equal → x ≡ y) → (a b : K) → a ≢ b → (k : K) → is_at (cmp a) k ≡ true → is_at (cmp b) k ≡ false
+pub apart-of : {K : Type 0} (cmp : K → K → Ordering) → ((x y : K) → cmp x y ≡ Equal → x ≡ y) → (a b : K) → a ≢ b → (k : K) → is_at (cmp a) k ≡ true → is_at (cmp b) k ≡ false
 apart-of cmp exact a b differ k at = by_test (is_at (cmp b) k) (λ also. absurd (differ (exact a k (equal-of (cmp a k) at) ∙ sym (exact b k (equal-of (cmp b k) also))))) (λ isnt. isnt)
 
 -- a hash either is another, or their digests differ

@@ -61,7 +61,7 @@ closed-few : (b : Bool) (node : Node) (nodes : Nodes) → count_in nodes ≤ nod
 closed-few true node nodes few = tt
 closed-few false node nodes few = few
 
-left-few : (node : ℕ) (nodes : Nodes) → count_in nodes ≤ nodes.max_nodes → count_in (left node nodes) ≤ (left node nodes).max_nodes
+pub left-few : (node : ℕ) (nodes : Nodes) → count_in nodes ≤ nodes.max_nodes → count_in (left node nodes) ≤ (left node nodes).max_nodes
 left-few node nodes few = by_count (factories_of nodes node)
   where
     out : count_in (without_node node nodes) ≤ nodes.max_nodes

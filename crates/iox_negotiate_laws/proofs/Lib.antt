@@ -3,3 +3,4 @@ pub mod Few
 pub mod Tables
 pub mod Changes
 pub mod Lives
+pub mod Held

@@ -1,2 +1,4 @@
 pub mod Histories
 pub mod Lives
+pub mod Factories
+pub mod Calls
