@@ -207,7 +207,7 @@ equal-of Greater is = no is
 pub hash-from : (one other : ServiceHash) → one.digest ≡ other.digest → one ≡ other
 hash-from one other same = ap {B = ServiceHash} (λ d. record { digest = d }) same
 
-same-place : (place : List ℕ × ℕ) → place_cmp place place ≡ Equal
+pub same-place : (place : List ℕ × ℕ) → place_cmp place place ≡ Equal
 same-place place = rw (is-self (slice_cmp nat_cmp) nat_list_cmp_total place.0) (is-self nat_cmp nat_cmp_total place.1)
 
 -- tests of keys that differ

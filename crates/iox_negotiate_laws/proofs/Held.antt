@@ -143,7 +143,7 @@ module _ (hash : ServiceHash) (number node : ℕ) (bytes : List ℕ) (count : �
 
 -- ---- own nodes
 
-some-same : (one other : ℕ) → Some one ≡ Some other → one ≡ other
+pub some-same : (one other : ℕ) → Some one ≡ Some other → one ≡ other
 some-same one other e = cc
 
 nodes-apart : (one other : ℕ) → one ≢ other → (k : ℕ) → is_at (nat_cmp one) k ≡ true → is_at (nat_cmp other) k ≡ false
@@ -152,7 +152,7 @@ nodes-apart one other differ k at = apart-of nat_cmp exact_unsigned one other di
 node-away : (one other : ℕ) → one ≢ other → is_at (nat_cmp other) one ≡ false
 node-away one other differ = nodes-apart one other differ one (rw (is-self nat_cmp nat_cmp_total one) refl)
 
-by_number : {P : Type 0} (one other : ℕ) → (one ≡ other → P) → (one ≢ other → P) → P
+pub by_number : {P : Type 0} (one other : ℕ) → (one ≡ other → P) → (one ≢ other → P) → P
 by_number one other same differ = by_test (nat_eq one other) (λ is. same (grind (arith, is))) (λ isnt. differ (λ e. unequal e isnt))
   where
     unequal : one ≡ other → nat_eq one other ≡ false → ⊥

@@ -4,3 +4,4 @@ pub mod Tables
 pub mod Changes
 pub mod Lives
 pub mod Held
+pub mod Standing
