@@ -5,3 +5,4 @@ pub mod Changes
 pub mod Lives
 pub mod Held
 pub mod Standing
+pub mod Stepping
