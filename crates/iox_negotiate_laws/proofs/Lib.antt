@@ -6,3 +6,5 @@ pub mod Lives
 pub mod Held
 pub mod Standing
 pub mod Stepping
+pub mod Quiet
+pub mod Ending

@@ -20,7 +20,7 @@ use Rattle.iox_negotiate_laws.proofs.Standing.{Quiet}
 -- ---- what each foreign step and each quiet access keeps
 
 module _ (P : Contents → Type 0) (by_step : (hash : ServiceHash) (step : ForeignStep) (result : Result (Unit {0}) AllocError) (old new : Contents) → P old → Acts hash step old result new → P new) where
-  acts-keep : (hash : ServiceHash) (steps : List ForeignStep) (old new : Contents) (result : Result (Unit {0}) AllocError) → P old → ActsAll hash steps old result new → P new
+  pub acts-keep : (hash : ServiceHash) (steps : List ForeignStep) (old new : Contents) (result : Result (Unit {0}) AllocError) → P old → ActsAll hash steps old result new → P new
   acts-keep hash [] old new result p h = subst P (sym h.1) p
   acts-keep hash (one ∷ steps) old new result p h = goes h.1 (by_step hash one h.1 old h.0 p h.2) (λ q later. acts-keep hash steps h.0 new result q later) h.3
     where
