@@ -8,3 +8,4 @@ pub mod Standing
 pub mod Stepping
 pub mod Quiet
 pub mod Ending
+pub mod Calling

@@ -1,5 +1,5 @@
 -- Whole calls of a table's own nodes, one after the other, with steps of foreign nodes before their accesses and between them.
-use Rattle.std.specs.Prelude.{◌≡◌, ℕ, List, [], ◌∷◌, ◌++◌, Option, Result, Ok, Err}
+use Rattle.std.specs.Prelude.{◌≡◌, ℕ, zero, suc, List, [], ◌∷◌, ◌++◌, Option, Result, Ok, Err}
 use Rattle.std.specs.declared.alloc.AllocError.{AllocError}
 use Rattle.iox_describe_base.specs.declared.hash.ServiceHash.{ServiceHash}
 use Rattle.iox_describe_settings.specs.Agreement.{Agreement}
@@ -86,3 +86,9 @@ abbrev pub StandInsideCalls : (ℕ → Type 0) → Type 0
 StandInsideCalls V = (id : ℕ) (calls : List (Call V)) (table : Contents) (held : List Factory) (call : Call V) (lists : List (List ForeignStep)) (mid : Steps) (done rest : List Access)
     → Called (empty_table id) [] calls table held → MayBegin call held → Tells call (done ++ rest)
     → Went SteppedSight (record { table = table; lists = lists }) done mid → AllStand (kept call held) mid.table
+
+-- the errors of three kinds of services
+abbrev pub of_three : Type 0 → Type 0 → Type 0 → ℕ → Type 0
+of_three A B C zero = A
+of_three A B C (suc zero) = B
+of_three A B C (suc (suc more)) = C

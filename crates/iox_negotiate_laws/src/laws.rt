@@ -1,6 +1,9 @@
 //! What holds of every table of services that can be reached, whatever its own nodes and those of others do. Each function
 //! does nothing: its contract is the law.
+ghost use Rattle.iox_negotiate_laws.specs.Calls.{OpenFactoriesStand, StandInsideCalls, of_three};
 ghost use Rattle.iox_negotiate_laws.specs.Lives.{TakenOnce, OneLife, PublishedByItsLock, FewAreIn, OpenedStands};
+
+use iox_negotiate_rounds::Request;
 
 /// A number is never taken twice: each life's is above those of all lives before.
 pub fn taken_once()
@@ -25,4 +28,17 @@ pub fn few_are_in()
 /// What is opened under a number is the service of just this number, and after it the service is open.
 pub fn opened_stands()
     ensures { OpenedStands }
+{}
+
+/// Each open factory stands after any calls in a new table, with whatever foreign steps before each access and between the
+/// calls: what it carries is published under its number, its segment stands, its node is in, no more nodes are in than there is
+/// room for, and as many factories of its node are registered as are open, at least. The calls may be of services of three
+/// patterns.
+pub fn open_factories_stand<P: Request, Q: Request, R: Request>()
+    ensures { OpenFactoriesStand (of_three P.ClauseError Q.ClauseError R.ClauseError) }
+{}
+
+/// And so after each access inside a call, each one that the call doesn't close.
+pub fn stand_inside_calls<P: Request, Q: Request, R: Request>()
+    ensures { StandInsideCalls (of_three P.ClauseError Q.ClauseError R.ClauseError) }
 {}
