@@ -146,7 +146,7 @@ module _ (hash : ServiceHash) (number node : ℕ) (bytes : List ℕ) (count : �
 pub some-same : (one other : ℕ) → Some one ≡ Some other → one ≡ other
 some-same one other e = cc
 
-nodes-apart : (one other : ℕ) → one ≢ other → (k : ℕ) → is_at (nat_cmp one) k ≡ true → is_at (nat_cmp other) k ≡ false
+pub nodes-apart : (one other : ℕ) → one ≢ other → (k : ℕ) → is_at (nat_cmp one) k ≡ true → is_at (nat_cmp other) k ≡ false
 nodes-apart one other differ k at = apart-of nat_cmp exact_unsigned one other differ k at
 
 node-away : (one other : ℕ) → one ≢ other → is_at (nat_cmp other) one ≡ false

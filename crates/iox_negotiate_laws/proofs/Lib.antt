@@ -1,5 +1,6 @@
 pub mod Maps
 pub mod Few
+pub mod Seats
 pub mod Tables
 pub mod Changes
 pub mod Lives
@@ -9,3 +10,4 @@ pub mod Stepping
 pub mod Quiet
 pub mod Ending
 pub mod Calling
+pub mod Closing

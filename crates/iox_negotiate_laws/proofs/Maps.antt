@@ -3,7 +3,8 @@ use Rattle.std.proofs.Common.{◌≡◌, ◌≢◌, ◌+◌, ◌≤◌, Bool, tr
 use Rattle.std.specs.List.{AllByRecursion}
 use Rattle.std.specs.declared.cmp.Ordering.{Ordering}
 use Rattle.std.specs.declared.cmp.Ordering.TheVariants.{Less, Equal, Greater}
-use Rattle.std.specs.Ordering.{match_ordering, is_eq}
+use Rattle.std.specs.Ordering.{match_ordering, ordering_reverse}
+use Rattle.std.specs.Cmp.{IsTotalOrder}
 use Rattle.std.specs.BTreeMap.{insert_entry, is_at}
 use Rattle.std.specs.Map.{lookup, set_value, remove_entry, keys_of}
 
@@ -222,3 +223,50 @@ remove-same {K = K} {X = X} test one (e ∷ es) distinct = there (test e.0) refl
     there : (b : Bool) → test e.0 ≡ b → lookup test (remove_entry test es) ≡ None → lookup test (cond b es (e ∷ remove_entry test es)) ≡ None
     there true is rest = none-found test es (differing es is distinct.0)
     there false is rest = rw is rest
+
+-- each key is below those after it
+abbrev pub Rising : {K X : Type 0} → (K → K → Ordering) → List (K × X) → Type 0
+Rising cmp [] = Unit {0}
+Rising cmp (e ∷ es) = AllByRecursion (λ x. cmp e.0 x.0 ≡ Less) es × Rising cmp es
+
+module _ {K X : Type 0} (cmp : K → K → Ordering) (total : IsTotalOrder cmp) (exact : (x y : K) → cmp x y ≡ Equal → x ≡ y) where
+  above-all : (k : K) (e : K × X) (es : List (K × X)) → cmp k e.0 ≡ Less → AllByRecursion (λ x. cmp e.0 x.0 ≡ Less) es → AllByRecursion (λ x. cmp k x.0 ≡ Less) es
+  above-all k e [] less all = tt
+  above-all k e (x ∷ es) less all = (total.trans k e.0 x.0 less all.0, above-all k e es less all.1)
+
+  pub insert-rising : (k : K) (v : X) (es : List (K × X)) → Rising cmp es → Rising cmp (insert_entry cmp es k v)
+  insert-rising k v [] rising = (tt, tt)
+  insert-rising k v (e ∷ es) rising = there (cmp k e.0) refl (insert-rising k v es rising.1)
+    where
+      there : (o : Ordering) → cmp k e.0 ≡ o → Rising cmp (insert_entry cmp es k v) → Rising cmp (match_ordering o ((k, v) ∷ e ∷ es) ((e.0, v) ∷ es) (e ∷ insert_entry cmp es k v))
+      there Less is rest = ((is, above-all k e es is rising.0), rising)
+      there Equal is rest = (rising.0, rising.1)
+      there Greater is rest = (insert-all (λ x. cmp e.0 x.0 ≡ Less) cmp k v exact es rising.0 (total.antisymm e.0 k ∙ ap ordering_reverse is), rest)
+
+  pub remove-rising : (test : K → Bool) (es : List (K × X)) → Rising cmp es → Rising cmp (remove_entry test es)
+  remove-rising test [] rising = tt
+  remove-rising test (e ∷ es) rising = there (test e.0) (remove-rising test es rising.1)
+    where
+      there : (b : Bool) → Rising cmp (remove_entry test es) → Rising cmp (cond b es (e ∷ remove_entry test es))
+      there true rest = rising.1
+      there false rest = (remove-all (λ x. cmp e.0 x.0 ≡ Less) test es rising.0, rest)
+
+  pub set-rising : (test : K → Bool) (w : X) (es : List (K × X)) → Rising cmp es → Rising cmp (set_value test es w)
+  set-rising test w [] rising = tt
+  set-rising test w (e ∷ es) rising = there (test e.0) (set-rising test w es rising.1)
+    where
+      there : (b : Bool) → Rising cmp (set_value test es w) → Rising cmp (cond b ((e.0, w) ∷ es) (e ∷ set_value test es w))
+      there true rest = (rising.0, rising.1)
+      there false rest = (set-found (λ x. cmp e.0 x.0 ≡ Less) test w es (λ x v found less. less) rising.0, rest)
+
+  apart-all : (k : K) (es : List (K × X)) → cmp k k ≡ Equal → AllByRecursion (λ x. cmp k x.0 ≡ Less) es → AllByRecursion (λ x. x.0 ≢ k) es
+  apart-all k [] self all = tt
+  apart-all k (x ∷ es) self all = ((λ same. differ (sym self ∙ subst (λ y. cmp k y ≡ Less) same all.0)), apart-all k es self all.1)
+    where
+      differ : Equal ≡ Less → ⊥
+      differ e = cc
+
+  -- rising keys are distinct
+  pub rising-distinct : ((k : K) → cmp k k ≡ Equal) → (es : List (K × X)) → Rising cmp es → Distinct (λ e. e.0) es
+  rising-distinct self [] rising = tt
+  rising-distinct self (e ∷ es) rising = (apart-all e.0 es (self e.0) rising.0, rising-distinct self es rising.1)

@@ -5,7 +5,8 @@ use Rattle.std.specs.declared.alloc.AllocError.{AllocError}
 use Rattle.std.specs.declared.cmp.Ordering.{Ordering}
 use Rattle.std.specs.declared.cmp.Ordering.TheVariants.{Equal}
 use Rattle.std.specs.Ordering.{nat_cmp, is_eq}
-use Rattle.std.specs.Cmp.{nat_cmp_total}
+use Rattle.std.specs.Cmp.{IsTotalOrder, nat_cmp_total}
+use Rattle.std.proofs.lemmas.Cmp.{then_total, on_total}
 use Rattle.std.specs.Cmp.Lexicographic.{slice_cmp, nat_list_cmp_total}
 use Rattle.std.specs.BTreeMap.{is_at}
 use Rattle.std.specs.Map.{lookup}
@@ -44,7 +45,8 @@ use Rattle.iox_negotiate_laws.specs.Histories.{Event, Accesses, Steps, Happens, 
 use Rattle.iox_negotiate_table.specs.Laws.{HasFew}
 use Rattle.iox_negotiate_table.proofs.Opening.{opened-is-open}
 use Rattle.iox_negotiate_laws.specs.Lives.{number_of, FewAreIn, OpenedStands}
-use Rattle.iox_negotiate_laws.proofs.Maps.{no, on, by_test, insert-all, remove-all, set-all, set-found, found-all, weaker, none-passes, Distinct, insert-distinct, remove-distinct, set-distinct}
+use Rattle.iox_negotiate_laws.proofs.Maps.{no, on, by_test, insert-all, remove-all, set-all, set-found, found-all, weaker, none-passes, Rising, insert-rising, remove-rising, set-rising, Distinct, insert-distinct, remove-distinct, set-distinct}
+use Rattle.iox_negotiate_laws.proofs.Seats.{IsSeat, opens-seat, leave-seat, register-seat, foreign-leave-seat}
 use Rattle.iox_negotiate_laws.proofs.Few.{IsFew, opens-few, leave-few, register-few, foreign-leave-few}
 
 -- Each life's number is below the next one, each hash and each number lies once, and few are in each segment.
@@ -53,6 +55,8 @@ pub record IsTable (table : Contents) : Type 0 where
   pub keys : Distinct (λ e. e.0) table.entries
   pub numbers : Distinct (λ e. number_of e.1) table.entries
   pub few : AllByRecursion (λ e. IsFew e.1) table.segments
+  pub places : Rising place_cmp table.segments
+  pub seats : AllByRecursion (λ e. IsSeat e.1) table.segments
 
 pub digest-exact : (x y : List ℕ) → digest_cmp x y ≡ Equal → x ≡ y
 digest-exact x y same = exact_bytes x y same
@@ -60,11 +64,14 @@ digest-exact x y same = exact_bytes x y same
 pub place-exact : (x y : List ℕ × ℕ) → place_cmp x y ≡ Equal → x ≡ y
 place-exact x y same = exact_pairs (slice_cmp nat_cmp) nat_cmp exact_bytes exact_unsigned x y same
 
+pub place-total : IsTotalOrder place_cmp
+place-total = then_total (on_total (λ (p : List ℕ × ℕ). p.0) nat_list_cmp_total) (on_total (λ (p : List ℕ × ℕ). p.1) nat_cmp_total)
+
 pub digest-self : (k : List ℕ) → digest_cmp k k ≡ Equal
 digest-self k = is-self (slice_cmp nat_cmp) nat_list_cmp_total k
 
 pub new-table : (id : ℕ) → IsTable (empty_table id)
-new-table id = record { below = tt; keys = tt; numbers = tt; few = tt }
+new-table id = record { below = tt; keys = tt; numbers = tt; few = tt; places = tt; seats = tt }
 
 -- a hash under which nothing lies differs from each
 free-keys : (hash : ServiceHash) (es : List (List ℕ × Entry)) → AllByRecursion (λ e. is_at (digest_cmp hash.digest) e.0 ≡ false) es → AllByRecursion (λ e. e.0 ≢ hash.digest) es
@@ -86,6 +93,8 @@ module _ (hash : ServiceHash) (old : Contents) (table : IsTable old) where
     keys = insert-distinct (λ e. e.0) digest_cmp hash.digest (Locked node old.next) digest-exact old.entries table.keys (free-keys hash old.entries (none-passes (is_at (digest_cmp hash.digest)) old.entries free));
     numbers = insert-distinct (λ e. number_of e.1) digest_cmp hash.digest (Locked node old.next) digest-exact old.entries table.numbers (fresh old.next old.entries table.below);
     few = table.few;
+    places = table.places;
+    seats = table.seats;
   }
 
   pub without-table : IsTable (without_entry hash old)
@@ -94,6 +103,8 @@ module _ (hash : ServiceHash) (old : Contents) (table : IsTable old) where
     keys = remove-distinct (λ e. e.0) (is_at (digest_cmp hash.digest)) old.entries table.keys;
     numbers = remove-distinct (λ e. number_of e.1) (is_at (digest_cmp hash.digest)) old.entries table.numbers;
     few = table.few;
+    places = table.places;
+    seats = table.seats;
   }
 
   pub publish-table : (node : Node) (number : ℕ) (bytes : List ℕ) → entry_at hash old ≡ Some (Locked node number) → IsTable (with_entry hash (Described number bytes) old)
@@ -102,6 +113,8 @@ module _ (hash : ServiceHash) (old : Contents) (table : IsTable old) where
     keys = set-distinct (λ e. e.0) (is_at (digest_cmp hash.digest)) (Described number bytes) old.entries (λ x v found. refl) table.keys;
     numbers = set-distinct (λ e. number_of e.1) (is_at (digest_cmp hash.digest)) (Described number bytes) old.entries same table.numbers;
     few = table.few;
+    places = table.places;
+    seats = table.seats;
   }
     where
       value : (v : Entry) → Some v ≡ Some (Locked node number) → number_of v ≡ number
@@ -110,15 +123,22 @@ module _ (hash : ServiceHash) (old : Contents) (table : IsTable old) where
       same : (x : List ℕ) (v : Entry) → lookup (is_at (digest_cmp hash.digest)) old.entries ≡ Some v → number_of v ≡ number
       same x v found = value v (rw (← found) locked)
 
-  module _ (number : ℕ) (segment : Segment) (few : IsFew segment) where
+  module _ (number : ℕ) (segment : Segment) (few : IsFew segment) (seat : IsSeat segment) where
     pub new-segment-table : IsTable (with_new_segment hash number segment old)
-    new-segment-table = record { below = table.below; keys = table.keys; numbers = table.numbers; few = insert-all (λ e. IsFew e.1) place_cmp (hash.digest, number) segment place-exact old.segments table.few few }
+    new-segment-table = record { below = table.below; keys = table.keys; numbers = table.numbers; few = insert-all (λ e. IsFew e.1) place_cmp (hash.digest, number) segment place-exact old.segments table.few few;
+      places = insert-rising place_cmp place-total place-exact (hash.digest, number) segment old.segments table.places; seats = insert-all (λ e. IsSeat e.1) place_cmp (hash.digest, number) segment place-exact old.segments table.seats seat }
 
     pub segment-table : IsTable (with_segment hash number segment old)
-    segment-table = record { below = table.below; keys = table.keys; numbers = table.numbers; few = set-all (λ e. IsFew e.1) (is_at (place_cmp (hash.digest, number))) segment (λ x is. few) old.segments table.few }
+    segment-table = record { below = table.below; keys = table.keys; numbers = table.numbers; few = set-all (λ e. IsFew e.1) (is_at (place_cmp (hash.digest, number))) segment (λ x is. few) old.segments table.few;
+      places = set-rising place_cmp place-total place-exact (is_at (place_cmp (hash.digest, number))) segment old.segments table.places; seats = set-all (λ e. IsSeat e.1) (is_at (place_cmp (hash.digest, number))) segment (λ x is. seat) old.segments table.seats }
 
   pub without-segment-table : (number : ℕ) → IsTable (without_segment hash number old)
-  without-segment-table number = record { below = table.below; keys = table.keys; numbers = table.numbers; few = remove-all (λ e. IsFew e.1) (is_at (place_cmp (hash.digest, number))) old.segments table.few }
+  without-segment-table number = record { below = table.below; keys = table.keys; numbers = table.numbers; few = remove-all (λ e. IsFew e.1) (is_at (place_cmp (hash.digest, number))) old.segments table.few;
+    places = remove-rising place_cmp place-total place-exact (is_at (place_cmp (hash.digest, number))) old.segments table.places; seats = remove-all (λ e. IsSeat e.1) (is_at (place_cmp (hash.digest, number))) old.segments table.seats }
+
+  -- each own node lies once in the segment that is found
+  pub seat-found : (number : ℕ) (segment : Segment) → segment_at hash number old ≡ Some segment → IsSeat segment
+  seat-found number segment found = (found-all (λ e. IsSeat e.1) (is_at (place_cmp (hash.digest, number))) old.segments segment table.seats found).2
 
   -- few are in the segment that is found
   pub few-found : (number : ℕ) (segment : Segment) → segment_at hash number old ≡ Some segment → IsFew segment
@@ -148,7 +168,7 @@ module _ (hash : ServiceHash) (old new : Contents) (table : IsTable old) where
 
   makes : (number node max_nodes : ℕ) (answer : MakeSegmentAnswer) (b : Bool) → may_make hash number node max_nodes old ≡ b → Makes b hash number node max_nodes old answer new → IsTable new
   makes number node max_nodes answer true may (inl h) =
-      let room : 1 ≤ max_nodes = grind (arith, may) in rw h.1 (new-segment-table hash old table number (Open (first_node node max_nodes)) (omega (arith, room)))
+      let room : 1 ≤ max_nodes = grind (arith, may) in rw h.1 (new-segment-table hash old table number (Open (first_node node max_nodes)) (omega (arith, room)) (tt, tt))
   makes number node max_nodes answer true may (inr h) = unchanged old new table h.1
   makes number node max_nodes answer false may h = unchanged old new table h.1
 
@@ -163,12 +183,12 @@ module _ (hash : ServiceHash) (old new : Contents) (table : IsTable old) where
   unlocks false h = unchanged old new table h
 
   opens : (number node : ℕ) (answer : OpenSegmentAnswer) (b : Bool) (found : Option Segment) → segment_at hash number old ≡ found → OpensAt b found hash number node old answer new → IsTable new
-  opens number node answer true (Some segment) stands h = rw h.2 (segment-table hash old table number h.0 (opens-few node segment h.0 answer (few-found hash old table number segment stands) h.1))
+  opens number node answer true (Some segment) stands h = rw h.2 (segment-table hash old table number h.0 (opens-few node segment h.0 answer (few-found hash old table number segment stands) h.1) (opens-seat node segment h.0 answer (seat-found hash old table number segment stands) h.1))
   opens number node answer true None stands h = unchanged old new table h.1
   opens number node answer false found stands h = unchanged old new table h.1
 
   leaves : (number node : ℕ) (answer : LeaveAnswer) (b : Bool) (found : Option Segment) → segment_at hash number old ≡ found → LeavesAt b found hash number node old answer new → IsTable new
-  leaves number node answer true (Some segment) stands h = rw h.1 (segment-table hash old table number (after_leave node segment) (leave-few node segment (few-found hash old table number segment stands)))
+  leaves number node answer true (Some segment) stands h = rw h.1 (segment-table hash old table number (after_leave node segment) (leave-few node segment (few-found hash old table number segment stands)) (leave-seat node segment (seat-found hash old table number segment stands)))
   leaves number node answer true None stands h = unchanged old new table h.1
   leaves number node answer false found stands h = unchanged old new table h.1
 
@@ -190,7 +210,7 @@ module _ (hash : ServiceHash) (old new : Contents) (table : IsTable old) where
   gives-up result false h = unchanged old new table h.1
 
   registers-foreign : (number node : ℕ) (result : Result (Unit {0}) AllocError) (found : Option Segment) → segment_at hash number old ≡ found → RegistersAt found hash number node old result new → IsTable new
-  registers-foreign number node result (Some segment) stands h = rw h.2 (segment-table hash old table number h.0 (register-few node segment h.0 result (few-found hash old table number segment stands) h.1))
+  registers-foreign number node result (Some segment) stands h = rw h.2 (segment-table hash old table number h.0 (register-few node segment h.0 result (few-found hash old table number segment stands) h.1) (register-seat node segment h.0 result (seat-found hash old table number segment stands) h.1))
   registers-foreign number node result None stands h = unchanged old new table h.1
 
   registers-at : (node : ℕ) (result : Result (Unit {0}) AllocError) (found : Option ℕ) → RegistersForeign found hash node old result new → IsTable new
@@ -198,7 +218,7 @@ module _ (hash : ServiceHash) (old new : Contents) (table : IsTable old) where
   registers-at node result None h = unchanged old new table h.1
 
   leaves-foreign : (number node : ℕ) (found : Option Segment) → segment_at hash number old ≡ found → new ≡ left_at found hash number node old → IsTable new
-  leaves-foreign number node (Some segment) stands h = rw h (segment-table hash old table number (after_foreign_leave node segment) (foreign-leave-few node segment (few-found hash old table number segment stands)))
+  leaves-foreign number node (Some segment) stands h = rw h (segment-table hash old table number (after_foreign_leave node segment) (foreign-leave-few node segment (few-found hash old table number segment stands)) (foreign-leave-seat node segment (seat-found hash old table number segment stands)))
   leaves-foreign number node None stands h = unchanged old new table h
 
   leaves-number : (node : ℕ) (found : Option ℕ) → new ≡ after_leaving found hash node old → IsTable new
@@ -248,7 +268,7 @@ publishes-foreign hash old new node result agreed table (Some number) lock h = t
     seat = Open (first_foreign node (max_nodes_of agreed.settings))
 
     whole : 1 ≤ max_nodes_of agreed.settings → IsTable (with_service hash number node agreed old)
-    whole room = publish-table hash (with_new_segment hash number seat old) (new-segment-table hash old table number seat (omega (arith, room))) (Foreign node) number (line agreed) (foreign-locked node number (entry_at hash old) lock)
+    whole room = publish-table hash (with_new_segment hash number seat old) (new-segment-table hash old table number seat (omega (arith, room)) tt) (Foreign node) number (line agreed) (foreign-locked node number (entry_at hash old) lock)
 
     there : (b : Bool) (result : Result (Unit {0}) AllocError) → (b ≡ true → AreWithinLimits agreed.settings) → DoneOrLacking b (with_service hash number node agreed old) old result new → IsTable new
     there true (Ok done) within h = rw h (whole (room-of agreed.settings (within refl)))

@@ -2,3 +2,4 @@ pub mod Histories
 pub mod Lives
 pub mod Factories
 pub mod Calls
+pub mod Closing

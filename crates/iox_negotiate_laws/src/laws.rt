@@ -1,6 +1,7 @@
 //! What holds of every table of services that can be reached, whatever its own nodes and those of others do. Each function
 //! does nothing: its contract is the law.
 ghost use Rattle.iox_negotiate_laws.specs.Calls.{OpenFactoriesStand, StandInsideCalls, of_three};
+ghost use Rattle.iox_negotiate_laws.specs.Closing.{ClosesOne};
 ghost use Rattle.iox_negotiate_laws.specs.Lives.{TakenOnce, OneLife, PublishedByItsLock, FewAreIn, OpenedStands};
 
 use iox_negotiate_rounds::Request;
@@ -41,4 +42,10 @@ pub fn open_factories_stand<P: Request, Q: Request, R: Request>()
 /// And so after each access inside a call, each one that the call doesn't close.
 pub fn stand_inside_calls<P: Request, Q: Request, R: Request>()
     ensures { StandInsideCalls (of_three P.ClauseError Q.ClauseError R.ClauseError) }
+{}
+
+/// A closing in the table goes well: it takes one factory of its node off, the node's last one takes the node out, and the last of
+/// the last node takes description and segment away; what lies under another hash is as it was.
+pub fn closes_one()
+    ensures { ClosesOne }
 {}
