@@ -1,13 +1,12 @@
 -- Whole calls, one after the other: each open factory stands.
-use Rattle.std.proofs.Common.{◌≡◌, ℕ, List, [], ◌∷◌, ◌++◌, Option, Result, Ok, Err, refl, sym, ap, subst}
+use Rattle.std.proofs.Common.{◌≡◌, ℕ, List, [], ◌∷◌, ◌++◌, Option, Result, Ok, Err, sym, subst}
 use Rattle.std.proofs.lemmas.List.{append-nil}
-use Rattle.std.specs.declared.alloc.AllocError.{AllocError}
 use Rattle.iox_describe_base.specs.declared.hash.ServiceHash.{ServiceHash}
 use Rattle.iox_describe_settings.specs.Agreement.{Agreement}
 use Rattle.iox_negotiate_rounds.specs.Access.{Access, Look, Lock, MakeSegment, Publish, Unlock, OpenSegment, Leave, RemoveDescription, RemoveSegment}
 use Rattle.iox_negotiate_rounds.specs.Creating.{CreatesIf}
 use Rattle.iox_negotiate_rounds.specs.Opening.{OpenRound, Opens, EitherRound, OpensOrCreates}
-use Rattle.iox_negotiate_rounds.specs.Runs.{Went, Does}
+use Rattle.iox_negotiate_rounds.specs.Runs.{Went}
 use Rattle.iox_negotiate_rounds.specs.declared.answer.LeaveAnswer.{LeaveAnswer}
 use Rattle.iox_negotiate_rounds.specs.declared.failure.CreateFailure.{CreateFailure}
 use Rattle.iox_negotiate_rounds.specs.declared.failure.OpenFailure.{OpenFailure}
@@ -15,14 +14,13 @@ use Rattle.iox_negotiate_rounds.specs.declared.failure.OpenOrCreateFailure.{Open
 use Rattle.iox_negotiate_rounds.specs.declared.request.Opened.{Opened}
 use Rattle.iox_negotiate_errors.specs.declared.close.CloseError.{CloseError}
 use Rattle.iox_negotiate.specs.Factory.{Closes}
-use Rattle.iox_negotiate_table.specs.declared.step.ForeignStep.{ForeignStep}
 use Rattle.iox_negotiate_table.specs.Contents.{Contents, empty_table}
 use Rattle.iox_negotiate_table.specs.Stepped.{Steps, SteppedSight}
-use Rattle.iox_negotiate_laws.specs.Factories.{Factory, AllStand}
-use Rattle.iox_negotiate_laws.specs.Calls.{Call, Creates, Opening, Either, Closing, Between, factory_of, opened_too, Tells, MayBegin, kept, open_after, Goes, Called, OpenFactoriesStand, StandInsideCalls}
+use Rattle.iox_negotiate_laws.specs.Factories.{Factory}
+use Rattle.iox_negotiate_laws.specs.Calls.{Call, Creates, Opening, Either, Closing, Between, opened_too, Tells, MayBegin, kept, open_after, Goes, Called, OpenFactoriesStand, StandInsideCalls}
 use Rattle.iox_negotiate_laws.proofs.Tables.{new-table, sees}
 use Rattle.iox_negotiate_laws.proofs.Standing.{fewer-stand, leave-stand}
-use Rattle.iox_negotiate_laws.proofs.Stepping.{AllQuiet, quiet-front}
+use Rattle.iox_negotiate_laws.proofs.Stepping.{quiet-front}
 use Rattle.iox_negotiate_laws.proofs.Quiet.{creates-quiet, round-quiet, either-quiet, rounds-quiet, leave-goes-quiet}
 use Rattle.iox_negotiate_laws.proofs.Ending.{World, world-step, world-quiet, creates-ends, opens-ends, either-ends}
 
@@ -105,7 +103,7 @@ module _ {V : ℕ → Type 0} where
       moved (opened_too node result held) new end is (either-world node verdict agreed refusal result held does.made (record { table = old; lists = lists }) end w does.told does.went)
   call-world (Closing before factory after result) held old new w may (lists, end, does, is) =
       moved (before ++ after) new end is (closing-front before after factory result does.made [] (record { table = old; lists = lists }) end (subst (λ h. World h old) may w)
-          (subst (λ m. Closes factory.agreed.service_hash factory.number factory.node m result) (sym (append-nil does.made)) does.told) does.went)
+      (subst (λ m. Closes factory.agreed.service_hash factory.number factory.node m result) (sym (append-nil does.made)) does.told) does.went)
   call-world (Between hash step) held old new w may (result, acts) = world-step held hash step result old new w acts
 
   called : (calls : List (Call V)) (table new : Contents) (held after : List Factory) → World held table → Called table held calls new after → World after new

@@ -1,6 +1,5 @@
 -- What an event may change: at most one thing, under its own hash.
-use Rattle.std.proofs.Common.{◌≡◌, ◌≢◌, ℕ, ◌+◌, ◌-◌, ◌^◌, ◌≤◌, ◌<◌, Bool, true, false, cond, not, ◌&&◌, List, [], ◌∷◌, Option, None, Some, IsSome, is_some, Result, Ok, Err, nat_eq, nat_lt, refl, sym, ap, subst, ◌∙◌, ◌⊎◌, inl, inr, arith}
-use Rattle.std.specs.List.{AllByRecursion}
+use Rattle.std.proofs.Common.{◌≡◌, ◌≢◌, ℕ, ◌-◌, ◌^◌, ◌≤◌, Bool, true, false, cond, not, ◌&&◌, List, Option, None, Some, is_some, Result, Ok, Err, nat_eq, refl, sym, ap, subst, ◌∙◌, inl, inr, arith}
 use Rattle.std.specs.declared.alloc.AllocError.{AllocError}
 use Rattle.std.specs.declared.cmp.Ordering.{Ordering}
 use Rattle.std.specs.declared.cmp.Ordering.TheVariants.{Less, Equal, Greater}
@@ -9,16 +8,9 @@ use Rattle.std.specs.Cmp.{nat_cmp_total}
 use Rattle.std.specs.Cmp.Lexicographic.{slice_cmp, nat_list_cmp_total}
 use Rattle.std.specs.BTreeMap.{is_at}
 use Rattle.std.specs.Map.{lookup}
-use Rattle.std.proofs.lemmas.Map.Lookups.{exact_bytes, exact_unsigned, exact_pairs}
 use Rattle.iox_describe_base.specs.declared.hash.ServiceHash.{ServiceHash}
-use Rattle.iox_describe_settings.specs.Agreement.{Agreement, max_nodes_of, AreWithinLimits}
-use Rattle.iox_describe_settings.specs.declared.static_config.Settings.{Settings}
-use Rattle.iox_describe_settings.specs.declared.static_config.Settings.TheVariants as settings
-use Rattle.iox_describe_settings.specs.declared.static_config.event.Setting.TheVariants as event
-use Rattle.iox_describe_settings.specs.declared.static_config.publish_subscribe.Setting.TheVariants as publish_subscribe
-use Rattle.iox_describe_settings.specs.declared.static_config.request_response.Setting.TheVariants as request_response
+use Rattle.iox_describe_settings.specs.Agreement.{Agreement, max_nodes_of}
 use Rattle.iox_describe.specs.Line.{line}
-use Rattle.iox_describe.specs.Within.{IsWithinLimits}
 use Rattle.iox_negotiate_rounds.specs.Access.{Access, Look, Lock, MakeSegment, Publish, Unlock, OpenSegment, Leave, RemoveDescription, RemoveSegment}
 use Rattle.iox_negotiate_rounds.specs.declared.answer.LockAnswer.{LockAnswer}
 use Rattle.iox_negotiate_rounds.specs.declared.answer.MakeSegmentAnswer.{MakeSegmentAnswer}
@@ -31,20 +23,18 @@ use Rattle.iox_negotiate_table.specs.declared.node.Node.TheVariants.{Own, Foreig
 use Rattle.iox_negotiate_table.specs.declared.entry.Entry.{Entry}
 use Rattle.iox_negotiate_table.specs.declared.entry.Entry.TheVariants.{Locked, Described}
 use Rattle.iox_negotiate_table.specs.declared.segment.Segment.{Segment}
-use Rattle.iox_negotiate_table.specs.declared.segment.Segment.TheVariants.{Open, Emptied}
+use Rattle.iox_negotiate_table.specs.declared.segment.Segment.TheVariants.{Open}
 use Rattle.iox_negotiate_table.specs.declared.step.ForeignStep.{ForeignStep}
 use Rattle.iox_negotiate_table.specs.declared.step.ForeignStep.TheVariants as step
-use Rattle.iox_negotiate_table.specs.Nodes.{Nodes, count_in, first_node, first_foreign}
-use Rattle.iox_negotiate_table.specs.Segments.{Opens, after_leave, RegistersIn, after_foreign_leave}
-use Rattle.iox_negotiate_table.specs.Contents.{Contents, empty_table, entry_at, segment_at, with_entry, with_new_entry, without_entry, with_new_segment, with_segment, without_segment, with_lock, digest_cmp, place_cmp, may_make, may_publish, may_unlock, is_own_lock, is_lock_of, is_published, may_remove_description, may_remove_segment}
+use Rattle.iox_negotiate_table.specs.Nodes.{first_node, first_foreign}
+use Rattle.iox_negotiate_table.specs.Segments.{after_leave, after_foreign_leave}
+use Rattle.iox_negotiate_table.specs.Contents.{Contents, entry_at, segment_at, with_entry, without_entry, with_new_segment, with_segment, without_segment, with_lock, digest_cmp, place_cmp, may_make, may_publish, may_unlock, is_published, may_remove_description, may_remove_segment}
 use Rattle.iox_negotiate_table.specs.Foreign.{Acts, IsFor, DoneOrLacking, Done, foreign_lock, published_number, with_service, PublishesForeign, RegistersForeign, RegistersAt, after_leaving, left_at, after_removal, is_left_by}
-use Rattle.iox_negotiate_table.specs.Sights.{Sight, LocksAt, LocksFree, Makes, Publishes, Unlocks, OpensAt, OpensPublished, LeavesAt, LeavesPublished, Removes}
+use Rattle.iox_negotiate_table.specs.Sights.{Sight, LocksAt, LocksFree, Makes, Publishes, Unlocks, OpensAt, LeavesAt, Removes}
 use Rattle.iox_negotiate_table.proofs.Entries.{is-self}
-use Rattle.iox_negotiate_laws.specs.Histories.{Event, Accesses, Steps, Happens, Ran, IsReached}
-use Rattle.iox_negotiate_table.specs.Laws.{HasFew}
-use Rattle.iox_negotiate_table.proofs.Opening.{opened-is-open}
-use Rattle.iox_negotiate_laws.specs.Lives.{number_of, PublishesAs}
-use Rattle.iox_negotiate_laws.proofs.Maps.{no, on, by_test, insert-apart, remove-apart, set-apart, insert-all, remove-all, set-all, set-found, found-all, weaker, none-passes, Distinct, insert-distinct, remove-distinct, set-distinct}
+use Rattle.iox_negotiate_laws.specs.Histories.{Event, Accesses, Steps, Happens}
+use Rattle.iox_negotiate_laws.specs.Lives.{PublishesAs}
+use Rattle.iox_negotiate_laws.proofs.Maps.{no, on, by_test, insert-apart, remove-apart, set-apart}
 use Rattle.iox_negotiate_laws.proofs.Tables.{digest-exact, place-exact, digest-self, own-lock, foreign-locked}
 
 -- What an event under a hash may make of a table.
@@ -73,7 +63,6 @@ hash_of (Accesses (Leave hash number node answer)) = hash
 hash_of (Accesses (RemoveDescription hash number answer)) = hash
 hash_of (Accesses (RemoveSegment hash number answer)) = hash
 hash_of (Steps hash step) = hash
-
 
 module _ (event : Event) (hash : ServiceHash) (old new : Contents) where
   locks : (node : Node) (answer : LockAnswer) (found : Option Entry) → entry_at hash old ≡ found → LocksAt found hash node old answer new → Change event hash old new

@@ -1,12 +1,11 @@
 -- A closing takes one factory off, and the last of the last node takes the service away.
-use Rattle.std.proofs.Common.{◌≡◌, ◌≢◌, ℕ, ◌-◌, Bool, true, false, cond, not, ◌&&◌, List, [], ◌∷◌, Option, None, Some, is_some, Result, Ok, Err, nat_eq, nat_lt, refl, sym, ap, subst, ◌∙◌, arith}
+use Rattle.std.proofs.Common.{◌≡◌, ◌≢◌, ℕ, ◌-◌, Bool, true, false, cond, List, [], ◌∷◌, Option, None, Some, Result, Ok, nat_eq, nat_lt, refl, sym, ap, subst, ◌∙◌, arith}
 use Rattle.std.specs.Ordering.{nat_cmp}
-use Rattle.std.specs.Cmp.{nat_cmp_total}
 use Rattle.std.specs.BTreeMap.{is_at}
 use Rattle.std.specs.Map.{lookup, remove_entry}
 use Rattle.std.proofs.lemmas.Map.Lookups.{exact_unsigned}
 use Rattle.iox_describe_base.specs.declared.hash.ServiceHash.{ServiceHash}
-use Rattle.iox_negotiate_rounds.specs.Access.{Access, Look, Lock, MakeSegment, Publish, Unlock, OpenSegment, Leave, RemoveDescription, RemoveSegment}
+use Rattle.iox_negotiate_rounds.specs.Access.{Access, Leave, RemoveDescription, RemoveSegment}
 use Rattle.iox_negotiate_rounds.specs.Runs.{Went}
 use Rattle.iox_negotiate_rounds.specs.declared.answer.LeaveAnswer.{LeaveAnswer}
 use Rattle.iox_negotiate_rounds.specs.declared.answer.LeaveAnswer.TheVariants as leaving
@@ -16,21 +15,20 @@ use Rattle.iox_negotiate_errors.specs.declared.close.CloseError.{CloseError}
 use Rattle.iox_negotiate.specs.Factory.{Closes, LeaveGoes, Removes as RemovesBoth, RemovalGoes, RemovesSegment, segment_removed}
 use Rattle.iox_negotiate_table.specs.declared.node.Node.{Node}
 use Rattle.iox_negotiate_table.specs.declared.node.Node.TheVariants.{Own}
-use Rattle.iox_negotiate_table.specs.declared.entry.Entry.{Entry}
 use Rattle.iox_negotiate_table.specs.declared.entry.Entry.TheVariants.{Described}
 use Rattle.iox_negotiate_table.specs.declared.segment.Segment.{Segment}
 use Rattle.iox_negotiate_table.specs.declared.segment.Segment.TheVariants.{Open, Emptied}
 use Rattle.iox_negotiate_table.specs.Nodes.{Nodes, count_in, factories_of, with_factories, without_node, less_one, left}
-use Rattle.iox_negotiate_table.specs.Segments.{closed_if, leave_answer, after_leave}
-use Rattle.iox_negotiate_table.specs.Contents.{Contents, entry_at, segment_at, with_segment, without_entry, without_segment, digest_cmp, place_cmp, is_published, is_left, may_remove_description, may_remove_segment}
+use Rattle.iox_negotiate_table.specs.Segments.{closed_if, leave_answer}
+use Rattle.iox_negotiate_table.specs.Contents.{Contents, entry_at, segment_at, with_segment, without_entry, without_segment, digest_cmp, place_cmp, is_published, may_remove_description, may_remove_segment}
 use Rattle.iox_negotiate_table.specs.Sights.{Sight, LeavesAt, LeavesPublished, Removes}
 use Rattle.iox_negotiate_table.specs.Laws.{IsOpenIn}
 use Rattle.iox_negotiate_table.specs.Stepped.{Steps, SteppedSight}
-use Rattle.iox_negotiate_table.proofs.Entries.{lookup-set, is-self}
-use Rattle.iox_negotiate_laws.specs.Histories.{Event, Accesses}
+use Rattle.iox_negotiate_table.proofs.Entries.{lookup-set}
+use Rattle.iox_negotiate_laws.specs.Histories.{Accesses}
 use Rattle.iox_negotiate_laws.specs.Closing.{one_less, TakesOneOff, StandsOrGone, IsUntouched, ClosesOne}
 use Rattle.iox_negotiate_laws.proofs.Maps.{on, remove-same, rising-distinct, set-apart, remove-apart}
-use Rattle.iox_negotiate_laws.proofs.Tables.{IsTable, reached, sees, seat-found, digest-exact, digest-self, place-exact, place-total}
+use Rattle.iox_negotiate_laws.proofs.Tables.{IsTable, reached, sees, seat-found, digest-exact, place-exact, place-total}
 use Rattle.iox_negotiate_laws.proofs.Changes.{Change, hash_of, changes, elsewhere, equal-of, same-place, hash-from}
 use Rattle.iox_negotiate_laws.proofs.Held.{nodes-apart}
 use Rattle.iox_negotiate_laws.proofs.Seats.{AreOnce}
@@ -154,9 +152,10 @@ module _ (hash : ServiceHash) (number node : ℕ) (bytes : List ℕ) (old new : 
       let table : new.table ≡ with_segment hash number (Open (left node is_open.nodes)) old.table = ap (λ s. s.table) end ∙ is in
       record {
         well = g.1;
-        stands = subst (λ b. StandsOrGone b hash number bytes (left node is_open.nodes) new.table) (sym some)
-            (subst (λ t. entry_at hash t ≡ Some (Described number bytes)) (sym table) is_open.published,
-            subst (λ t. segment_at hash number t ≡ Some (Open (left node is_open.nodes))) (sym table) (lookup-set (is_at (place_cmp (hash.digest, number))) old.table.segments (Open (left node is_open.nodes)) (rw is_open.stands refl)));
+        stands = subst (λ b. StandsOrGone b hash number bytes (left node is_open.nodes) new.table) (sym some) (
+          subst (λ t. entry_at hash t ≡ Some (Described number bytes)) (sym table) is_open.published,
+          subst (λ t. segment_at hash number t ≡ Some (Open (left node is_open.nodes))) (sym table) (lookup-set (is_at (place_cmp (hash.digest, number))) old.table.segments (Open (left node is_open.nodes)) (rw is_open.stands refl)),
+        );
       }
 
   last : (answer : RemoveAnswer) (rest : List Access) (mid : Steps) → nat_eq (count_in (left node is_open.nodes)) 0 ≡ true → IsTable mid.table → entry_at hash mid.table ≡ None → segment_at hash number mid.table ≡ Some (Emptied (Own node))
@@ -193,7 +192,7 @@ module _ (hash : ServiceHash) (number node : ℕ) (bytes : List ℕ) (old new : 
       then first more end sight goes went =
           let r = removes-first hash number bytes (Own node) mid.table end.table first published seat sight in
           last first more end none (sees mid.table end.table table (RemoveDescription hash number first) sight)
-              (subst (λ t. entry_at hash t ≡ None) (sym r.1) (entry-gone hash mid.table table)) (subst (λ t. segment_at hash number t ≡ Some (Emptied (Own node))) (sym r.1) seat) r.0 goes went
+          (subst (λ t. entry_at hash t ≡ None) (sym r.1) (entry-gone hash mid.table table)) (subst (λ t. segment_at hash number t ≡ Some (Emptied (Own node))) (sym r.1) seat) r.0 goes went
 
       description : (rest : List Access) → RemovesBoth hash number rest result → Went SteppedSight mid rest new → Closed (left node is_open.nodes)
       description (RemoveDescription under of first ∷ more) (own, same, goes) (end, sight, went) =
@@ -211,7 +210,7 @@ module _ (hash : ServiceHash) (number node : ℕ) (bytes : List ℕ) (old new : 
   closes : (made : List Access) → IsTable old.table → Closes hash number node made result → Went SteppedSight old made new → Closed (left node is_open.nodes)
   closes (Leave under of by answer ∷ rest) table (own, same, who, goes) (mid, sight, went) =
       leaves-then answer rest mid table
-          (subst (λ d. Sight old.table (Leave hash number d answer) mid.table) who (subst (λ n. Sight old.table (Leave hash n by answer) mid.table) same (subst (λ h. Sight old.table (Leave h of by answer) mid.table) own sight.0))) goes went
+      (subst (λ d. Sight old.table (Leave hash number d answer) mid.table) who (subst (λ n. Sight old.table (Leave hash n by answer) mid.table) same (subst (λ h. Sight old.table (Leave h of by answer) mid.table) own sight.0))) goes went
   closes made table told went = absurd told
 
 -- ---- what lies elsewhere

@@ -1,12 +1,12 @@
 -- What a call that goes well ends with: a look and an opening, or a segment and a publication. Then its factory stands among the others.
-use Rattle.std.proofs.Common.{◌≡◌, ℕ, List, [], ◌∷◌, ◌++◌, Option, None, Some, Result, Ok, Err, refl, sym, ap, subst, ◌∙◌, ◌⊎◌, inl, inr}
+use Rattle.std.proofs.Common.{◌≡◌, ℕ, List, [], ◌∷◌, ◌++◌, Option, None, Some, Result, Ok, Err, refl, sym, ap, subst, ◌∙◌, inl, inr}
 use Rattle.std.specs.declared.alloc.AllocError.{AllocError}
 use Rattle.std.proofs.Math.Logic.{⊎_elim}
 use Rattle.iox_describe_base.specs.declared.hash.ServiceHash.{ServiceHash}
 use Rattle.iox_describe_settings.specs.Agreement.{Agreement, max_nodes_of}
 use Rattle.iox_describe.specs.Line.{line}
-use Rattle.iox_negotiate_rounds.specs.Access.{Access, Look, Lock, MakeSegment, Publish, Unlock, OpenSegment, Leave, RemoveDescription, RemoveSegment}
-use Rattle.iox_negotiate_rounds.specs.Creating.{Locks, CreatesIf}
+use Rattle.iox_negotiate_rounds.specs.Access.{Access, Look, MakeSegment, Publish, OpenSegment}
+use Rattle.iox_negotiate_rounds.specs.Creating.{CreatesIf}
 use Rattle.iox_negotiate_rounds.specs.Failing.{opened, entered, created, created_or_again, opened_or_again}
 use Rattle.iox_negotiate_rounds.specs.Opening.{Registers, OpensJudged, OpensSeen, OpenRound, Opens, EitherCreates, EitherSeen, EitherRound, OpensOrCreates}
 use Rattle.iox_negotiate_rounds.specs.Runs.{Went, Rounds}
@@ -21,7 +21,6 @@ use Rattle.iox_negotiate_rounds.specs.declared.creation.Attempt.{Attempt}
 use Rattle.iox_negotiate_rounds.specs.declared.creation.Attempt.TheVariants as attempt
 use Rattle.iox_negotiate_rounds.specs.declared.failure.CreateFailure.{CreateFailure}
 use Rattle.iox_negotiate_rounds.specs.declared.failure.OpenFailure.{OpenFailure}
-use Rattle.iox_negotiate_rounds.specs.declared.failure.OpenOrCreateFailure.{OpenOrCreateFailure}
 use Rattle.iox_negotiate_rounds.specs.declared.request.Opened.{Opened}
 use Rattle.iox_negotiate_rounds.specs.declared.sight.Sight.{Sight as Shown}
 use Rattle.iox_negotiate_rounds.specs.declared.sight.Sight.TheVariants as sight
@@ -284,7 +283,7 @@ pub opens-ends : {V : Type 0} (hash : ServiceHash) (node : ℕ) (verdict : Agree
     → Opens hash node verdict made (Ok service) → Went SteppedSight old made new → World (factory_of node service ∷ all) new.table
 opens-ends hash node verdict all made service old new w opens went =
     rounds-end (OpenRound hash node verdict) (round-quiet hash node verdict) all (factory_of node service ∷ all) (Ok service) _ (λ h. not-ok-err service _ h)
-        (λ last mid end v r g. round-ends hash node verdict all mid end v last service r g) made old new w opens went
+    (λ last mid end v r g. round-ends hash node verdict all mid end v last service r g) made old new w opens went
 
 passed-on : {V : Type 0} (answer : Option (Result Opened (OpenFailure V))) (service : Opened) → Some (Ok service) ≡ opened_or_again answer → answer ≡ Some (Ok service)
 passed-on None service h = absurd (not-none service h)
@@ -326,7 +325,7 @@ module _ {V : Type 0} (node : ℕ) (verdict : Agreement → Result (Unit {0}) V)
   either-seen-ends answer sight.Absent rest service is h quiet went = either-creates-ends answer refusal rest service h quiet went
   either-seen-ends answer (sight.Standing number other) rest service is (came, judged, passed) quiet went =
       standing-ends agreed.service_hash node verdict all old new w answer number other rest service is
-          (subst (λ a. OpensJudged agreed.service_hash node verdict number other (verdict other) rest a) (passed-on came service passed) judged) went
+      (subst (λ a. OpensJudged agreed.service_hash node verdict number other (verdict other) rest a) (passed-on came service passed) judged) went
   either-seen-ends answer (sight.Failed failure) rest service is h quiet went = absurd (not-some-err service _ h.1)
 
   either-round-ends : (made : List Access) (service : Opened) → EitherRound agreed.service_hash node verdict agreed refusal made (Some (Ok service)) → Went SteppedSight old made new
@@ -340,4 +339,4 @@ pub either-ends : {V : Type 0} (node : ℕ) (verdict : Agreement → Result (Uni
     → World all old.table → OpensOrCreates agreed.service_hash node verdict agreed refusal made (Ok service) → Went SteppedSight old made new → World (factory_of node service ∷ all) new.table
 either-ends node verdict agreed refusal all made service old new w either went =
     rounds-end (EitherRound agreed.service_hash node verdict agreed refusal) (either-quiet agreed.service_hash node verdict agreed refusal) all (factory_of node service ∷ all) (Ok service) _ (λ h. not-ok-err service _ h)
-        (λ last mid end v r g. either-round-ends node verdict agreed refusal all mid end v last service r g) made old new w either went
+    (λ last mid end v r g. either-round-ends node verdict agreed refusal all mid end v last service r g) made old new w either went

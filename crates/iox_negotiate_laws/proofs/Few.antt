@@ -1,20 +1,18 @@
 -- No more nodes are in a segment than there is room for, whoever comes and goes.
-use Rattle.std.proofs.Common.{◌≡◌, ℕ, ◌+◌, ◌-◌, ◌^◌, ◌≤◌, Bool, true, false, cond, not, ◌&&◌, Option, None, Some, Result, Ok, Err, length, nat_eq, nat_lt, refl, subst, inl, inr, arith}
+use Rattle.std.proofs.Common.{◌≡◌, ℕ, ◌+◌, ◌-◌, ◌^◌, ◌≤◌, Bool, true, false, cond, not, ◌&&◌, Option, None, Some, Result, Ok, Err, length, nat_eq, nat_lt, refl, inl, inr, arith}
 use Rattle.std.specs.declared.alloc.AllocError.{AllocError}
 use Rattle.std.specs.Ordering.{nat_cmp}
 use Rattle.std.specs.BTreeMap.{is_at}
 use Rattle.std.specs.Map.{remove_entry}
-use Rattle.std.specs.Map as map
 use Rattle.std.proofs.lemmas.Map.{length-set_value}
 use Rattle.iox_negotiate_rounds.specs.declared.answer.OpenSegmentAnswer.{OpenSegmentAnswer}
 use Rattle.iox_negotiate_table.specs.declared.node.Node.{Node}
 use Rattle.iox_negotiate_table.specs.declared.segment.Segment.{Segment}
 use Rattle.iox_negotiate_table.specs.declared.segment.Segment.TheVariants.{Open, Emptied}
-use Rattle.iox_negotiate_table.specs.Nodes.{Nodes, count_in, factories_of, with_node, with_factories, without_node, less_one, left, with_foreign, without_foreign, has_foreign, Enters, EntersWith, EntersAgain, EntersFirst, Registers, RegistersIf}
-use Rattle.iox_negotiate_table.specs.Segments.{Opens, after_leave, settled, closed_if, RegistersIn, after_foreign_leave, foreign_left_if}
+use Rattle.iox_negotiate_table.specs.Nodes.{Nodes, count_in, factories_of, with_node, with_factories, without_node, less_one, left, with_foreign, without_foreign, has_foreign, Enters, EntersWith, EntersAgain, EntersFirst, RegistersIf}
+use Rattle.iox_negotiate_table.specs.Segments.{Opens, after_leave, closed_if, RegistersIn, after_foreign_leave, foreign_left_if}
 use Rattle.iox_negotiate_table.proofs.Entries.{length-added, length-insert_key, length-removed}
-use Rattle.iox_negotiate_laws.proofs.Maps.{no, on}
-use Rattle.std.specs.declared.cmp.Ordering.{Ordering}
+use Rattle.iox_negotiate_laws.proofs.Maps.{on}
 use Rattle.std.proofs.Common.{List, [], ◌∷◌}
 
 -- no more than there is room for

@@ -1,11 +1,10 @@
 -- A service that is open for an own node stays so, with as many factories of the node, whatever foreign nodes do, and what
 -- the accesses of own nodes make of it.
-use Rattle.std.proofs.Common.{◌≡◌, ◌≢◌, ℕ, ◌+◌, ◌-◌, ◌^◌, ◌≤◌, Bool, true, false, cond, not, ◌&&◌, List, [], ◌∷◌, Option, None, Some, IsSome, is_some, Result, Ok, Err, length, nat_eq, nat_lt, refl, sym, ap, subst, ◌∙◌, inl, inr, arith}
+use Rattle.std.proofs.Common.{◌≡◌, ◌≢◌, ℕ, ◌+◌, ◌-◌, ◌^◌, ◌≤◌, Bool, true, false, cond, not, ◌&&◌, List, Option, None, Some, is_some, Result, Ok, Err, length, nat_eq, nat_lt, refl, sym, ap, subst, ◌∙◌, inl, inr, arith}
 use Rattle.std.specs.declared.alloc.AllocError.{AllocError}
 use Rattle.std.specs.Ordering.{nat_cmp}
 use Rattle.std.specs.Cmp.{nat_cmp_total}
 use Rattle.std.specs.BTreeMap.{is_at}
-use Rattle.std.specs.Map.{lookup, set_value}
 use Rattle.std.proofs.lemmas.Map.Lookups.{exact_unsigned}
 use Rattle.iox_describe_base.specs.declared.hash.ServiceHash.{ServiceHash}
 use Rattle.iox_negotiate_rounds.specs.Access.{Access, Look, Lock, MakeSegment, Publish, Unlock, OpenSegment, Leave, RemoveDescription, RemoveSegment}
@@ -19,13 +18,13 @@ use Rattle.iox_negotiate_table.specs.declared.segment.Segment.{Segment}
 use Rattle.iox_negotiate_table.specs.declared.segment.Segment.TheVariants.{Open, Emptied}
 use Rattle.iox_negotiate_table.specs.declared.step.ForeignStep.{ForeignStep}
 use Rattle.iox_negotiate_table.specs.declared.step.ForeignStep.TheVariants as step
-use Rattle.iox_negotiate_table.specs.Nodes.{Nodes, count_in, factories_of, with_node, with_factories, without_node, less_one, left, has_foreign, with_foreign, without_foreign, RegistersIf, Enters, EntersWith, EntersAgain, EntersFirst}
-use Rattle.iox_negotiate_table.specs.Segments.{RegistersIn, foreign_left_if, closed_if, Opens, after_leave}
+use Rattle.iox_negotiate_table.specs.Nodes.{Nodes, count_in, factories_of, with_factories, without_node, less_one, left, has_foreign, with_foreign, without_foreign, RegistersIf, Enters, EntersWith, EntersAgain, EntersFirst}
+use Rattle.iox_negotiate_table.specs.Segments.{RegistersIn, foreign_left_if, closed_if, Opens}
 use Rattle.iox_negotiate_table.specs.Contents.{Contents, entry_at, segment_at, with_segment, with_lock, without_entry, without_segment, place_cmp, is_published, is_left, may_make, may_publish, may_unlock, may_remove_description, may_remove_segment}
 use Rattle.iox_negotiate_table.specs.Foreign.{Acts, DoneOrLacking, Done, foreign_lock, PublishesForeign, RegistersForeign, RegistersAt, published_number, after_leaving, left_at, after_removal, is_left_by}
 use Rattle.iox_negotiate_table.specs.Sights.{Sight, LocksAt, Makes, Publishes, Unlocks, OpensAt, OpensPublished, LeavesAt, LeavesPublished, Removes}
 use Rattle.iox_negotiate_table.proofs.Entries.{lookup-set, lookup-added, length-insert_key, length-removed, found-length, is-self}
-use Rattle.iox_negotiate_laws.specs.Histories.{Event, Accesses, Steps}
+use Rattle.iox_negotiate_laws.specs.Histories.{Accesses}
 use Rattle.iox_negotiate_laws.proofs.Maps.{on, by_test, set-apart, insert-apart, remove-apart}
 use Rattle.iox_negotiate_laws.proofs.Few.{opens-few, left-few as leave-few-in}
 use Rattle.iox_negotiate_laws.proofs.Changes.{hash_of, apart-of, place-apart, IsElsewhere}
@@ -139,7 +138,6 @@ module _ (hash : ServiceHash) (number node : ℕ) (bytes : List ℕ) (count : �
 
       removes : new ≡ after_removal (published_number (Some (Described number bytes))) hash by old → new ≡ old
       removes h = at (segment_at hash number old) is_open.stands h
-
 
 -- ---- own nodes
 

@@ -1,5 +1,5 @@
 -- The lives of services: numbers are taken once, and one description is published under each.
-use Rattle.std.proofs.Common.{◌≡◌, ◌≢◌, ℕ, ◌+◌, ◌-◌, ◌^◌, ◌≤◌, ◌<◌, Bool, true, false, not, ◌&&◌, List, [], ◌∷◌, Option, None, Some, is_some, Result, Ok, Err, nat_eq, refl, sym, ap, subst, ◌∙◌, ◌⊎◌, inl, inr, arith}
+use Rattle.std.proofs.Common.{◌≡◌, ℕ, ◌+◌, ◌-◌, ◌^◌, ◌≤◌, ◌<◌, Bool, true, false, List, [], ◌∷◌, Option, None, Some, Result, Ok, Err, nat_eq, refl, sym, ap, subst, ◌∙◌, ◌⊎◌, inl, inr, arith}
 use Rattle.std.specs.List.{AllByRecursion}
 use Rattle.std.specs.declared.alloc.AllocError.{AllocError}
 use Rattle.std.specs.BTreeMap.{is_at}
@@ -13,15 +13,14 @@ use Rattle.iox_negotiate_table.specs.declared.node.Node.{Node}
 use Rattle.iox_negotiate_table.specs.declared.node.Node.TheVariants.{Own, Foreign}
 use Rattle.iox_negotiate_table.specs.declared.entry.Entry.{Entry}
 use Rattle.iox_negotiate_table.specs.declared.entry.Entry.TheVariants.{Locked, Described}
-use Rattle.iox_negotiate_table.specs.declared.step.ForeignStep.{ForeignStep}
 use Rattle.iox_negotiate_table.specs.declared.step.ForeignStep.TheVariants as step
 use Rattle.iox_negotiate_table.specs.Contents.{Contents, entry_at, with_lock, digest_cmp}
 use Rattle.iox_negotiate_table.specs.Foreign.{DoneOrLacking}
 use Rattle.iox_negotiate_table.specs.Sights.{LocksAt, LocksFree}
 use Rattle.iox_negotiate_table.proofs.Entries.{lookup-set, lookup-added}
-use Rattle.iox_negotiate_laws.specs.Histories.{Event, Accesses, Steps, Happens, Ran, IsReached}
+use Rattle.iox_negotiate_laws.specs.Histories.{Event, Accesses, Steps, Happens, Ran}
 use Rattle.iox_negotiate_laws.specs.Lives.{number_of, Begins, TakenOnce, Continues, OneLife, PublishesAs, PublishedByItsLock}
-use Rattle.iox_negotiate_laws.proofs.Maps.{insert-all, remove-all, set-found, found-all, Among, among, once, weaker, remove-same}
+use Rattle.iox_negotiate_laws.proofs.Maps.{insert-all, remove-all, set-found, found-all, among, once, weaker, remove-same}
 use Rattle.iox_negotiate_laws.proofs.Tables.{IsTable, digest-exact, digest-self, reached}
 use Rattle.iox_negotiate_laws.proofs.Changes.{Change, Same, LockOf, Without, PublishOf, NewSegment, OfSegment, WithoutSegment, ServiceOf, Removal, changes, hash_of, rises, elsewhere, by_hash, equal-of, hash-from}
 

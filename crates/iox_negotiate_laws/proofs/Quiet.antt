@@ -1,9 +1,9 @@
 -- Creating and opening make no leave, and closing makes one, first.
-use Rattle.std.proofs.Common.{◌≡◌, ℕ, zero, suc, List, [], ◌∷◌, ◌++◌, Option, None, Some, Result, Ok, Err, refl, sym, subst}
+use Rattle.std.proofs.Common.{◌≡◌, ℕ, zero, suc, List, [], ◌∷◌, Option, None, Some, Result, Ok, Err, sym, subst}
 use Rattle.std.proofs.Math.Logic.{⊎_elim}
 use Rattle.iox_describe_base.specs.declared.hash.ServiceHash.{ServiceHash}
 use Rattle.iox_describe_settings.specs.Agreement.{Agreement}
-use Rattle.iox_negotiate_rounds.specs.Access.{Access, Look, Lock, MakeSegment, Publish, Unlock, OpenSegment, Leave, RemoveDescription, RemoveSegment}
+use Rattle.iox_negotiate_rounds.specs.Access.{Access, Look, Lock, MakeSegment, Publish, Unlock, OpenSegment, RemoveDescription, RemoveSegment}
 use Rattle.iox_negotiate_rounds.specs.Creating.{Unlocks, Undoes, PublishGoes, Publishes, MakeGoes, Makes, LockGoes, Locks, CreatesSeen, CreatesIf}
 use Rattle.iox_negotiate_rounds.specs.Failing.{refusal_seen, lock_gives, making_failure, publishing_failure}
 use Rattle.iox_negotiate_rounds.specs.Opening.{Registers, OpensJudged, OpensSeen, OpenRound, EitherCreates, EitherSeen, EitherRound}

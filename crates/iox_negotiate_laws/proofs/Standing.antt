@@ -1,13 +1,12 @@
 -- Open factories stand through whatever happens, and one more after an opening or a publication, one less after a leave.
-use Rattle.std.proofs.Common.{◌≡◌, ◌≢◌, ℕ, ◌+◌, ◌-◌, ◌≤◌, Bool, true, false, cond, not, ◌&&◌, List, [], ◌∷◌, ◌++◌, Option, None, Some, IsSome, is_some, Result, Ok, Err, nat_eq, refl, sym, ap, subst, ◌∙◌, ◌⊎◌, ⊎_elim, inl, inr, unwrap_or, arith}
+use Rattle.std.proofs.Common.{◌≡◌, ◌≢◌, ℕ, ◌+◌, ◌-◌, ◌≤◌, Bool, true, false, cond, not, ◌&&◌, List, [], ◌∷◌, ◌++◌, Option, None, Some, IsSome, is_some, Result, nat_eq, refl, sym, ap, subst, ◌∙◌, ◌⊎◌, ⊎_elim, inl, inr, unwrap_or, arith}
 use Rattle.std.specs.declared.alloc.AllocError.{AllocError}
 use Rattle.std.specs.Ordering.{nat_cmp}
 use Rattle.std.specs.Cmp.{nat_cmp_total}
 use Rattle.std.specs.BTreeMap.{is_at}
 use Rattle.iox_describe_base.specs.declared.hash.ServiceHash.{ServiceHash}
-use Rattle.iox_describe_settings.specs.Agreement.{Agreement}
 use Rattle.iox_describe.specs.Line.{line}
-use Rattle.iox_negotiate_rounds.specs.Access.{Access, Look, Lock, MakeSegment, Publish, Unlock, OpenSegment, Leave, RemoveDescription, RemoveSegment}
+use Rattle.iox_negotiate_rounds.specs.Access.{Access, MakeSegment, Publish, OpenSegment, Leave}
 use Rattle.iox_negotiate_rounds.specs.declared.answer.OpenSegmentAnswer.TheVariants as opening
 use Rattle.iox_negotiate_rounds.specs.declared.answer.MakeSegmentAnswer.TheVariants as making
 use Rattle.iox_negotiate_rounds.specs.declared.answer.PublishAnswer.TheVariants as publishing
@@ -18,16 +17,15 @@ use Rattle.iox_negotiate_table.specs.declared.entry.Entry.TheVariants.{Locked, D
 use Rattle.iox_negotiate_table.specs.declared.segment.Segment.{Segment}
 use Rattle.iox_negotiate_table.specs.declared.segment.Segment.TheVariants.{Open, Emptied}
 use Rattle.iox_negotiate_table.specs.declared.step.ForeignStep.{ForeignStep}
-use Rattle.iox_negotiate_table.specs.Nodes.{Nodes, count_in, factories_of, first_node, Enters}
+use Rattle.iox_negotiate_table.specs.Nodes.{Nodes, factories_of, first_node, Enters}
 use Rattle.iox_negotiate_table.specs.Segments.{Opens}
-use Rattle.iox_negotiate_table.specs.Contents.{Contents, entry_at, segment_at, with_segment, with_entry, digest_cmp, place_cmp, may_make, may_publish, is_lock_of, is_own_lock, is_published}
+use Rattle.iox_negotiate_table.specs.Contents.{Contents, entry_at, segment_at, with_segment, digest_cmp, place_cmp, may_make, may_publish, is_lock_of, is_published}
 use Rattle.iox_negotiate_table.specs.Foreign.{Acts}
 use Rattle.iox_negotiate_table.specs.Sights.{Sight, OpensAt, OpensPublished, Makes, Publishes}
-use Rattle.iox_negotiate_table.specs.Laws.{IsOpenIn}
 use Rattle.iox_negotiate_table.proofs.Entries.{lookup-set, lookup-added, is-self}
-use Rattle.iox_negotiate_laws.specs.Histories.{Event, Accesses, Steps, Happens}
+use Rattle.iox_negotiate_laws.specs.Histories.{Accesses, Steps}
 use Rattle.iox_negotiate_laws.specs.Factories.{Factory, is_of, times, IsAmong, Stands, AllStand}
-use Rattle.iox_negotiate_laws.proofs.Maps.{no, on, by_test}
+use Rattle.iox_negotiate_laws.proofs.Maps.{no, by_test}
 use Rattle.iox_negotiate_laws.proofs.Few.{opens-few}
 use Rattle.iox_negotiate_laws.proofs.Tables.{IsTable, few-found}
 use Rattle.iox_negotiate_laws.proofs.Changes.{changes, hash_of, by_hash, elsewhere, same-place}
@@ -191,7 +189,7 @@ leave-stand front back f old new answer stand sight g in_it = stands-of (front +
             let more : times g.number g.node (front ++ (f ∷ back)) ≡ 1 + times g.number g.node (front ++ back) = subst (λ b. times g.number g.node (front ++ (f ∷ back)) ≡ cond b 1 0 + times g.number g.node (front ++ back)) own all in
             let some = times-among g (front ++ back) in_it in
             let sight' : Sight old (Leave g.agreed.service_hash g.number g.node answer) new =
-                subst (λ d. Sight old (Leave g.agreed.service_hash g.number d answer) new) node (subst (λ n. Sight old (Leave g.agreed.service_hash n f.node answer) new) number (subst (λ h. Sight old (Leave h f.number f.node answer) new) hash sight)) in
+            subst (λ d. Sight old (Leave g.agreed.service_hash g.number d answer) new) node (subst (λ n. Sight old (Leave g.agreed.service_hash n f.node answer) new) number (subst (λ h. Sight old (Leave h f.number f.node answer) new) hash sight)) in
             record {
               count = before.count - 1;
               enough = omega (arith, more, enough);
@@ -371,4 +369,4 @@ pub publishing-stand : (all : List Factory) (f : Factory) (old new : Contents) �
 publishing-stand all f old new is is_new stand m sight =
     let none = none-of-lock all old f.agreed.service_hash f.number f.node f.node is stand m.locked in
     joined all f new 1 is_new (quiet-stand all old new (Publish f.agreed.service_hash f.number (line f.agreed) publishing.Published) tt stand sight)
-        (published-held f.agreed.service_hash f.number f.node (line f.agreed) old new m sight) (omega (arith, none))
+    (published-held f.agreed.service_hash f.number f.node (line f.agreed) old new m sight) (omega (arith, none))

@@ -1,10 +1,9 @@
 -- What holds of every table that can be reached, kept by whatever happens.
-use Rattle.std.proofs.Common.{◌≡◌, ◌≢◌, ℕ, ◌+◌, ◌-◌, ◌^◌, ◌≤◌, ◌<◌, Bool, true, false, cond, not, ◌&&◌, List, [], ◌∷◌, Option, None, Some, IsSome, is_some, Result, Ok, Err, nat_eq, nat_lt, refl, sym, ap, subst, ◌∙◌, ◌⊎◌, inl, inr, arith}
+use Rattle.std.proofs.Common.{◌≡◌, ◌≢◌, ℕ, ◌+◌, ◌-◌, ◌^◌, ◌≤◌, ◌<◌, Bool, true, false, cond, not, ◌&&◌, List, [], ◌∷◌, Option, None, Some, is_some, Result, Ok, Err, nat_eq, refl, ap, subst, ◌∙◌, inl, inr, arith}
 use Rattle.std.specs.List.{AllByRecursion}
 use Rattle.std.specs.declared.alloc.AllocError.{AllocError}
-use Rattle.std.specs.declared.cmp.Ordering.{Ordering}
 use Rattle.std.specs.declared.cmp.Ordering.TheVariants.{Equal}
-use Rattle.std.specs.Ordering.{nat_cmp, is_eq}
+use Rattle.std.specs.Ordering.{nat_cmp}
 use Rattle.std.specs.Cmp.{IsTotalOrder, nat_cmp_total}
 use Rattle.std.proofs.lemmas.Cmp.{then_total, on_total}
 use Rattle.std.specs.Cmp.Lexicographic.{slice_cmp, nat_list_cmp_total}
@@ -19,7 +18,6 @@ use Rattle.iox_describe_settings.specs.declared.static_config.event.Setting.TheV
 use Rattle.iox_describe_settings.specs.declared.static_config.publish_subscribe.Setting.TheVariants as publish_subscribe
 use Rattle.iox_describe_settings.specs.declared.static_config.request_response.Setting.TheVariants as request_response
 use Rattle.iox_describe.specs.Line.{line}
-use Rattle.iox_describe.specs.Within.{IsWithinLimits}
 use Rattle.iox_negotiate_rounds.specs.Access.{Access, Look, Lock, MakeSegment, Publish, Unlock, OpenSegment, Leave, RemoveDescription, RemoveSegment}
 use Rattle.iox_negotiate_rounds.specs.declared.answer.LockAnswer.{LockAnswer}
 use Rattle.iox_negotiate_rounds.specs.declared.answer.MakeSegmentAnswer.{MakeSegmentAnswer}
@@ -32,20 +30,20 @@ use Rattle.iox_negotiate_table.specs.declared.node.Node.TheVariants.{Own, Foreig
 use Rattle.iox_negotiate_table.specs.declared.entry.Entry.{Entry}
 use Rattle.iox_negotiate_table.specs.declared.entry.Entry.TheVariants.{Locked, Described}
 use Rattle.iox_negotiate_table.specs.declared.segment.Segment.{Segment}
-use Rattle.iox_negotiate_table.specs.declared.segment.Segment.TheVariants.{Open, Emptied}
+use Rattle.iox_negotiate_table.specs.declared.segment.Segment.TheVariants.{Open}
 use Rattle.iox_negotiate_table.specs.declared.step.ForeignStep.{ForeignStep}
 use Rattle.iox_negotiate_table.specs.declared.step.ForeignStep.TheVariants as step
-use Rattle.iox_negotiate_table.specs.Nodes.{Nodes, count_in, first_node, first_foreign}
-use Rattle.iox_negotiate_table.specs.Segments.{Opens, after_leave, RegistersIn, after_foreign_leave}
-use Rattle.iox_negotiate_table.specs.Contents.{Contents, empty_table, entry_at, segment_at, with_entry, with_new_entry, without_entry, with_new_segment, with_segment, without_segment, with_lock, digest_cmp, place_cmp, may_make, may_publish, may_unlock, is_own_lock, is_lock_of, is_published, may_remove_description, may_remove_segment}
+use Rattle.iox_negotiate_table.specs.Nodes.{first_node, first_foreign}
+use Rattle.iox_negotiate_table.specs.Segments.{after_leave, after_foreign_leave}
+use Rattle.iox_negotiate_table.specs.Contents.{Contents, empty_table, entry_at, segment_at, with_entry, without_entry, with_new_segment, with_segment, without_segment, with_lock, digest_cmp, place_cmp, may_make, may_publish, may_unlock, is_own_lock, is_published, may_remove_description, may_remove_segment}
 use Rattle.iox_negotiate_table.specs.Foreign.{Acts, DoneOrLacking, Done, foreign_lock, published_number, with_service, PublishesForeign, RegistersForeign, RegistersAt, after_leaving, left_at, after_removal, is_left_by}
-use Rattle.iox_negotiate_table.specs.Sights.{Sight, LocksAt, LocksFree, Makes, Publishes, Unlocks, OpensAt, OpensPublished, LeavesAt, LeavesPublished, Removes}
+use Rattle.iox_negotiate_table.specs.Sights.{Sight, LocksAt, LocksFree, Makes, Publishes, Unlocks, OpensAt, LeavesAt, Removes}
 use Rattle.iox_negotiate_table.proofs.Entries.{is-self}
 use Rattle.iox_negotiate_laws.specs.Histories.{Event, Accesses, Steps, Happens, Ran, IsReached}
 use Rattle.iox_negotiate_table.specs.Laws.{HasFew}
 use Rattle.iox_negotiate_table.proofs.Opening.{opened-is-open}
 use Rattle.iox_negotiate_laws.specs.Lives.{number_of, FewAreIn, OpenedStands}
-use Rattle.iox_negotiate_laws.proofs.Maps.{no, on, by_test, insert-all, remove-all, set-all, set-found, found-all, weaker, none-passes, Rising, insert-rising, remove-rising, set-rising, Distinct, insert-distinct, remove-distinct, set-distinct}
+use Rattle.iox_negotiate_laws.proofs.Maps.{no, on, insert-all, remove-all, set-all, set-found, found-all, weaker, none-passes, Rising, insert-rising, remove-rising, set-rising, Distinct, insert-distinct, remove-distinct, set-distinct}
 use Rattle.iox_negotiate_laws.proofs.Seats.{IsSeat, opens-seat, leave-seat, register-seat, foreign-leave-seat}
 use Rattle.iox_negotiate_laws.proofs.Few.{IsFew, opens-few, leave-few, register-few, foreign-leave-few}
 
@@ -125,16 +123,34 @@ module _ (hash : ServiceHash) (old : Contents) (table : IsTable old) where
 
   module _ (number : ℕ) (segment : Segment) (few : IsFew segment) (seat : IsSeat segment) where
     pub new-segment-table : IsTable (with_new_segment hash number segment old)
-    new-segment-table = record { below = table.below; keys = table.keys; numbers = table.numbers; few = insert-all (λ e. IsFew e.1) place_cmp (hash.digest, number) segment place-exact old.segments table.few few;
-      places = insert-rising place_cmp place-total place-exact (hash.digest, number) segment old.segments table.places; seats = insert-all (λ e. IsSeat e.1) place_cmp (hash.digest, number) segment place-exact old.segments table.seats seat }
+    new-segment-table = record {
+      below = table.below;
+      keys = table.keys;
+      numbers = table.numbers;
+      few = insert-all (λ e. IsFew e.1) place_cmp (hash.digest, number) segment place-exact old.segments table.few few;
+      places = insert-rising place_cmp place-total place-exact (hash.digest, number) segment old.segments table.places;
+      seats = insert-all (λ e. IsSeat e.1) place_cmp (hash.digest, number) segment place-exact old.segments table.seats seat;
+    }
 
     pub segment-table : IsTable (with_segment hash number segment old)
-    segment-table = record { below = table.below; keys = table.keys; numbers = table.numbers; few = set-all (λ e. IsFew e.1) (is_at (place_cmp (hash.digest, number))) segment (λ x is. few) old.segments table.few;
-      places = set-rising place_cmp place-total place-exact (is_at (place_cmp (hash.digest, number))) segment old.segments table.places; seats = set-all (λ e. IsSeat e.1) (is_at (place_cmp (hash.digest, number))) segment (λ x is. seat) old.segments table.seats }
+    segment-table = record {
+      below = table.below;
+      keys = table.keys;
+      numbers = table.numbers;
+      few = set-all (λ e. IsFew e.1) (is_at (place_cmp (hash.digest, number))) segment (λ x is. few) old.segments table.few;
+      places = set-rising place_cmp place-total place-exact (is_at (place_cmp (hash.digest, number))) segment old.segments table.places;
+      seats = set-all (λ e. IsSeat e.1) (is_at (place_cmp (hash.digest, number))) segment (λ x is. seat) old.segments table.seats;
+    }
 
   pub without-segment-table : (number : ℕ) → IsTable (without_segment hash number old)
-  without-segment-table number = record { below = table.below; keys = table.keys; numbers = table.numbers; few = remove-all (λ e. IsFew e.1) (is_at (place_cmp (hash.digest, number))) old.segments table.few;
-    places = remove-rising place_cmp place-total place-exact (is_at (place_cmp (hash.digest, number))) old.segments table.places; seats = remove-all (λ e. IsSeat e.1) (is_at (place_cmp (hash.digest, number))) old.segments table.seats }
+  without-segment-table number = record {
+    below = table.below;
+    keys = table.keys;
+    numbers = table.numbers;
+    few = remove-all (λ e. IsFew e.1) (is_at (place_cmp (hash.digest, number))) old.segments table.few;
+    places = remove-rising place_cmp place-total place-exact (is_at (place_cmp (hash.digest, number))) old.segments table.places;
+    seats = remove-all (λ e. IsSeat e.1) (is_at (place_cmp (hash.digest, number))) old.segments table.seats;
+  }
 
   -- each own node lies once in the segment that is found
   pub seat-found : (number : ℕ) (segment : Segment) → segment_at hash number old ≡ Some segment → IsSeat segment

@@ -1,8 +1,6 @@
 -- The lives of services: each has a number, a lock, and one description.
-use Rattle.std.specs.Prelude.{◌≡◌, ◌<◌, ℕ, List, Some, None, Result, ◌⊎◌}
-use Rattle.std.specs.declared.alloc.AllocError.{AllocError}
+use Rattle.std.specs.Prelude.{◌≡◌, ◌<◌, ℕ, List, Some, None, ◌⊎◌}
 use Rattle.iox_describe_base.specs.declared.hash.ServiceHash.{ServiceHash}
-use Rattle.iox_describe_settings.specs.Agreement.{Agreement}
 use Rattle.iox_describe.specs.Line.{line}
 use Rattle.iox_negotiate_rounds.specs.Access.{Lock, Publish, OpenSegment}
 use Rattle.iox_negotiate_rounds.specs.declared.answer.LockAnswer.TheVariants.{Taken}
