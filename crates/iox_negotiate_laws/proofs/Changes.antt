@@ -35,17 +35,18 @@ use Rattle.iox_negotiate_table.proofs.Entries.{is-self}
 use Rattle.iox_negotiate_laws.specs.Histories.{Event, Accesses, Steps, Happens}
 use Rattle.iox_negotiate_laws.specs.Lives.{PublishesAs}
 use Rattle.iox_negotiate_laws.proofs.Maps.{no, on, by_test, insert-apart, remove-apart, set-apart}
-use Rattle.iox_negotiate_laws.proofs.Tables.{digest-exact, place-exact, digest-self, own-lock, foreign-locked}
+use Rattle.iox_negotiate_laws.proofs.Rooms.{SameRoom, opens-room, leave-room, register-room, foreign-leave-room}
+use Rattle.iox_negotiate_laws.proofs.Tables.{lock-of, digest-exact, place-exact, digest-self, own-lock, foreign-locked}
 
 -- What an event under a hash may make of a table.
 pub data Change (event : Event) (hash : ServiceHash) (old new : Contents) : Type 0 where
   Same : (is : new ≡ old) → Change event hash old new
   LockOf : (node : Node) (free : entry_at hash old ≡ None) (is : new ≡ with_lock hash node old) → Change event hash old new
   Without : (is : new ≡ without_entry hash old) → Change event hash old new
-  PublishOf : (node : Node) (number : ℕ) (bytes : List ℕ) (locked : entry_at hash old ≡ Some (Locked node number)) (by : PublishesAs hash number bytes old event)
-      (is : new ≡ with_entry hash (Described number bytes) old) → Change event hash old new
-  NewSegment : (number : ℕ) (segment : Segment) (is : new ≡ with_new_segment hash number segment old) → Change event hash old new
-  OfSegment : (number : ℕ) (segment : Segment) (is : new ≡ with_segment hash number segment old) → Change event hash old new
+  PublishOf : (node number : ℕ) (bytes : List ℕ) (locked : entry_at hash old ≡ Some (Locked (Own node) number)) (by : PublishesAs hash number bytes old event) (is : new ≡ with_entry hash (Described number bytes) old)
+      → Change event hash old new
+  NewSegment : (number node : ℕ) (segment : Segment) (locked : entry_at hash old ≡ Some (Locked (Own node) number)) (is : new ≡ with_new_segment hash number segment old) → Change event hash old new
+  OfSegment : (number : ℕ) (before segment : Segment) (stood : segment_at hash number old ≡ Some before) (room : SameRoom before segment) (is : new ≡ with_segment hash number segment old) → Change event hash old new
   WithoutSegment : (number : ℕ) (is : new ≡ without_segment hash number old) → Change event hash old new
   ServiceOf : (node number : ℕ) (agreed : Agreement) (locked : entry_at hash old ≡ Some (Locked (Foreign node) number)) (by : PublishesAs hash number (line agreed) old event)
       (is : new ≡ with_service hash number node agreed old) → Change event hash old new
@@ -75,24 +76,24 @@ module _ (event : Event) (hash : ServiceHash) (old new : Contents) where
   locks node answer (Some (Locked by number)) free h = Same h.1
   locks node answer (Some (Described number bytes)) free h = Same h.1
 
-  makes : (number node max_nodes : ℕ) (answer : MakeSegmentAnswer) (b : Bool) → Makes b hash number node max_nodes old answer new → Change event hash old new
-  makes number node max_nodes answer true (inl h) = NewSegment number (Open (first_node node max_nodes)) h.1
-  makes number node max_nodes answer true (inr h) = Same h.1
-  makes number node max_nodes answer false h = Same h.1
+  makes : (number node max_nodes : ℕ) (answer : MakeSegmentAnswer) (b : Bool) → may_make hash number node max_nodes old ≡ b → Makes b hash number node max_nodes old answer new → Change event hash old new
+  makes number node max_nodes answer true may (inl h) = NewSegment number node (Open (first_node node max_nodes)) (lock-of number node (entry_at hash old) (not (is_some (segment_at hash number old)) && true) (grind (arith, may))) h.1
+  makes number node max_nodes answer true may (inr h) = Same h.1
+  makes number node max_nodes answer false may h = Same h.1
 
   unlocks : (b : Bool) → Unlocks b hash old new → Change event hash old new
   unlocks true h = Without h
   unlocks false h = Same h
 
-  opens : (number node : ℕ) (answer : OpenSegmentAnswer) (b : Bool) (found : Option Segment) → OpensAt b found hash number node old answer new → Change event hash old new
-  opens number node answer true (Some segment) h = OfSegment number h.0 h.2
-  opens number node answer true None h = Same h.1
-  opens number node answer false found h = Same h.1
+  opens : (number node : ℕ) (answer : OpenSegmentAnswer) (b : Bool) (found : Option Segment) → segment_at hash number old ≡ found → OpensAt b found hash number node old answer new → Change event hash old new
+  opens number node answer true (Some segment) stood h = OfSegment number segment h.0 stood (opens-room node segment h.0 answer h.1) h.2
+  opens number node answer true None stood h = Same h.1
+  opens number node answer false found stood h = Same h.1
 
-  leaves : (number node : ℕ) (answer : LeaveAnswer) (b : Bool) (found : Option Segment) → LeavesAt b found hash number node old answer new → Change event hash old new
-  leaves number node answer true (Some segment) h = OfSegment number (after_leave node segment) h.1
-  leaves number node answer true None h = Same h.1
-  leaves number node answer false found h = Same h.1
+  leaves : (number node : ℕ) (answer : LeaveAnswer) (b : Bool) (found : Option Segment) → segment_at hash number old ≡ found → LeavesAt b found hash number node old answer new → Change event hash old new
+  leaves number node answer true (Some segment) stood h = OfSegment number segment (after_leave node segment) stood (leave-room node segment) h.1
+  leaves number node answer true None stood h = Same h.1
+  leaves number node answer false found stood h = Same h.1
 
   removes-description : (answer : RemoveAnswer) (b : Bool) → Removes b (without_entry hash old) old answer new → Change event hash old new
   removes-description answer true h = Without h.1
@@ -115,20 +116,20 @@ module _ (event : Event) (hash : ServiceHash) (old new : Contents) where
   gives-up result true h = Without h.1
   gives-up result false h = Same h.1
 
-  registers-foreign : (number node : ℕ) (result : Result (Unit {0}) AllocError) (found : Option Segment) → RegistersAt found hash number node old result new → Change event hash old new
-  registers-foreign number node result (Some segment) h = OfSegment number h.0 h.2
-  registers-foreign number node result None h = Same h.1
+  registers-foreign : (number node : ℕ) (result : Result (Unit {0}) AllocError) (found : Option Segment) → segment_at hash number old ≡ found → RegistersAt found hash number node old result new → Change event hash old new
+  registers-foreign number node result (Some segment) stood h = OfSegment number segment h.0 stood (register-room node segment h.0 result h.1) h.2
+  registers-foreign number node result None stood h = Same h.1
 
   registers-at : (node : ℕ) (result : Result (Unit {0}) AllocError) (found : Option ℕ) → RegistersForeign found hash node old result new → Change event hash old new
-  registers-at node result (Some number) h = registers-foreign number node result (segment_at hash number old) h
+  registers-at node result (Some number) h = registers-foreign number node result (segment_at hash number old) refl h
   registers-at node result None h = Same h.1
 
-  leaves-foreign : (number node : ℕ) (found : Option Segment) → new ≡ left_at found hash number node old → Change event hash old new
-  leaves-foreign number node (Some segment) h = OfSegment number (after_foreign_leave node segment) h
-  leaves-foreign number node None h = Same h
+  leaves-foreign : (number node : ℕ) (found : Option Segment) → segment_at hash number old ≡ found → new ≡ left_at found hash number node old → Change event hash old new
+  leaves-foreign number node (Some segment) stood h = OfSegment number segment (after_foreign_leave node segment) stood (foreign-leave-room node segment) h
+  leaves-foreign number node None stood h = Same h
 
   leaves-number : (node : ℕ) (found : Option ℕ) → new ≡ after_leaving found hash node old → Change event hash old new
-  leaves-number node (Some number) h = leaves-foreign number node (segment_at hash number old) h
+  leaves-number node (Some number) h = leaves-foreign number node (segment_at hash number old) refl h
   leaves-number node None h = Same h
 
   removes-foreign : (number : ℕ) (b : Bool) → new ≡ cond b (without_segment hash number (without_entry hash old)) old → Change event hash old new
@@ -143,7 +144,7 @@ publishes : (hash : ServiceHash) (old new : Contents) (number : ℕ) (bytes : Li
     → Change (Accesses (Publish hash number bytes answer)) hash old new
 publishes hash old new number bytes answer true may (inl h) =
     let locked = own-lock number (entry_at hash old) (is_some (segment_at hash number old)) may in
-    PublishOf (Own locked.0) number bytes locked.1 (locked.0, locked.1, refl, refl, refl, h.0) h.1
+    PublishOf locked.0 number bytes locked.1 (locked.0, locked.1, refl, refl, refl, h.0) h.1
 publishes hash old new number bytes answer true may (inr h) = Same h.1
 publishes hash old new number bytes answer false may h = Same h.1
 
@@ -166,11 +167,11 @@ module _ (old new : Contents) where
   sees : (access : Access) → Sight old access new → Change (Accesses access) (hash_of (Accesses access)) old new
   sees (Look hash answer) h = Same h.1
   sees (Lock hash node answer) h = locks _ hash old new (Own node) answer (entry_at hash old) refl h
-  sees (MakeSegment hash number node max_nodes answer) h = makes _ hash old new number node max_nodes answer (may_make hash number node max_nodes old) h
+  sees (MakeSegment hash number node max_nodes answer) h = makes _ hash old new number node max_nodes answer (may_make hash number node max_nodes old) refl h
   sees (Publish hash number bytes answer) h = publishes hash old new number bytes answer (may_publish hash number old) refl h
   sees (Unlock hash number) h = unlocks _ hash old new (may_unlock hash number old) h
-  sees (OpenSegment hash number node answer) h = opens _ hash old new number node answer (is_published hash number old) (segment_at hash number old) h
-  sees (Leave hash number node answer) h = leaves _ hash old new number node answer (is_published hash number old) (segment_at hash number old) h
+  sees (OpenSegment hash number node answer) h = opens _ hash old new number node answer (is_published hash number old) (segment_at hash number old) refl h
+  sees (Leave hash number node answer) h = leaves _ hash old new number node answer (is_published hash number old) (segment_at hash number old) refl h
   sees (RemoveDescription hash number answer) h = removes-description _ hash old new answer (may_remove_description hash number old) h
   sees (RemoveSegment hash number answer) h = removes-segment _ hash old new number answer (may_remove_segment hash number old) h
 
@@ -248,11 +249,11 @@ module _ (hash other : ServiceHash) (differ : hash.digest ≢ other.digest) (old
   elsewhere event (LockOf node free is) = rw is (record { entry = insert-apart digest_cmp hash.digest (Locked node old.next) (is_at (digest_cmp other.digest)) (hash-away hash other differ) digest-exact old.entries; segment = λ n. refl })
   elsewhere event (Without is) = rw is (record { entry = remove-apart (is_at (digest_cmp hash.digest)) (is_at (digest_cmp other.digest)) (hash-apart hash other differ) old.entries; segment = λ n. refl })
   elsewhere event (PublishOf node number bytes locked by is) = rw is (record { entry = set-apart (is_at (digest_cmp hash.digest)) (is_at (digest_cmp other.digest)) (hash-apart hash other differ) old.entries (Described number bytes); segment = λ n. refl })
-  elsewhere event (NewSegment number segment is) = rw is (record {
+  elsewhere event (NewSegment number node segment locked is) = rw is (record {
     entry = refl;
     segment = λ n. insert-apart place_cmp (hash.digest, number) segment (is_at (place_cmp (other.digest, n))) (place-away (hash.digest, number) (other.digest, n) (place-differs hash other differ number n)) place-exact old.segments;
   })
-  elsewhere event (OfSegment number segment is) = rw is (record {
+  elsewhere event (OfSegment number before segment stood room is) = rw is (record {
     entry = refl;
     segment = λ n. set-apart (is_at (place_cmp (hash.digest, number))) (is_at (place_cmp (other.digest, n))) (place-apart (hash.digest, number) (other.digest, n) (place-differs hash other differ number n)) old.segments segment;
   })
@@ -277,8 +278,8 @@ rises event hash old new (Same is) = rw is (omega arith)
 rises event hash old new (LockOf node free is) = rw is (omega arith)
 rises event hash old new (Without is) = rw is (omega arith)
 rises event hash old new (PublishOf node number bytes locked by is) = rw is (omega arith)
-rises event hash old new (NewSegment number segment is) = rw is (omega arith)
-rises event hash old new (OfSegment number segment is) = rw is (omega arith)
+rises event hash old new (NewSegment number node segment locked is) = rw is (omega arith)
+rises event hash old new (OfSegment number before segment stood room is) = rw is (omega arith)
 rises event hash old new (WithoutSegment number is) = rw is (omega arith)
 rises event hash old new (ServiceOf node number agreed locked by is) = rw is (omega arith)
 rises event hash old new (Removal number is) = rw is (omega arith)

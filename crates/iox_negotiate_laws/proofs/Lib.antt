@@ -2,6 +2,7 @@ pub mod Maps
 pub mod Few
 pub mod Seats
 pub mod Tables
+pub mod Rooms
 pub mod Changes
 pub mod Lives
 pub mod Held

@@ -27,7 +27,7 @@ use Rattle.iox_negotiate_laws.specs.Histories.{Accesses, Steps}
 use Rattle.iox_negotiate_laws.specs.Factories.{Factory, is_of, times, IsAmong, Stands, AllStand}
 use Rattle.iox_negotiate_laws.proofs.Maps.{no, by_test}
 use Rattle.iox_negotiate_laws.proofs.Few.{opens-few}
-use Rattle.iox_negotiate_laws.proofs.Tables.{IsTable, few-found}
+use Rattle.iox_negotiate_laws.proofs.Tables.{lock-of, IsTable, few-found}
 use Rattle.iox_negotiate_laws.proofs.Changes.{changes, hash_of, by_hash, elsewhere, same-place}
 use Rattle.iox_negotiate_laws.proofs.Lives.{one-life-of}
 use Rattle.iox_negotiate_laws.proofs.Held.{IsHeld, IsHeldStill, stays, here, away, leaves-one, entered-same, entered-first, by_number, some-same}
@@ -308,12 +308,6 @@ pub record IsMaking (hash : ServiceHash) (number node : ℕ) (table : Contents) 
   pub locked : entry_at hash table ≡ Some (Locked (Own node) number)
   pub made : segment_at hash number table ≡ Some (Open (first_node node max_nodes))
   pub room : 1 ≤ max_nodes
-
-lock-of : (number node : ℕ) (entry : Option Entry) (b : Bool) → (is_lock_of node number entry && b) ≡ true → entry ≡ Some (Locked (Own node) number)
-lock-of number node None b is = no is
-lock-of number node (Some (Described at bytes)) b is = no is
-lock-of number node (Some (Locked (Foreign by) at)) b is = no is
-lock-of number node (Some (Locked (Own by) at)) b is = let who : by ≡ node = grind (arith, is) in let which : at ≡ number = grind (arith, is) in cc
 
 pub made-making : (hash : ServiceHash) (number node max_nodes : ℕ) (old new : Contents) → Sight old (MakeSegment hash number node max_nodes making.Made) new → IsMaking hash number node new
 made-making hash number node max_nodes old new sight = at (may_make hash number node max_nodes old) refl sight

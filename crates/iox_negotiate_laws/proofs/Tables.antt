@@ -35,7 +35,7 @@ use Rattle.iox_negotiate_table.specs.declared.step.ForeignStep.{ForeignStep}
 use Rattle.iox_negotiate_table.specs.declared.step.ForeignStep.TheVariants as step
 use Rattle.iox_negotiate_table.specs.Nodes.{first_node, first_foreign}
 use Rattle.iox_negotiate_table.specs.Segments.{after_leave, after_foreign_leave}
-use Rattle.iox_negotiate_table.specs.Contents.{Contents, empty_table, entry_at, segment_at, with_entry, without_entry, with_new_segment, with_segment, without_segment, with_lock, digest_cmp, place_cmp, may_make, may_publish, may_unlock, is_own_lock, is_published, may_remove_description, may_remove_segment}
+use Rattle.iox_negotiate_table.specs.Contents.{Contents, empty_table, entry_at, segment_at, with_entry, without_entry, with_new_segment, with_segment, without_segment, with_lock, digest_cmp, place_cmp, may_make, may_publish, may_unlock, is_own_lock, is_lock_of, is_published, may_remove_description, may_remove_segment}
 use Rattle.iox_negotiate_table.specs.Foreign.{Acts, DoneOrLacking, Done, foreign_lock, published_number, with_service, PublishesForeign, RegistersForeign, RegistersAt, after_leaving, left_at, after_removal, is_left_by}
 use Rattle.iox_negotiate_table.specs.Sights.{Sight, LocksAt, LocksFree, Makes, Publishes, Unlocks, OpensAt, LeavesAt, Removes}
 use Rattle.iox_negotiate_table.proofs.Entries.{is-self}
@@ -170,6 +170,13 @@ own-lock number None b is = no is
 own-lock number (Some (Described at bytes)) b is = no is
 own-lock number (Some (Locked (Foreign node) at)) b is = no is
 own-lock number (Some (Locked (Own node) at)) b is = let same : at ≡ number = grind (arith, is) in (node, ap (λ n. Some (Locked (Own node) n)) same)
+
+-- the lock of this own node
+pub lock-of : (number node : ℕ) (entry : Option Entry) (b : Bool) → (is_lock_of node number entry && b) ≡ true → entry ≡ Some (Locked (Own node) number)
+lock-of number node None b is = no is
+lock-of number node (Some (Described at bytes)) b is = no is
+lock-of number node (Some (Locked (Foreign by) at)) b is = no is
+lock-of number node (Some (Locked (Own by) at)) b is = let who : by ≡ node = grind (arith, is) in let which : at ≡ number = grind (arith, is) in cc
 
 module _ (hash : ServiceHash) (old new : Contents) (table : IsTable old) where
   locks : (node : Node) (answer : LockAnswer) (found : Option Entry) → entry_at hash old ≡ found → LocksAt found hash node old answer new → IsTable new
