@@ -49,7 +49,7 @@ pub data Change (event : Event) (hash : ServiceHash) (old new : Contents) : Type
   OfSegment : (number : ℕ) (before segment : Segment) (stood : segment_at hash number old ≡ Some before) (room : SameRoom before segment) (is : new ≡ with_segment hash number segment old) → Change event hash old new
   WithoutSegment : (number : ℕ) (is : new ≡ without_segment hash number old) → Change event hash old new
   ServiceOf : (node number : ℕ) (agreed : Agreement) (locked : entry_at hash old ≡ Some (Locked (Foreign node) number)) (by : PublishesAs hash number (line agreed) old event)
-      (is : new ≡ with_service hash number node agreed old) → Change event hash old new
+      (own : IsFor hash agreed) (is : new ≡ with_service hash number node agreed old) → Change event hash old new
   Removal : (number : ℕ) (is : new ≡ without_segment hash number (without_entry hash old)) → Change event hash old new
 
 -- the hash of an event
@@ -158,7 +158,7 @@ publishes-foreign hash old new node result agreed (Some number) lock h = there h
 
     there : (b : Bool) (result : Result (Unit {0}) AllocError) → (b ≡ true → IsFor hash agreed) → DoneOrLacking b (with_service hash number node agreed old) old result new
         → Change (Steps hash (step.Publish node agreed)) hash old new
-    there true (Ok done) own h = ServiceOf node number agreed locked (locked, refl, own refl, refl) h
+    there true (Ok done) own h = ServiceOf node number agreed locked (locked, refl, own refl, refl) (own refl) h
     there true (Err lacking) own h = Same h
     there false (Ok done) own h = Same h
     there false (Err lacking) own h = absurd h
@@ -261,7 +261,7 @@ module _ (hash other : ServiceHash) (differ : hash.digest ≢ other.digest) (old
     entry = refl;
     segment = λ n. remove-apart (is_at (place_cmp (hash.digest, number))) (is_at (place_cmp (other.digest, n))) (place-apart (hash.digest, number) (other.digest, n) (place-differs hash other differ number n)) old.segments;
   })
-  elsewhere event (ServiceOf node number agreed locked by is) = rw is (record {
+  elsewhere event (ServiceOf node number agreed locked by own is) = rw is (record {
     entry = set-apart (is_at (digest_cmp hash.digest)) (is_at (digest_cmp other.digest)) (hash-apart hash other differ) old.entries (Described number (line agreed));
     segment = λ n. insert-apart place_cmp (hash.digest, number) (Open (first_foreign node (max_nodes_of agreed.settings))) (is_at (place_cmp (other.digest, n))) (place-away (hash.digest, number) (other.digest, n) (place-differs hash other differ number n)) place-exact old.segments;
   })
@@ -281,5 +281,5 @@ rises event hash old new (PublishOf node number bytes locked by is) = rw is (ome
 rises event hash old new (NewSegment number node segment locked is) = rw is (omega arith)
 rises event hash old new (OfSegment number before segment stood room is) = rw is (omega arith)
 rises event hash old new (WithoutSegment number is) = rw is (omega arith)
-rises event hash old new (ServiceOf node number agreed locked by is) = rw is (omega arith)
+rises event hash old new (ServiceOf node number agreed locked by own is) = rw is (omega arith)
 rises event hash old new (Removal number is) = rw is (omega arith)

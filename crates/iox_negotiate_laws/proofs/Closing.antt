@@ -126,10 +126,10 @@ removes-then hash number by old new answer free emptied h = there (may_remove_se
     there false is h = on (sym is)
 
 -- what lies under the hash after a removal
-entry-gone : (hash : ServiceHash) (table : Contents) → IsTable table → entry_at hash (without_entry hash table) ≡ None
+pub entry-gone : (hash : ServiceHash) (table : Contents) → IsTable table → entry_at hash (without_entry hash table) ≡ None
 entry-gone hash table is = remove-same (is_at (digest_cmp hash.digest)) (λ x y a b. sym (digest-exact hash.digest x (equal-of _ a)) ∙ digest-exact hash.digest y (equal-of _ b)) table.entries is.keys
 
-segment-gone : (hash : ServiceHash) (number : ℕ) (table : Contents) → IsTable table → segment_at hash number (without_segment hash number table) ≡ None
+pub segment-gone : (hash : ServiceHash) (number : ℕ) (table : Contents) → IsTable table → segment_at hash number (without_segment hash number table) ≡ None
 segment-gone hash number table is = remove-same (is_at (place_cmp (hash.digest, number))) (λ x y a b. sym (place-exact (hash.digest, number) x (equal-of _ a)) ∙ place-exact (hash.digest, number) y (equal-of _ b)) table.segments
     (rising-distinct place_cmp place-total place-exact same-place table.segments is.places)
 

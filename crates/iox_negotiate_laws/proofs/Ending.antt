@@ -56,7 +56,7 @@ pub world-quiet : (all : List Factory) (made : List Access) (old new : Steps) �
 world-quiet all made old new quiet w went = quiet-keeps (λ t. World all t) (world-step all) (world-access all) made old new quiet w went
 
 world-stepped : (all : List Factory) (access : Access) (old new : Steps) → Quiet access → World all old.table → SteppedSight old access new → World all new.table
-world-stepped all access old new quiet w h = stepped-keeps (λ t. World all t) (world-step all) (world-access all) access old new quiet w h
+world-stepped all access old new quiet w h = stepped-keeps (λ t. World all t) (world-step all) (λ a. Quiet a) (world-access all) access old new quiet w h
 
 -- ---- a look and an opening
 
@@ -84,10 +84,10 @@ found-not-lacking number bytes e = cc
 registered-not-lacking : opening.Registered ≡ opening.OutOfMemory → ⊥
 registered-not-lacking e = cc
 
-made-not-lacking : making.Made ≡ making.OutOfMemory → ⊥
+pub made-not-lacking : making.Made ≡ making.OutOfMemory → ⊥
 made-not-lacking e = cc
 
-published-not-lacking : publishing.Published ≡ publishing.OutOfMemory → ⊥
+pub published-not-lacking : publishing.Published ≡ publishing.OutOfMemory → ⊥
 published-not-lacking e = cc
 
 module _ (all : List Factory) (number node : ℕ) (agreed : Agreement) (old new : Steps) (w : World all old.table) where
@@ -155,7 +155,7 @@ module _ (all : List Factory) (number node : ℕ) (agreed : Agreement) (old new 
 
 -- ---- which accesses they are
 
-not-some-err : {E : Type 0} (service : Opened) (failure : E) → Some (Ok service) ≡ Some (Err failure) → ⊥
+pub not-some-err : {E : Type 0} (service : Opened) (failure : E) → Some (Ok service) ≡ Some (Err failure) → ⊥
 not-some-err service failure h = cc
 
 abbrev answered : (E : Type 0) → Opened → Option (Result Opened E)
@@ -171,12 +171,12 @@ same-service : {E : Type 0} (one other : Opened) → answered E one ≡ answered
 same-service one other h = cc
 
 -- what was read
-record Read (hash : ServiceHash) (answer : LookAnswer) (number : ℕ) (agreed : Agreement) : Type 0 where
-  bytes : List ℕ
-  is : answer ≡ look.Found number bytes
-  describes : Describes hash bytes agreed
+pub record Read (hash : ServiceHash) (answer : LookAnswer) (number : ℕ) (agreed : Agreement) : Type 0 where
+  pub bytes : List ℕ
+  pub is : answer ≡ look.Found number bytes
+  pub describes : Describes hash bytes agreed
 
-read-of : (hash : ServiceHash) (answer : LookAnswer) (number : ℕ) (agreed : Agreement) → IsSight hash answer (sight.Standing number agreed) → Read hash answer number agreed
+pub read-of : (hash : ServiceHash) (answer : LookAnswer) (number : ℕ) (agreed : Agreement) → IsSight hash answer (sight.Standing number agreed) → Read hash answer number agreed
 read-of hash look.Absent number agreed h = absurd (differ h)
   where
     differ : sight.Standing number agreed ≡ sight.Absent → ⊥
@@ -201,9 +201,9 @@ read-of hash look.OutOfMemory number agreed h = absurd (differ h)
 
 module _ {V : Type 0} (hash : ServiceHash) (node : ℕ) (verdict : Agreement → Result (Unit {0}) V) where
   -- the segment was opened, and nothing else was done
-  record Entered (number : ℕ) (agreed : Agreement) (made : List Access) (service : Opened) : Type 0 where
-    is : service ≡ opened number agreed
-    list : made ≡ OpenSegment hash number node opening.Registered ∷ []
+  pub record Entered (number : ℕ) (agreed : Agreement) (made : List Access) (service : Opened) : Type 0 where
+    pub is : service ≡ opened number agreed
+    pub list : made ≡ OpenSegment hash number node opening.Registered ∷ []
 
   entered-of : (number : ℕ) (agreed : Agreement) (answer : OpenSegmentAnswer) (service : Opened) → Some (Ok service) ≡ entered {V = V} number agreed answer → (answer ≡ opening.Registered) × (service ≡ opened number agreed)
   entered-of number agreed opening.Registered service h = (refl, same-service service (opened number agreed) h)
@@ -220,7 +220,7 @@ module _ {V : Type 0} (hash : ServiceHash) (node : ℕ) (verdict : Agreement →
       record { is = e.1; list = let registered : answer ≡ opening.Registered = e.0 in cc }
   registers-of number agreed made service h = absurd h
 
-  judged-of : (number : ℕ) (agreed : Agreement) (judged : Result (Unit {0}) V) (made : List Access) (service : Opened) → OpensJudged hash node verdict number agreed judged made (Some (Ok service)) → Entered number agreed made service
+  pub judged-of : (number : ℕ) (agreed : Agreement) (judged : Result (Unit {0}) V) (made : List Access) (service : Opened) → OpensJudged hash node verdict number agreed judged made (Some (Ok service)) → Entered number agreed made service
   judged-of number agreed (Ok met) made service h = registers-of number agreed made service h
   judged-of number agreed (Err unmet) made service h = absurd (not-some-err service _ h.1)
 
@@ -285,12 +285,12 @@ opens-ends hash node verdict all made service old new w opens went =
     rounds-end (OpenRound hash node verdict) (round-quiet hash node verdict) all (factory_of node service ∷ all) (Ok service) _ (λ h. not-ok-err service _ h)
     (λ last mid end v r g. round-ends hash node verdict all mid end v last service r g) made old new w opens went
 
-passed-on : {V : Type 0} (answer : Option (Result Opened (OpenFailure V))) (service : Opened) → Some (Ok service) ≡ opened_or_again answer → answer ≡ Some (Ok service)
+pub passed-on : {V : Type 0} (answer : Option (Result Opened (OpenFailure V))) (service : Opened) → Some (Ok service) ≡ opened_or_again answer → answer ≡ Some (Ok service)
 passed-on None service h = absurd (not-none service h)
 passed-on (Some (Ok other)) service h = ap (λ s. Some (Ok s)) (sym (same-service service other h))
 passed-on (Some (Err failure)) service h = absurd (not-some-err service _ h)
 
-created-is : {V : Type 0} (came : Attempt) (service : Opened) → Some (Ok service) ≡ created_or_again {V = V} came → Ok service ≡ created came
+pub created-is : {V : Type 0} (came : Attempt) (service : Opened) → Some (Ok service) ≡ created_or_again {V = V} came → Ok service ≡ created came
 created-is (attempt.Made made) service h = ap (λ s. Ok s) (same-service service made h)
 created-is attempt.IsLocked service h = absurd (not-none service h)
 created-is attempt.Exists service h = absurd (not-none service h)

@@ -143,7 +143,7 @@ module _ (life_hash : ServiceHash) (entry : Entry) (hash : ServiceHash) (old new
   lives-on event (NewSegment number node segment locked is) = rw is (record { below = life.below; own = life.own })
   lives-on event (OfSegment number before segment stood room is) = rw is (record { below = life.below; own = life.own })
   lives-on event (WithoutSegment number is) = rw is (record { below = life.below; own = life.own })
-  lives-on event (ServiceOf node number agreed locked by is) = rw is (record { below = life.below; own = published-life (Foreign node) number (line agreed) locked })
+  lives-on event (ServiceOf node number agreed locked by own is) = rw is (record { below = life.below; own = published-life (Foreign node) number (line agreed) locked })
   lives-on event (Removal number is) = rw is (record { below = life.below; own = remove-all Owned (is_at (digest_cmp hash.digest)) old.entries life.own })
 
 runs-on : (hash : ServiceHash) (entry : Entry) (events : List Event) (old new : Contents) → IsLife hash entry old → Ran old events new → IsLife hash entry new
@@ -178,10 +178,10 @@ one-life old new events hash later_hash entry later r ran found late same = one-
 
 -- ---- publishing
 
-not-locked : (node : Node) (at number : ℕ) (bytes : List ℕ) → Some (Locked node at) ≡ Some (Described number bytes) → ⊥
+pub not-locked : (node : Node) (at number : ℕ) (bytes : List ℕ) → Some (Locked node at) ≡ Some (Described number bytes) → ⊥
 not-locked node at number bytes e = cc
 
-not-none : (number : ℕ) (bytes : List ℕ) → None ≡ Some (Described number bytes) → ⊥
+pub not-none : (number : ℕ) (bytes : List ℕ) → None ≡ Some (Described number bytes) → ⊥
 not-none number bytes e = cc
 
 module _ (hash : ServiceHash) (number : ℕ) (bytes : List ℕ) (old new : Contents) (table : IsTable old) (event : Event) (stands : entry_at hash new ≡ Some (Described number bytes)) where
@@ -217,7 +217,7 @@ module _ (hash : ServiceHash) (number : ℕ) (bytes : List ℕ) (old new : Conte
   publishes-here (NewSegment at node segment locked is) = inl (now _ is)
   publishes-here (OfSegment at before segment stood room is) = inl (now _ is)
   publishes-here (WithoutSegment at is) = inl (now _ is)
-  publishes-here (ServiceOf node at agreed locked by is) = set at (line agreed) (Foreign node) locked by (now _ is)
+  publishes-here (ServiceOf node at agreed locked by own is) = set at (line agreed) (Foreign node) locked by (now _ is)
   publishes-here (Removal at is) = removed (now _ is)
 
 pub published-by-its-lock : PublishedByItsLock

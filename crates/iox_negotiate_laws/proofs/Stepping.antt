@@ -28,22 +28,22 @@ module _ (P : Contents → Type 0) (by_step : (hash : ServiceHash) (step : Forei
       goes (Ok happened) q later g = later q g
       goes (Err lacking) q later g = subst P (sym g.1) q
 
-  module _ (by_access : (access : Access) (old new : Contents) → Quiet access → P old → Sight old access new → P new) where
-    preceded-keeps : (hash : ServiceHash) (access : Access) (lacking : Type 0) (old new : Steps) → Quiet access → P old.table → Preceded hash access lacking old new → P new.table
+  module _ (Q : Access → Type 0) (by_access : (access : Access) (old new : Contents) → Q access → P old → Sight old access new → P new) where
+    preceded-keeps : (hash : ServiceHash) (access : Access) (lacking : Type 0) (old new : Steps) → Q access → P old.table → Preceded hash access lacking old new → P new.table
     preceded-keeps hash access lacking old new quiet p h = goes h.1 (acts-keep hash (next_list old.lists) old.table h.0 h.1 p h.2) h.3
       where
         goes : (happened : Result (Unit {0}) AllocError) → P h.0 → GoesOn happened (Sight h.0 access new.table) (lacking × (new.table ≡ h.0)) → P new.table
         goes (Ok done) q g = by_access access h.0 new.table quiet q g
         goes (Err lack) q g = subst P (sym g.1) q
 
-    pub stepped-keeps : (access : Access) (old new : Steps) → Quiet access → P old.table → SteppedSight old access new → P new.table
+    pub stepped-keeps : (access : Access) (old new : Steps) → Q access → P old.table → SteppedSight old access new → P new.table
     stepped-keeps (Look hash answer) old new quiet p h = preceded-keeps hash (Look hash answer) _ old new quiet p h
     stepped-keeps (Lock hash node answer) old new quiet p h = preceded-keeps hash (Lock hash node answer) _ old new quiet p h
     stepped-keeps (MakeSegment hash number node max_nodes answer) old new quiet p h = preceded-keeps hash (MakeSegment hash number node max_nodes answer) _ old new quiet p h
     stepped-keeps (Publish hash number bytes answer) old new quiet p h = preceded-keeps hash (Publish hash number bytes answer) _ old new quiet p h
     stepped-keeps (OpenSegment hash number node answer) old new quiet p h = preceded-keeps hash (OpenSegment hash number node answer) _ old new quiet p h
     stepped-keeps (Unlock hash number) old new quiet p h = by_access (Unlock hash number) old.table new.table quiet p h.0
-    stepped-keeps (Leave hash number node answer) old new quiet p h = absurd quiet
+    stepped-keeps (Leave hash number node answer) old new quiet p h = by_access (Leave hash number node answer) old.table new.table quiet p h.0
     stepped-keeps (RemoveDescription hash number answer) old new quiet p h = by_access (RemoveDescription hash number answer) old.table new.table quiet p h.0
     stepped-keeps (RemoveSegment hash number answer) old new quiet p h = by_access (RemoveSegment hash number answer) old.table new.table quiet p h.0
 
@@ -136,4 +136,4 @@ pub quiet-keeps : (P : Contents → Type 0) → ((hash : ServiceHash) (step : Fo
     → (made : List Access) (old new : Steps) → AllQuiet made → P old.table → Went SteppedSight old made new → P new.table
 quiet-keeps P by_step by_access [] old new all p went = subst (λ s. P s.table) (sym went) p
 quiet-keeps P by_step by_access (access ∷ made) old new all p went =
-    quiet-keeps P by_step by_access made went.0 new all.1 (stepped-keeps P by_step by_access access old went.0 all.0 p went.1) went.2
+    quiet-keeps P by_step by_access made went.0 new all.1 (stepped-keeps P by_step (λ a. Quiet a) by_access access old went.0 all.0 p went.1) went.2
