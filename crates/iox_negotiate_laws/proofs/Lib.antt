@@ -12,3 +12,4 @@ pub mod Quiet
 pub mod Ending
 pub mod Calling
 pub mod Closing
+pub mod Rooming

@@ -328,6 +328,21 @@ made-making hash number node max_nodes old new sight = at (may_make hash number 
         differ : making.Made ≡ making.Fault → ⊥
         differ e = cc
 
+-- and its segment is this one
+pub made-seat : (hash : ServiceHash) (number node max_nodes : ℕ) (old new : Contents) → Sight old (MakeSegment hash number node max_nodes making.Made) new → segment_at hash number new ≡ Some (Open (first_node node max_nodes))
+made-seat hash number node max_nodes old new sight = at (may_make hash number node max_nodes old) sight
+  where
+    at : (b : Bool) → Makes b hash number node max_nodes old making.Made new → segment_at hash number new ≡ Some (Open (first_node node max_nodes))
+    at true (inl h) = rw h.1 (lookup-added place_cmp (hash.digest, number) (Open (first_node node max_nodes)) old.segments (same-place (hash.digest, number)))
+    at true (inr h) = absurd (differ h.0)
+      where
+        differ : making.Made ≡ making.OutOfMemory → ⊥
+        differ e = cc
+    at false h = absurd (differ h.0)
+      where
+        differ : making.Made ≡ making.Fault → ⊥
+        differ e = cc
+
 published-held : (hash : ServiceHash) (number node : ℕ) (bytes : List ℕ) (old new : Contents) → IsMaking hash number node old → Sight old (Publish hash number bytes publishing.Published) new → IsHeld hash number node bytes 1 new
 published-held hash number node bytes old new m sight = at (may_publish hash number old) sight
   where
