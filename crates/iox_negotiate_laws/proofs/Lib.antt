@@ -13,3 +13,5 @@ pub mod Ending
 pub mod Calling
 pub mod Closing
 pub mod Rooming
+pub mod Careful
+pub mod CallRooms

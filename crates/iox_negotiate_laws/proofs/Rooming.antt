@@ -1,14 +1,12 @@
 -- The segment of each service that is published has room for the agreed number of nodes.
-use Rattle.std.proofs.Common.{◌≡◌, ◌≢◌, ℕ, Bool, true, false, List, [], ◌∷◌, ◌++◌, Option, None, Some, Result, Ok, Err, refl, sym, ap, subst, ◌∙◌, inl, inr}
-use Rattle.std.specs.List.{AllByRecursion}
+use Rattle.std.proofs.Common.{◌≡◌, ◌≢◌, ℕ, Bool, true, false, List, None, Some, Result, refl, sym, ap, subst, ◌∙◌, inl, inr}
 use Rattle.std.specs.declared.alloc.AllocError.{AllocError}
 use Rattle.std.specs.BTreeMap.{is_at}
 use Rattle.iox_describe_base.specs.declared.hash.ServiceHash.{ServiceHash}
 use Rattle.iox_describe_settings.specs.Agreement.{Agreement, max_nodes_of}
 use Rattle.iox_describe.specs.Line.{line}
 use Rattle.iox_describe.specs.Within.{IsWithinLimits}
-use Rattle.iox_negotiate_rounds.specs.Access.{Access, Look, Lock, MakeSegment, Publish, Unlock, OpenSegment, Leave, RemoveDescription, RemoveSegment}
-use Rattle.iox_negotiate_rounds.specs.Runs.{Went}
+use Rattle.iox_negotiate_rounds.specs.Access.{Access, MakeSegment, Publish}
 use Rattle.iox_negotiate_rounds.specs.declared.answer.MakeSegmentAnswer.TheVariants as making
 use Rattle.iox_negotiate_rounds.specs.declared.answer.PublishAnswer.TheVariants as publishing
 use Rattle.iox_negotiate_table.specs.declared.node.Node.{Node}
@@ -19,7 +17,7 @@ use Rattle.iox_negotiate_table.specs.declared.segment.Segment.TheVariants.{Open,
 use Rattle.iox_negotiate_table.specs.declared.step.ForeignStep.{ForeignStep}
 use Rattle.iox_negotiate_table.specs.declared.step.ForeignStep.TheVariants as step
 use Rattle.iox_negotiate_table.specs.Nodes.{Nodes, first_node, first_foreign}
-use Rattle.iox_negotiate_table.specs.Contents.{Contents, empty_table, entry_at, segment_at, with_lock, digest_cmp, place_cmp, may_publish}
+use Rattle.iox_negotiate_table.specs.Contents.{Contents, empty_table, entry_at, segment_at, digest_cmp, place_cmp, may_publish}
 use Rattle.iox_negotiate_table.specs.Foreign.{Acts}
 use Rattle.iox_negotiate_table.specs.Sights.{Sight, Publishes}
 use Rattle.iox_negotiate_table.specs.Stepped.{Steps, next_list, SteppedSight}
@@ -34,7 +32,7 @@ use Rattle.iox_negotiate_laws.proofs.Lives.{not-locked, not-none}
 use Rattle.iox_negotiate_laws.proofs.Held.{by_number}
 use Rattle.iox_negotiate_laws.proofs.Closing.{entry-gone, segment-gone}
 use Rattle.iox_negotiate_laws.proofs.Standing.{IsMaking, made-making, made-seat}
-use Rattle.iox_negotiate_laws.proofs.Stepping.{stepped-keeps, Seen, seen, acts-idle, went-split}
+use Rattle.iox_negotiate_laws.proofs.Stepping.{stepped-keeps, Seen, seen, acts-idle}
 use Rattle.iox_negotiate_laws.proofs.Ending.{made-not-lacking, published-not-lacking}
 
 -- the segment of this service has room for the agreed number of nodes

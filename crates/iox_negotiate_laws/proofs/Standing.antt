@@ -11,15 +11,14 @@ use Rattle.iox_negotiate_rounds.specs.declared.answer.OpenSegmentAnswer.TheVaria
 use Rattle.iox_negotiate_rounds.specs.declared.answer.MakeSegmentAnswer.TheVariants as making
 use Rattle.iox_negotiate_rounds.specs.declared.answer.PublishAnswer.TheVariants as publishing
 use Rattle.iox_negotiate_rounds.specs.declared.answer.LeaveAnswer.{LeaveAnswer}
-use Rattle.iox_negotiate_table.specs.declared.node.Node.TheVariants.{Own, Foreign}
-use Rattle.iox_negotiate_table.specs.declared.entry.Entry.{Entry}
+use Rattle.iox_negotiate_table.specs.declared.node.Node.TheVariants.{Own}
 use Rattle.iox_negotiate_table.specs.declared.entry.Entry.TheVariants.{Locked, Described}
 use Rattle.iox_negotiate_table.specs.declared.segment.Segment.{Segment}
 use Rattle.iox_negotiate_table.specs.declared.segment.Segment.TheVariants.{Open, Emptied}
 use Rattle.iox_negotiate_table.specs.declared.step.ForeignStep.{ForeignStep}
 use Rattle.iox_negotiate_table.specs.Nodes.{Nodes, factories_of, first_node, Enters}
 use Rattle.iox_negotiate_table.specs.Segments.{Opens}
-use Rattle.iox_negotiate_table.specs.Contents.{Contents, entry_at, segment_at, with_segment, digest_cmp, place_cmp, may_make, may_publish, is_lock_of, is_published}
+use Rattle.iox_negotiate_table.specs.Contents.{Contents, entry_at, segment_at, with_segment, digest_cmp, place_cmp, may_make, may_publish, is_published}
 use Rattle.iox_negotiate_table.specs.Foreign.{Acts}
 use Rattle.iox_negotiate_table.specs.Sights.{Sight, OpensAt, OpensPublished, Makes, Publishes}
 use Rattle.iox_negotiate_table.proofs.Entries.{lookup-set, lookup-added, is-self}

@@ -3,3 +3,4 @@ pub mod Lives
 pub mod Factories
 pub mod Calls
 pub mod Closing
+pub mod Rooms

@@ -3,6 +3,7 @@
 ghost use Rattle.iox_negotiate_laws.specs.Calls.{OpenFactoriesStand, StandInsideCalls, of_three};
 ghost use Rattle.iox_negotiate_laws.specs.Closing.{ClosesOne};
 ghost use Rattle.iox_negotiate_laws.specs.Lives.{TakenOnce, OneLife, PublishedByItsLock, FewAreIn, OpenedStands};
+ghost use Rattle.iox_negotiate_laws.specs.Rooms.{RoomsAreAgreed};
 
 use iox_negotiate_rounds::Request;
 
@@ -48,4 +49,9 @@ pub fn stand_inside_calls<P: Request, Q: Request, R: Request>()
 /// the last node takes description and segment away; what lies under another hash is as it was.
 pub fn closes_one()
     ensures { ClosesOne }
+{}
+
+/// After any calls in a new table the segment of each published service has room for just the agreed number of nodes.
+pub fn rooms_are_agreed<P: Request, Q: Request, R: Request>()
+    ensures { RoomsAreAgreed (of_three P.ClauseError Q.ClauseError R.ClauseError) }
 {}
