@@ -84,6 +84,45 @@ pieces-roomy (Both number node agreed ∷ pieces) old new fine roomy (mid, made,
 pub careful-roomy : (made : List Access) (old new : Steps) → Careful made → Roomy old.table → Went SteppedSight old made new → Roomy new.table
 careful-roomy made old new c roomy went = pieces-roomy c.pieces old new c.fine roomy (subst (λ m. Went SteppedSight old m new) c.is went)
 
+-- and so is any front of them
+pieces-front : (pieces : List Piece) (done rest : List Access) (old mid : Steps) → AreFine pieces → Roomy old.table → done ++ rest ≡ flat pieces → Went SteppedSight old done mid → Roomy mid.table
+pieces-front pieces [] rest old mid fine roomy is went = subst (λ s. Roomy s.table) (sym went) roomy
+pieces-front [] (access ∷ done) rest old mid fine roomy is went = absurd (differ is)
+  where
+    differ : access ∷ (done ++ rest) ≡ [] → ⊥
+    differ e = cc
+pieces-front (One next ∷ pieces) (access ∷ done) rest old mid fine roomy is (first, sight, went) =
+    pieces-front pieces done rest first mid fine.1 (stepped-keeps (λ t. Roomy t) roomy-step (λ a. Unpublishing a) roomy-access next old first fine.0 roomy (subst (λ a. SteppedSight old a first) (head is) sight)) (tail is) went
+  where
+    head : access ∷ (done ++ rest) ≡ next ∷ flat pieces → access ≡ next
+    head e = cc
+
+    tail : access ∷ (done ++ rest) ≡ next ∷ flat pieces → done ++ rest ≡ flat pieces
+    tail e = cc
+pieces-front (Both number node agreed ∷ pieces) (access ∷ []) rest old mid fine roomy is (first, sight, went) =
+    subst (λ s. Roomy s.table) (sym went) (stepped-keeps (λ t. Roomy t) roomy-step (λ a. Unpublishing a) roomy-access (MakeSegment agreed.service_hash number node (max_nodes_of agreed.settings) making.Made) old first tt roomy (subst (λ a. SteppedSight old a first) (head is) sight))
+  where
+    head : access ∷ rest ≡ MakeSegment agreed.service_hash number node (max_nodes_of agreed.settings) making.Made ∷ Publish agreed.service_hash number (line agreed) publishing.Published ∷ flat pieces
+        → access ≡ MakeSegment agreed.service_hash number node (max_nodes_of agreed.settings) making.Made
+    head e = cc
+pieces-front (Both number node agreed ∷ pieces) (access ∷ next ∷ done) rest old mid fine roomy is (first, made, (second, published, went)) =
+    pieces-front pieces done rest second mid fine.1 (pair-roomy agreed number node fine.0 old first second roomy (subst (λ a. SteppedSight old a first) (head is) made) (subst (λ a. SteppedSight first a second) (then is) published)) (tail is) went
+  where
+    head : access ∷ next ∷ (done ++ rest) ≡ MakeSegment agreed.service_hash number node (max_nodes_of agreed.settings) making.Made ∷ Publish agreed.service_hash number (line agreed) publishing.Published ∷ flat pieces
+        → access ≡ MakeSegment agreed.service_hash number node (max_nodes_of agreed.settings) making.Made
+    head e = cc
+
+    then : access ∷ next ∷ (done ++ rest) ≡ MakeSegment agreed.service_hash number node (max_nodes_of agreed.settings) making.Made ∷ Publish agreed.service_hash number (line agreed) publishing.Published ∷ flat pieces
+        → next ≡ Publish agreed.service_hash number (line agreed) publishing.Published
+    then e = cc
+
+    tail : access ∷ next ∷ (done ++ rest) ≡ MakeSegment agreed.service_hash number node (max_nodes_of agreed.settings) making.Made ∷ Publish agreed.service_hash number (line agreed) publishing.Published ∷ flat pieces
+        → done ++ rest ≡ flat pieces
+    tail e = cc
+
+pub careful-front : (done rest : List Access) (old mid : Steps) → Careful (done ++ rest) → Roomy old.table → Went SteppedSight old done mid → Roomy mid.table
+careful-front done rest old mid c roomy went = pieces-front c.pieces done rest old mid c.fine roomy c.is went
+
 -- ---- closing
 
 module _ (hash : ServiceHash) where

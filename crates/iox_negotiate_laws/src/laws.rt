@@ -3,7 +3,7 @@
 ghost use Rattle.iox_negotiate_laws.specs.Calls.{OpenFactoriesStand, StandInsideCalls, of_three};
 ghost use Rattle.iox_negotiate_laws.specs.Closing.{ClosesOne};
 ghost use Rattle.iox_negotiate_laws.specs.Lives.{TakenOnce, OneLife, PublishedByItsLock, FewAreIn, OpenedStands};
-ghost use Rattle.iox_negotiate_laws.specs.Rooms.{RoomsAreAgreed};
+ghost use Rattle.iox_negotiate_laws.specs.Rooms.{RoomsAreAgreed, RoomsInsideCalls};
 
 use iox_negotiate_rounds::Request;
 
@@ -54,4 +54,9 @@ pub fn closes_one()
 /// After any calls in a new table the segment of each published service has room for just the agreed number of nodes.
 pub fn rooms_are_agreed<P: Request, Q: Request, R: Request>()
     ensures { RoomsAreAgreed (of_three P.ClauseError Q.ClauseError R.ClauseError) }
+{}
+
+/// And so it is after each access inside a call.
+pub fn rooms_inside_calls<P: Request, Q: Request, R: Request>()
+    ensures { RoomsInsideCalls (of_three P.ClauseError Q.ClauseError R.ClauseError) }
 {}
