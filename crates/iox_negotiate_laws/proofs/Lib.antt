@@ -1,0 +1,17 @@
+pub mod Maps
+pub mod Few
+pub mod Seats
+pub mod Tables
+pub mod Rooms
+pub mod Changes
+pub mod Lives
+pub mod Held
+pub mod Standing
+pub mod Stepping
+pub mod Quiet
+pub mod Ending
+pub mod Calling
+pub mod Closing
+pub mod Rooming
+pub mod Careful
+pub mod CallRooms

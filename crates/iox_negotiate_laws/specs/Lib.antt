@@ -1,0 +1,6 @@
+pub mod Histories
+pub mod Lives
+pub mod Factories
+pub mod Calls
+pub mod Closing
+pub mod Rooms

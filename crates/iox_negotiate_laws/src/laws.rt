@@ -1,0 +1,62 @@
+//! What holds of every table of services that can be reached, whatever its own nodes and those of others do. Each function
+//! does nothing: its contract is the law.
+ghost use Rattle.iox_negotiate_laws.specs.Calls.{OpenFactoriesStand, StandInsideCalls, of_three};
+ghost use Rattle.iox_negotiate_laws.specs.Closing.{ClosesOne};
+ghost use Rattle.iox_negotiate_laws.specs.Lives.{TakenOnce, OneLife, PublishedByItsLock, FewAreIn, OpenedStands};
+ghost use Rattle.iox_negotiate_laws.specs.Rooms.{RoomsAreAgreed, RoomsInsideCalls};
+
+use iox_negotiate_rounds::Request;
+
+/// A number is never taken twice: each life's is above those of all lives before.
+pub fn taken_once()
+    ensures { TakenOnce }
+{}
+
+/// A number belongs to one hash for good, and no other description is ever published under it.
+pub fn one_life()
+    ensures { OneLife }
+{}
+
+/// A description is published under a number in place of the lock of this number, by who has it.
+pub fn published_by_its_lock()
+    ensures { PublishedByItsLock }
+{}
+
+/// No more nodes are in any segment than there is room for.
+pub fn few_are_in()
+    ensures { FewAreIn }
+{}
+
+/// What is opened under a number is the service of just this number, and after it the service is open.
+pub fn opened_stands()
+    ensures { OpenedStands }
+{}
+
+/// Each open factory stands after any calls in a new table, with whatever foreign steps before each access and between the
+/// calls: what it carries is published under its number, its segment stands, its node is in, no more nodes are in than there is
+/// room for, and as many factories of its node are registered as are open, at least. The calls may be of services of three
+/// patterns.
+pub fn open_factories_stand<P: Request, Q: Request, R: Request>()
+    ensures { OpenFactoriesStand (of_three P.ClauseError Q.ClauseError R.ClauseError) }
+{}
+
+/// And so after each access inside a call, each one that the call doesn't close.
+pub fn stand_inside_calls<P: Request, Q: Request, R: Request>()
+    ensures { StandInsideCalls (of_three P.ClauseError Q.ClauseError R.ClauseError) }
+{}
+
+/// A closing in the table goes well: it takes one factory of its node off, the node's last one takes the node out, and the last of
+/// the last node takes description and segment away; what lies under another hash is as it was.
+pub fn closes_one()
+    ensures { ClosesOne }
+{}
+
+/// After any calls in a new table the segment of each published service has room for just the agreed number of nodes.
+pub fn rooms_are_agreed<P: Request, Q: Request, R: Request>()
+    ensures { RoomsAreAgreed (of_three P.ClauseError Q.ClauseError R.ClauseError) }
+{}
+
+/// And so it is after each access inside a call.
+pub fn rooms_inside_calls<P: Request, Q: Request, R: Request>()
+    ensures { RoomsInsideCalls (of_three P.ClauseError Q.ClauseError R.ClauseError) }
+{}
