@@ -42,13 +42,6 @@ impl DegradationHandler {
         DegradationHandler::Fixed(action)
     }
 
-    /// What a port has where none is named: `Warn`, each time.
-    pub fn warning() -> Self
-        ensures { result ≡ handler.Fixed action.Warn }
-    {
-        DegradationHandler::Fixed(DegradationAction::Warn)
-    }
-
     /// The action that the object answers.
     pub fn boxed(object: Box<dyn DegradationFn>) -> Self
         ensures { result ≡ handler.Boxed object }
@@ -77,5 +70,14 @@ impl DegradationHandler {
             DegradationHandler::Fixed(action) => *action,
             DegradationHandler::Boxed(object) => object.call(cause, info),
         }
+    }
+}
+
+/// What a port has where none is named: `Warn`, each time.
+impl Default for DegradationHandler {
+    ghost is_default = { λ made. made ≡ handler.Fixed action.Warn };
+
+    fn default() -> Self {
+        DegradationHandler::Fixed(DegradationAction::Warn)
     }
 }

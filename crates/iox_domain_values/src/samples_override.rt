@@ -39,13 +39,6 @@ impl PreallocatedSamplesOverride {
         PreallocatedSamplesOverride::Fixed(number)
     }
 
-    /// What a publisher has where none is named: as many as are needed in the worst case.
-    pub fn worst_case() -> Self
-        ensures { result ≡ chosen.WorstCase }
-    {
-        PreallocatedSamplesOverride::WorstCase
-    }
-
     /// The number that the object answers.
     pub fn boxed(object: Box<dyn PreallocatedSamplesFn>) -> Self
         ensures { result ≡ chosen.Boxed object }
@@ -76,5 +69,14 @@ impl PreallocatedSamplesOverride {
         ensures same { AllowSame (Allowed (λ object. allows object) self.new) (Allowed (λ object. allows object) self.old) }
     {
         self.call(worst_case).clamp(1, worst_case)
+    }
+}
+
+/// What a publisher has where none is named: as many as are needed in the worst case.
+impl Default for PreallocatedSamplesOverride {
+    ghost is_default = { λ made. made ≡ chosen.WorstCase };
+
+    fn default() -> Self {
+        PreallocatedSamplesOverride::WorstCase
     }
 }

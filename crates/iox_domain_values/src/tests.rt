@@ -1,5 +1,6 @@
 //! What no clause says: how errors display, the text form, and that an object is asked once, with what was given.
-ghost use Rattle.std.specs.Prelude.{◌≤◌};
+ghost use Rattle.std.specs.Prelude.{◌≡◌, ◌≤◌, ◌⊎◌, ⊤};
+ghost use Rattle.iox_domain_values.specs.declared.backpressure.BackpressureAction.TheVariants as action;
 
 use crate::{
     BackpressureAction, BackpressureFn, BackpressureHandler, BackpressureInfo,
@@ -132,7 +133,7 @@ impl Counting {
 }
 
 impl BackpressureFn for Counting {
-    ghost allows = { λ _ _ _. ⊤ };
+    ghost allows = { λ _ _ answer. (answer ≡ action.Retry) ⊎ (answer ≡ action.DiscardDataAndFail) };
 
     fn call(&mut self, info: &BackpressureInfo) -> BackpressureAction {
         if self.is_told(info.retries) {
