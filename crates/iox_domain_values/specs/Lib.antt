@@ -1,0 +1,7 @@
+pub mod Actions
+pub mod BackpressureAnswers
+pub mod DegradationAnswers
+pub mod ErrorTexts
+pub mod OverrideAnswers
+pub mod Relations
+pub mod Strategy

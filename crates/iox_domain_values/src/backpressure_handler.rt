@@ -1,0 +1,72 @@
+//! Who decides at a full mailbox.
+ghost use Rattle.std.specs.Prelude.{◌≡◌};
+ghost use Rattle.iox_domain_values.specs.Relations.{AllowSame};
+ghost use Rattle.iox_domain_values.specs.BackpressureAnswers.{Allowed, fixed_action_of};
+ghost use Rattle.iox_domain_values.specs.declared.backpressure.BackpressureInfo.{BackpressureInfo};
+ghost use Rattle.iox_domain_values.specs.declared.backpressure.BackpressureAction.{BackpressureAction};
+ghost use Rattle.iox_domain_values.specs.declared.backpressure_handler.BackpressureHandler.TheVariants as handler;
+
+use crate::backpressure::{BackpressureAction, BackpressureInfo};
+
+/// An object that decides at a full mailbox.
+///
+/// Ported from `iceoryx2::port::BackpressureFn`, which is a closure there. An object names, for each info, the actions that
+/// it may answer. A call keeps to them, and they stay the same after it, whatever else of the object changes.
+pub trait BackpressureFn: Drop {
+    ghost allows: { Self → BackpressureInfo → BackpressureAction → Type 0 };
+
+    /// What is to be done about this full mailbox.
+    fn call(&mut self, info: &BackpressureInfo) -> BackpressureAction
+        ensures answer { allows self.old info.now result }
+        ensures same { AllowSame (allows self.new) (allows self.old) };
+}
+
+/// Who decides at a full mailbox: the same action each time, or an object that the caller made.
+///
+/// Ported from `iceoryx2::port::BackpressureHandler`.
+#[derive(Drop)]
+pub enum BackpressureHandler {
+    /// This action, each time.
+    Fixed(BackpressureAction),
+    /// The action that the object answers.
+    Boxed(Box<dyn BackpressureFn>),
+}
+
+impl BackpressureHandler {
+    /// This action, each time.
+    pub fn new_with(action: BackpressureAction) -> Self
+        ensures { result ≡ handler.Fixed action }
+    {
+        BackpressureHandler::Fixed(action)
+    }
+
+    /// The action that the object answers.
+    pub fn boxed(object: Box<dyn BackpressureFn>) -> Self
+        ensures { result ≡ handler.Boxed object }
+    {
+        BackpressureHandler::Boxed(object)
+    }
+
+    /// The action, where it is the same each time.
+    pub fn fixed_action(&self) -> Option<BackpressureAction>
+        ensures { result ≡ fixed_action_of self.now }
+    {
+        match self {
+            BackpressureHandler::Fixed(action) => Some(*action),
+            BackpressureHandler::Boxed(_) => None,
+        }
+    }
+
+    /// What is to be done about this full mailbox: an action that the handler may answer. After the call it may answer the
+    /// same as before.
+    pub fn call(&mut self, info: &BackpressureInfo) -> BackpressureAction
+        ensures answer { Allowed (λ object. allows object) self.old info.now result }
+        ensures same { AllowSame (Allowed (λ object. allows object) self.new) (Allowed (λ object. allows object) self.old) }
+        ensures fixed { fixed_action_of self.new ≡ fixed_action_of self.old }
+    {
+        match self {
+            BackpressureHandler::Fixed(action) => *action,
+            BackpressureHandler::Boxed(object) => object.call(info),
+        }
+    }
+}

@@ -1,0 +1,95 @@
+//! Why a port or a domain isn't made.
+ghost use Rattle.std.specs.Prelude.{◌≡◌};
+ghost use Rattle.iox_domain_values.specs.ErrorTexts.{publisher_create_text, subscriber_create_text, domain_text};
+
+use thiserror::Error;
+
+/// Why a publisher isn't made.
+///
+/// Ported from `iceoryx2::port::publisher::PublisherCreateError`.
+#[derive(Clone, Copy, Debug, PartialEq, Eq, Hash, Error)]
+#[error("{}", self.text())]
+pub enum PublisherCreateError {
+    /// The service has as many publishers as it allows.
+    ExceedsMaxSupportedPublishers,
+    /// The number of places or the length of a slice is past its limit, or no memory was found.
+    UnableToCreateDataSegment,
+    /// Never given.
+    FailedToDeployThreadsafetyPolicy,
+    /// Never given.
+    UnableToCreatePortTag,
+}
+
+impl PublisherCreateError {
+    /// What it displays as.
+    pub fn text(&self) -> &'static str
+        ensures { result.now ≡ publisher_create_text self.now }
+    {
+        match self {
+            PublisherCreateError::ExceedsMaxSupportedPublishers =>
+                "PublisherCreateError::ExceedsMaxSupportedPublishers",
+            PublisherCreateError::UnableToCreateDataSegment =>
+                "PublisherCreateError::UnableToCreateDataSegment",
+            PublisherCreateError::FailedToDeployThreadsafetyPolicy =>
+                "PublisherCreateError::FailedToDeployThreadsafetyPolicy",
+            PublisherCreateError::UnableToCreatePortTag =>
+                "PublisherCreateError::UnableToCreatePortTag",
+        }
+    }
+}
+
+/// Why a subscriber isn't made.
+///
+/// Ported from `iceoryx2::port::subscriber::SubscriberCreateError`; the last variant is this port's own.
+#[derive(Clone, Copy, Debug, PartialEq, Eq, Hash, Error)]
+#[error("{}", self.text())]
+pub enum SubscriberCreateError {
+    /// The service has as many subscribers as it allows.
+    ExceedsMaxSupportedSubscribers,
+    /// A larger buffer is asked for than the service allows.
+    BufferSizeExceedsMaxSupportedBufferSizeOfService,
+    /// Never given.
+    FailedToDeployThreadsafetyPolicy,
+    /// Never given.
+    UnableToCreatePortTag,
+    /// No memory was found.
+    OutOfMemory,
+}
+
+impl SubscriberCreateError {
+    /// What it displays as.
+    pub fn text(&self) -> &'static str
+        ensures { result.now ≡ subscriber_create_text self.now }
+    {
+        match self {
+            SubscriberCreateError::ExceedsMaxSupportedSubscribers =>
+                "SubscriberCreateError::ExceedsMaxSupportedSubscribers",
+            SubscriberCreateError::BufferSizeExceedsMaxSupportedBufferSizeOfService =>
+                "SubscriberCreateError::BufferSizeExceedsMaxSupportedBufferSizeOfService",
+            SubscriberCreateError::FailedToDeployThreadsafetyPolicy =>
+                "SubscriberCreateError::FailedToDeployThreadsafetyPolicy",
+            SubscriberCreateError::UnableToCreatePortTag =>
+                "SubscriberCreateError::UnableToCreatePortTag",
+            SubscriberCreateError::OutOfMemory => "SubscriberCreateError::OutOfMemory",
+        }
+    }
+}
+
+/// Why a domain isn't made. This port's own.
+#[derive(Clone, Copy, Debug, PartialEq, Eq, Hash, Error)]
+#[error("{}", self.text())]
+pub enum DomainError {
+    /// No memory was found.
+    OutOfMemory,
+}
+
+impl DomainError {
+    /// What it displays as.
+    pub fn text(&self) -> &'static str
+        ensures { result.now ≡ domain_text self.now }
+    {
+        match self {
+            DomainError::OutOfMemory => "DomainError::OutOfMemory",
+        }
+    }
+}

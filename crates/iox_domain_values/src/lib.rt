@@ -1,0 +1,41 @@
+//! What the ports of a service take and answer: plain values, errors, and the objects that a caller hands in. None of it
+//! holds a port or a message.
+//!
+//! | Module | What it has |
+//! |---|---|
+//! | `backpressure_strategy` | what a publisher does where a mailbox is full and nobody is asked, with its text form |
+//! | `backpressure` | what a handler is told of a full mailbox, what it may answer, and what strategy and answer come to |
+//! | `degradation` | what a handler is told of a failed connection, and what it may answer |
+//! | `data_segment` | how the room of a publisher grows |
+//! | `connection_failure`, `port_error`, `create_error` | why a connection fails, a loan, a send or a receive is refused, a port or a domain isn't made |
+//! | `backpressure_handler`, `degradation_handler`, `samples_override` | the objects that are handed in, or one fixed answer in their place |
+//!
+//! Each error displays as its type's name, `::` and the variant, an inner variant in parentheses, at any depth.
+#![tactic(auto)]
+
+pub mod backpressure;
+pub mod backpressure_handler;
+pub mod backpressure_strategy;
+pub mod connection_failure;
+pub mod create_error;
+pub mod data_segment;
+pub mod degradation;
+pub mod degradation_handler;
+pub mod port_error;
+pub mod samples_override;
+
+pub use backpressure::{
+    BackpressureAction, BackpressureDecision, BackpressureInfo, BackpressureToReceiverAction,
+};
+pub use backpressure_handler::{BackpressureFn, BackpressureHandler};
+pub use backpressure_strategy::BackpressureStrategy;
+pub use connection_failure::{ConnectionFailure, ZeroCopyCreationError};
+pub use create_error::{DomainError, PublisherCreateError, SubscriberCreateError};
+pub use data_segment::{AllocationStrategy, DataSegmentType};
+pub use degradation::{DegradationAction, DegradationCause, DegradationInfo};
+pub use degradation_handler::{DegradationFn, DegradationHandler};
+pub use port_error::{LoanError, ReceiveError, SendError};
+pub use samples_override::{PreallocatedSamplesFn, PreallocatedSamplesOverride};
+
+#[cfg(test)]
+mod tests;
