@@ -1,0 +1,5 @@
+pub mod Full
+pub mod Counts
+pub mod Moving
+pub mod Linking
+pub mod Offering

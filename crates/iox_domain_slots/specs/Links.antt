@@ -1,0 +1,70 @@
+-- One connection by the slots that it holds: its mailbox, what is borrowed, and what came back and isn't taken back yet.
+use Rattle.std.specs.Prelude.{ℕ, ◌+◌, ◌<◌, ◌≤◌, ◌≡◌, ◌==◌, Bool, true, false, List, [], ◌∷◌, ◌++◌, length, get_or, nat_lt, Option, None, Some, if◌then◌else◌}
+use Rattle.iox_queues_base.specs.Waiting.{Bounded, put, put_over}
+use Rattle.iox_domain_slots.specs.Uses.{Connection, nobody}
+use Rattle.iox_domain_slots.specs.Counting.{times}
+use Rattle.iox_domain_slots.specs.declared.stage.Stage.{Stage}
+use Rattle.iox_domain_slots.specs.declared.stage.Stage.TheVariants as stage
+use Rattle.iox_domain_slots.specs.declared.mailbox.Put.{Put}
+use Rattle.iox_domain_slots.specs.declared.mailbox.Put.TheVariants.{Taken, TakenFor, Refused}
+use Rattle.iox_domain_slots.specs.declared.mailbox.Mailbox.{Mailbox}
+use Rattle.iox_domain_slots.specs.declared.mailbox.Mailbox.TheVariants.{Overflowing, Refusing}
+
+-- whether a full mailbox lets its oldest go
+abbrev pub is_overflowing : Mailbox → Bool
+is_overflowing (Overflowing queue) = true
+is_overflowing (Refusing queue) = false
+
+-- what waits, the oldest first
+abbrev pub waiting_in : Mailbox → List ℕ
+waiting_in (Overflowing queue) = queue.waiting
+waiting_in (Refusing queue) = queue.waiting
+
+-- how many may wait
+abbrev pub limit_of : Mailbox → ℕ
+limit_of (Overflowing queue) = queue.capacity
+limit_of (Refusing queue) = queue.capacity
+
+-- what waits after a put: with overflow the oldest leaves if they are too many then, without it a full mailbox stays as it is
+abbrev pub put_into : Bool → ℕ → List ℕ → ℕ → List ℕ
+put_into overflows limit waiting slot = if overflows then put_over limit waiting slot else put limit waiting slot
+
+-- what a put answers
+abbrev pub put_answer : Bool → ℕ → List ℕ → ℕ → Put
+put_answer overflows limit waiting slot =
+    if nat_lt (length waiting) limit then Taken
+    else if overflows then TakenFor (get_or (waiting ++ slot ∷ []) 0 0)
+    else Refused
+
+-- A connection that there is. `returned` are the slots that its subscriber gave back, `delivered` says whether a message was
+-- put since they were last taken back.
+pub record LinkState : Type 0 where
+  pub ended : Bool
+  pub overflows : Bool
+  pub limit : ℕ
+  pub most_borrowed : ℕ
+  pub waiting : List ℕ
+  pub borrowed : List ℕ
+  pub returned : List ℕ
+  pub delivered : Bool
+
+-- the slots that it has a use of
+abbrev pub all_of : LinkState → List ℕ
+all_of link = link.waiting ++ (link.borrowed ++ link.returned)
+
+-- what the publisher and its subscriber see of it
+abbrev pub connection_of : LinkState → Connection ℕ
+connection_of link = record {
+  stage = if link.ended then stage.Ended else stage.Live;
+  limit = link.limit;
+  waiting = link.waiting;
+  borrowed = link.borrowed;
+}
+
+-- how many of its slots there may be at once
+abbrev pub room_of : LinkState → ℕ
+room_of link = link.limit + link.most_borrowed + 1
+
+-- only what waits, is borrowed or came back has changed
+abbrev pub IsSameLink : LinkState → LinkState → Type 0
+IsSameLink old new = (new.ended ≡ old.ended) × (new.overflows ≡ old.overflows) × (new.limit ≡ old.limit) × (new.most_borrowed ≡ old.most_borrowed)
