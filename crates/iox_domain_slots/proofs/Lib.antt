@@ -3,3 +3,4 @@ pub mod Counts
 pub mod Moving
 pub mod Linking
 pub mod Offering
+pub mod AllSlots

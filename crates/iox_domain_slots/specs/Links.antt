@@ -68,3 +68,36 @@ room_of link = link.limit + link.most_borrowed + 1
 -- only what waits, is borrowed or came back has changed
 abbrev pub IsSameLink : LinkState → LinkState → Type 0
 IsSameLink old new = (new.ended ≡ old.ended) × (new.overflows ≡ old.overflows) × (new.limit ≡ old.limit) × (new.most_borrowed ≡ old.most_borrowed)
+
+-- The connections of a publisher: at each index one or none.
+pub record LinksState : Type 0 where
+  pub overflows : Bool
+  pub most_waiting : ℕ
+  pub most_borrowed : ℕ
+  pub links : List (Option LinkState)
+
+-- what is seen of an index
+abbrev pub seen : Option LinkState → Connection ℕ
+seen None = nobody
+seen (Some link) = connection_of link
+
+-- the slots of an index
+abbrev pub slots_at : Option LinkState → List ℕ
+slots_at None = []
+slots_at (Some link) = all_of link
+
+-- the slots of all of them
+abbrev pub all_slots : List (Option LinkState) → List ℕ
+all_slots [] = []
+all_slots (at ∷ rest) = slots_at at ++ all_slots rest
+
+-- the same with nothing left to be taken back
+abbrev pub taken_back : Option LinkState → Option LinkState
+taken_back None = None
+taken_back (Some link) = Some (record link { returned = []; delivered = false })
+
+-- a connection of a publisher whose connections are of this kind
+abbrev pub IsOf : Bool → ℕ → ℕ → Option LinkState → Type 0
+IsOf overflows most_waiting most_borrowed None = Unit {0}
+IsOf overflows most_waiting most_borrowed (Some link) =
+    (link.overflows ≡ overflows) × (link.limit ≤ most_waiting) × (link.most_borrowed ≡ most_borrowed) × (length (all_of link) ≤ room_of link)

@@ -16,12 +16,14 @@ abbrev pub nobody : {X : Type 0} → Connection X
 nobody = record { stage = stage.Vacant; limit = 0; waiting = []; borrowed = [] }
 
 -- One publisher. Its slots come in segments of `size`; `first` is the first slot of the current one. At most `most_loans`
--- loans are out, the last `kept` messages are its history, a subscriber holds at most `most_borrowed` of a connection.
+-- loans are out, the last `kept` messages are its history; of a connection at most `most_waiting` wait, and its subscriber
+-- holds at most `most_borrowed`.
 pub record Uses (X : Type 0) : Type 0 where
   pub first : ℕ
   pub size : ℕ
   pub most_loans : ℕ
   pub kept : ℕ
+  pub most_waiting : ℕ
   pub most_borrowed : ℕ
   pub overflows : Bool
   pub sending : Option X
@@ -34,7 +36,7 @@ abbrev pub held_by : {X : Type 0} → Connection X → List X
 held_by connection = connection.waiting ++ connection.borrowed
 
 -- what the connections keep in use
-pub held : {X : Type 0} → List (Connection X) → List X
+abbrev pub held : {X : Type 0} → List (Connection X) → List X
 held [] = []
 held (connection ∷ connections) = held_by connection ++ held connections
 

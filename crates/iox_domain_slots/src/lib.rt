@@ -5,10 +5,12 @@
 //! - [`slots`]: which slots are free, and how many uses the others have.
 //! - [`mailbox`]: what waits between a publisher and a subscriber.
 //! - [`link`]: a connection: its mailbox, what is borrowed of it, what came back.
+//! - [`links`]: the connections of a publisher.
 //! - [`uses`]: all of one publisher together.
 #![tactic(auto)]
 
 pub mod link;
+pub mod links;
 pub mod mailbox;
 pub mod slots;
 pub mod stage;

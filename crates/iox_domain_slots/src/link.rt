@@ -67,6 +67,7 @@ impl Link {
     pub fn take_back(&mut self, slots: &mut Slots)
         requires { Covers slots.old (all_of self.old) }
         ensures after { self.new ≡ record self.old { returned = []; delivered = false } }
+        ensures fits { length (all_of self.new) ≤ room_of self.new }
         ensures moved { Moves slots.old (all_of self.old) slots.new (all_of self.new) }
     {
         for _ in 0..self.returned.len() {
@@ -94,6 +95,7 @@ impl Link {
         ensures answer { result ≡ put_answer self.old.overflows self.old.limit self.old.waiting slot }
         ensures same { IsSameLink self.old self.new × (self.new.borrowed ≡ self.old.borrowed) × (self.new.returned ≡ self.old.returned) }
         ensures waiting { self.new.waiting ≡ put_into self.old.overflows self.old.limit self.old.waiting slot }
+        ensures fits { length (all_of self.new) ≤ room_of self.new }
     {
         let answer = self.mailbox.put(slot);
         self.delivered = answer != Put::Refused;
@@ -108,6 +110,7 @@ impl Link {
         ensures answer { result ≡ accepts self.old.overflows (connection_of self.old) }
         ensures after { connection_of self.new ≡ offered self.old.overflows slot (connection_of self.old) }
         ensures same { IsSameLink self.old self.new }
+        ensures fits { length (all_of self.new) ≤ room_of self.new }
         ensures moved { Moves slots.old (all_of self.old) slots.new (all_of self.new) }
     {
         self.make_room(slots);
@@ -132,6 +135,7 @@ impl Link {
         ensures slot { slice_get self.old.waiting 0 ≡ Some result }
         ensures after { connection_of self.new ≡ taken (connection_of self.old) }
         ensures same { IsSameLink self.old self.new }
+        ensures fits { length (all_of self.new) ≤ room_of self.new }
         ensures uses { (k : ℕ) → times k (all_of self.new) ≡ times k (all_of self.old) }
     {
         let Some(slot) = self.mailbox.pop() else {
@@ -146,6 +150,7 @@ impl Link {
         requires { at < length self.old.borrowed }
         ensures after { self.new ≡ record self.old {
           borrowed = remove self.old.borrowed at; returned = self.old.returned ++ get_or self.old.borrowed at 0 ∷ [] } }
+        ensures fits { length (all_of self.new) ≤ room_of self.new }
         ensures uses { (k : ℕ) → times k (all_of self.new) ≡ times k (all_of self.old) }
     {
         let slot = self.borrowed.remove(at);
@@ -157,6 +162,7 @@ impl Link {
         requires within { at < length self.old.borrowed }
         requires covered { Covers slots.old (all_of self.old) }
         ensures after { self.new ≡ record self.old { borrowed = remove self.old.borrowed at } }
+        ensures fits { length (all_of self.new) ≤ room_of self.new }
         ensures moved { Moves slots.old (all_of self.old) slots.new (all_of self.new) }
     {
         let slot = self.borrowed.remove(at);
@@ -191,6 +197,7 @@ impl Link {
     pub fn end(&mut self, slots: &mut Slots)
         requires { Covers slots.old (all_of self.old) }
         ensures after { self.new ≡ record self.old { ended = true; waiting = []; returned = []; delivered = false } }
+        ensures fits { length (all_of self.new) ≤ room_of self.new }
         ensures moved { Moves slots.old (all_of self.old) slots.new (all_of self.new) }
     {
         self.lose_waiting(slots);
