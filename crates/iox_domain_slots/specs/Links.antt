@@ -1,5 +1,5 @@
 -- One connection by the slots that it holds: its mailbox, what is borrowed, and what came back and isn't taken back yet.
-use Rattle.std.specs.Prelude.{ℕ, ◌+◌, ◌<◌, ◌≤◌, ◌≡◌, ◌==◌, Bool, true, false, List, [], ◌∷◌, ◌++◌, length, get_or, nat_lt, Option, None, Some, if◌then◌else◌}
+use Rattle.std.specs.Prelude.{ℕ, ◌+◌, ◌<◌, ◌≤◌, ◌≡◌, ◌==◌, Bool, true, false, List, [], ◌∷◌, ◌++◌, length, get_or, set, nat_lt, Option, None, Some, if◌then◌else◌}
 use Rattle.iox_queues_base.specs.Waiting.{Bounded, put, put_over}
 use Rattle.iox_domain_slots.specs.Uses.{Connection, nobody}
 use Rattle.iox_domain_slots.specs.Counting.{times}
@@ -96,8 +96,23 @@ abbrev pub taken_back : Option LinkState → Option LinkState
 taken_back None = None
 taken_back (Some link) = Some (record link { returned = []; delivered = false })
 
+-- nothing waits at a connection that ended, and nothing of it is to be taken back
+abbrev pub IsOverIfEnded : LinkState → Type 0
+IsOverIfEnded link = link.ended ≡ true → (link.waiting ≡ []) × (link.returned ≡ [])
+
 -- a connection of a publisher whose connections are of this kind
 abbrev pub IsOf : Bool → ℕ → ℕ → Option LinkState → Type 0
 IsOf overflows most_waiting most_borrowed None = Unit {0}
 IsOf overflows most_waiting most_borrowed (Some link) =
     (link.overflows ≡ overflows) × (link.limit ≤ most_waiting) × (link.most_borrowed ≡ most_borrowed) × (length (all_of link) ≤ room_of link)
+    × IsOverIfEnded link
+
+-- a connection comes to an index where there was none, or behind the others
+abbrev pub placed : ℕ → Connection ℕ → List (Connection ℕ) → List (Connection ℕ)
+placed index connection connections =
+    if index == length connections then connections ++ connection ∷ [] else set connections index connection
+
+-- a connection that ended and holds nothing
+abbrev pub IsGone : Option LinkState → Type 0
+IsGone None = ⊥
+IsGone (Some link) = (link.ended ≡ true) × (all_of link ≡ [])
