@@ -1,12 +1,17 @@
 -- The slots of all connections of a publisher, counted.
-use Rattle.std.proofs.Common.{rules, arith, ◌≡◌, ◌+◌, ◌-◌, ◌<◌, ◌≤◌, ◌∷◌, [], ◌++◌, ℕ, zero, suc, Bool, true, false, is_some, if◌then◌else◌, remove, List, length, get_or, set, map, Option, Some, None, refl, sym, subst, ap, ◌∙◌}
+use Rattle.std.proofs.Common.{rules, arith, ◌≡◌, ◌+◌, ◌-◌, ◌*◌, ◌^◌, ◌==◌, ◌<◌, ◌≤◌, ◌∷◌, [], ◌++◌, ℕ, zero, suc, Bool, true, false, is_some, if◌then◌else◌, remove, List, length, get_or, set, map, Option, Some, None, refl, sym, subst, ap, ◌∙◌}
 use Rattle.iox_domain_slots.specs.Counting.{SlotsState, Moves, Covers, times, uses_of}
-use Rattle.std.proofs.lemmas.List.{map-set, set-get_or, get_or-set_same, length-map}
-use Rattle.iox_domain_slots.specs.Uses.{Connection, given_back, settled, nobody}
+use Rattle.std.proofs.lemmas.List.{map-set, set-get_or, get_or-set_same, get_or-set_other, length-map, length-set}
+use Rattle.iox_domain_slots.specs.Uses.{Connection, given_back, settled, nobody, held, held_by}
 use Rattle.iox_domain_slots.specs.declared.stage.Stage.{Stage}
 use Rattle.iox_domain_slots.specs.declared.stage.Stage.TheVariants as stage
-use Rattle.iox_domain_slots.specs.Links.{LinkState, all_of, all_slots, slots_at, seen, connection_of, IsOf, IsGone, room_of}
+use Rattle.iox_domain_slots.specs.Links.{LinkState, all_of, all_slots, slots_at, seen, connection_of, IsOf, IsGone, IsTakenBack, LinksState, placed, taken_back, room_of}
+use Rattle.std.proofs.Math.Logic.{⊎_elim}
+use Rattle.std.proofs.Math.Dec.{eqb}
+use Rattle.std.proofs.lemmas.List.Sums.{count_by-le-length}
+use Rattle.std.proofs.lemmas.Bool.Decides.{eqb_tells}
 use Rattle.iox_domain_slots.proofs.Counts.{one, times_append}
+use Rattle.iox_domain_slots.proofs.Linking.{times_all, moves_on}
 
 -- the connection of an index is changed
 pub set_times : (links : List (Option LinkState)) (index : ℕ) (link : Option LinkState) → index < length links → (k : ℕ)
@@ -146,3 +151,102 @@ gone_seen links index gone = map-set seen links index None ∙ ap (set (map seen
 pub set_same : (links : List (Option LinkState)) (index : ℕ) (connection : Connection ℕ) → connection ≡ seen (get_or links index None)
     → map seen links ≡ set (map seen links) index connection
 set_same links index connection is = sym (ap (set (map seen links) index) (is ∙ seen_at links index) ∙ set-get_or (map seen links) index nobody)
+
+-- the connections before an index are taken back from
+pub record TakingAllBack (first : LinksState) (slots : SlotsState) (now : LinksState) (later : SlotsState) (count : ℕ) : Type 0 where
+  pub same : now ≡ record first { links = now.links }
+  pub length : length now.links ≡ length first.links
+  pub looks : map seen now.links ≡ map seen first.links
+  pub done : (index : ℕ) → index < count → IsTakenBack (get_or now.links index None)
+  pub moved : Moves slots (all_slots first.links) later (all_slots now.links)
+
+-- the connection that stands at an index within the list
+pub link_of_found : (links : List (Option LinkState)) (index : ℕ) (link : LinkState) (found : Option LinkState) → index < length links
+    → found ≡ get_or links index found → found ≡ Some link → get_or links index None ≡ Some link
+link_of_found [] index link found within read is = absurd (omega (arith, within))
+link_of_found (old ∷ rest) zero link found within read is = sym read ∙ is
+link_of_found (old ∷ rest) (suc index) link found within read is = link_of_found rest index link found (omega (arith, within)) read is
+
+-- what is seen stays where what is put at an index looks as what stood there
+pub looks_same : (links : List (Option LinkState)) (index : ℕ) → map seen (set links index (taken_back (get_or links index None))) ≡ map seen links
+looks_same links index = map-set seen links index (taken_back (get_or links index None)) ∙ ap (set (map seen links) index) (same (get_or links index None)) ∙ sym (set_same links index (seen (get_or links index None)) refl)
+  where
+    same : (it : Option LinkState) → seen (taken_back it) ≡ seen it
+    same None = refl
+    same (Some link) = refl
+
+-- one index more is taken back from
+pub one_more_done : (links : List (Option LinkState)) (count : ℕ) → count < length links
+    → ((index : ℕ) → index < count → IsTakenBack (get_or links index None))
+    → (index : ℕ) → index < count + 1 → IsTakenBack (get_or (set links count (taken_back (get_or links count None))) index None)
+one_more_done links count within done index below = ⊎_elim
+    (λ same. subst (λ i. IsTakenBack (get_or (set links count (taken_back (get_or links count None))) i None)) (sym same.1)
+      (rw (get_or-set_same links count (taken_back (get_or links count None)) None within) (back (get_or links count None))))
+    (λ other. rw (get_or-set_other links count index (taken_back (get_or links count None)) None other.1) (done index (omega (arith, below, other.1))))
+    (eqb_tells index count)
+  where
+    back : (it : Option LinkState) → IsTakenBack (taken_back it)
+    back None = tt
+    back (Some link) = refl
+
+-- where nothing is left to be taken back, what is used is what is seen
+pub none_left_of : (links : List (Option LinkState)) → ((index : ℕ) → index < length links → IsTakenBack (get_or links index None))
+    → (k : ℕ) → times k (all_slots links) ≡ times k (held (map seen links))
+none_left_of [] done k = refl
+none_left_of (x ∷ rest) done k =
+    omega (arith, times_append k (slots_at x) (all_slots rest), times_append k (held_by (seen x)) (held (map seen rest)), one_left x (done zero (omega arith)),
+      none_left_of rest (λ index below. done (suc index) (omega (arith, below))) k)
+  where
+    one_left : (it : Option LinkState) → IsTakenBack it → times k (slots_at it) ≡ times k (held_by (seen it))
+    one_left None back = refl
+    one_left (Some link) back = omega (arith, times_all k link.waiting link.borrowed link.returned, times_append k link.waiting link.borrowed, ap (times k) back)
+
+-- no publisher has so many uses of its slots that they couldn't be counted
+pub all_length : (overflows : Bool) (most_waiting most_borrowed : ℕ) (links : List (Option LinkState)) → most_waiting < 2 ^ 32 → most_borrowed < 2 ^ 32
+    → ((index : ℕ) → IsOf overflows most_waiting most_borrowed (get_or links index None)) → (k : ℕ) → times k (all_slots links) ≤ length links * 2 ^ 33
+all_length overflows most_waiting most_borrowed [] waits borrows kinds k = omega arith
+all_length overflows most_waiting most_borrowed (x ∷ rest) waits borrows kinds k =
+    omega (arith, times_append k (slots_at x) (all_slots rest), one_length x (kinds zero), all_length overflows most_waiting most_borrowed rest waits borrows (λ index. kinds (suc index)) k)
+  where
+    one_length : (it : Option LinkState) → IsOf overflows most_waiting most_borrowed it → times k (slots_at it) ≤ 2 ^ 33
+    one_length None kind = omega arith
+    one_length (Some link) kind = omega (arith, kind.1, kind.2, kind.3, waits, borrows, count_by-le-length (λ other. eqb k other) (all_of link))
+
+-- other connections
+abbrev with_links : LinksState → List (Option LinkState) → LinksState
+with_links state links = record state { links = links }
+
+-- one index more is taken back from
+pub taking_step : (first : LinksState) (slots : SlotsState) (now : LinksState) (later : SlotsState) (count : ℕ) (next : LinksState) (final : SlotsState)
+    → TakingAllBack first slots now later count → count < length first.links
+    → next ≡ record now { links = set now.links count (taken_back (get_or now.links count None)) }
+    → Moves later (all_slots now.links) final (all_slots next.links) → TakingAllBack first slots next final (count + 1)
+taking_step first slots now later count next final so_far within is moves =
+    let links : next.links ≡ set now.links count (taken_back (get_or now.links count None)) = ap (λ l. l.links) is in
+    let inside : count < length now.links = omega (arith, within, so_far.length) in
+    let base : (record now { links = next.links }) ≡ record first { links = next.links } = rw so_far.same refl in
+    let kept : next ≡ record now { links = next.links } = is ∙ sym (ap (λ ls. with_links now ls) links) in
+    record {
+      same = kept ∙ base;
+      length = ap length links ∙ length-set now.links count (taken_back (get_or now.links count None)) ∙ so_far.length;
+      looks = ap (map seen) links ∙ looks_same now.links count ∙ so_far.looks;
+      done = rw links (one_more_done now.links count inside so_far.done);
+      moved = moves_on slots later final (all_slots first.links) (all_slots now.links) (all_slots next.links) so_far.moved moves;
+    }
+
+-- a connection that holds nothing comes to an index without one
+pub placed_within : (links : List (Option LinkState)) (index : ℕ) (link : LinkState) (connection : Connection ℕ) → index < length links → connection_of link ≡ connection
+    → map seen (set links index (Some link)) ≡ placed index connection (map seen links)
+placed_within links index link connection within is =
+    let apart : (index == length (map seen links)) ≡ false = grind (arith, within, length-map links seen) in
+    rw apart (seen_set links index link connection is)
+
+pub placed_uses : (links : List (Option LinkState)) (index : ℕ) (link : LinkState) → index < length links → get_or links index None ≡ None → all_of link ≡ []
+    → (k : ℕ) → times k (all_slots (set links index (Some link))) ≡ times k (all_slots links)
+placed_uses links index link within vacant empty k =
+    omega (arith, set_times links index (Some link) within k, ap (λ it. times k (slots_at it)) vacant, ap (times k) empty)
+
+pub appended_uses : (links : List (Option LinkState)) (link : LinkState) → all_of link ≡ [] → (k : ℕ) → times k (all_slots (links ++ Some link ∷ [])) ≡ times k (all_slots links)
+appended_uses [] link empty k = omega (arith, times_append k (all_of link) [], ap (times k) empty)
+appended_uses (x ∷ rest) link empty k =
+    omega (arith, times_append k (slots_at x) (all_slots (rest ++ Some link ∷ [])), times_append k (slots_at x) (all_slots rest), appended_uses rest link empty k)

@@ -4,3 +4,4 @@ pub mod Moving
 pub mod Linking
 pub mod Offering
 pub mod AllSlots
+pub mod Publishing

@@ -37,7 +37,7 @@ let_go slot slots = record slots { references = set slots.references slot (uses_
 abbrev pub LoanSlot : SlotsState → Option ℕ → SlotsState → Type 0
 LoanSlot old None new = ((slot : ℕ) → IsCurrent slot old → 0 < uses_of slot old) × (new ≡ old)
 LoanSlot old (Some slot) new =
-    IsCurrent slot old × (uses_of slot old ≡ 0)
+    IsCurrent slot old × (slot < length old.references) × (uses_of slot old ≡ 0)
     × (new ≡ record (referred slot old) { loans = old.loans ++ slot ∷ [] })
 
 -- from one bookkeeping to the next only counts changed, by as many as were in the one list and are in the other
@@ -49,3 +49,9 @@ pub record Moves (old : SlotsState) (before : List ℕ) (new : SlotsState) (afte
 -- loans, history and a further list are among the uses that are counted
 abbrev pub Covers : SlotsState → List ℕ → Type 0
 Covers slots further = (slot : ℕ) → times slot slots.loans + (times slot slots.history + times slot further) ≤ uses_of slot slots
+
+-- a loan takes any slot of the current segment that nothing uses; there is none exactly if each of them is in use
+abbrev pub LoanUse : Uses ℕ → Option ℕ → Uses ℕ → Type 0
+LoanUse old None new = ((slot : ℕ) → old.first ≤ slot → slot < old.first + old.size → 0 < times slot (in_use old)) × (new ≡ old)
+LoanUse old (Some slot) new =
+    (old.first ≤ slot) × (slot < old.first + old.size) × (times slot (in_use old) ≡ 0) × (new ≡ loaned slot old)

@@ -1,8 +1,8 @@
 -- One connection by the slots that it holds: its mailbox, what is borrowed, and what came back and isn't taken back yet.
-use Rattle.std.specs.Prelude.{ℕ, ◌+◌, ◌<◌, ◌≤◌, ◌≡◌, ◌==◌, Bool, true, false, List, [], ◌∷◌, ◌++◌, length, get_or, set, nat_lt, Option, None, Some, if◌then◌else◌}
+use Rattle.std.specs.Prelude.{ℕ, ◌+◌, ◌<◌, ◌≤◌, ◌≡◌, ◌^◌, ◌==◌, Bool, true, false, List, [], ◌∷◌, ◌++◌, length, get_or, set, nat_lt, Option, None, Some, map, option_to_list, if◌then◌else◌}
 use Rattle.iox_queues_base.specs.Waiting.{Bounded, put, put_over}
-use Rattle.iox_domain_slots.specs.Uses.{Connection, nobody}
-use Rattle.iox_domain_slots.specs.Counting.{times}
+use Rattle.iox_domain_slots.specs.Uses.{Uses, Connection, nobody}
+use Rattle.iox_domain_slots.specs.Counting.{SlotsState, times, uses_of}
 use Rattle.iox_domain_slots.specs.declared.stage.Stage.{Stage}
 use Rattle.iox_domain_slots.specs.declared.stage.Stage.TheVariants as stage
 use Rattle.iox_domain_slots.specs.declared.mailbox.Put.{Put}
@@ -116,3 +116,33 @@ placed index connection connections =
 abbrev pub IsGone : Option LinkState → Type 0
 IsGone None = ⊥
 IsGone (Some link) = (link.ended ≡ true) × (all_of link ≡ [])
+
+-- nothing of an index is left to be taken back
+abbrev pub IsTakenBack : Option LinkState → Type 0
+IsTakenBack None = Unit {0}
+IsTakenBack (Some link) = link.returned ≡ []
+
+-- what is seen of a publisher's bookkeeping: who uses which slot
+abbrev pub seen_uses : SlotsState → Option ℕ → LinksState → Uses ℕ
+seen_uses slots sending links = record {
+  first = slots.first;
+  size = slots.size;
+  most_loans = slots.most_loans;
+  kept = slots.kept;
+  most_waiting = links.most_waiting;
+  most_borrowed = links.most_borrowed;
+  overflows = links.overflows;
+  sending = sending;
+  loans = slots.loans;
+  history = slots.history;
+  connections = map seen links.links;
+}
+
+-- each use of a slot is counted, once
+abbrev pub IsTally : SlotsState → Option ℕ → LinksState → Type 0
+IsTally slots sending links = (slot : ℕ) → uses_of slot slots ≡
+    times slot (option_to_list sending) + (times slot slots.loans + (times slot slots.history + times slot (all_slots links.links)))
+
+-- there are so few loans and so short a history that all uses can be counted
+abbrev pub IsSmall : SlotsState → Type 0
+IsSmall slots = (length slots.loans ≤ slots.most_loans) × (slots.most_loans < 2 ^ 32) × (length slots.history ≤ slots.kept) × (slots.kept < 2 ^ 32)

@@ -18,4 +18,4 @@ pub mod uses;
 
 pub use slots::Slots;
 pub use stage::Stage;
-
+pub use uses::SlotUses;

@@ -1,14 +1,17 @@
 //! The connections of one publisher.
-ghost use Rattle.std.specs.Prelude.{◌≡◌, ℕ, ◌+◌, ◌^◌, ◌<◌, ◌≤◌, ◌==◌, ◌++◌, ◌∷◌, [], length, map, set, drop, take, get_or, remove, is_some, slice_get, IfOk, Some, None, true, false};
-ghost use Rattle.iox_domain_slots.specs.Uses.{nobody, accepts, offered, taken, given_back, settled, ended};
+ghost use Rattle.std.specs.Prelude.{◌≡◌, ℕ, ◌+◌, ◌^◌, ◌<◌, ◌≤◌, ◌==◌, ◌++◌, ◌∷◌, [], length, map, set, drop, take, get_or, remove, is_some, slice_get, IfOk, IsOk, OnErr, Some, None, true, false};
+ghost use Rattle.iox_domain_slots.specs.Uses.{nobody, accepts, offered, taken, given_back, settled, ended, held, connected};
 ghost use Rattle.iox_domain_slots.specs.declared.stage.Stage.TheVariants as stage;
 ghost use Rattle.iox_domain_slots.specs.Counting.{SlotsState, times, uses_of, Moves, Covers};
-ghost use Rattle.iox_domain_slots.specs.Links.{LinksState, LinkState, seen, all_slots, taken_back, IsGone};
+ghost use Rattle.iox_domain_slots.specs.Links.{LinksState, LinkState, seen, all_slots, all_of, connection_of, taken_back, IsGone, IsOf, placed};
 
 use crate::link::Link;
 use crate::slots::Slots;
 use std::alloc::{AllocError, Global};
 use std::marker::Model;
+
+// More connections than there is memory for; so no count of uses can overflow.
+const MOST_LINKS: usize = 1 << 29;
 
 /// The connections of one publisher, each at an index that it keeps while it is there.
 #[derive(Drop)]
@@ -20,7 +23,7 @@ pub struct Links {
 }
 
 impl Model for Links {
-    ghost use Rattle.std.specs.Prelude.{◌≡◌, ◌≤◌, ◌<◌, ◌+◌, ◌^◌, ℕ, get_or, None};
+    ghost use Rattle.std.specs.Prelude.{◌≡◌, ◌≤◌, ◌<◌, ◌+◌, ◌^◌, ℕ, get_or, length, None};
     ghost use Rattle.iox_domain_slots.specs.Links.{LinksState, IsOf};
 
     ghost Value = { LinksState };
@@ -32,7 +35,8 @@ impl Model for Links {
       links = l.items.items;
     } };
 
-    ghost invariant = { λ l. ((index : ℕ) → IsOf l.overflows l.most_waiting l.most_borrowed (get_or l.items.items index None))
+    ghost invariant = { λ l. (length l.items.items ≤ 2 ^ 29)
+        × ((index : ℕ) → IsOf l.overflows l.most_waiting l.most_borrowed (get_or l.items.items index None))
         × (l.most_waiting < 2 ^ 32) × (l.most_borrowed < 2 ^ 32) };
 }
 
@@ -43,7 +47,7 @@ impl Links {
         requires live { (seen (get_or self.old.links index None)).stage ≡ stage.Live }
         requires covered { Covers slots.old (all_slots self.old.links) }
         requires further { times slot slots.old.loans + (times slot slots.old.history + times slot (all_slots self.old.links)) < uses_of slot slots.old }
-        requires room { uses_of slot slots.old + 1 < 2 ^ 64 }
+        requires others { uses_of slot slots.old < 2 ^ 62 + times slot (all_slots self.old.links) }
         ensures answer { result ≡ accepts self.old.overflows (seen (get_or self.old.links index None)) }
         ensures after { map seen self.new.links ≡ set (map seen self.old.links) index (offered self.old.overflows slot (seen (get_or self.old.links index None))) }
         ensures same { self.new ≡ record self.old { links = self.new.links } }
@@ -192,5 +196,108 @@ impl Links {
     {
         self.end_link(index, slots);
         self.settle(index);
+    }
+
+    // Takes back what came back at an index.
+    fn take_back_one(&mut self, index: usize, slots: &mut Slots)
+        requires within { index < length self.old.links }
+        requires covered { Covers slots.old (all_slots self.old.links) }
+        ensures after { self.new ≡ record self.old { links = set self.old.links index (taken_back (get_or self.old.links index None)) } }
+        ensures moved { Moves slots.old (all_slots self.old.links) slots.new (all_slots self.new.links) }
+    {
+        let Some(link) = &mut self.items[index] else {
+            return;
+        };
+        link.take_back(slots);
+    }
+
+    /// Takes back all that came back.
+    pub fn take_back(&mut self, slots: &mut Slots)
+        requires { Covers slots.old (all_slots self.old.links) }
+        ensures seen { map seen self.new.links ≡ map seen self.old.links }
+        ensures same { self.new ≡ record self.old { links = self.new.links } }
+        ensures none_left { (k : ℕ) → times k (all_slots self.new.links) ≡ times k (held (map seen self.new.links)) }
+        ensures moved { Moves slots.old (all_slots self.old.links) slots.new (all_slots self.new.links) }
+    {
+        for index in 0..self.items.len() {
+            self.take_back_one(index, slots);
+        }
+    }
+
+    /// How many indices there are, with a connection or without; so few that all uses of a slot can be counted.
+    pub fn len(&self) -> usize
+        ensures value { result ≡ length self.now.links }
+        ensures countable { (k : ℕ) → times k (all_slots self.now.links) ≤ 2 ^ 62 }
+    {
+        self.items.len()
+    }
+
+    // The first index without a connection, or the one behind the last.
+    fn vacancy(&self) -> usize
+        ensures within { result ≤ length self.now.links }
+        ensures vacant { get_or self.now.links result None ≡ None }
+    {
+        self.items
+            .iter()
+            .position(|link| link.is_none())
+            .unwrap_or(self.items.len())
+    }
+
+    // Puts a connection at an index.
+    fn replace(&mut self, index: usize, link: Link)
+        requires within { index < length self.old.links }
+        requires kind { IsOf self.old.overflows self.old.most_waiting self.old.most_borrowed (Some link) }
+        ensures { self.new ≡ record self.old { links = set self.old.links index (Some link) } }
+    {
+        self.items[index] = Some(link);
+    }
+
+    // Puts a connection behind the last.
+    fn append(&mut self, link: Link) -> Result<(), AllocError>
+        requires kind { IsOf self.old.overflows self.old.most_waiting self.old.most_borrowed (Some link) }
+        ensures after { IsOk result → self.new ≡ record self.old { links = self.old.links ++ Some link ∷ [] } }
+        ensures refused { OnErr result (self.new ≡ self.old) }
+    {
+        if self.items.len() >= MOST_LINKS {
+            return Err(AllocError);
+        }
+        self.items.push(Some(link))?;
+        Ok(())
+    }
+
+    /// Makes a connection where at most `limit` may wait, and answers its index. It fails where memory is wanting, and then
+    /// nothing has changed.
+    pub fn connect(&mut self, alloc: Global, limit: usize) -> Result<usize, AllocError>
+        requires { limit ≤ self.old.most_waiting }
+        ensures vacant { IfOk result (λ index. seen (get_or self.old.links index None) ≡ nobody) }
+        ensures within { IfOk result (λ index. index ≤ length self.old.links) }
+        ensures after { IfOk result (λ index. map seen self.new.links ≡ placed index (connected limit) (map seen self.old.links)) }
+        ensures uses { (k : ℕ) → times k (all_slots self.new.links) ≡ times k (all_slots self.old.links) }
+        ensures same { self.new ≡ record self.old { links = self.new.links } }
+        ensures refused { OnErr result (self.new ≡ self.old) }
+    {
+        let ring = self.most_waiting + self.most_borrowed + 1;
+        let link = Link::new(alloc, self.overflows, limit, self.most_borrowed, ring)?;
+        let index = self.vacancy();
+        if index < self.items.len() {
+            self.replace(index, link);
+        } else {
+            self.append(link)?;
+        }
+        Ok(index)
+    }
+
+    /// No connections, of which there will be as many as are made.
+    pub fn new(alloc: Global, overflows: bool, most_waiting: usize, most_borrowed: usize) -> Links
+        requires waiting { most_waiting < 2 ^ 32 }
+        requires borrowed { most_borrowed < 2 ^ 32 }
+        ensures { result ≡ record { overflows = overflows; most_waiting = most_waiting; most_borrowed = most_borrowed; links = [] } }
+    {
+        Links {
+            items: Vec::new(alloc),
+            overflows,
+            most_waiting,
+            most_borrowed,
+        }
     }
 }

@@ -3,7 +3,7 @@ use Rattle.std.proofs.Common.{refl, sym, subst, ap, ◌∙◌, arith, rules, ◌
 use Rattle.iox_domain_slots.specs.Counting.{SlotsState, times, uses_of, referred, let_go, Moves, Covers}
 use Rattle.iox_domain_slots.specs.Uses.{offered}
 use Rattle.iox_domain_slots.specs.Links.{LinkState, connection_of, all_of, seen, all_slots}
-use Rattle.iox_domain_slots.proofs.AllSlots.{covers_one, moves_all, one_of_all, link_is, link_within, seen_set, kind_of, further_one}
+use Rattle.iox_domain_slots.proofs.AllSlots.{covers_one, moves_all, one_of_all, link_is, link_within, seen_set, kind_of, further_one, all_length}
 use Rattle.iox_domain_slots.proofs.links.Links.offer.Goals as goal
 
 -- the connection that was found is the one of the index
@@ -23,9 +23,15 @@ offer-requires-clause-further c =
       rw (← c.self.view_is) at c.requires.further in
     further_one c.args.slots.now c.self.inside.items.items c.args.index c.args.slot c.in-Some.link (found c) further
 
+pub offer-requires-clause-room : goal.offer-requires-clause-room
+offer-requires-clause-room c =
+    let others : uses_of c.args.slot c.args.slots.now < 2 ^ 62 + times c.args.slot (all_slots c.self.inside.items.items) = rw (← c.self.view_is) at c.requires.others in
+    omega (arith, others, c.self.invariant.0,
+      all_length c.self.inside.overflows c.self.inside.most_waiting c.self.inside.most_borrowed c.self.inside.items.items c.self.invariant.2 c.self.invariant.3 c.self.invariant.1 c.args.slot)
+
 pub returns-clause-after : goal.returns-clause-after
 returns-clause-after c = rw (← c.self.view_is) (
-    let kind = kind_of c.self.inside.items.items c.args.index c.self.inside.overflows c.self.inside.most_waiting c.self.inside.most_borrowed c.in-Some.link c.self.invariant.0 (found c.before.before) in
+    let kind = kind_of c.self.inside.items.items c.args.index c.self.inside.overflows c.self.inside.most_waiting c.self.inside.most_borrowed c.in-Some.link c.self.invariant.1 (found c.before.before) in
     let after : connection_of c.offer.new.self ≡ offered c.self.inside.overflows c.args.slot (connection_of c.in-Some.link) = rw (← kind.0) c.offer.ensures.after in
     rw (found c.before.before) (seen_set c.self.inside.items.items c.args.index c.offer.new.self (offered c.self.inside.overflows c.args.slot (connection_of c.in-Some.link)) after))
 

@@ -1,0 +1,21 @@
+use Rattle.std.proofs.Common.{refl, sym, subst, ap, ◌∙◌, arith, rules, ◌≡◌, ◌+◌, ◌-◌, ◌^◌, ◌<◌, ◌≤◌, ◌++◌, ◌∷◌, [], length, get_or, set, map, ℕ, List, Some, None}
+use Rattle.iox_domain_slots.specs.Uses.{Uses, held, in_use, loaned}
+use Rattle.iox_domain_slots.specs.Counting.{SlotsState, times, uses_of, referred, LoanSlot, LoanUse, Moves, Covers}
+use Rattle.iox_domain_slots.specs.Links.{LinkState, seen, all_slots, seen_uses, IsTally, IsSmall}
+use Rattle.iox_domain_slots.proofs.Publishing.{tally_moved, tally_loaned, small_loaned, loan_use}
+use Rattle.iox_domain_slots.proofs.uses.SlotUses.loan.Goals as goal
+
+-- all uses are counted once what came back is taken back
+after : (c : goal.After-loan) → IsTally c.take_back.new.slots c.self.inside.sending c.take_back.new.self
+after c = tally_moved c.self.inside.slots c.take_back.new.slots c.self.inside.sending c.self.inside.links c.take_back.new.self c.self.invariant.0 c.take_back.ensures.moved
+
+pub invariant_of-self : goal.invariant_of-self
+invariant_of-self c =
+    let small : IsSmall c.take_back.new.slots = subst IsSmall (sym c.take_back.ensures.moved.same) c.self.invariant.1 in
+    let room : length c.take_back.new.slots.loans < c.take_back.new.slots.most_loans = rw c.take_back.ensures.moved.same (rw (← c.self.view_is) at c.requires) in
+    ( tally_loaned c.take_back.new.slots c.loan.new.self c.self.inside.sending c.take_back.new.self c.loan.result (after c) c.loan.ensures
+    , small_loaned c.take_back.new.slots c.loan.new.self c.loan.result small room c.loan.ensures)
+
+pub returns : goal.returns
+returns c = rw (← c.self.view_is) (loan_use c.self.inside.slots c.take_back.new.slots c.loan.new.self c.self.inside.sending c.self.inside.links c.take_back.new.self c.loan.result
+    c.take_back.ensures.moved.same c.take_back.ensures.same c.take_back.ensures.seen (after c) c.take_back.ensures.none_left c.loan.ensures)
