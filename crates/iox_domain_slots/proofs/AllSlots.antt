@@ -68,12 +68,11 @@ pub kind_of : (links : List (Option LinkState)) (index : ℕ) (overflows : Bool)
     → IsOf overflows most_waiting most_borrowed (Some link)
 kind_of links index overflows most_waiting most_borrowed link kinds at = subst (IsOf overflows most_waiting most_borrowed) at (kinds index)
 
--- a slot that has a further use besides all of them has one besides those of one
-pub further_one : (slots : SlotsState) (links : List (Option LinkState)) (index slot : ℕ) (link : LinkState) → get_or links index None ≡ Some link
-    → times slot slots.loans + (times slot slots.history + times slot (all_slots links)) < uses_of slot slots
-    → times slot slots.loans + (times slot slots.history + times slot (all_of link)) < uses_of slot slots
-further_one slots links index slot link at further =
-    omega (arith, further, subst (λ it. times slot (slots_at it) ≤ times slot (all_slots links)) at (one_of_all links index slot))
+-- a slot that is used besides all of them is used besides one of them
+pub besides_one : (slots : SlotsState) (links : List (Option LinkState)) (index slot : ℕ) (link : LinkState) → get_or links index None ≡ Some link
+    → times slot (all_slots links) < uses_of slot slots → times slot (all_of link) < uses_of slot slots
+besides_one slots links index slot link at besides =
+    omega (arith, besides, subst (λ it. times slot (slots_at it) ≤ times slot (all_slots links)) at (one_of_all links index slot))
 
 -- the uses of all stay where those of one do
 pub uses_all : (links : List (Option LinkState)) (index : ℕ) (before after : LinkState) → index < length links → get_or links index None ≡ Some before
@@ -210,7 +209,7 @@ all_length overflows most_waiting most_borrowed (x ∷ rest) waits borrows kinds
   where
     one_length : (it : Option LinkState) → IsOf overflows most_waiting most_borrowed it → times k (slots_at it) ≤ 2 ^ 33
     one_length None kind = omega arith
-    one_length (Some link) kind = omega (arith, kind.1, kind.2, kind.3, waits, borrows, count_by-le-length (λ other. eqb k other) (all_of link))
+    one_length (Some link) kind = omega (arith, kind.1, kind.2, kind.4.2, waits, borrows, count_by-le-length (λ other. eqb k other) (all_of link))
 
 -- other connections
 abbrev with_links : LinksState → List (Option LinkState) → LinksState

@@ -50,10 +50,10 @@ pub head_of_end : (k slot : ℕ) (waiting : List ℕ) → times k (drop 1 (waiti
 head_of_end k slot [] = omega (arith, times_cons k slot [])
 head_of_end k slot (x ∷ xs) = omega (arith, times_cons k x (xs ++ slot ∷ []))
 
--- a slot that has a further use keeps it when some that came back are taken back
+-- a slot that is used elsewhere stays used when some that came back are taken back
 pub still_used : (old new : SlotsState) (slot : ℕ) (before after : List ℕ) → Moves old before new after
-    → times slot old.loans + (times slot old.history + times slot before) < uses_of slot old → 0 < uses_of slot new
-still_used old new slot before after moves further = omega (arith, moves.moved slot, further)
+    → times slot before < uses_of slot old → 0 < uses_of slot new
+still_used old new slot before after moves besides = omega (arith, moves.moved slot, besides)
 
 pub still_room : (old new : SlotsState) (slot : ℕ) (before after : List ℕ) → Moves old before new after → times slot after ≤ times slot before
     → uses_of slot old + 1 < 2 ^ 64 → uses_of slot new + 1 < 2 ^ 64

@@ -65,6 +65,10 @@ connection_of link = record {
 abbrev pub room_of : LinkState → ℕ
 room_of link = link.limit + link.most_borrowed + 1
 
+-- no more wait or are borrowed than may, and what waits, is borrowed and came back has room
+abbrev pub IsFit : LinkState → Type 0
+IsFit link = (length link.waiting ≤ link.limit) × (length link.borrowed ≤ link.most_borrowed) × (length (all_of link) ≤ room_of link)
+
 -- only what waits, is borrowed or came back has changed
 abbrev pub IsSameLink : LinkState → LinkState → Type 0
 IsSameLink old new = (new.ended ≡ old.ended) × (new.overflows ≡ old.overflows) × (new.limit ≡ old.limit) × (new.most_borrowed ≡ old.most_borrowed)
@@ -104,8 +108,7 @@ IsOverIfEnded link = link.ended ≡ true → (link.waiting ≡ []) × (link.retu
 abbrev pub IsOf : Bool → ℕ → ℕ → Option LinkState → Type 0
 IsOf overflows most_waiting most_borrowed None = Unit {0}
 IsOf overflows most_waiting most_borrowed (Some link) =
-    (link.overflows ≡ overflows) × (link.limit ≤ most_waiting) × (link.most_borrowed ≡ most_borrowed) × (length (all_of link) ≤ room_of link)
-    × IsOverIfEnded link
+    (link.overflows ≡ overflows) × (link.limit ≤ most_waiting) × (link.most_borrowed ≡ most_borrowed) × IsOverIfEnded link × IsFit link
 
 -- a connection comes to an index where there was none, or behind the others
 abbrev pub placed : ℕ → Connection ℕ → List (Connection ℕ) → List (Connection ℕ)

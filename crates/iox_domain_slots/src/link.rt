@@ -3,7 +3,7 @@ ghost use Rattle.std.specs.Prelude.{◌≡◌, ℕ, ◌+◌, ◌^◌, ◌<◌, �
 ghost use Rattle.iox_queues_base.specs.Waiting.{Bounded};
 ghost use Rattle.iox_domain_slots.specs.Uses.{accepts, offered, taken};
 ghost use Rattle.iox_domain_slots.specs.Counting.{SlotsState, times, uses_of, let_go, Moves, Covers};
-ghost use Rattle.iox_domain_slots.specs.Links.{LinkState, all_of, connection_of, room_of, IsSameLink, put_into, put_answer};
+ghost use Rattle.iox_domain_slots.specs.Links.{LinkState, all_of, connection_of, room_of, IsSameLink, IsFit, put_into, put_answer};
 
 use crate::mailbox::{Mailbox, Put};
 use crate::slots::Slots;
@@ -67,7 +67,7 @@ impl Link {
     pub fn take_back(&mut self, slots: &mut Slots)
         requires { Covers slots.old (all_of self.old) }
         ensures after { self.new ≡ record self.old { returned = []; delivered = false } }
-        ensures fits { length (all_of self.new) ≤ room_of self.new }
+        ensures fits { IsFit self.new }
         ensures moved { Moves slots.old (all_of self.old) slots.new (all_of self.new) }
     {
         for _ in 0..self.returned.len() {
@@ -95,22 +95,22 @@ impl Link {
         ensures answer { result ≡ put_answer self.old.overflows self.old.limit self.old.waiting slot }
         ensures same { IsSameLink self.old self.new × (self.new.borrowed ≡ self.old.borrowed) × (self.new.returned ≡ self.old.returned) }
         ensures waiting { self.new.waiting ≡ put_into self.old.overflows self.old.limit self.old.waiting slot }
-        ensures fits { length (all_of self.new) ≤ room_of self.new }
+        ensures fits { IsFit self.new }
     {
         let answer = self.mailbox.put(slot);
         self.delivered = answer != Put::Refused;
         answer
     }
 
-    /// Puts a slot that has a further use behind those that wait; answers whether it found room.
+    /// Puts a slot that is used elsewhere, too, behind those that wait; answers whether it found room.
     pub fn offer(&mut self, slot: usize, slots: &mut Slots) -> bool
         requires covered { Covers slots.old (all_of self.old) }
-        requires further { times slot slots.old.loans + (times slot slots.old.history + times slot (all_of self.old)) < uses_of slot slots.old }
+        requires besides { times slot (all_of self.old) < uses_of slot slots.old }
         requires room { uses_of slot slots.old + 1 < 2 ^ 64 }
         ensures answer { result ≡ accepts self.old.overflows (connection_of self.old) }
         ensures after { connection_of self.new ≡ offered self.old.overflows slot (connection_of self.old) }
         ensures same { IsSameLink self.old self.new }
-        ensures fits { length (all_of self.new) ≤ room_of self.new }
+        ensures fits { IsFit self.new }
         ensures moved { Moves slots.old (all_of self.old) slots.new (all_of self.new) }
     {
         self.make_room(slots);
@@ -135,7 +135,7 @@ impl Link {
         ensures slot { slice_get self.old.waiting 0 ≡ Some result }
         ensures after { connection_of self.new ≡ taken (connection_of self.old) }
         ensures same { IsSameLink self.old self.new }
-        ensures fits { length (all_of self.new) ≤ room_of self.new }
+        ensures fits { IsFit self.new }
         ensures uses { (k : ℕ) → times k (all_of self.new) ≡ times k (all_of self.old) }
     {
         let Some(slot) = self.mailbox.pop() else {
@@ -150,7 +150,7 @@ impl Link {
         requires { at < length self.old.borrowed }
         ensures after { self.new ≡ record self.old {
           borrowed = remove self.old.borrowed at; returned = self.old.returned ++ get_or self.old.borrowed at 0 ∷ [] } }
-        ensures fits { length (all_of self.new) ≤ room_of self.new }
+        ensures fits { IsFit self.new }
         ensures uses { (k : ℕ) → times k (all_of self.new) ≡ times k (all_of self.old) }
     {
         let slot = self.borrowed.remove(at);
@@ -162,7 +162,7 @@ impl Link {
         requires within { at < length self.old.borrowed }
         requires covered { Covers slots.old (all_of self.old) }
         ensures after { self.new ≡ record self.old { borrowed = remove self.old.borrowed at } }
-        ensures fits { length (all_of self.new) ≤ room_of self.new }
+        ensures fits { IsFit self.new }
         ensures moved { Moves slots.old (all_of self.old) slots.new (all_of self.new) }
     {
         let slot = self.borrowed.remove(at);
@@ -197,7 +197,7 @@ impl Link {
     pub fn end(&mut self, slots: &mut Slots)
         requires { Covers slots.old (all_of self.old) }
         ensures after { self.new ≡ record self.old { ended = true; waiting = []; returned = []; delivered = false } }
-        ensures fits { length (all_of self.new) ≤ room_of self.new }
+        ensures fits { IsFit self.new }
         ensures moved { Moves slots.old (all_of self.old) slots.new (all_of self.new) }
     {
         self.lose_waiting(slots);

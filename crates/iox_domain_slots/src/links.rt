@@ -41,12 +41,12 @@ impl Model for Links {
 }
 
 impl Links {
-    /// Puts a slot that has a further use into the mailbox of the connection; answers whether it found room.
+    /// Puts a slot that is used elsewhere, too, into the mailbox of the connection; answers whether it found room.
     pub fn offer(&mut self, index: usize, slot: usize, slots: &mut Slots) -> bool
         requires there { is_some (get_or self.old.links index None) ≡ true }
         requires live { (seen (get_or self.old.links index None)).stage ≡ stage.Live }
         requires covered { Covers slots.old (all_slots self.old.links) }
-        requires further { times slot slots.old.loans + (times slot slots.old.history + times slot (all_slots self.old.links)) < uses_of slot slots.old }
+        requires besides { times slot (all_slots self.old.links) < uses_of slot slots.old }
         requires others { uses_of slot slots.old < 2 ^ 62 + times slot (all_slots self.old.links) }
         ensures answer { result ≡ accepts self.old.overflows (seen (get_or self.old.links index None)) }
         ensures after { map seen self.new.links ≡ set (map seen self.old.links) index (offered self.old.overflows slot (seen (get_or self.old.links index None))) }

@@ -16,7 +16,7 @@ between : (c : goal.After-let_go-arg-1) → Moves c.args.slots.now (all_of c.arg
     ((c.make_room.new.self.waiting ++ c.args.slot ∷ []) ++ (c.make_room.new.self.borrowed ++ c.make_room.new.self.returned))
 between c = put_moves c.args.slots.now c.make_room.new.slots c.refer-in-TakenFor.new.self c.args.slot (all_of c.args.self.now) c.make_room.new.self.waiting
     (c.make_room.new.self.borrowed ++ c.make_room.new.self.returned) c.make_room.ensures.moved
-    (still_used c.args.slots.now c.make_room.new.slots c.args.slot _ _ c.make_room.ensures.moved c.requires.further) c.refer-in-TakenFor.ensures
+    (still_used c.args.slots.now c.make_room.new.slots c.args.slot _ _ c.make_room.ensures.moved c.requires.besides) c.refer-in-TakenFor.ensures
 
 pub let_go-requires : goal.let_go-requires
 let_go-requires c = record { used = oldest_further c.args.slots.now c.refer-in-TakenFor.new.self c.args.slot c.in-TakenFor.oldest (all_of c.args.self.now) c.make_room.new.self.waiting
@@ -30,7 +30,7 @@ returns-in-Taken-clause-moved c =
     rw (put_all c.make_room.new.self c.put.new.self (c.make_room.new.self.waiting ++ c.args.slot ∷ []) waits c.put.ensures.same.1 c.put.ensures.same.2)
       (put_moves c.args.slots.now c.make_room.new.slots c.refer.new.self c.args.slot (all_of c.args.self.now) c.make_room.new.self.waiting
         (c.make_room.new.self.borrowed ++ c.make_room.new.self.returned) c.make_room.ensures.moved
-        (still_used c.args.slots.now c.make_room.new.slots c.args.slot _ _ c.make_room.ensures.moved c.requires.further) c.refer.ensures)
+        (still_used c.args.slots.now c.make_room.new.slots c.args.slot _ _ c.make_room.ensures.moved c.requires.besides) c.refer.ensures)
 
 pub returns-in-TakenFor-clause-moved : goal.returns-in-TakenFor-clause-moved
 returns-in-TakenFor-clause-moved c =

@@ -3,7 +3,7 @@ use Rattle.std.proofs.Common.{refl, sym, subst, ap, ◌∙◌, arith, rules, ◌
 use Rattle.iox_domain_slots.specs.Counting.{SlotsState, times, uses_of, referred, let_go, Moves, Covers}
 use Rattle.iox_domain_slots.specs.Uses.{offered}
 use Rattle.iox_domain_slots.specs.Links.{LinkState, connection_of, all_of, seen, all_slots}
-use Rattle.iox_domain_slots.proofs.AllSlots.{covers_one, moves_all, one_of_all, link_is, link_within, seen_set, kind_of, further_one, all_length}
+use Rattle.iox_domain_slots.proofs.AllSlots.{covers_one, moves_all, one_of_all, link_is, link_within, seen_set, kind_of, besides_one, all_length}
 use Rattle.iox_domain_slots.proofs.links.Links.offer.Goals as goal
 
 -- the connection that was found is the one of the index
@@ -17,11 +17,10 @@ offer-requires-clause-covered c =
     let covered : Covers c.args.slots.now (all_slots c.self.inside.items.items) = rw (← c.self.view_is) at c.requires.covered in
     covers_one c.args.slots.now c.self.inside.items.items c.args.index c.in-Some.link (found c) covered
 
-pub offer-requires-clause-further : goal.offer-requires-clause-further
-offer-requires-clause-further c =
-    let further : times c.args.slot c.args.slots.now.loans + (times c.args.slot c.args.slots.now.history + times c.args.slot (all_slots c.self.inside.items.items)) < uses_of c.args.slot c.args.slots.now =
-      rw (← c.self.view_is) at c.requires.further in
-    further_one c.args.slots.now c.self.inside.items.items c.args.index c.args.slot c.in-Some.link (found c) further
+pub offer-requires-clause-besides : goal.offer-requires-clause-besides
+offer-requires-clause-besides c =
+    let besides : times c.args.slot (all_slots c.self.inside.items.items) < uses_of c.args.slot c.args.slots.now = rw (← c.self.view_is) at c.requires.besides in
+    besides_one c.args.slots.now c.self.inside.items.items c.args.index c.args.slot c.in-Some.link (found c) besides
 
 pub offer-requires-clause-room : goal.offer-requires-clause-room
 offer-requires-clause-room c =

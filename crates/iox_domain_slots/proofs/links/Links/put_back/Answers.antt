@@ -4,7 +4,7 @@ use Rattle.iox_domain_slots.specs.Counting.{SlotsState, times, uses_of, referred
 use Rattle.iox_domain_slots.specs.Uses.{offered, taken, given_back}
 use Rattle.iox_domain_slots.specs.Links.{LinkState, connection_of, all_of, seen, all_slots}
 use Rattle.iox_domain_slots.specs.declared.stage.Stage.TheVariants as stage
-use Rattle.iox_domain_slots.proofs.AllSlots.{covers_one, moves_all, one_of_all, link_is, link_within, seen_set, kind_of, further_one, uses_all, given_back_live}
+use Rattle.iox_domain_slots.proofs.AllSlots.{covers_one, moves_all, one_of_all, link_is, link_within, seen_set, kind_of, besides_one, uses_all, given_back_live}
 use Rattle.iox_domain_slots.proofs.links.Links.put_back.Goals as goal
 
 -- the connection that was found is the one of the index
