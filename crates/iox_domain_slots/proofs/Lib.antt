@@ -5,3 +5,4 @@ pub mod Linking
 pub mod Offering
 pub mod AllSlots
 pub mod Publishing
+pub mod Enough

@@ -1,5 +1,5 @@
 -- Who uses the messages of one publisher. A message goes by whatever X is: a slot's number here, the message itself above.
-use Rattle.std.specs.Prelude.{ℕ, ◌+◌, ◌-◌, ◌<◌, ◌≤◌, ◌≡◌, ◌==◌, Bool, true, false, ◌&&◌, ◌||◌, List, [], ◌∷◌, ◌++◌, length, drop, take, map, get_or, set, remove, replicate, nat_lt, Option, None, Some, option_to_list, if◌then◌else◌}
+use Rattle.std.specs.Prelude.{ℕ, ◌+◌, ◌-◌, ◌*◌, ◌<◌, ◌≤◌, ◌≡◌, ◌==◌, Bool, true, false, ◌&&◌, ◌||◌, List, [], ◌∷◌, ◌++◌, length, drop, take, map, get_or, set, remove, replicate, nat_lt, count_by, Option, None, Some, option_to_list, if◌then◌else◌}
 use Rattle.iox_queues_base.specs.Waiting.{put, put_over}
 use Rattle.iox_domain_slots.specs.declared.stage.Stage.{Stage}
 use Rattle.iox_domain_slots.specs.declared.stage.Stage.TheVariants as stage
@@ -114,3 +114,21 @@ connected limit = record { stage = stage.Live; limit = limit; waiting = []; borr
 -- a new connection gets as much of the history as may wait, the oldest first
 abbrev pub welcomed : {X : Type 0} → List X → Connection X → Connection X
 welcomed history connection = record connection { waiting = newest connection.limit history }
+
+-- whether that is a stage of a connection that there is
+abbrev pub is_open : Stage → Bool
+is_open stage.Vacant = false
+is_open stage.Live = true
+is_open stage.Ended = true
+
+-- there is a connection: it goes on, or it ended and some of it is still borrowed
+abbrev pub is_there : {X : Type 0} → Connection X → Bool
+is_there connection = is_open connection.stage
+
+-- how many connections there are
+abbrev pub how_many : {X : Type 0} → List (Connection X) → ℕ
+how_many connections = count_by is_there connections
+
+-- the slots that suffice: for all that may wait and be borrowed of the connections, for the history and for the loans
+abbrev pub worst_case : {X : Type 0} → Uses X → ℕ
+worst_case uses = how_many uses.connections * (uses.most_waiting + uses.most_borrowed) + (uses.kept + uses.most_loans)

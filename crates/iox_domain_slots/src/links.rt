@@ -1,6 +1,6 @@
 //! The connections of one publisher.
-ghost use Rattle.std.specs.Prelude.{◌≡◌, ℕ, ◌+◌, ◌^◌, ◌<◌, ◌≤◌, ◌==◌, ◌++◌, ◌∷◌, [], length, map, set, drop, take, get_or, remove, is_some, slice_get, IfOk, IsOk, OnErr, Some, None, true, false};
-ghost use Rattle.iox_domain_slots.specs.Uses.{nobody, accepts, offered, taken, given_back, settled, ended, held, connected};
+ghost use Rattle.std.specs.Prelude.{◌≡◌, ℕ, ◌+◌, ◌*◌, ◌^◌, ◌<◌, ◌≤◌, ◌==◌, ◌++◌, ◌∷◌, [], length, map, set, drop, take, get_or, remove, is_some, slice_get, IfOk, IsOk, OnErr, Some, None, true, false};
+ghost use Rattle.iox_domain_slots.specs.Uses.{nobody, accepts, offered, taken, given_back, settled, ended, held, connected, how_many};
 ghost use Rattle.iox_domain_slots.specs.declared.stage.Stage.TheVariants as stage;
 ghost use Rattle.iox_domain_slots.specs.Counting.{SlotsState, times, uses_of, Moves, Covers};
 ghost use Rattle.iox_domain_slots.specs.Links.{LinksState, LinkState, seen, all_slots, all_of, connection_of, taken_back, IsGone, IsOf, placed};
@@ -228,6 +228,7 @@ impl Links {
     pub fn len(&self) -> usize
         ensures value { result ≡ length self.now.links }
         ensures countable { (k : ℕ) → times k (all_slots self.now.links) ≤ 2 ^ 62 }
+        ensures few { length (held (map seen self.now.links)) ≤ how_many (map seen self.now.links) * (self.now.most_waiting + self.now.most_borrowed) }
     {
         self.items.len()
     }

@@ -1,7 +1,7 @@
 //! All that one publisher's slots are used for.
-ghost use Rattle.std.specs.Prelude.{◌≡◌, ℕ, ◌+◌, ◌^◌, ◌<◌, ◌≤◌, ◌==◌, ◌++◌, ◌∷◌, [], length, map, set, drop, take, get_or, remove, is_some, slice_get, IfOk, IsOk, OnErr, Some, None, true, false};
+ghost use Rattle.std.specs.Prelude.{◌≡◌, ℕ, ◌+◌, ◌^◌, ◌<◌, ◌≤◌, ◌==◌, ◌++◌, ◌∷◌, [], length, map, set, drop, take, get_or, remove, is_some, slice_get, IfOk, IsOk, IsSome, OnErr, Some, None, true, false};
 ghost use Rattle.iox_domain_slots.specs.declared.stage.Stage.TheVariants as stage;
-ghost use Rattle.iox_domain_slots.specs.Uses.{Uses, nobody, accepts, offered, taken, given_back, settled, ended, held, in_use, loaned, dropped, begun, finished, connection_at, with_connection, connected};
+ghost use Rattle.iox_domain_slots.specs.Uses.{Uses, nobody, accepts, offered, taken, given_back, settled, ended, held, in_use, loaned, dropped, begun, finished, connection_at, with_connection, connected, worst_case};
 ghost use Rattle.iox_domain_slots.specs.Counting.{times, LoanUse};
 ghost use Rattle.iox_domain_slots.specs.Links.{placed};
 
@@ -34,10 +34,14 @@ impl Model for SlotUses {
 
 impl SlotUses {
     /// Lends a slot of the current segment that nothing uses; None if each of them is in use. What came back is taken back first.
+    /// With as many slots as the worst case needs, one is always free.
     pub fn loan(&mut self) -> Option<usize>
         requires { length self.old.loans < self.old.most_loans }
-        ensures { LoanUse self.old result self.new }
+        ensures step { LoanUse self.old result self.new }
+        ensures enough { self.old.sending ≡ None → worst_case self.old ≤ self.old.size → IsSome result }
     {
+        // So few that the worst case suffices.
+        let _indices = self.links.len();
         self.links.take_back(&mut self.slots);
         self.slots.loan()
     }

@@ -3,6 +3,7 @@ use Rattle.iox_domain_slots.specs.Uses.{Uses, held, in_use, loaned}
 use Rattle.iox_domain_slots.specs.Counting.{SlotsState, times, uses_of, referred, LoanSlot, LoanUse, Moves, Covers}
 use Rattle.iox_domain_slots.specs.Links.{LinkState, seen, all_slots, seen_uses, IsTally, IsSmall}
 use Rattle.iox_domain_slots.proofs.Publishing.{tally_moved, tally_loaned, small_loaned, loan_use}
+use Rattle.iox_domain_slots.proofs.Enough.{never_none}
 use Rattle.iox_domain_slots.proofs.uses.SlotUses.loan.Goals as goal
 
 -- all uses are counted once what came back is taken back
@@ -16,6 +17,17 @@ invariant_of-self c =
     ( tally_loaned c.take_back.new.slots c.loan.new.self c.self.inside.sending c.take_back.new.self c.loan.result (after c) c.loan.ensures
     , small_loaned c.take_back.new.slots c.loan.new.self c.loan.result small room c.loan.ensures)
 
-pub returns : goal.returns
-returns c = rw (← c.self.view_is) (loan_use c.self.inside.slots c.take_back.new.slots c.loan.new.self c.self.inside.sending c.self.inside.links c.take_back.new.self c.loan.result
-    c.take_back.ensures.moved.same c.take_back.ensures.same c.take_back.ensures.seen (after c) c.take_back.ensures.none_left c.loan.ensures)
+-- the loan, as it is seen
+lent : (c : goal.After-loan) → LoanUse (seen_uses c.self.inside.slots c.self.inside.sending c.self.inside.links) c.loan.result
+    (seen_uses c.loan.new.self c.self.inside.sending c.take_back.new.self)
+lent c = loan_use c.self.inside.slots c.take_back.new.slots c.loan.new.self c.self.inside.sending c.self.inside.links c.take_back.new.self c.loan.result
+    c.take_back.ensures.moved.same c.take_back.ensures.same c.take_back.ensures.seen (after c) c.take_back.ensures.none_left c.loan.ensures
+
+pub returns-clause-step : goal.returns-clause-step
+returns-clause-step c = rw (← c.self.view_is) (lent c)
+
+pub returns-clause-enough : goal.returns-clause-enough
+returns-clause-enough c =
+    let room : length c.self.inside.slots.loans < c.self.inside.slots.most_loans = rw (← c.self.view_is) at c.requires in
+    rw (← c.self.view_is) (λ idle suffices. never_none (seen_uses c.self.inside.slots c.self.inside.sending c.self.inside.links)
+      (seen_uses c.loan.new.self c.self.inside.sending c.take_back.new.self) c.loan.result (lent c) idle room c.self.invariant.1.2 c.len-indices.ensures.few suffices)
