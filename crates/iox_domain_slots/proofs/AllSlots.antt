@@ -1,16 +1,15 @@
 -- The slots of all connections of a publisher, counted.
-use Rattle.std.proofs.Common.{rules, arith, ◌≡◌, ◌+◌, ◌-◌, ◌*◌, ◌^◌, ◌==◌, ◌<◌, ◌≤◌, ◌∷◌, [], ◌++◌, ℕ, zero, suc, Bool, true, false, is_some, if◌then◌else◌, remove, List, length, get_or, set, map, Option, Some, None, refl, sym, subst, ap, ◌∙◌}
+use Rattle.std.proofs.Common.{rules, arith, ◌≡◌, ◌+◌, ◌*◌, ◌^◌, ◌==◌, ◌<◌, ◌≤◌, ◌∷◌, [], ◌++◌, ℕ, zero, suc, Bool, true, false, is_some, if◌then◌else◌, remove, List, length, get_or, set, map, Option, Some, None, refl, sym, subst, ap, ◌∙◌}
 use Rattle.iox_domain_slots.specs.Counting.{SlotsState, Moves, Covers, times, uses_of}
 use Rattle.std.proofs.lemmas.List.{map-set, set-get_or, get_or-set_same, get_or-set_other, length-map, length-set}
 use Rattle.iox_domain_slots.specs.Uses.{Connection, given_back, settled, nobody, held, held_by}
-use Rattle.iox_domain_slots.specs.declared.stage.Stage.{Stage}
 use Rattle.iox_domain_slots.specs.declared.stage.Stage.TheVariants as stage
-use Rattle.iox_domain_slots.specs.Links.{LinkState, all_of, all_slots, slots_at, seen, connection_of, IsOf, IsGone, IsTakenBack, LinksState, placed, taken_back, room_of}
+use Rattle.iox_domain_slots.specs.Links.{LinkState, all_of, all_slots, slots_at, seen, connection_of, IsOf, IsGone, IsTakenBack, LinksState, placed, taken_back}
 use Rattle.std.proofs.Math.Logic.{⊎_elim}
 use Rattle.std.proofs.Math.Dec.{eqb}
 use Rattle.std.proofs.lemmas.List.Sums.{count_by-le-length}
 use Rattle.std.proofs.lemmas.Bool.Decides.{eqb_tells}
-use Rattle.iox_domain_slots.proofs.Counts.{one, times_append}
+use Rattle.iox_domain_slots.proofs.Counts.{times_append}
 use Rattle.iox_domain_slots.proofs.Linking.{times_all, moves_on}
 
 -- the connection of an index is changed
@@ -41,7 +40,7 @@ moves_all old new links index before after within at moves = record {
   length = moves.length;
   moved = λ k.
       let changed : times k (all_slots (set links index (Some after))) + times k (all_of before) ≡ times k (all_slots links) + times k (all_of after) =
-        subst (λ it. times k (all_slots (set links index (Some after))) + times k (slots_at it) ≡ times k (all_slots links) + times k (all_of after)) at (set_times links index (Some after) within k) in
+      subst (λ it. times k (all_slots (set links index (Some after))) + times k (slots_at it) ≡ times k (all_slots links) + times k (all_of after)) at (set_times links index (Some after) within k) in
       omega (arith, changed, moves.moved k);
 }
 
@@ -79,7 +78,7 @@ pub uses_all : (links : List (Option LinkState)) (index : ℕ) (before after : L
     → ((k : ℕ) → times k (all_of after) ≡ times k (all_of before)) → (k : ℕ) → times k (all_slots (set links index (Some after))) ≡ times k (all_slots links)
 uses_all links index before after within at same k =
     let changed : times k (all_slots (set links index (Some after))) + times k (all_of before) ≡ times k (all_slots links) + times k (all_of after) =
-      subst (λ it. times k (all_slots (set links index (Some after))) + times k (slots_at it) ≡ times k (all_slots links) + times k (all_of after)) at (set_times links index (Some after) within k) in
+    subst (λ it. times k (all_slots (set links index (Some after))) + times k (slots_at it) ≡ times k (all_slots links) + times k (all_of after)) at (set_times links index (Some after) within k) in
     omega (arith, changed, same k)
 
 -- a connection at the stage Live hasn't ended
@@ -115,10 +114,10 @@ pub then_settled : (old mid new : List (Option LinkState)) (index : ℕ) (connec
 then_settled old mid new index connection within first second =
     let within_map : index < length (map seen old) = omega (arith, within, length-map old seen) in
     let at : seen (get_or mid index None) ≡ connection =
-      seen_at mid index ∙ ap (λ xs. get_or xs index nobody) first
-      ∙ get_or-set_same (map seen old) index connection nobody within_map in
+    seen_at mid index ∙ ap (λ xs. get_or xs index nobody) first
+    ∙ get_or-set_same (map seen old) index connection nobody within_map in
     let there : map seen new ≡ set (map seen mid) index (settled connection.stage connection.limit connection.waiting connection.borrowed) =
-      subst (λ it. map seen new ≡ set (map seen mid) index (settled it.stage it.limit it.waiting it.borrowed)) at second in
+    subst (λ it. map seen new ≡ set (map seen mid) index (settled it.stage it.limit it.waiting it.borrowed)) at second in
     there ∙ ap (λ xs. set xs index (settled connection.stage connection.limit connection.waiting connection.borrowed)) first
     ∙ set_twice (map seen old) index connection (settled connection.stage connection.limit connection.waiting connection.borrowed)
 
@@ -139,7 +138,7 @@ ends_empty (x ∷ xs) ys same = search (rules, same)
 -- what is seen of a connection that is gone
 pub gone_seen : (links : List (Option LinkState)) (index : ℕ) → IsGone (get_or links index None)
     → map seen (set links index None) ≡ set (map seen links) index (settled (seen (get_or links index None)).stage
-        (seen (get_or links index None)).limit (seen (get_or links index None)).waiting (seen (get_or links index None)).borrowed)
+    (seen (get_or links index None)).limit (seen (get_or links index None)).waiting (seen (get_or links index None)).borrowed)
 gone_seen links index gone = map-set seen links index None ∙ ap (set (map seen links) index) (sym (at (get_or links index None) gone))
   where
     at : (it : Option LinkState) → IsGone it → settled (seen it).stage (seen it).limit (seen it).waiting (seen it).borrowed ≡ nobody
@@ -180,7 +179,7 @@ pub one_more_done : (links : List (Option LinkState)) (count : ℕ) → count < 
     → (index : ℕ) → index < count + 1 → IsTakenBack (get_or (set links count (taken_back (get_or links count None))) index None)
 one_more_done links count within done index below = ⊎_elim
     (λ same. subst (λ i. IsTakenBack (get_or (set links count (taken_back (get_or links count None))) i None)) (sym same.1)
-      (rw (get_or-set_same links count (taken_back (get_or links count None)) None within) (back (get_or links count None))))
+    (rw (get_or-set_same links count (taken_back (get_or links count None)) None within) (back (get_or links count None))))
     (λ other. rw (get_or-set_other links count index (taken_back (get_or links count None)) None other.1) (done index (omega (arith, below, other.1))))
     (eqb_tells index count)
   where
@@ -193,8 +192,13 @@ pub none_left_of : (links : List (Option LinkState)) → ((index : ℕ) → inde
     → (k : ℕ) → times k (all_slots links) ≡ times k (held (map seen links))
 none_left_of [] done k = refl
 none_left_of (x ∷ rest) done k =
-    omega (arith, times_append k (slots_at x) (all_slots rest), times_append k (held_by (seen x)) (held (map seen rest)), one_left x (done zero (omega arith)),
-      none_left_of rest (λ index below. done (suc index) (omega (arith, below))) k)
+    omega (
+      arith,
+      times_append k (slots_at x) (all_slots rest),
+      times_append k (held_by (seen x)) (held (map seen rest)),
+      one_left x (done zero (omega arith)),
+      none_left_of rest (λ index below. done (suc index) (omega (arith, below))) k,
+    )
   where
     one_left : (it : Option LinkState) → IsTakenBack it → times k (slots_at it) ≡ times k (held_by (seen it))
     one_left None back = refl

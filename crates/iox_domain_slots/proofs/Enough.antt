@@ -1,12 +1,10 @@
 -- With as many slots as the worst case needs, one is free.
-use Rattle.std.proofs.Common.{rules, arith, ◌≡◌, ◌≢◌, ◌+◌, ◌-◌, ◌*◌, ◌^◌, ◌<◌, ◌≤◌, ◌∷◌, [], ◌++◌, ℕ, zero, suc, Bool, true, false, cond, if◌then◌else◌, List, length, length-append, get_or, map, Option, Some, None, refl, sym, subst, ap, ◌∙◌}
-use Rattle.std.specs.List.{count_by}
+use Rattle.std.proofs.Common.{rules, arith, ◌≡◌, ◌+◌, ◌*◌, ◌<◌, ◌≤◌, ◌∷◌, [], ◌++◌, ℕ, zero, suc, Bool, true, false, cond, if◌then◌else◌, List, length, length-append, get_or, map, Option, Some, None, refl, ap, ◌∙◌}
 use Rattle.std.specs.Option.{option_to_list, IsSome}
-use Rattle.std.proofs.Math.Dec.{eqb}
 use Rattle.std.proofs.Math.Logic.{⊎_elim}
 use Rattle.std.proofs.lemmas.Bool.Decides.{eqb_tells}
 use Rattle.std.proofs.lemmas.List.Sums.{sum_by-cons}
-use Rattle.iox_domain_slots.specs.Uses.{Uses, Connection, held, held_by, in_use, is_there, is_open, how_many, worst_case}
+use Rattle.iox_domain_slots.specs.Uses.{Uses, held, held_by, in_use, is_there, is_open, how_many, worst_case}
 use Rattle.iox_domain_slots.specs.declared.stage.Stage.TheVariants as stage
 use Rattle.iox_domain_slots.specs.Counting.{times, LoanUse}
 use Rattle.iox_domain_slots.specs.Links.{LinkState, seen, IsOf}
@@ -72,9 +70,18 @@ held_more overflows most_waiting most_borrowed None rest kind later =
 held_more overflows most_waiting most_borrowed (Some link) rest kind later =
     let there : is_there (seen (Some link)) ≡ true = open_is link.ended in
     let more : how_many (seen (Some link) ∷ map seen rest) ≡ 1 + how_many (map seen rest) =
-      sum_by-cons (λ c. cond (is_there c) 1 0) (seen (Some link)) (map seen rest) ∙ ap {B = ℕ} (λ b. cond b 1 0 + how_many (map seen rest)) there in
-    rw more (omega (arith, later, times_more (how_many (map seen rest)) (most_waiting + most_borrowed), kind.1, kind.2, kind.4.0, kind.4.1,
-      length-append (held_by (seen (Some link))) (held (map seen rest)), length-append link.waiting link.borrowed))
+    sum_by-cons (λ c. cond (is_there c) 1 0) (seen (Some link)) (map seen rest) ∙ ap {B = ℕ} (λ b. cond b 1 0 + how_many (map seen rest)) there in
+    rw more (omega (
+      arith,
+      later,
+      times_more (how_many (map seen rest)) (most_waiting + most_borrowed),
+      kind.1,
+      kind.2,
+      kind.4.0,
+      kind.4.1,
+      length-append (held_by (seen (Some link))) (held (map seen rest)),
+      length-append link.waiting link.borrowed,
+    ))
   where
     open_is : (ended : Bool) → is_open (if ended then stage.Ended else stage.Live) ≡ true
     open_is true = refl
@@ -95,9 +102,18 @@ pub enough : (uses : Uses ℕ) → uses.sending ≡ None → length uses.loans <
 enough uses idle room short few suffices all =
     let at_least : uses.size ≤ length (in_use uses) = pigeons uses.first uses.size (in_use uses) all in
     let sending : length (option_to_list uses.sending) ≡ 0 = ap (λ s. length (option_to_list s)) idle in
-    omega (arith, at_least, sending, room, short, few, suffices,
+    omega (
+      arith,
+      at_least,
+      sending,
+      room,
+      short,
+      few,
+      suffices,
       length-append (option_to_list uses.sending) (uses.loans ++ (uses.history ++ held uses.connections)),
-      length-append uses.loans (uses.history ++ held uses.connections), length-append uses.history (held uses.connections))
+      length-append uses.loans (uses.history ++ held uses.connections),
+      length-append uses.history (held uses.connections),
+    )
 
 -- so a loan is not refused
 pub never_none : (old new : Uses ℕ) (result : Option ℕ) → LoanUse old result new → old.sending ≡ None → length old.loans < old.most_loans → length old.history ≤ old.kept

@@ -1,5 +1,5 @@
 -- When the places of a segment are all held, and when none of them is.
-use Rattle.std.proofs.Common.{rules, arith, ◌≡◌, ◌+◌, ◌-◌, ◌<◌, ◌≤◌, ◌∷◌, [], ℕ, zero, suc, Bool, true, false, not, ◌&&◌, List, nat_lt, get_or, replicate, length, Result, Ok, Err, refl, sym, subst, ap, ◌∙◌}
+use Rattle.std.proofs.Common.{rules, arith, ◌≡◌, ◌+◌, ◌-◌, ◌<◌, ◌≤◌, ◌∷◌, [], ℕ, zero, suc, Bool, true, false, not, ◌&&◌, List, nat_lt, get_or, replicate, Err, refl, sym, subst, ◌∙◌}
 use Rattle.std.specs.List.{range_with_len}
 use Rattle.std.proofs.Math.ListN.{get_or-replicate}
 use Rattle.std.proofs.lemmas.List.{length-replicate}
@@ -29,7 +29,7 @@ all_used references first size held marks all slot low high =
 pub none_held : (size index : ℕ) → index < size → is_held index (new_unique_set size) ≡ false
 none_held size index below =
     let free : get_or (replicate size false) index true ≡ not (is_among index (range_with_len 0 size)) =
-      (AreFree-start size).marked index (rw (length-replicate size false) below) in
+    (AreFree-start size).marked index (rw (length-replicate size false) below) in
     let off : not (is_among index (range_with_len 0 size)) ≡ false = sym free ∙ get_or-replicate size index false true below in
     grind (arith, off)
 

@@ -6,3 +6,4 @@ pub mod Offering
 pub mod AllSlots
 pub mod Publishing
 pub mod Enough
+pub mod Welcoming

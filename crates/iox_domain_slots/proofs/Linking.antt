@@ -1,8 +1,8 @@
 -- The slots of a connection, counted.
-use Rattle.std.proofs.Common.{rules, arith, ◌≡◌, ◌+◌, ◌-◌, ◌<◌, ◌≤◌, ◌∷◌, [], ◌++◌, ℕ, Bool, true, false, cond, List, length, get_or, set, take, drop, remove, slice_get, Some, None, refl, sym, subst, ap, ◌∙◌}
-use Rattle.iox_domain_slots.specs.Counting.{SlotsState, Moves, Covers, times, uses_of, referred, let_go}
+use Rattle.std.proofs.Common.{rules, arith, ◌≡◌, ◌+◌, ◌<◌, ◌∷◌, [], ◌++◌, ℕ, List, length, drop, slice_get, Some, refl, ap, ◌∙◌}
+use Rattle.iox_domain_slots.specs.Counting.{SlotsState, Moves, Covers, times, uses_of}
 use Rattle.iox_domain_slots.specs.Links.{LinkState, all_of}
-use Rattle.iox_domain_slots.proofs.Counts.{one, times_append, times_cons, times_end, times_remove, one_more, one_less, one_same}
+use Rattle.iox_domain_slots.proofs.Counts.{one, times_append, times_cons}
 
 pub times_all : (k : ℕ) (waiting borrowed returned : List ℕ) → times k (waiting ++ (borrowed ++ returned)) ≡ times k waiting + (times k borrowed + times k returned)
 times_all k waiting borrowed returned = omega (arith, times_append k waiting (borrowed ++ returned), times_append k borrowed returned)

@@ -1,10 +1,10 @@
 -- Counts that move from one list to another.
-use Rattle.std.proofs.Common.{rules, arith, ◌≡◌, ◌+◌, ◌-◌, ◌<◌, ◌≤◌, ◌∷◌, [], ◌++◌, ℕ, List, length, get_or, set, take, drop, remove, refl, sym, subst, ap, ◌∙◌}
+use Rattle.std.proofs.Common.{arith, ◌≡◌, ◌+◌, ◌-◌, ◌<◌, ◌≤◌, ◌∷◌, [], ◌++◌, ℕ, List, get_or, refl, sym, subst, ap, ◌∙◌}
 use Rattle.std.proofs.Math.Logic.{⊎_elim}
 use Rattle.std.proofs.lemmas.Bool.Decides.{eqb_tells}
 use Rattle.std.proofs.lemmas.List.{length-set}
 use Rattle.iox_domain_slots.specs.Counting.{SlotsState, Moves, times, uses_of, referred, let_go}
-use Rattle.iox_domain_slots.proofs.Counts.{one, times_append, times_cons, times_end, times_remove, one_more, one_less, one_same, one_at_most, one_other}
+use Rattle.iox_domain_slots.proofs.Counts.{one, times_cons, times_end, one_more, one_less, one_at_most, one_other}
 
 -- a use more of a slot that is at the end of the list then
 pub refer_moves : (old : SlotsState) (slot : ℕ) (before after : List ℕ) → 0 < uses_of slot old

@@ -1,7 +1,6 @@
 -- How often a slot is used, and what keeps the counts of slots true.
-use Rattle.std.specs.Prelude.{ℕ, ◌+◌, ◌-◌, ◌<◌, ◌≤◌, ◌≡◌, ◌==◌, Bool, List, [], ◌∷◌, ◌++◌, length, drop, get_or, set, remove, nat_lt, count_by, eqb, Option, None, Some, if◌then◌else◌}
-use Rattle.iox_domain_slots.specs.Uses.{Uses, Connection, in_use, loaned, newest}
-use Rattle.iox_domain_slots.specs.declared.stage.Stage.{Stage}
+use Rattle.std.specs.Prelude.{ℕ, ◌+◌, ◌-◌, ◌<◌, ◌≤◌, ◌≡◌, List, [], ◌∷◌, ◌++◌, length, get_or, set, count_by, eqb, Option, None, Some}
+use Rattle.iox_domain_slots.specs.Uses.{Uses, in_use, loaned}
 
 -- how often a slot stands in a list
 abbrev pub times : ℕ → List ℕ → ℕ

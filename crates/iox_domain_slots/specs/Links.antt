@@ -1,9 +1,8 @@
 -- One connection by the slots that it holds: its mailbox, what is borrowed, and what came back and isn't taken back yet.
 use Rattle.std.specs.Prelude.{ℕ, ◌+◌, ◌<◌, ◌≤◌, ◌≡◌, ◌^◌, ◌==◌, Bool, true, false, List, [], ◌∷◌, ◌++◌, length, get_or, set, nat_lt, Option, None, Some, map, option_to_list, if◌then◌else◌}
-use Rattle.iox_queues_base.specs.Waiting.{Bounded, put, put_over}
+use Rattle.iox_queues_base.specs.Waiting.{put, put_over}
 use Rattle.iox_domain_slots.specs.Uses.{Uses, Connection, nobody}
 use Rattle.iox_domain_slots.specs.Counting.{SlotsState, times, uses_of}
-use Rattle.iox_domain_slots.specs.declared.stage.Stage.{Stage}
 use Rattle.iox_domain_slots.specs.declared.stage.Stage.TheVariants as stage
 use Rattle.iox_domain_slots.specs.declared.mailbox.Put.{Put}
 use Rattle.iox_domain_slots.specs.declared.mailbox.Put.TheVariants.{Taken, TakenFor, Refused}

@@ -1,5 +1,5 @@
 -- Who uses the messages of one publisher. A message goes by whatever X is: a slot's number here, the message itself above.
-use Rattle.std.specs.Prelude.{ℕ, ◌+◌, ◌-◌, ◌*◌, ◌<◌, ◌≤◌, ◌≡◌, ◌==◌, Bool, true, false, ◌&&◌, ◌||◌, List, [], ◌∷◌, ◌++◌, length, drop, take, map, get_or, set, remove, replicate, nat_lt, count_by, Option, None, Some, option_to_list, if◌then◌else◌}
+use Rattle.std.specs.Prelude.{ℕ, ◌+◌, ◌-◌, ◌*◌, Bool, true, false, ◌||◌, List, [], ◌∷◌, ◌++◌, length, drop, take, get_or, set, remove, nat_lt, count_by, Option, None, Some, option_to_list, if◌then◌else◌}
 use Rattle.iox_queues_base.specs.Waiting.{put, put_over}
 use Rattle.iox_domain_slots.specs.declared.stage.Stage.{Stage}
 use Rattle.iox_domain_slots.specs.declared.stage.Stage.TheVariants as stage
@@ -84,7 +84,7 @@ accepts overflows connection = overflows || nat_lt (length connection.waiting) c
 abbrev pub offered : {X : Type 0} → Bool → X → Connection X → Connection X
 offered overflows message connection = record connection {
   waiting = if overflows then put_over connection.limit connection.waiting message
-    else put connection.limit connection.waiting message
+      else put connection.limit connection.waiting message;
 }
 
 -- the oldest message that waits is borrowed

@@ -1,5 +1,5 @@
 //! A connection by the slots that it holds.
-ghost use Rattle.std.specs.Prelude.{◌≡◌, ℕ, ◌+◌, ◌^◌, ◌<◌, ◌≤◌, ◌==◌, ◌&&◌, ◌++◌, ◌∷◌, [], length, drop, take, get_or, remove, nat_lt, not, slice_get, IfOk, Some, true, false};
+ghost use Rattle.std.specs.Prelude.{◌≡◌, ℕ, ◌+◌, ◌^◌, ◌<◌, ◌≤◌, ◌==◌, ◌&&◌, ◌++◌, ◌∷◌, [], length, drop, take, get_or, remove, nat_lt, not, slice_get, position, IfOk, Some, true, false};
 ghost use Rattle.iox_queues_base.specs.Waiting.{Bounded};
 ghost use Rattle.iox_domain_slots.specs.Uses.{accepts, offered, taken};
 ghost use Rattle.iox_domain_slots.specs.Counting.{SlotsState, times, uses_of, let_go, Moves, Covers};
@@ -149,7 +149,9 @@ impl Link {
     pub fn give_back(&mut self, at: usize)
         requires { at < length self.old.borrowed }
         ensures after { self.new ≡ record self.old {
-          borrowed = remove self.old.borrowed at; returned = self.old.returned ++ get_or self.old.borrowed at 0 ∷ [] } }
+          borrowed = remove self.old.borrowed at;
+          returned = self.old.returned ++ get_or self.old.borrowed at 0 ∷ [];
+        } }
         ensures fits { IsFit self.new }
         ensures uses { (k : ℕ) → times k (all_of self.new) ≡ times k (all_of self.old) }
     {
@@ -207,11 +209,24 @@ impl Link {
 
     /// A connection that holds nothing, with room for what waits, is borrowed and came back. `ring` is how many may have come
     /// back at once.
-    pub fn new(alloc: Global, overflows: bool, limit: usize, most_borrowed: usize, ring: usize) -> Result<Link, AllocError>
+    pub fn new(
+        alloc: Global,
+        overflows: bool,
+        limit: usize,
+        most_borrowed: usize,
+        ring: usize,
+    ) -> Result<Link, AllocError>
         requires { limit + most_borrowed < ring }
         ensures { IfOk result (λ link. link ≡ record {
-          ended = false; overflows = overflows; limit = limit; most_borrowed = most_borrowed;
-          waiting = []; borrowed = []; returned = []; delivered = false }) }
+          ended = false;
+          overflows = overflows;
+          limit = limit;
+          most_borrowed = most_borrowed;
+          waiting = [];
+          borrowed = [];
+          returned = [];
+          delivered = false;
+        }) }
     {
         Ok(Link {
             mailbox: Mailbox::new(alloc, overflows, limit)?,
@@ -242,5 +257,20 @@ impl Link {
         ensures { result.now ≡ self.now.borrowed }
     {
         self.borrowed.as_slice()
+    }
+
+    /// How many may wait.
+    pub fn limit(&self) -> usize
+        ensures { result ≡ self.now.limit }
+    {
+        self.mailbox.capacity()
+    }
+
+    /// Where in the list of borrowed slots one is first; None if it isn't borrowed.
+    pub fn place_of_borrowed(&self, slot: usize) -> Option<usize>
+        ensures { result ≡ position (λ other. other == slot) self.now.borrowed }
+    {
+        let slot = slot as u64;
+        self.borrowed.iter().position(|other| *other == slot)
     }
 }

@@ -1,5 +1,5 @@
 //! The connections of one publisher.
-ghost use Rattle.std.specs.Prelude.{◌≡◌, ℕ, ◌+◌, ◌*◌, ◌^◌, ◌<◌, ◌≤◌, ◌==◌, ◌++◌, ◌∷◌, [], length, map, set, drop, take, get_or, remove, is_some, slice_get, IfOk, IsOk, OnErr, Some, None, true, false};
+ghost use Rattle.std.specs.Prelude.{◌≡◌, ℕ, ◌+◌, ◌*◌, ◌^◌, ◌<◌, ◌≤◌, ◌==◌, ◌++◌, ◌∷◌, [], length, map, set, drop, take, get_or, remove, is_some, position, slice_get, IfOk, IsOk, OnErr, Some, None, true, false};
 ghost use Rattle.iox_domain_slots.specs.Uses.{nobody, accepts, offered, taken, given_back, settled, ended, held, connected, how_many};
 ghost use Rattle.iox_domain_slots.specs.declared.stage.Stage.TheVariants as stage;
 ghost use Rattle.iox_domain_slots.specs.Counting.{SlotsState, times, uses_of, Moves, Covers};
@@ -96,7 +96,7 @@ impl Links {
         requires within { at < length (seen (get_or self.old.links index None)).borrowed }
         requires covered { Covers slots.old (all_slots self.old.links) }
         ensures after { map seen self.new.links ≡ set (map seen self.old.links) index
-          (record (seen (get_or self.old.links index None)) { borrowed = remove (seen (get_or self.old.links index None)).borrowed at }) }
+            (record (seen (get_or self.old.links index None)) { borrowed = remove (seen (get_or self.old.links index None)).borrowed at }) }
         ensures there { is_some (get_or self.new.links index None) ≡ true }
         ensures same { self.new ≡ record self.old { links = self.new.links } }
         ensures moved { Moves slots.old (all_slots self.old.links) slots.new (all_slots self.new.links) }
@@ -123,7 +123,7 @@ impl Links {
     fn settle(&mut self, index: usize)
         requires there { is_some (get_or self.old.links index None) ≡ true }
         ensures after { map seen self.new.links ≡ set (map seen self.old.links) index (settled (seen (get_or self.old.links index None)).stage
-          (seen (get_or self.old.links index None)).limit (seen (get_or self.old.links index None)).waiting (seen (get_or self.old.links index None)).borrowed) }
+            (seen (get_or self.old.links index None)).limit (seen (get_or self.old.links index None)).waiting (seen (get_or self.old.links index None)).borrowed) }
         ensures same { self.new ≡ record self.old { links = self.new.links } }
         ensures uses { (k : ℕ) → times k (all_slots self.new.links) ≡ times k (all_slots self.old.links) }
     {
@@ -145,7 +145,7 @@ impl Links {
         requires there { is_some (get_or self.now.links index None) ≡ true }
         ensures yes { result ≡ true → IsGone (get_or self.now.links index None) }
         ensures no { result ≡ false → settled (seen (get_or self.now.links index None)).stage (seen (get_or self.now.links index None)).limit
-          (seen (get_or self.now.links index None)).waiting (seen (get_or self.now.links index None)).borrowed ≡ seen (get_or self.now.links index None) }
+            (seen (get_or self.now.links index None)).waiting (seen (get_or self.now.links index None)).borrowed ≡ seen (get_or self.now.links index None) }
     {
         let Some(link) = &self.items[index] else {
             return false;
@@ -175,7 +175,7 @@ impl Links {
         requires there { is_some (get_or self.old.links index None) ≡ true }
         requires covered { Covers slots.old (all_slots self.old.links) }
         ensures after { map seen self.new.links ≡ set (map seen self.old.links) index
-          (record (seen (get_or self.old.links index None)) { stage = stage.Ended; waiting = [] }) }
+            (record (seen (get_or self.old.links index None)) { stage = stage.Ended; waiting = [] }) }
         ensures there { is_some (get_or self.new.links index None) ≡ true }
         ensures same { self.new ≡ record self.old { links = self.new.links } }
         ensures moved { Moves slots.old (all_slots self.old.links) slots.new (all_slots self.new.links) }
@@ -300,5 +300,49 @@ impl Links {
             most_waiting,
             most_borrowed,
         }
+    }
+
+    /// How many may wait at the connection.
+    pub fn limit(&self, index: usize) -> usize
+        requires there { is_some (get_or self.now.links index None) ≡ true }
+        ensures { result ≡ (seen (get_or self.now.links index None)).limit }
+    {
+        let Some(link) = &self.items[index] else {
+            return 0;
+        };
+        link.limit()
+    }
+
+    /// How many wait at the connection.
+    pub fn waiting(&self, index: usize) -> usize
+        requires there { is_some (get_or self.now.links index None) ≡ true }
+        ensures { result ≡ length (seen (get_or self.now.links index None)).waiting }
+    {
+        let Some(link) = &self.items[index] else {
+            return 0;
+        };
+        link.waiting()
+    }
+
+    /// How many are borrowed of the connection.
+    pub fn borrowed(&self, index: usize) -> usize
+        requires there { is_some (get_or self.now.links index None) ≡ true }
+        ensures { result ≡ length (seen (get_or self.now.links index None)).borrowed }
+    {
+        let Some(link) = &self.items[index] else {
+            return 0;
+        };
+        link.borrowed().len()
+    }
+
+    /// Where in the connection's list of borrowed slots one is first; None if it isn't borrowed.
+    pub fn place_of_borrowed(&self, index: usize, slot: usize) -> Option<usize>
+        requires there { is_some (get_or self.now.links index None) ≡ true }
+        ensures { result ≡ position (λ other. other == slot) (seen (get_or self.now.links index None)).borrowed }
+    {
+        let Some(link) = &self.items[index] else {
+            return None;
+        };
+        link.place_of_borrowed(slot)
     }
 }

@@ -88,4 +88,14 @@ impl Mailbox {
             Mailbox::Refusing(queue) => queue.len(),
         }
     }
+
+    /// How many may wait.
+    pub fn capacity(&self) -> usize
+        ensures { result ≡ limit_of self.now }
+    {
+        match self {
+            Mailbox::Overflowing(queue) => queue.capacity(),
+            Mailbox::Refusing(queue) => queue.capacity(),
+        }
+    }
 }

@@ -151,7 +151,12 @@ impl Slots {
     }
 
     /// Slots without a use, and room for so many loans and so long a history.
-    pub fn new(alloc: Global, size: usize, most_loans: usize, kept: usize) -> Result<Slots, AllocError>
+    pub fn new(
+        alloc: Global,
+        size: usize,
+        most_loans: usize,
+        kept: usize,
+    ) -> Result<Slots, AllocError>
         requires { kept + 1 < 2 ^ 64 }
         ensures { IfOk result (λ slots. slots ≡ record { first = 0; size = size; most_loans = most_loans; kept = kept; references = replicate size 0; loans = []; history = [] }) }
     {
@@ -164,5 +169,34 @@ impl Slots {
             most_loans,
             kept,
         })
+    }
+
+    /// How many loans are out.
+    pub fn loans(&self) -> usize
+        ensures { result ≡ length self.now.loans }
+    {
+        self.loans.len()
+    }
+
+    /// Where in the list of loans a slot is first; None if it is no loan.
+    pub fn place_of_loan(&self, slot: usize) -> Option<usize>
+        ensures { result ≡ position (λ other. other == slot) self.now.loans }
+    {
+        self.loans.iter().position(|other| *other == slot)
+    }
+
+    /// How long the history is.
+    pub fn history(&self) -> usize
+        ensures { result ≡ length self.now.history }
+    {
+        self.history.len()
+    }
+
+    /// The slot at this place of the history, the oldest first.
+    pub fn remembered(&self, place: usize) -> usize
+        requires { place < length self.now.history }
+        ensures { result ≡ get_or self.now.history place 0 }
+    {
+        self.history[place]
     }
 }

@@ -1,7 +1,7 @@
 //! All that one publisher's slots are used for.
-ghost use Rattle.std.specs.Prelude.{◌≡◌, ℕ, ◌+◌, ◌^◌, ◌<◌, ◌≤◌, ◌==◌, ◌++◌, ◌∷◌, [], length, map, set, drop, take, get_or, remove, is_some, slice_get, IfOk, IsOk, IsSome, OnErr, Some, None, true, false};
+ghost use Rattle.std.specs.Prelude.{◌≡◌, ℕ, ◌+◌, ◌^◌, ◌<◌, ◌≤◌, ◌==◌, ◌++◌, ◌∷◌, [], length, map, set, drop, take, get_or, remove, is_some, position, option_to_list, slice_get, IfOk, IsOk, IsSome, OnErr, Some, None, true, false};
 ghost use Rattle.iox_domain_slots.specs.declared.stage.Stage.TheVariants as stage;
-ghost use Rattle.iox_domain_slots.specs.Uses.{Uses, nobody, accepts, offered, taken, given_back, settled, ended, held, in_use, loaned, dropped, begun, finished, connection_at, with_connection, connected, worst_case};
+ghost use Rattle.iox_domain_slots.specs.Uses.{Uses, nobody, accepts, offered, taken, given_back, settled, ended, held, in_use, loaned, dropped, begun, finished, connection_at, with_connection, connected, worst_case, welcomed, is_there};
 ghost use Rattle.iox_domain_slots.specs.Counting.{times, LoanUse};
 ghost use Rattle.iox_domain_slots.specs.Links.{placed};
 
@@ -94,7 +94,7 @@ impl SlotUses {
         requires live { (connection_at index self.old).stage ≡ stage.Live }
         ensures answer { result ≡ accepts self.old.overflows (connection_at index self.old) }
         ensures new { (slot : ℕ) → self.old.sending ≡ Some slot →
-          self.new ≡ with_connection index (offered self.old.overflows slot (connection_at index self.old)) self.old }
+            self.new ≡ with_connection index (offered self.old.overflows slot (connection_at index self.old)) self.old }
     {
         let Some(slot) = self.sending else {
             return false;
@@ -143,19 +143,128 @@ impl SlotUses {
 
     /// Slots of which none is in use, in one segment, and room for so many loans, so long a history, and connections of which at
     /// most so many messages wait and so many are borrowed. It fails only where memory is wanting.
-    pub fn new(alloc: Global, overflows: bool, size: usize, most_loans: usize, kept: usize, most_waiting: usize, most_borrowed: usize) -> Result<SlotUses, AllocError>
+    pub fn new(
+        alloc: Global,
+        overflows: bool,
+        size: usize,
+        most_loans: usize,
+        kept: usize,
+        most_waiting: usize,
+        most_borrowed: usize,
+    ) -> Result<SlotUses, AllocError>
         requires loans { most_loans < 2 ^ 32 }
         requires history { kept < 2 ^ 32 }
         requires waiting { most_waiting < 2 ^ 32 }
         requires borrowed { most_borrowed < 2 ^ 32 }
         ensures { IfOk result (λ uses. uses ≡ record {
-          first = 0; size = size; most_loans = most_loans; kept = kept; most_waiting = most_waiting; most_borrowed = most_borrowed; overflows = overflows;
-          sending = None; loans = []; history = []; connections = [] }) }
+          first = 0;
+          size = size;
+          most_loans = most_loans;
+          kept = kept;
+          most_waiting = most_waiting;
+          most_borrowed = most_borrowed;
+          overflows = overflows;
+          sending = None;
+          loans = [];
+          history = [];
+          connections = [];
+        }) }
     {
         Ok(SlotUses {
             slots: Slots::new(alloc, size, most_loans, kept)?,
             sending: None,
             links: Links::new(alloc, overflows, most_waiting, most_borrowed),
         })
+    }
+
+    // Puts a slot of the history, or the one that is being sent, into the mailbox of a connection.
+    fn put(&mut self, index: usize, slot: usize) -> bool
+        requires used { 0 < times slot (option_to_list self.old.sending) + times slot self.old.history }
+        requires live { (connection_at index self.old).stage ≡ stage.Live }
+        ensures answer { result ≡ accepts self.old.overflows (connection_at index self.old) }
+        ensures new { self.new ≡ with_connection index (offered self.old.overflows slot (connection_at index self.old)) self.old }
+    {
+        self.links.offer(index, slot, &mut self.slots)
+    }
+
+    /// Gives a new connection as much of the history as may wait there, the oldest first.
+    pub fn welcome(&mut self, index: usize)
+        requires live { (connection_at index self.old).stage ≡ stage.Live }
+        requires empty { (connection_at index self.old).waiting ≡ [] }
+        ensures { self.new ≡ with_connection index (welcomed self.old.history (connection_at index self.old)) self.old }
+    {
+        let end = self.history();
+        for place in end.saturating_sub(self.limit(index))..end {
+            let slot = self.remembered(place);
+            let _has_room = self.put(index, slot);
+        }
+    }
+
+    // How long the history is.
+    fn history(&self) -> usize
+        ensures { result ≡ length self.now.history }
+    {
+        self.slots.history()
+    }
+
+    // The slot at this place of the history.
+    fn remembered(&self, place: usize) -> usize
+        requires { place < length self.now.history }
+        ensures { result ≡ get_or self.now.history place 0 }
+    {
+        self.slots.remembered(place)
+    }
+
+    /// How many messages may wait at the connection.
+    pub fn limit(&self, index: usize) -> usize
+        requires { is_there (connection_at index self.now) ≡ true }
+        ensures { result ≡ (connection_at index self.now).limit }
+    {
+        self.links.limit(index)
+    }
+
+    /// How many messages wait at the connection.
+    pub fn waiting(&self, index: usize) -> usize
+        requires { is_there (connection_at index self.now) ≡ true }
+        ensures { result ≡ length (connection_at index self.now).waiting }
+    {
+        self.links.waiting(index)
+    }
+
+    /// How many messages are borrowed of the connection.
+    pub fn borrowed(&self, index: usize) -> usize
+        requires { is_there (connection_at index self.now) ≡ true }
+        ensures { result ≡ length (connection_at index self.now).borrowed }
+    {
+        self.links.borrowed(index)
+    }
+
+    /// Where in the connection's list of borrowed slots one is first; None if it isn't borrowed.
+    pub fn place_of_borrowed(&self, index: usize, slot: usize) -> Option<usize>
+        requires { is_there (connection_at index self.now) ≡ true }
+        ensures { result ≡ position (λ other. other == slot) (connection_at index self.now).borrowed }
+    {
+        self.links.place_of_borrowed(index, slot)
+    }
+
+    /// How many loans are out.
+    pub fn loans(&self) -> usize
+        ensures { result ≡ length self.now.loans }
+    {
+        self.slots.loans()
+    }
+
+    /// Where in the list of loans a slot is first; None if it is no loan.
+    pub fn place_of_loan(&self, slot: usize) -> Option<usize>
+        ensures { result ≡ position (λ other. other == slot) self.now.loans }
+    {
+        self.slots.place_of_loan(slot)
+    }
+
+    /// The slot that is being sent, if one is.
+    pub fn sending(&self) -> Option<usize>
+        ensures { result ≡ self.now.sending }
+    {
+        self.sending
     }
 }

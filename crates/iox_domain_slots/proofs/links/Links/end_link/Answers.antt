@@ -1,10 +1,8 @@
-use Rattle.std.proofs.lemmas.List.{map-set}
-use Rattle.std.proofs.Common.{refl, sym, subst, ap, ◌∙◌, arith, rules, ◌≡◌, ◌+◌, ◌-◌, ◌^◌, ◌<◌, ◌≤◌, ◌++◌, ◌∷◌, [], length, drop, get_or, set, map, remove, ℕ, List, Some, None, Bool, true, is_some}
-use Rattle.iox_domain_slots.specs.Counting.{SlotsState, times, uses_of, referred, let_go, Moves, Covers}
-use Rattle.iox_domain_slots.specs.Uses.{offered, taken, given_back}
-use Rattle.iox_domain_slots.specs.Links.{LinkState, connection_of, all_of, seen, all_slots}
+use Rattle.std.proofs.Common.{ap, ◌≡◌, [], get_or, Some, None, true, is_some}
+use Rattle.iox_domain_slots.specs.Counting.{Covers}
+use Rattle.iox_domain_slots.specs.Links.{connection_of, all_slots}
 use Rattle.iox_domain_slots.specs.declared.stage.Stage.TheVariants as stage
-use Rattle.iox_domain_slots.proofs.AllSlots.{covers_one, moves_all, one_of_all, link_is, link_within, seen_set, kind_of, besides_one, uses_all}
+use Rattle.iox_domain_slots.proofs.AllSlots.{covers_one, moves_all, link_is, link_within, seen_set}
 use Rattle.iox_domain_slots.proofs.links.Links.end_link.Goals as goal
 
 -- the connection that was found is the one of the index
@@ -26,4 +24,4 @@ pub returns-clause-moved : goal.returns-clause-moved
 returns-clause-moved c = rw (← c.self.view_is) (
     let there : is_some (get_or c.self.inside.items.items c.args.index None) ≡ true = rw (← c.self.view_is) at c.requires.there in
     moves_all c.args.slots.now c.end.new.slots c.self.inside.items.items c.args.index c.in-Some.link c.end.new.self
-      (link_within c.self.inside.items.items c.args.index there) (found c.before.before) c.end.ensures.moved)
+    (link_within c.self.inside.items.items c.args.index there) (found c.before.before) c.end.ensures.moved)

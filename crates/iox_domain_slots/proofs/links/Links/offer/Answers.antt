@@ -1,9 +1,8 @@
-use Rattle.std.proofs.lemmas.List.{map-set}
-use Rattle.std.proofs.Common.{refl, sym, subst, ap, ◌∙◌, arith, rules, ◌≡◌, ◌+◌, ◌-◌, ◌^◌, ◌<◌, ◌≤◌, ◌++◌, ◌∷◌, [], length, drop, get_or, set, map, ℕ, List, Some, None, Bool, true, is_some}
-use Rattle.iox_domain_slots.specs.Counting.{SlotsState, times, uses_of, referred, let_go, Moves, Covers}
+use Rattle.std.proofs.Common.{arith, ◌≡◌, ◌+◌, ◌^◌, ◌<◌, get_or, Some, None, true, is_some}
+use Rattle.iox_domain_slots.specs.Counting.{times, uses_of, Covers}
 use Rattle.iox_domain_slots.specs.Uses.{offered}
-use Rattle.iox_domain_slots.specs.Links.{LinkState, connection_of, all_of, seen, all_slots}
-use Rattle.iox_domain_slots.proofs.AllSlots.{covers_one, moves_all, one_of_all, link_is, link_within, seen_set, kind_of, besides_one, all_length}
+use Rattle.iox_domain_slots.specs.Links.{connection_of, all_slots}
+use Rattle.iox_domain_slots.proofs.AllSlots.{covers_one, moves_all, link_is, link_within, seen_set, kind_of, besides_one, all_length}
 use Rattle.iox_domain_slots.proofs.links.Links.offer.Goals as goal
 
 -- the connection that was found is the one of the index
@@ -25,8 +24,12 @@ offer-requires-clause-besides c =
 pub offer-requires-clause-room : goal.offer-requires-clause-room
 offer-requires-clause-room c =
     let others : uses_of c.args.slot c.args.slots.now < 2 ^ 62 + times c.args.slot (all_slots c.self.inside.items.items) = rw (← c.self.view_is) at c.requires.others in
-    omega (arith, others, c.self.invariant.0,
-      all_length c.self.inside.overflows c.self.inside.most_waiting c.self.inside.most_borrowed c.self.inside.items.items c.self.invariant.2 c.self.invariant.3 c.self.invariant.1 c.args.slot)
+    omega (
+      arith,
+      others,
+      c.self.invariant.0,
+      all_length c.self.inside.overflows c.self.inside.most_waiting c.self.inside.most_borrowed c.self.inside.items.items c.self.invariant.2 c.self.invariant.3 c.self.invariant.1 c.args.slot,
+    )
 
 pub returns-clause-after : goal.returns-clause-after
 returns-clause-after c = rw (← c.self.view_is) (
@@ -38,4 +41,4 @@ pub returns-clause-moved : goal.returns-clause-moved
 returns-clause-moved c = rw (← c.self.view_is) (
     let there : is_some (get_or c.self.inside.items.items c.args.index None) ≡ true = rw (← c.self.view_is) at c.requires.there in
     moves_all c.args.slots.now c.offer.new.slots c.self.inside.items.items c.args.index c.in-Some.link c.offer.new.self
-      (link_within c.self.inside.items.items c.args.index there) (found c.before.before) c.offer.ensures.moved)
+    (link_within c.self.inside.items.items c.args.index there) (found c.before.before) c.offer.ensures.moved)

@@ -1,9 +1,7 @@
-use Rattle.std.proofs.lemmas.List.{map-set}
-use Rattle.std.proofs.Common.{refl, sym, subst, ap, ◌∙◌, arith, rules, ◌≡◌, ◌+◌, ◌-◌, ◌^◌, ◌<◌, ◌≤◌, ◌++◌, ◌∷◌, [], length, drop, get_or, set, map, remove, ℕ, List, Some, None, Bool, true, is_some}
-use Rattle.iox_domain_slots.specs.Counting.{SlotsState, times, uses_of, referred, let_go, Moves, Covers}
-use Rattle.iox_domain_slots.specs.Uses.{offered, taken, given_back}
-use Rattle.iox_domain_slots.specs.Links.{LinkState, connection_of, all_of, seen, all_slots}
-use Rattle.iox_domain_slots.proofs.AllSlots.{covers_one, moves_all, one_of_all, link_is, link_within, seen_set, kind_of, besides_one, uses_all}
+use Rattle.std.proofs.Common.{◌≡◌, get_or, Some, None, true, is_some}
+use Rattle.iox_domain_slots.specs.Uses.{taken}
+use Rattle.iox_domain_slots.specs.Links.{connection_of}
+use Rattle.iox_domain_slots.proofs.AllSlots.{link_is, link_within, seen_set, uses_all}
 use Rattle.iox_domain_slots.proofs.links.Links.take.Goals as goal
 
 -- the connection that was found is the one of the index
@@ -20,4 +18,4 @@ pub returns-clause-uses : goal.returns-clause-uses
 returns-clause-uses c = rw (← c.self.view_is) (
     let there : is_some (get_or c.self.inside.items.items c.args.index None) ≡ true = rw (← c.self.view_is) at c.requires.there in
     uses_all c.self.inside.items.items c.args.index c.in-Some.link c.take.new.self
-      (link_within c.self.inside.items.items c.args.index there) (found c) c.take.ensures.uses)
+    (link_within c.self.inside.items.items c.args.index there) (found c) c.take.ensures.uses)

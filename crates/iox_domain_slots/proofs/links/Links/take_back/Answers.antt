@@ -1,10 +1,5 @@
-use Rattle.std.proofs.lemmas.List.{map-set}
-use Rattle.std.proofs.Common.{refl, sym, subst, ap, ◌∙◌, arith, rules, ◌≡◌, ◌+◌, ◌-◌, ◌^◌, ◌<◌, ◌≤◌, ◌++◌, ◌∷◌, [], length, drop, get_or, set, map, remove, ℕ, List, Some, None, Bool, true, is_some}
-use Rattle.iox_domain_slots.specs.Counting.{SlotsState, times, uses_of, referred, let_go, Moves, Covers}
-use Rattle.iox_domain_slots.specs.Uses.{offered, taken, given_back}
-use Rattle.iox_domain_slots.specs.Links.{LinkState, connection_of, all_of, seen, all_slots}
-use Rattle.iox_domain_slots.specs.declared.stage.Stage.TheVariants as stage
-use Rattle.iox_domain_slots.proofs.AllSlots.{covers_one, moves_all, one_of_all, link_is, link_within, seen_set, kind_of, besides_one, uses_all, looks_same, one_more_done, none_left_of, taking_step}
+use Rattle.std.proofs.Common.{sym, ap, ◌∙◌, arith, ◌≡◌, ◌<◌, length, ℕ}
+use Rattle.iox_domain_slots.proofs.AllSlots.{none_left_of, taking_step}
 use Rattle.iox_domain_slots.proofs.links.Links.take_back.Goals as goal
 
 pub loop-index-preserved : goal.loop-index-preserved

@@ -1,10 +1,7 @@
-use Rattle.std.proofs.lemmas.List.{map-set}
-use Rattle.std.proofs.Common.{refl, sym, subst, ap, ◌∙◌, arith, rules, ◌≡◌, ◌+◌, ◌-◌, ◌^◌, ◌<◌, ◌≤◌, ◌++◌, ◌∷◌, [], length, drop, get_or, set, map, remove, ℕ, List, Some, None, Bool, true, is_some}
-use Rattle.iox_domain_slots.specs.Counting.{SlotsState, times, uses_of, referred, let_go, Moves, Covers}
-use Rattle.iox_domain_slots.specs.Uses.{offered, taken, given_back}
-use Rattle.iox_domain_slots.specs.Links.{LinkState, connection_of, all_of, seen, all_slots}
-use Rattle.iox_domain_slots.specs.declared.stage.Stage.TheVariants as stage
-use Rattle.iox_domain_slots.proofs.AllSlots.{covers_one, moves_all, one_of_all, link_is, link_within, seen_set, kind_of, besides_one, uses_all, link_of_found}
+use Rattle.std.proofs.Common.{◌≡◌, ◌<◌, length, get_or, Some, None}
+use Rattle.iox_domain_slots.specs.Counting.{Covers}
+use Rattle.iox_domain_slots.specs.Links.{all_slots}
+use Rattle.iox_domain_slots.proofs.AllSlots.{covers_one, moves_all, link_of_found}
 use Rattle.iox_domain_slots.proofs.links.Links.take_back_one.Goals as goal
 
 -- the connection that was found is the one of the index
@@ -22,4 +19,4 @@ pub returns-clause-moved : goal.returns-clause-moved
 returns-clause-moved c = rw (← c.self.view_is) (
     let within : c.args.index < length c.self.inside.items.items = rw (← c.self.view_is) at c.requires.within in
     moves_all c.args.slots.now c.take_back.new.slots c.self.inside.items.items c.args.index c.in-Some.link c.take_back.new.self
-      within (found c.before.before) c.take_back.ensures.moved)
+    within (found c.before.before) c.take_back.ensures.moved)

@@ -1,6 +1,4 @@
-use Rattle.std.proofs.Common.{refl, sym, subst, ap, ◌∙◌, arith, rules, ◌≡◌, ◌+◌, ◌-◌, ◌^◌, ◌<◌, ◌≤◌, ◌++◌, ◌∷◌, [], length, drop, get_or, remove, ℕ, List}
-use Rattle.iox_domain_slots.specs.Uses.{newest}
-use Rattle.iox_domain_slots.specs.Counting.{SlotsState, times, uses_of, referred, let_go, LoanSlot, Moves, Covers}
+use Rattle.std.proofs.Common.{arith}
 use Rattle.iox_domain_slots.proofs.Moving.{remember_moves, still_further}
 use Rattle.iox_domain_slots.proofs.slots.Slots.remember.Goals as goal
 

@@ -1,6 +1,4 @@
-use Rattle.std.proofs.Common.{refl, sym, subst, ap, ◌∙◌, arith, rules, ◌≡◌, ◌+◌, ◌-◌, ◌^◌, ◌<◌, ◌≤◌, ◌++◌, ◌∷◌, [], length, get_or, set, map, remove, ℕ, List, Some, None}
-use Rattle.iox_domain_slots.specs.Counting.{SlotsState, times, uses_of}
-use Rattle.iox_domain_slots.specs.Links.{LinkState, seen, all_slots, seen_uses, IsTally, IsSmall}
+use Rattle.std.proofs.Common.{ap, ◌≡◌}
 use Rattle.iox_domain_slots.proofs.Publishing.{countable}
 use Rattle.iox_domain_slots.proofs.uses.SlotUses.begin_send.Goals as goal
 
