@@ -50,7 +50,8 @@ impl SlotUses {
     pub fn take_back(&mut self)
         ensures { self.new ≡ self.old }
     {
-        self.links.take_back(&mut self.slots);
+        let slots = &mut self.slots;
+        self.links.take_back(slots);
     }
 
     /// Gives up the loan at this place of the list of loans.
