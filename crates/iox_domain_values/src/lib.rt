@@ -37,5 +37,3 @@ pub use degradation_handler::{DegradationFn, DegradationHandler};
 pub use port_error::{LoanError, ReceiveError, SendError};
 pub use samples_override::{PreallocatedSamplesFn, PreallocatedSamplesOverride};
 
-#[cfg(test)]
-mod tests;

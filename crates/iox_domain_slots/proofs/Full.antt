@@ -1,0 +1,43 @@
+-- When the places of a segment are all held, and when none of them is.
+use Rattle.std.proofs.Common.{rules, arith, ◌≡◌, ◌+◌, ◌-◌, ◌<◌, ◌≤◌, ◌∷◌, [], ℕ, zero, suc, Bool, true, false, not, ◌&&◌, List, nat_lt, get_or, replicate, Err, refl, sym, subst, ◌∙◌}
+use Rattle.std.specs.List.{range_with_len}
+use Rattle.std.proofs.Math.ListN.{get_or-replicate}
+use Rattle.std.proofs.lemmas.List.{length-replicate}
+use Rattle.iox_index_base.specs.declared.error.UniqueIndexSetAcquireFailure.{UniqueIndexSetAcquireFailure}
+use Rattle.iox_index_base.specs.Unique.{answer_of, is_among, is_held, new_unique_set}
+use Rattle.iox_index_base.proofs.FreeLists.{AreFree-start}
+
+-- a set of indices that refuses an acquire although it isn't locked has each index held
+pub all_held : (free : List ℕ) (capacity : ℕ) (e : UniqueIndexSetAcquireFailure) → Err e ≡ answer_of false free
+    → (index : ℕ) → index < capacity → (nat_lt index capacity && not (is_among index free)) ≡ true
+all_held [] capacity e answered index below = grind (arith, below)
+all_held (x ∷ xs) capacity e answered index below = search (rules, answered)
+
+-- where each place of a segment is held, each of its slots has a use
+pub all_used : (references : List ℕ) (first size : ℕ) (held : ℕ → Bool)
+    → ((index : ℕ) → index < size → held index ≡ nat_lt 0 (get_or references (first + index) 0))
+    → ((index : ℕ) → index < size → held index ≡ true)
+    → (slot : ℕ) → first ≤ slot → slot < first + size → 0 < get_or references slot 0
+all_used references first size held marks all slot low high =
+    let at : first + (slot - first) ≡ slot = omega (arith, low) in
+    let below : slot - first < size = omega (arith, low, high) in
+    let used : nat_lt 0 (get_or references (first + (slot - first)) 0) ≡ true = sym (marks (slot - first) below) ∙ all (slot - first) below in
+    let there : 0 < get_or references (first + (slot - first)) 0 = grind (arith, used) in
+    subst (λ k. 0 < get_or references k 0) at there
+
+-- of a new set no index is held
+pub none_held : (size index : ℕ) → index < size → is_held index (new_unique_set size) ≡ false
+none_held size index below =
+    let free : get_or (replicate size false) index true ≡ not (is_among index (range_with_len 0 size)) =
+    (AreFree-start size).marked index (rw (length-replicate size false) below) in
+    let off : not (is_among index (range_with_len 0 size)) ≡ false = sym free ∙ get_or-replicate size index false true below in
+    grind (arith, off)
+
+none_at : (size index : ℕ) → nat_lt 0 (get_or (replicate size 0) index 0) ≡ false
+none_at zero index = refl
+none_at (suc size) zero = refl
+none_at (suc size) (suc index) = none_at size index
+
+-- of new slots none has a use
+pub none_used : (size index : ℕ) → nat_lt 0 (get_or (replicate size 0) (0 + index) 0) ≡ false
+none_used size index = none_at size (0 + index)

@@ -1,0 +1,21 @@
+//! Who uses the slots of one publisher: its loans, its history, the message that it sends, and what its connections hold.
+//!
+//! No payload is kept here: a message goes by the number of its slot.
+//!
+//! - [`slots`]: which slots are free, and how many uses the others have.
+//! - [`mailbox`]: what waits between a publisher and a subscriber.
+//! - [`link`]: a connection: its mailbox, what is borrowed of it, what came back.
+//! - [`links`]: the connections of a publisher.
+//! - [`uses`]: all of one publisher together.
+#![tactic(auto)]
+
+pub mod link;
+pub mod links;
+pub mod mailbox;
+pub mod slots;
+pub mod stage;
+pub mod uses;
+
+pub use slots::Slots;
+pub use stage::Stage;
+pub use uses::SlotUses;

@@ -1,0 +1,276 @@
+//! A connection by the slots that it holds.
+ghost use Rattle.std.specs.Prelude.{◌≡◌, ℕ, ◌+◌, ◌^◌, ◌<◌, ◌≤◌, ◌==◌, ◌&&◌, ◌++◌, ◌∷◌, [], length, drop, take, get_or, remove, nat_lt, not, slice_get, position, IfOk, Some, true, false};
+ghost use Rattle.iox_queues_base.specs.Waiting.{Bounded};
+ghost use Rattle.iox_domain_slots.specs.Uses.{accepts, offered, taken};
+ghost use Rattle.iox_domain_slots.specs.Counting.{SlotsState, times, uses_of, let_go, Moves, Covers};
+ghost use Rattle.iox_domain_slots.specs.Links.{LinkState, all_of, connection_of, room_of, IsSameLink, IsFit, put_into, put_answer};
+
+use crate::mailbox::{Mailbox, Put};
+use crate::slots::Slots;
+use iox_queues_base::IndexQueue;
+use std::alloc::{AllocError, Global};
+use std::marker::Model;
+
+/// A connection: its mailbox, the slots that its subscriber borrows, and those that came back and aren't taken back yet.
+///
+/// All its memory is taken when it is made.
+#[derive(Drop)]
+pub struct Link {
+    mailbox: Mailbox,
+    borrowed: Vec<u64>,
+    returned: IndexQueue,
+    most_borrowed: usize,
+    ended: bool,
+    // Whether a message was put since the returned ones were last taken back.
+    delivered: bool,
+}
+
+impl Model for Link {
+    ghost use Rattle.std.specs.Prelude.{◌≡◌, ◌+◌, ◌<◌, ◌≤◌, length, cond, vec_capacity};
+    ghost use Rattle.iox_domain_slots.specs.Links.{LinkState, is_overflowing, waiting_in, limit_of};
+
+    ghost Value = { LinkState };
+
+    ghost view = { λ l. record {
+      ended = l.ended;
+      overflows = is_overflowing l.mailbox;
+      limit = limit_of l.mailbox;
+      most_borrowed = l.most_borrowed;
+      waiting = waiting_in l.mailbox;
+      borrowed = l.borrowed.items;
+      returned = l.returned.waiting;
+      delivered = l.delivered;
+    } };
+
+    // A put since the last taking back may make one slot more of the connection than wait and are borrowed at most.
+    ghost invariant = { λ l. (length (waiting_in l.mailbox) ≤ limit_of l.mailbox)
+        × (length l.borrowed.items ≤ l.most_borrowed) × (l.most_borrowed ≤ vec_capacity l.borrowed)
+        × (limit_of l.mailbox + l.most_borrowed < l.returned.capacity)
+        × (length (waiting_in l.mailbox) + (length l.borrowed.items + length l.returned.waiting) ≤ limit_of l.mailbox + l.most_borrowed + cond l.delivered 1 0) };
+}
+
+impl Link {
+    /// Takes the oldest of those that came back, and takes its use off.
+    fn take_one_back(&mut self, slots: &mut Slots)
+        requires some { 0 < length self.old.returned }
+        requires covered { Covers slots.old (all_of self.old) }
+        ensures shorter { self.new ≡ record self.old { returned = drop 1 self.old.returned } }
+        ensures moved { Moves slots.old (all_of self.old) slots.new (all_of self.new) }
+    {
+        let Some(slot) = self.returned.pop() else {
+            return;
+        };
+        slots.let_go(slot as usize);
+    }
+
+    /// Takes back all that came back.
+    pub fn take_back(&mut self, slots: &mut Slots)
+        requires { Covers slots.old (all_of self.old) }
+        ensures after { self.new ≡ record self.old { returned = []; delivered = false } }
+        ensures fits { IsFit self.new }
+        ensures moved { Moves slots.old (all_of self.old) slots.new (all_of self.new) }
+    {
+        for _ in 0..self.returned.len() {
+            self.take_one_back(slots);
+        }
+        self.delivered = false;
+    }
+
+    // Makes room for a put.
+    fn make_room(&mut self, slots: &mut Slots)
+        requires { Covers slots.old (all_of self.old) }
+        ensures room { self.new.delivered ≡ false }
+        ensures fewer { (k : ℕ) → times k (all_of self.new) ≤ times k (all_of self.old) }
+        ensures same { IsSameLink self.old self.new × (self.new.waiting ≡ self.old.waiting) × (self.new.borrowed ≡ self.old.borrowed) }
+        ensures moved { Moves slots.old (all_of self.old) slots.new (all_of self.new) }
+    {
+        if self.delivered {
+            self.take_back(slots);
+        }
+    }
+
+    // Puts a slot into the mailbox.
+    fn put(&mut self, slot: u64) -> Put
+        requires { self.old.delivered ≡ false }
+        ensures answer { result ≡ put_answer self.old.overflows self.old.limit self.old.waiting slot }
+        ensures same { IsSameLink self.old self.new × (self.new.borrowed ≡ self.old.borrowed) × (self.new.returned ≡ self.old.returned) }
+        ensures waiting { self.new.waiting ≡ put_into self.old.overflows self.old.limit self.old.waiting slot }
+        ensures fits { IsFit self.new }
+    {
+        let answer = self.mailbox.put(slot);
+        self.delivered = answer != Put::Refused;
+        answer
+    }
+
+    /// Puts a slot that is used elsewhere, too, behind those that wait; answers whether it found room.
+    pub fn offer(&mut self, slot: usize, slots: &mut Slots) -> bool
+        requires covered { Covers slots.old (all_of self.old) }
+        requires besides { times slot (all_of self.old) < uses_of slot slots.old }
+        requires room { uses_of slot slots.old + 1 < 2 ^ 64 }
+        ensures answer { result ≡ accepts self.old.overflows (connection_of self.old) }
+        ensures after { connection_of self.new ≡ offered self.old.overflows slot (connection_of self.old) }
+        ensures same { IsSameLink self.old self.new }
+        ensures fits { IsFit self.new }
+        ensures moved { Moves slots.old (all_of self.old) slots.new (all_of self.new) }
+    {
+        self.make_room(slots);
+        match self.put(slot as u64) {
+            Put::Taken => {
+                slots.refer(slot);
+                true
+            }
+            Put::TakenFor(oldest) => {
+                slots.refer(slot);
+                slots.let_go(oldest as usize);
+                true
+            }
+            Put::Refused => false,
+        }
+    }
+
+    /// Borrows the oldest slot that waits.
+    pub fn take(&mut self) -> usize
+        requires data { 0 < length self.old.waiting }
+        requires room { length self.old.borrowed < self.old.most_borrowed }
+        ensures slot { slice_get self.old.waiting 0 ≡ Some result }
+        ensures after { connection_of self.new ≡ taken (connection_of self.old) }
+        ensures same { IsSameLink self.old self.new }
+        ensures fits { IsFit self.new }
+        ensures uses { (k : ℕ) → times k (all_of self.new) ≡ times k (all_of self.old) }
+    {
+        let Some(slot) = self.mailbox.pop() else {
+            return 0;
+        };
+        self.borrowed.push_reserved(slot);
+        slot as usize
+    }
+
+    /// Gives the borrowed slot at this place of the list back, to be taken back by the publisher.
+    pub fn give_back(&mut self, at: usize)
+        requires { at < length self.old.borrowed }
+        ensures after { self.new ≡ record self.old {
+          borrowed = remove self.old.borrowed at;
+          returned = self.old.returned ++ get_or self.old.borrowed at 0 ∷ [];
+        } }
+        ensures fits { IsFit self.new }
+        ensures uses { (k : ℕ) → times k (all_of self.new) ≡ times k (all_of self.old) }
+    {
+        let slot = self.borrowed.remove(at);
+        let _has_room = self.returned.push(slot);
+    }
+
+    /// Takes the use of the borrowed slot at this place of the list off.
+    pub fn let_go(&mut self, at: usize, slots: &mut Slots)
+        requires within { at < length self.old.borrowed }
+        requires covered { Covers slots.old (all_of self.old) }
+        ensures after { self.new ≡ record self.old { borrowed = remove self.old.borrowed at } }
+        ensures fits { IsFit self.new }
+        ensures moved { Moves slots.old (all_of self.old) slots.new (all_of self.new) }
+    {
+        let slot = self.borrowed.remove(at);
+        slots.let_go(slot as usize);
+    }
+
+    // Loses the oldest slot that waits.
+    fn lose_one(&mut self, slots: &mut Slots)
+        requires some { 0 < length self.old.waiting }
+        requires covered { Covers slots.old (all_of self.old) }
+        ensures shorter { self.new ≡ record self.old { waiting = drop 1 self.old.waiting } }
+        ensures moved { Moves slots.old (all_of self.old) slots.new (all_of self.new) }
+    {
+        let Some(slot) = self.mailbox.pop() else {
+            return;
+        };
+        slots.let_go(slot as usize);
+    }
+
+    // Loses all that waits.
+    fn lose_waiting(&mut self, slots: &mut Slots)
+        requires { Covers slots.old (all_of self.old) }
+        ensures after { self.new ≡ record self.old { waiting = [] } }
+        ensures moved { Moves slots.old (all_of self.old) slots.new (all_of self.new) }
+    {
+        for _ in 0..self.mailbox.len() {
+            self.lose_one(slots);
+        }
+    }
+
+    /// Ends the connection: what waits is lost, what came back is taken back, what is borrowed stays.
+    pub fn end(&mut self, slots: &mut Slots)
+        requires { Covers slots.old (all_of self.old) }
+        ensures after { self.new ≡ record self.old { ended = true; waiting = []; returned = []; delivered = false } }
+        ensures fits { IsFit self.new }
+        ensures moved { Moves slots.old (all_of self.old) slots.new (all_of self.new) }
+    {
+        self.lose_waiting(slots);
+        self.take_back(slots);
+        self.ended = true;
+    }
+
+    /// A connection that holds nothing, with room for what waits, is borrowed and came back. `ring` is how many may have come
+    /// back at once.
+    pub fn new(
+        alloc: Global,
+        overflows: bool,
+        limit: usize,
+        most_borrowed: usize,
+        ring: usize,
+    ) -> Result<Link, AllocError>
+        requires { limit + most_borrowed < ring }
+        ensures { IfOk result (λ link. link ≡ record {
+          ended = false;
+          overflows = overflows;
+          limit = limit;
+          most_borrowed = most_borrowed;
+          waiting = [];
+          borrowed = [];
+          returned = [];
+          delivered = false;
+        }) }
+    {
+        Ok(Link {
+            mailbox: Mailbox::new(alloc, overflows, limit)?,
+            borrowed: Vec::with_capacity(alloc, most_borrowed)?,
+            returned: IndexQueue::new(alloc, ring)?,
+            most_borrowed,
+            ended: false,
+            delivered: false,
+        })
+    }
+
+    /// Whether its subscriber left.
+    pub fn is_ended(&self) -> bool
+        ensures { result ≡ self.now.ended }
+    {
+        self.ended
+    }
+
+    /// How many wait.
+    pub fn waiting(&self) -> usize
+        ensures { result ≡ length self.now.waiting }
+    {
+        self.mailbox.len()
+    }
+
+    /// The slots that are borrowed.
+    pub fn borrowed(&self) -> &[u64]
+        ensures { result.now ≡ self.now.borrowed }
+    {
+        self.borrowed.as_slice()
+    }
+
+    /// How many may wait.
+    pub fn limit(&self) -> usize
+        ensures { result ≡ self.now.limit }
+    {
+        self.mailbox.capacity()
+    }
+
+    /// Where in the list of borrowed slots one is first; None if it isn't borrowed.
+    pub fn place_of_borrowed(&self, slot: usize) -> Option<usize>
+        ensures { result ≡ position (λ other. other == slot) self.now.borrowed }
+    {
+        let slot = slot as u64;
+        self.borrowed.iter().position(|other| *other == slot)
+    }
+}

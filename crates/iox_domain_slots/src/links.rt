@@ -1,0 +1,370 @@
+//! The connections of one publisher.
+ghost use Rattle.std.specs.Prelude.{◌≡◌, ℕ, ◌+◌, ◌*◌, ◌^◌, ◌<◌, ◌≤◌, ◌==◌, ◌++◌, ◌∷◌, [], length, map, set, drop, take, get_or, remove, is_some, position, slice_get, IfOk, IsOk, OnErr, Some, None, true, false};
+ghost use Rattle.iox_domain_slots.specs.Uses.{nobody, accepts, offered, taken, given_back, settled, ended, held, connected, how_many};
+ghost use Rattle.iox_domain_slots.specs.declared.stage.Stage.TheVariants as stage;
+ghost use Rattle.iox_domain_slots.specs.Counting.{SlotsState, times, uses_of, Moves, Covers};
+ghost use Rattle.iox_domain_slots.specs.Links.{LinksState, LinkState, seen, all_slots, all_of, connection_of, taken_back, IsGone, IsOf, placed};
+
+use crate::link::Link;
+use crate::slots::Slots;
+use crate::stage::Stage;
+use std::alloc::{AllocError, Global};
+use std::marker::Model;
+
+// More connections than there is memory for; so no count of uses can overflow.
+const MOST_LINKS: usize = 1 << 29;
+
+/// The connections of one publisher, each at an index that it keeps while it is there.
+#[derive(Drop)]
+pub struct Links {
+    items: Vec<Option<Link>>,
+    overflows: bool,
+    most_waiting: usize,
+    most_borrowed: usize,
+}
+
+impl Model for Links {
+    ghost use Rattle.std.specs.Prelude.{◌≡◌, ◌≤◌, ◌<◌, ◌+◌, ◌^◌, ℕ, get_or, length, None};
+    ghost use Rattle.iox_domain_slots.specs.Links.{LinksState, IsOf};
+
+    ghost Value = { LinksState };
+
+    ghost view = { λ l. record {
+      overflows = l.overflows;
+      most_waiting = l.most_waiting;
+      most_borrowed = l.most_borrowed;
+      links = l.items.items;
+    } };
+
+    ghost invariant = { λ l. (length l.items.items ≤ 2 ^ 29)
+        × ((index : ℕ) → IsOf l.overflows l.most_waiting l.most_borrowed (get_or l.items.items index None))
+        × (l.most_waiting < 2 ^ 32) × (l.most_borrowed < 2 ^ 32) };
+}
+
+impl Links {
+    /// Puts a slot that is used elsewhere, too, into the mailbox of the connection; answers whether it found room.
+    pub fn offer(&mut self, index: usize, slot: usize, slots: &mut Slots) -> bool
+        requires there { is_some (get_or self.old.links index None) ≡ true }
+        requires live { (seen (get_or self.old.links index None)).stage ≡ stage.Live }
+        requires covered { Covers slots.old (all_slots self.old.links) }
+        requires besides { times slot (all_slots self.old.links) < uses_of slot slots.old }
+        requires others { uses_of slot slots.old < 2 ^ 62 + times slot (all_slots self.old.links) }
+        ensures answer { result ≡ accepts self.old.overflows (seen (get_or self.old.links index None)) }
+        ensures after { map seen self.new.links ≡ set (map seen self.old.links) index (offered self.old.overflows slot (seen (get_or self.old.links index None))) }
+        ensures same { self.new ≡ record self.old { links = self.new.links } }
+        ensures moved { Moves slots.old (all_slots self.old.links) slots.new (all_slots self.new.links) }
+    {
+        let Some(link) = &mut self.items[index] else {
+            return false;
+        };
+        link.offer(slot, slots)
+    }
+
+    /// Borrows the oldest slot that waits at the connection.
+    pub fn take(&mut self, index: usize) -> usize
+        requires there { is_some (get_or self.old.links index None) ≡ true }
+        requires data { 0 < length (seen (get_or self.old.links index None)).waiting }
+        requires room { length (seen (get_or self.old.links index None)).borrowed < self.old.most_borrowed }
+        ensures slot { slice_get (seen (get_or self.old.links index None)).waiting 0 ≡ Some result }
+        ensures after { map seen self.new.links ≡ set (map seen self.old.links) index (taken (seen (get_or self.old.links index None))) }
+        ensures same { self.new ≡ record self.old { links = self.new.links } }
+        ensures uses { (k : ℕ) → times k (all_slots self.new.links) ≡ times k (all_slots self.old.links) }
+    {
+        let Some(link) = &mut self.items[index] else {
+            return 0;
+        };
+        link.take()
+    }
+
+    // Gives a borrowed slot of a connection that goes on back, to be taken back.
+    fn put_back(&mut self, index: usize, at: usize)
+        requires there { is_some (get_or self.old.links index None) ≡ true }
+        requires live { (seen (get_or self.old.links index None)).stage ≡ stage.Live }
+        requires within { at < length (seen (get_or self.old.links index None)).borrowed }
+        ensures after { map seen self.new.links ≡ set (map seen self.old.links) index (given_back at (seen (get_or self.old.links index None))) }
+        ensures same { self.new ≡ record self.old { links = self.new.links } }
+        ensures uses { (k : ℕ) → times k (all_slots self.new.links) ≡ times k (all_slots self.old.links) }
+    {
+        let Some(link) = &mut self.items[index] else {
+            return;
+        };
+        link.give_back(at);
+    }
+
+    // Takes the use of a borrowed slot of a connection that ended off.
+    fn let_go(&mut self, index: usize, at: usize, slots: &mut Slots)
+        requires there { is_some (get_or self.old.links index None) ≡ true }
+        requires within { at < length (seen (get_or self.old.links index None)).borrowed }
+        requires covered { Covers slots.old (all_slots self.old.links) }
+        ensures after { map seen self.new.links ≡ set (map seen self.old.links) index
+            (record (seen (get_or self.old.links index None)) { borrowed = remove (seen (get_or self.old.links index None)).borrowed at }) }
+        ensures there { is_some (get_or self.new.links index None) ≡ true }
+        ensures same { self.new ≡ record self.old { links = self.new.links } }
+        ensures moved { Moves slots.old (all_slots self.old.links) slots.new (all_slots self.new.links) }
+    {
+        let Some(link) = &mut self.items[index] else {
+            return;
+        };
+        link.let_go(at, slots);
+    }
+
+    // Whether the connection ended.
+    fn is_ended(&self, index: usize) -> bool
+        requires there { is_some (get_or self.now.links index None) ≡ true }
+        ensures yes { result ≡ true → (seen (get_or self.now.links index None)).stage ≡ stage.Ended }
+        ensures no { result ≡ false → (seen (get_or self.now.links index None)).stage ≡ stage.Live }
+    {
+        let Some(link) = &self.items[index] else {
+            return false;
+        };
+        link.is_ended()
+    }
+
+    // Takes a connection that ended away if nothing is borrowed of it.
+    fn settle(&mut self, index: usize)
+        requires there { is_some (get_or self.old.links index None) ≡ true }
+        ensures after { map seen self.new.links ≡ set (map seen self.old.links) index (settled (seen (get_or self.old.links index None)).stage
+            (seen (get_or self.old.links index None)).limit (seen (get_or self.old.links index None)).waiting (seen (get_or self.old.links index None)).borrowed) }
+        ensures same { self.new ≡ record self.old { links = self.new.links } }
+        ensures uses { (k : ℕ) → times k (all_slots self.new.links) ≡ times k (all_slots self.old.links) }
+    {
+        if self.is_over(index) {
+            self.clear(index);
+        }
+    }
+
+    // Takes the connection of an index away.
+    fn clear(&mut self, index: usize)
+        requires { index < length self.old.links }
+        ensures { self.new ≡ record self.old { links = set self.old.links index None } }
+    {
+        self.items[index] = None;
+    }
+
+    // Whether the connection ended and nothing is borrowed of it.
+    fn is_over(&self, index: usize) -> bool
+        requires there { is_some (get_or self.now.links index None) ≡ true }
+        ensures yes { result ≡ true → IsGone (get_or self.now.links index None) }
+        ensures no { result ≡ false → settled (seen (get_or self.now.links index None)).stage (seen (get_or self.now.links index None)).limit
+            (seen (get_or self.now.links index None)).waiting (seen (get_or self.now.links index None)).borrowed ≡ seen (get_or self.now.links index None) }
+    {
+        let Some(link) = &self.items[index] else {
+            return false;
+        };
+        link.is_ended() && link.borrowed().is_empty()
+    }
+
+    /// Gives back the borrowed slot at this place of the connection's list.
+    pub fn give_back(&mut self, index: usize, at: usize, slots: &mut Slots)
+        requires there { is_some (get_or self.old.links index None) ≡ true }
+        requires within { at < length (seen (get_or self.old.links index None)).borrowed }
+        requires covered { Covers slots.old (all_slots self.old.links) }
+        ensures after { map seen self.new.links ≡ set (map seen self.old.links) index (given_back at (seen (get_or self.old.links index None))) }
+        ensures same { self.new ≡ record self.old { links = self.new.links } }
+        ensures moved { Moves slots.old (all_slots self.old.links) slots.new (all_slots self.new.links) }
+    {
+        if !self.is_ended(index) {
+            self.put_back(index, at);
+            return;
+        }
+        self.let_go(index, at, slots);
+        self.settle(index);
+    }
+
+    // Ends the connection.
+    fn end_link(&mut self, index: usize, slots: &mut Slots)
+        requires there { is_some (get_or self.old.links index None) ≡ true }
+        requires covered { Covers slots.old (all_slots self.old.links) }
+        ensures after { map seen self.new.links ≡ set (map seen self.old.links) index
+            (record (seen (get_or self.old.links index None)) { stage = stage.Ended; waiting = [] }) }
+        ensures there { is_some (get_or self.new.links index None) ≡ true }
+        ensures same { self.new ≡ record self.old { links = self.new.links } }
+        ensures moved { Moves slots.old (all_slots self.old.links) slots.new (all_slots self.new.links) }
+    {
+        let Some(link) = &mut self.items[index] else {
+            return;
+        };
+        link.end(slots);
+    }
+
+    /// Ends the connection: what waits is lost, what is borrowed stays until it is given back.
+    pub fn end(&mut self, index: usize, slots: &mut Slots)
+        requires there { is_some (get_or self.old.links index None) ≡ true }
+        requires covered { Covers slots.old (all_slots self.old.links) }
+        ensures after { map seen self.new.links ≡ set (map seen self.old.links) index (ended (seen (get_or self.old.links index None))) }
+        ensures same { self.new ≡ record self.old { links = self.new.links } }
+        ensures moved { Moves slots.old (all_slots self.old.links) slots.new (all_slots self.new.links) }
+    {
+        self.end_link(index, slots);
+        self.settle(index);
+    }
+
+    // Takes back what came back at an index.
+    fn take_back_one(&mut self, index: usize, slots: &mut Slots)
+        requires within { index < length self.old.links }
+        requires covered { Covers slots.old (all_slots self.old.links) }
+        ensures after { self.new ≡ record self.old { links = set self.old.links index (taken_back (get_or self.old.links index None)) } }
+        ensures moved { Moves slots.old (all_slots self.old.links) slots.new (all_slots self.new.links) }
+    {
+        let Some(link) = &mut self.items[index] else {
+            return;
+        };
+        link.take_back(slots);
+    }
+
+    /// Takes back all that came back.
+    pub fn take_back(&mut self, slots: &mut Slots)
+        requires { Covers slots.old (all_slots self.old.links) }
+        ensures seen { map seen self.new.links ≡ map seen self.old.links }
+        ensures same { self.new ≡ record self.old { links = self.new.links } }
+        ensures none_left { (k : ℕ) → times k (all_slots self.new.links) ≡ times k (held (map seen self.new.links)) }
+        ensures moved { Moves slots.old (all_slots self.old.links) slots.new (all_slots self.new.links) }
+    {
+        for index in 0..self.items.len() {
+            self.take_back_one(index, slots);
+        }
+    }
+
+    /// How many indices there are, with a connection or without; so few that all uses of a slot can be counted.
+    pub fn len(&self) -> usize
+        ensures value { result ≡ length self.now.links }
+        ensures countable { (k : ℕ) → times k (all_slots self.now.links) ≤ 2 ^ 62 }
+        ensures few { length (held (map seen self.now.links)) ≤ how_many (map seen self.now.links) * (self.now.most_waiting + self.now.most_borrowed) }
+    {
+        self.items.len()
+    }
+
+    // The first index without a connection, or the one behind the last.
+    fn vacancy(&self) -> usize
+        ensures within { result ≤ length self.now.links }
+        ensures vacant { get_or self.now.links result None ≡ None }
+    {
+        self.items
+            .iter()
+            .position(|link| link.is_none())
+            .unwrap_or(self.items.len())
+    }
+
+    // Puts a connection at an index.
+    fn replace(&mut self, index: usize, link: Link)
+        requires within { index < length self.old.links }
+        requires kind { IsOf self.old.overflows self.old.most_waiting self.old.most_borrowed (Some link) }
+        ensures { self.new ≡ record self.old { links = set self.old.links index (Some link) } }
+    {
+        self.items[index] = Some(link);
+    }
+
+    // Puts a connection behind the last.
+    fn append(&mut self, link: Link) -> Result<(), AllocError>
+        requires kind { IsOf self.old.overflows self.old.most_waiting self.old.most_borrowed (Some link) }
+        ensures after { IsOk result → self.new ≡ record self.old { links = self.old.links ++ Some link ∷ [] } }
+        ensures refused { OnErr result (self.new ≡ self.old) }
+    {
+        if self.items.len() >= MOST_LINKS {
+            return Err(AllocError);
+        }
+        self.items.push(Some(link))?;
+        Ok(())
+    }
+
+    /// Makes a connection where at most `limit` may wait, and answers its index. It fails where memory is wanting, and then
+    /// nothing has changed.
+    pub fn connect(&mut self, alloc: Global, limit: usize) -> Result<usize, AllocError>
+        requires { limit ≤ self.old.most_waiting }
+        ensures vacant { IfOk result (λ index. seen (get_or self.old.links index None) ≡ nobody) }
+        ensures within { IfOk result (λ index. index ≤ length self.old.links) }
+        ensures after { IfOk result (λ index. map seen self.new.links ≡ placed index (connected limit) (map seen self.old.links)) }
+        ensures uses { (k : ℕ) → times k (all_slots self.new.links) ≡ times k (all_slots self.old.links) }
+        ensures same { self.new ≡ record self.old { links = self.new.links } }
+        ensures refused { OnErr result (self.new ≡ self.old) }
+    {
+        let ring = self.most_waiting + self.most_borrowed + 1;
+        let link = Link::new(alloc, self.overflows, limit, self.most_borrowed, ring)?;
+        let index = self.vacancy();
+        if index < self.items.len() {
+            self.replace(index, link);
+        } else {
+            self.append(link)?;
+        }
+        Ok(index)
+    }
+
+    /// No connections, of which there will be as many as are made.
+    pub fn new(alloc: Global, overflows: bool, most_waiting: usize, most_borrowed: usize) -> Links
+        requires waiting { most_waiting < 2 ^ 32 }
+        requires borrowed { most_borrowed < 2 ^ 32 }
+        ensures { result ≡ record { overflows = overflows; most_waiting = most_waiting; most_borrowed = most_borrowed; links = [] } }
+    {
+        Links {
+            items: Vec::new(alloc),
+            overflows,
+            most_waiting,
+            most_borrowed,
+        }
+    }
+
+    /// How many may wait at the connection.
+    pub fn limit(&self, index: usize) -> usize
+        requires there { is_some (get_or self.now.links index None) ≡ true }
+        ensures { result ≡ (seen (get_or self.now.links index None)).limit }
+    {
+        let Some(link) = &self.items[index] else {
+            return 0;
+        };
+        link.limit()
+    }
+
+    /// How many wait at the connection.
+    pub fn waiting(&self, index: usize) -> usize
+        requires there { is_some (get_or self.now.links index None) ≡ true }
+        ensures { result ≡ length (seen (get_or self.now.links index None)).waiting }
+    {
+        let Some(link) = &self.items[index] else {
+            return 0;
+        };
+        link.waiting()
+    }
+
+    /// How many are borrowed of the connection.
+    pub fn borrowed(&self, index: usize) -> usize
+        requires there { is_some (get_or self.now.links index None) ≡ true }
+        ensures { result ≡ length (seen (get_or self.now.links index None)).borrowed }
+    {
+        let Some(link) = &self.items[index] else {
+            return 0;
+        };
+        link.borrowed().len()
+    }
+
+    /// Where in the connection's list of borrowed slots one is first; None if it isn't borrowed.
+    pub fn place_of_borrowed(&self, index: usize, slot: usize) -> Option<usize>
+        requires there { is_some (get_or self.now.links index None) ≡ true }
+        ensures { result ≡ position (λ other. other == slot) (seen (get_or self.now.links index None)).borrowed }
+    {
+        let Some(link) = &self.items[index] else {
+            return None;
+        };
+        link.place_of_borrowed(slot)
+    }
+
+    /// How far the connection is; vacant where there is none.
+    pub fn stage(&self, index: usize) -> Stage
+        ensures { result ≡ (seen (get_or self.now.links index None)).stage }
+    {
+        if index >= self.items.len() {
+            return Stage::Vacant;
+        }
+        match &self.items[index] {
+            None => Stage::Vacant,
+            Some(link) if link.is_ended() => Stage::Ended,
+            Some(_) => Stage::Live,
+        }
+    }
+
+    /// How many may be borrowed of a connection.
+    pub fn most_borrowed(&self) -> usize
+        ensures { result ≡ self.now.most_borrowed }
+    {
+        self.most_borrowed
+    }
+}

@@ -1,0 +1,209 @@
+//! The slots of one publisher: which are free, and how many uses the others have.
+ghost use Rattle.std.specs.Prelude.{◌≡◌, ◌+◌, ◌-◌, ◌^◌, ◌<◌, ◌≤◌, ◌++◌, ◌∷◌, [], length, drop, get_or, remove, nat_lt, replicate, IfOk, None, position, ◌==◌};
+ghost use Rattle.iox_domain_slots.specs.Uses.{newest};
+ghost use Rattle.iox_domain_slots.specs.Counting.{SlotsState, times, uses_of, referred, let_go, LoanSlot, Moves, Covers};
+
+use iox_index_base::{ReleaseMode, UniqueIndexSet};
+use std::alloc::{AllocError, Global};
+use std::collections::VecDeque;
+use std::marker::Model;
+
+/// Which slots of a publisher are used, and how often: by its loans, its history and its connections.
+///
+/// Contracts see the number of uses of each slot, the loans and the history.
+#[derive(Drop)]
+pub struct Slots {
+    // Of the current segment, the places whose slots have a use are held.
+    places: UniqueIndexSet,
+    references: Vec<u64>,
+    loans: Vec<usize>,
+    history: VecDeque<usize>,
+    first: usize,
+    most_loans: usize,
+    kept: usize,
+}
+
+impl Model for Slots {
+    ghost use Rattle.std.specs.Prelude.{◌≡◌, ◌+◌, ◌<◌, ◌≤◌, ℕ, length, false, nat_lt, get_or, vec_capacity};
+    ghost use Rattle.std.specs.VecDeque.{deque_capacity};
+    ghost use Rattle.iox_index_base.specs.Unique.{is_held};
+    ghost use Rattle.iox_domain_slots.specs.Counting.{SlotsState, times};
+
+    ghost Value = { SlotsState };
+
+    ghost view = { λ s. record {
+      first = s.first;
+      size = s.places.capacity;
+      most_loans = s.most_loans;
+      kept = s.kept;
+      references = s.references.items;
+      loans = s.loans.items;
+      history = s.history.items;
+    } };
+
+    ghost invariant = { λ s. (s.first + s.places.capacity ≡ length s.references.items)
+        × (s.places.locked ≡ false)
+        × ((index : ℕ) → index < s.places.capacity → is_held index s.places ≡ nat_lt 0 (get_or s.references.items (s.first + index) 0))
+        × ((slot : ℕ) → times slot s.loans.items + times slot s.history.items ≤ get_or s.references.items slot 0)
+        × (length s.loans.items ≤ s.most_loans) × (s.most_loans ≤ vec_capacity s.loans)
+        × (length s.history.items ≤ s.kept) × (s.kept < deque_capacity s.history) };
+}
+
+impl Slots {
+    /// Gives the slot one use more.
+    pub fn refer(&mut self, slot: usize)
+        requires used { 0 < uses_of slot self.old }
+        requires room { uses_of slot self.old + 1 < 2 ^ 64 }
+        ensures { self.new ≡ referred slot self.old }
+    {
+        self.references[slot] += 1;
+    }
+
+    /// Takes one use off that is neither a loan nor of the history. A slot of the current segment without a use is free.
+    pub fn let_go(&mut self, slot: usize)
+        requires used { times slot self.old.loans + times slot self.old.history < uses_of slot self.old }
+        ensures { self.new ≡ let_go slot self.old }
+    {
+        self.references[slot] -= 1;
+        if self.references[slot] == 0 && slot >= self.first {
+            let _state = self
+                .places
+                .release_raw_index(slot - self.first, ReleaseMode::Default);
+        }
+    }
+
+    /// Lends a free slot of the current segment; None if each of them has a use.
+    pub fn loan(&mut self) -> Option<usize>
+        requires { length self.old.loans < self.old.most_loans }
+        ensures { LoanSlot self.old result self.new }
+    {
+        let Ok(index) = self.places.acquire_raw_index() else {
+            return None;
+        };
+        let slot = self.first + index;
+        self.references[slot] = 1;
+        self.loans.push_reserved(slot);
+        Some(slot)
+    }
+
+    /// Gives up the loan at this place of the list of loans.
+    pub fn drop_loan(&mut self, at: usize)
+        requires { at < length self.old.loans }
+        ensures { self.new ≡ record (let_go (get_or self.old.loans at 0) self.old) { loans = remove self.old.loans at } }
+    {
+        let slot = self.loans.remove(at);
+        self.let_go(slot);
+    }
+
+    /// Ends the loan at this place of the list of loans, and answers its slot. The use stays: it is now the send's.
+    pub fn begin(&mut self, at: usize) -> usize
+        requires { at < length self.old.loans }
+        ensures slot { result ≡ get_or self.old.loans at 0 }
+        ensures new { self.new ≡ record self.old { loans = remove self.old.loans at } }
+    {
+        self.loans.remove(at)
+    }
+
+    /// Makes a slot that has a further use the newest of the history; of more than `kept` the oldest leaves.
+    pub fn remember(&mut self, slot: usize)
+        requires used { times slot self.old.loans + times slot self.old.history < uses_of slot self.old }
+        requires room { uses_of slot self.old + 1 < 2 ^ 64 }
+        ensures history { self.new.history ≡ newest self.old.kept (self.old.history ++ slot ∷ []) }
+        ensures moved { Moves self.old self.old.history (record self.new { history = self.old.history }) self.new.history }
+    {
+        if self.kept == 0 {
+            return;
+        }
+        self.refer(slot);
+        self.make_room();
+        self.add_newest(slot);
+    }
+
+    // Makes room for one more in the history.
+    fn make_room(&mut self)
+        requires { 0 < self.old.kept }
+        ensures room { length self.new.history < self.new.kept }
+        ensures rest { self.new.history ≡ newest (self.old.kept - 1) self.old.history }
+        ensures moved { Moves self.old self.old.history (record self.new { history = self.old.history }) self.new.history }
+    {
+        if self.history.len() == self.kept {
+            self.forget_oldest();
+        }
+    }
+
+    // Takes the oldest out of the history.
+    fn forget_oldest(&mut self)
+        requires { 0 < length self.old.history }
+        ensures { self.new ≡ record (let_go (get_or self.old.history 0 0) self.old) { history = drop 1 self.old.history } }
+    {
+        if let Some(oldest) = self.history.pop_front() {
+            self.let_go(oldest);
+        }
+    }
+
+    // Gives a use that a slot has to the history.
+    fn add_newest(&mut self, slot: usize)
+        requires used { times slot self.old.loans + times slot self.old.history < uses_of slot self.old }
+        requires room { length self.old.history < self.old.kept }
+        ensures { self.new ≡ record self.old { history = self.old.history ++ slot ∷ [] } }
+    {
+        self.history.push_back_reserved(slot);
+    }
+
+    /// Slots without a use, and room for so many loans and so long a history.
+    pub fn new(
+        alloc: Global,
+        size: usize,
+        most_loans: usize,
+        kept: usize,
+    ) -> Result<Slots, AllocError>
+        requires { kept + 1 < 2 ^ 64 }
+        ensures { IfOk result (λ slots. slots ≡ record { first = 0; size = size; most_loans = most_loans; kept = kept; references = replicate size 0; loans = []; history = [] }) }
+    {
+        Ok(Slots {
+            places: UniqueIndexSet::new(alloc, size)?,
+            references: vec![in alloc; 0; size]?,
+            loans: Vec::with_capacity(alloc, most_loans)?,
+            history: VecDeque::with_capacity(alloc, kept + 1)?,
+            first: 0,
+            most_loans,
+            kept,
+        })
+    }
+
+    /// How many loans are out.
+    pub fn loans(&self) -> usize
+        ensures { result ≡ length self.now.loans }
+    {
+        self.loans.len()
+    }
+
+    /// Where in the list of loans a slot is first; None if it is no loan.
+    pub fn place_of_loan(&self, slot: usize) -> Option<usize>
+        ensures { result ≡ position (λ other. other == slot) self.now.loans }
+    {
+        self.loans.iter().position(|other| *other == slot)
+    }
+
+    /// How long the history is.
+    pub fn history(&self) -> usize
+        ensures { result ≡ length self.now.history }
+    {
+        self.history.len()
+    }
+
+    /// The slot at this place of the history, the oldest first.
+    pub fn remembered(&self, place: usize) -> usize
+        requires { place < length self.now.history }
+        ensures { result ≡ get_or self.now.history place 0 }
+    {
+        self.history[place]
+    }
+
+    /// Whether one more loan may be out: the condition of `loan`.
+    pub fn may_loan(&self) -> bool
+        ensures { result ≡ nat_lt (length self.now.loans) self.now.most_loans }
+    {
+        self.loans.len() < self.most_loans
+    }
+}

@@ -1,0 +1,293 @@
+//! All that one publisher's slots are used for.
+ghost use Rattle.std.specs.Prelude.{◌≡◌, ℕ, ◌+◌, ◌^◌, ◌<◌, ◌≤◌, ◌==◌, ◌++◌, ◌∷◌, [], length, map, set, drop, take, get_or, remove, nat_lt, is_some, position, option_to_list, slice_get, IfOk, IsOk, IsSome, OnErr, Some, None, true, false};
+ghost use Rattle.iox_domain_slots.specs.declared.stage.Stage.TheVariants as stage;
+ghost use Rattle.iox_domain_slots.specs.Uses.{Uses, nobody, accepts, offered, taken, given_back, settled, ended, held, in_use, loaned, dropped, begun, finished, connection_at, with_connection, connected, worst_case, welcomed, is_there};
+ghost use Rattle.iox_domain_slots.specs.Counting.{times, LoanUse};
+ghost use Rattle.iox_domain_slots.specs.Links.{placed};
+
+use crate::links::Links;
+use crate::slots::Slots;
+use crate::stage::Stage;
+use std::alloc::{AllocError, Global};
+use std::marker::Model;
+
+/// Who uses the slots of one publisher: the message that it sends, its loans, its history, and what its connections hold.
+///
+/// Contracts see who uses which slot; how often each slot is used is counted behind them.
+#[derive(Drop)]
+pub struct SlotUses {
+    slots: Slots,
+    sending: Option<usize>,
+    links: Links,
+}
+
+impl Model for SlotUses {
+    ghost use Rattle.iox_domain_slots.specs.Uses.{Uses};
+    ghost use Rattle.iox_domain_slots.specs.Links.{seen_uses, IsTally, IsSmall};
+    ghost use Rattle.std.specs.Prelude.{ℕ};
+
+    ghost Value = { Uses ℕ };
+
+    ghost view = { λ u. seen_uses u.slots u.sending u.links };
+
+    ghost invariant = { λ u. IsTally u.slots u.sending u.links × IsSmall u.slots };
+}
+
+impl SlotUses {
+    /// Lends a slot of the current segment that nothing uses; None if each of them is in use. What came back is taken back first.
+    /// With as many slots as the worst case needs, one is always free.
+    pub fn loan(&mut self) -> Option<usize>
+        requires { length self.old.loans < self.old.most_loans }
+        ensures step { LoanUse self.old result self.new }
+        ensures enough { self.old.sending ≡ None → worst_case self.old ≤ self.old.size → IsSome result }
+    {
+        // So few that the worst case suffices.
+        let _indices = self.links.len();
+        self.links.take_back(&mut self.slots);
+        self.slots.loan()
+    }
+
+    /// Takes back what came back. Nobody sees that: what came back isn't in use.
+    pub fn take_back(&mut self)
+        ensures { self.new ≡ self.old }
+    {
+        let slots = &mut self.slots;
+        self.links.take_back(slots);
+    }
+
+    /// Gives up the loan at this place of the list of loans.
+    pub fn drop_loan(&mut self, at: usize)
+        requires { at < length self.old.loans }
+        ensures { self.new ≡ dropped at self.old }
+    {
+        self.slots.drop_loan(at);
+    }
+
+    /// Begins the send of the loan at this place of the list, and answers its slot: it is no loan any longer, but in use until
+    /// the send is finished, and the newest of the history.
+    pub fn begin_send(&mut self, at: usize) -> usize
+        requires loan { at < length self.old.loans }
+        requires alone { self.old.sending ≡ None }
+        ensures slot { result ≡ get_or self.old.loans at 0 }
+        ensures new { self.new ≡ begun at (get_or self.old.loans at 0) self.old }
+    {
+        let slot = self.slots.begin(at);
+        self.sending = Some(slot);
+        // So few that all uses can be counted.
+        let _indices = self.links.len();
+        self.slots.remember(slot);
+        slot
+    }
+
+    /// Finishes the send: its message is in use only where the history or a connection has it.
+    pub fn finish_send(&mut self)
+        ensures { self.new ≡ finished self.old }
+    {
+        let Some(slot) = self.sending else {
+            return;
+        };
+        self.slots.let_go(slot);
+        self.sending = None;
+    }
+
+    /// Puts the message that is being sent into the mailbox of a connection; answers whether it found room.
+    pub fn offer(&mut self, index: usize) -> bool
+        requires sending { is_some self.old.sending ≡ true }
+        requires live { (connection_at index self.old).stage ≡ stage.Live }
+        ensures answer { result ≡ accepts self.old.overflows (connection_at index self.old) }
+        ensures new { (slot : ℕ) → self.old.sending ≡ Some slot →
+            self.new ≡ with_connection index (offered self.old.overflows slot (connection_at index self.old)) self.old }
+    {
+        let Some(slot) = self.sending else {
+            return false;
+        };
+        self.links.offer(index, slot, &mut self.slots)
+    }
+
+    /// Borrows the oldest message that waits at the connection, and answers its slot.
+    pub fn take(&mut self, index: usize) -> usize
+        requires data { 0 < length (connection_at index self.old).waiting }
+        requires room { length (connection_at index self.old).borrowed < self.old.most_borrowed }
+        ensures slot { slice_get (connection_at index self.old).waiting 0 ≡ Some result }
+        ensures new { self.new ≡ with_connection index (taken (connection_at index self.old)) self.old }
+    {
+        self.links.take(index)
+    }
+
+    /// Gives back the borrowed message at this place of the connection's list. It is out of use there; its slot is taken back by
+    /// the next loan, or at once if the connection ended.
+    pub fn give_back(&mut self, index: usize, at: usize)
+        requires { at < length (connection_at index self.old).borrowed }
+        ensures { self.new ≡ with_connection index (given_back at (connection_at index self.old)) self.old }
+    {
+        self.links.give_back(index, at, &mut self.slots);
+    }
+
+    /// Ends the connection: what waits is lost, what is borrowed stays in use until it is given back.
+    pub fn end(&mut self, index: usize)
+        requires { (connection_at index self.old).stage ≡ stage.Live }
+        ensures { self.new ≡ with_connection index (ended (connection_at index self.old)) self.old }
+    {
+        self.links.end(index, &mut self.slots);
+    }
+
+    /// Makes a connection where at most `limit` may wait, and answers its index, at which there was none. It fails where memory
+    /// is wanting, and then nothing has changed.
+    pub fn connect(&mut self, alloc: Global, limit: usize) -> Result<usize, AllocError>
+        requires { limit ≤ self.old.most_waiting }
+        ensures vacant { IfOk result (λ index. connection_at index self.old ≡ nobody) }
+        ensures within { IfOk result (λ index. index ≤ length self.old.connections) }
+        ensures new { IfOk result (λ index. self.new ≡ record self.old { connections = placed index (connected limit) self.old.connections }) }
+        ensures refused { OnErr result (self.new ≡ self.old) }
+    {
+        self.links.connect(alloc, limit)
+    }
+
+    /// Slots of which none is in use, in one segment, and room for so many loans, so long a history, and connections of which at
+    /// most so many messages wait and so many are borrowed. It fails only where memory is wanting.
+    pub fn new(
+        alloc: Global,
+        overflows: bool,
+        size: usize,
+        most_loans: usize,
+        kept: usize,
+        most_waiting: usize,
+        most_borrowed: usize,
+    ) -> Result<SlotUses, AllocError>
+        requires loans { most_loans < 2 ^ 32 }
+        requires history { kept < 2 ^ 32 }
+        requires waiting { most_waiting < 2 ^ 32 }
+        requires borrowed { most_borrowed < 2 ^ 32 }
+        ensures { IfOk result (λ uses. uses ≡ record {
+          first = 0;
+          size = size;
+          most_loans = most_loans;
+          kept = kept;
+          most_waiting = most_waiting;
+          most_borrowed = most_borrowed;
+          overflows = overflows;
+          sending = None;
+          loans = [];
+          history = [];
+          connections = [];
+        }) }
+    {
+        Ok(SlotUses {
+            slots: Slots::new(alloc, size, most_loans, kept)?,
+            sending: None,
+            links: Links::new(alloc, overflows, most_waiting, most_borrowed),
+        })
+    }
+
+    // Puts a slot of the history, or the one that is being sent, into the mailbox of a connection.
+    fn put(&mut self, index: usize, slot: usize) -> bool
+        requires used { 0 < times slot (option_to_list self.old.sending) + times slot self.old.history }
+        requires live { (connection_at index self.old).stage ≡ stage.Live }
+        ensures answer { result ≡ accepts self.old.overflows (connection_at index self.old) }
+        ensures new { self.new ≡ with_connection index (offered self.old.overflows slot (connection_at index self.old)) self.old }
+    {
+        self.links.offer(index, slot, &mut self.slots)
+    }
+
+    /// Gives a new connection as much of the history as may wait there, the oldest first.
+    pub fn welcome(&mut self, index: usize)
+        requires live { (connection_at index self.old).stage ≡ stage.Live }
+        requires empty { (connection_at index self.old).waiting ≡ [] }
+        ensures { self.new ≡ with_connection index (welcomed self.old.history (connection_at index self.old)) self.old }
+    {
+        let end = self.history();
+        for place in end.saturating_sub(self.limit(index))..end {
+            let slot = self.remembered(place);
+            let _has_room = self.put(index, slot);
+        }
+    }
+
+    // How long the history is.
+    fn history(&self) -> usize
+        ensures { result ≡ length self.now.history }
+    {
+        self.slots.history()
+    }
+
+    // The slot at this place of the history.
+    fn remembered(&self, place: usize) -> usize
+        requires { place < length self.now.history }
+        ensures { result ≡ get_or self.now.history place 0 }
+    {
+        self.slots.remembered(place)
+    }
+
+    /// How many messages may wait at the connection.
+    pub fn limit(&self, index: usize) -> usize
+        requires { is_there (connection_at index self.now) ≡ true }
+        ensures { result ≡ (connection_at index self.now).limit }
+    {
+        self.links.limit(index)
+    }
+
+    /// How many messages wait at the connection.
+    pub fn waiting(&self, index: usize) -> usize
+        requires { is_there (connection_at index self.now) ≡ true }
+        ensures { result ≡ length (connection_at index self.now).waiting }
+    {
+        self.links.waiting(index)
+    }
+
+    /// How many messages are borrowed of the connection.
+    pub fn borrowed(&self, index: usize) -> usize
+        requires { is_there (connection_at index self.now) ≡ true }
+        ensures { result ≡ length (connection_at index self.now).borrowed }
+    {
+        self.links.borrowed(index)
+    }
+
+    /// Where in the connection's list of borrowed slots one is first; None if it isn't borrowed.
+    pub fn place_of_borrowed(&self, index: usize, slot: usize) -> Option<usize>
+        requires { is_there (connection_at index self.now) ≡ true }
+        ensures { result ≡ position (λ other. other == slot) (connection_at index self.now).borrowed }
+    {
+        self.links.place_of_borrowed(index, slot)
+    }
+
+    /// How many loans are out.
+    pub fn loans(&self) -> usize
+        ensures { result ≡ length self.now.loans }
+    {
+        self.slots.loans()
+    }
+
+    /// Where in the list of loans a slot is first; None if it is no loan.
+    pub fn place_of_loan(&self, slot: usize) -> Option<usize>
+        ensures { result ≡ position (λ other. other == slot) self.now.loans }
+    {
+        self.slots.place_of_loan(slot)
+    }
+
+    /// The slot that is being sent, if one is.
+    pub fn sending(&self) -> Option<usize>
+        ensures { result ≡ self.now.sending }
+    {
+        self.sending
+    }
+
+    /// Whether one more loan may be out: the condition of `loan`.
+    pub fn may_loan(&self) -> bool
+        ensures { result ≡ nat_lt (length self.now.loans) self.now.most_loans }
+    {
+        self.slots.may_loan()
+    }
+
+    /// How far the connection is; vacant where there is none.
+    pub fn stage(&self, index: usize) -> Stage
+        ensures { result ≡ (connection_at index self.now).stage }
+    {
+        self.links.stage(index)
+    }
+
+    /// How many messages may be borrowed of a connection.
+    pub fn most_borrowed(&self) -> usize
+        ensures { result ≡ self.now.most_borrowed }
+    {
+        self.links.most_borrowed()
+    }
+}
