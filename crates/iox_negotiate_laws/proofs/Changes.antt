@@ -7,7 +7,6 @@ use Rattle.std.specs.Ordering.{nat_cmp, is_eq}
 use Rattle.std.specs.Cmp.{nat_cmp_total}
 use Rattle.std.specs.Cmp.Lexicographic.{slice_cmp, nat_list_cmp_total}
 use Rattle.std.specs.BTreeMap.{is_at}
-use Rattle.std.specs.Map.{lookup}
 use Rattle.iox_describe_base.specs.declared.hash.ServiceHash.{ServiceHash}
 use Rattle.iox_describe_settings.specs.Agreement.{Agreement, max_nodes_of}
 use Rattle.iox_describe.specs.Line.{line}
@@ -237,13 +236,6 @@ pub record IsElsewhere (other : ServiceHash) (old new : Contents) : Type 0 where
   pub segment : (n : ℕ) → segment_at other n new ≡ segment_at other n old
 
 module _ (hash other : ServiceHash) (differ : hash.digest ≢ other.digest) (old new : Contents) where
-  -- only segments of this hash change
-  only-segments : new.entries ≡ old.entries → ((n : ℕ) → segment_at other n new ≡ segment_at other n old) → IsElsewhere other old new
-  only-segments same segments = record { entry = ap (λ es. lookup (is_at (digest_cmp other.digest)) es) same; segment = segments }
-
-  only-entry : new.segments ≡ old.segments → entry_at other new ≡ entry_at other old → IsElsewhere other old new
-  only-entry same entry = record { entry = entry; segment = λ n. ap (λ es. lookup (is_at (place_cmp (other.digest, n))) es) same }
-
   pub elsewhere : (event : Event) → Change event hash old new → IsElsewhere other old new
   elsewhere event (Same is) = record { entry = ap (λ t. entry_at other t) is; segment = λ n. ap (λ t. segment_at other n t) is }
   elsewhere event (LockOf node free is) = rw is (record { entry = insert-apart digest_cmp hash.digest (Locked node old.next) (is_at (digest_cmp other.digest)) (hash-away hash other differ) digest-exact old.entries; segment = λ n. refl })

@@ -16,7 +16,6 @@ use Rattle.iox_negotiate.specs.Factory.{Closes, LeaveGoes, Removes as RemovesBot
 use Rattle.iox_negotiate_table.specs.declared.node.Node.{Node}
 use Rattle.iox_negotiate_table.specs.declared.node.Node.TheVariants.{Own}
 use Rattle.iox_negotiate_table.specs.declared.entry.Entry.TheVariants.{Described}
-use Rattle.iox_negotiate_table.specs.declared.segment.Segment.{Segment}
 use Rattle.iox_negotiate_table.specs.declared.segment.Segment.TheVariants.{Open, Emptied}
 use Rattle.iox_negotiate_table.specs.Nodes.{Nodes, count_in, factories_of, with_factories, without_node, less_one, left}
 use Rattle.iox_negotiate_table.specs.Segments.{closed_if, leave_answer}
@@ -98,9 +97,6 @@ module _ (hash : ServiceHash) (number node : ℕ) (bytes : List ℕ) (old : Cont
       found : LeavesPublished (segment_at hash number old) hash number node old answer mid → Left (nat_eq (count_in after) 0) answer mid
       found h = found-open (subst (λ s. LeavesPublished s hash number node old answer mid) is_open.stands h)
 
-  seat-at : (segment : Segment) → segment_at hash number (with_segment hash number segment old) ≡ Some segment
-  seat-at segment = lookup-set (is_at (place_cmp (hash.digest, number))) old.segments segment (rw is_open.stands refl)
-
 -- the description is removed where the last node left
 removes-first : (hash : ServiceHash) (number : ℕ) (bytes : List ℕ) (by : Node) (old new : Contents) (answer : RemoveAnswer) → entry_at hash old ≡ Some (Described number bytes) → segment_at hash number old ≡ Some (Emptied by)
     → Sight old (RemoveDescription hash number answer) new → (answer ≡ removing.Removed) × (new ≡ without_entry hash old)
@@ -140,9 +136,6 @@ module _ (hash : ServiceHash) (number node : ℕ) (bytes : List ℕ) (old new : 
   record Closed (after : Nodes) : Type 0 where
     well : result ≡ Ok tt
     stands : StandsOrGone (nat_eq (count_in after) 0) hash number bytes after new.table
-
-  emptied-not : Some leaving.Emptied ≡ Some leaving.Stays → ⊥
-  emptied-not e = cc
 
   stays : (answer : LeaveAnswer) (rest : List Access) (mid : Steps) → nat_eq (count_in (left node is_open.nodes)) 0 ≡ false → answer ≡ leaving.Stays → mid.table ≡ with_segment hash number (Open (left node is_open.nodes)) old.table
       → LeaveGoes hash number answer rest result → Went SteppedSight mid rest new → Closed (left node is_open.nodes)

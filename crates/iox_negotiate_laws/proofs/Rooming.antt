@@ -213,9 +213,6 @@ module _ (agreed : Agreement) (number node : ℕ) (within : IsWithinLimits agree
       → SteppedSight mid (Publish agreed.service_hash number (line agreed) publishing.Published) new → Roomy new.table
   pair-roomy old mid new roomy made published = record { is = sees mid.table new.table w1.is (Publish hash number (line agreed) publishing.Published) sight; rooms = publish-rooms mid.table new.table w1 making-it.locked seat-is sight }
     where
-      access : Access
-      access = MakeSegment hash number node (max_nodes_of agreed.settings) making.Made
-
       w1 : Roomy mid.table
       w1 = stepped-keeps (λ t. Roomy t) roomy-step (λ a. Unpublishing a) roomy-access (MakeSegment hash number node (max_nodes_of agreed.settings) making.Made) old mid tt roomy made
 

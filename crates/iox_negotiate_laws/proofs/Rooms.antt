@@ -40,10 +40,6 @@ entered node before after answer h = by_count (factories_of before node) h
     by_count (Some count) h = more count (nat_eq count (2 ^ 64 - 1)) h
     by_count None h = first (nat_lt (count_in before) before.max_nodes) h
 
-itself : (segment : Segment) → SameRoom segment segment
-itself (Open nodes) = refl
-itself (Emptied by) = tt
-
 pub opens-room : (node : ℕ) (segment after : Segment) (answer : OpenSegmentAnswer) → Opens node segment answer after → SameRoom segment after
 opens-room node (Open before) (Open after) answer h = entered node before after answer h
 opens-room node (Open before) (Emptied by) answer h = absurd h

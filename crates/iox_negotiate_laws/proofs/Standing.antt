@@ -159,9 +159,6 @@ leave-stand front back f old new answer stand sight g in_it = stands-of (front +
     rest : Counted (front ++ back) old g
     rest = counted-of (front ++ back) old g (fewer-stand front back f old stand g in_it)
 
-    access : Access
-    access = Leave f.agreed.service_hash f.number f.node answer
-
     others : ((at by : ℕ) (a : LeaveAnswer) → Leave f.agreed.service_hash f.number f.node answer ≡ Leave g.agreed.service_hash at by a → at ≡ g.number → by ≢ g.node) → Counted (front ++ back) new g
     others other = access-counted (front ++ back) old new g rest (Leave f.agreed.service_hash f.number f.node answer) other sight
 
