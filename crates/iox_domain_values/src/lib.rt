@@ -36,4 +36,3 @@ pub use degradation::{DegradationAction, DegradationCause, DegradationInfo};
 pub use degradation_handler::{DegradationFn, DegradationHandler};
 pub use port_error::{LoanError, ReceiveError, SendError};
 pub use samples_override::{PreallocatedSamplesFn, PreallocatedSamplesOverride};
-
