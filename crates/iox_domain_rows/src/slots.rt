@@ -1,6 +1,15 @@
 //! The way of a message through the slots of a publisher.
 use iox_domain_slots::{SlotUses, Stage};
+use std::alloc::{AllocError, Global};
 use std::test::Fail;
+
+// Makes a connection of this limit, where the publisher allows it.
+fn join(uses: &mut SlotUses, alloc: Global, limit: usize) -> Result<usize, AllocError> {
+    if limit > uses.most_waiting() {
+        return Err(AllocError);
+    }
+    uses.connect(alloc, limit)
+}
 
 // Lends a slot where one more loan may be out.
 fn lend(uses: &mut SlotUses) -> Option<usize> {
@@ -73,7 +82,7 @@ fn leave(uses: &mut SlotUses, index: usize) -> bool {
 #[test]
 fn a_full_mailbox_lets_its_oldest_go(rt: HostRuntime) -> Result<(), Fail> {
     let mut uses = SlotUses::new(rt.alloc(), true, 5, 2, 0, 1, 2)?;
-    let index = uses.connect(rt.alloc(), 1)?;
+    let index = join(&mut uses, rt.alloc(), 1)?;
     let first = publish(&mut uses, index);
     assert!(rt; first.is_some() && receive(&mut uses, index) == first);
     let second = publish(&mut uses, index);
@@ -86,7 +95,7 @@ fn a_full_mailbox_lets_its_oldest_go(rt: HostRuntime) -> Result<(), Fail> {
 #[test]
 fn a_sample_outlives_its_subscriber(rt: HostRuntime) -> Result<(), Fail> {
     let mut uses = SlotUses::new(rt.alloc(), true, 3, 3, 0, 1, 1)?;
-    let index = uses.connect(rt.alloc(), 1)?;
+    let index = join(&mut uses, rt.alloc(), 1)?;
     let sent = publish(&mut uses, index);
     let held = receive(&mut uses, index).unwrap_or(usize::MAX);
     assert!(rt; sent == Some(held) && leave(&mut uses, index));
@@ -111,10 +120,10 @@ fn a_new_connection_gets_the_newest_of_the_history(rt: HostRuntime) -> Result<()
         sent[place] = slot;
     }
     for _ in 0..100 {
-        let index = uses.connect(rt.alloc(), 2)?;
+        let index = join(&mut uses, rt.alloc(), 2)?;
         assert!(rt; index == 0 && leave(&mut uses, index));
     }
-    let index = uses.connect(rt.alloc(), 2)?;
+    let index = join(&mut uses, rt.alloc(), 2)?;
     assert!(rt; matches!(uses.stage(index), Stage::Live) && uses.waiting(index) == 0);
     uses.welcome(index);
     assert!(rt; receive(&mut uses, index) == Some(sent[1]));

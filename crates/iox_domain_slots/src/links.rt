@@ -367,4 +367,11 @@ impl Links {
     {
         self.most_borrowed
     }
+
+    /// How many may wait at a connection at most.
+    pub fn most_waiting(&self) -> usize
+        ensures { result ≡ self.now.most_waiting }
+    {
+        self.most_waiting
+    }
 }

@@ -290,4 +290,11 @@ impl SlotUses {
     {
         self.links.most_borrowed()
     }
+
+    /// How many messages may wait at a connection at most.
+    pub fn most_waiting(&self) -> usize
+        ensures { result ≡ self.now.most_waiting }
+    {
+        self.links.most_waiting()
+    }
 }
