@@ -12,6 +12,7 @@ enum Phase {
     Opens,
     Full,
     Emptied,
+    OutOfMemory,
     Other,
 }
 
@@ -24,8 +25,10 @@ fn phase_of(table: &mut Table) -> Result<Phase, Fail> {
             OpenSegmentAnswer::Registered => Phase::Opens,
             OpenSegmentAnswer::Full => Phase::Full,
             OpenSegmentAnswer::Marked => Phase::Emptied,
+            OpenSegmentAnswer::OutOfMemory => Phase::OutOfMemory,
             _ => Phase::Other,
         },
+        LookAnswer::OutOfMemory => Phase::OutOfMemory,
         _ => Phase::Other,
     })
 }

@@ -131,6 +131,7 @@ fn nothing_is_left_of_a_creation_that_failed(rt: HostRuntime) -> Result<(), Fail
         let asked = builder(b"A")?.publish_subscribe::<u64>(rt.alloc())?;
         let refused = asked.create(rt.alloc(), &mut storage).err();
         assert_eq!(rt; refused, Some(error), "{failure:?} at {at}");
+        assert_eq!(rt; storage.left, 0, "out of memory before access {at}");
         let hash = hash_of_a()?;
         let mut table = storage.table;
         assert!(rt;
