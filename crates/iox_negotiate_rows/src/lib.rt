@@ -9,10 +9,20 @@
 #[cfg(test)]
 mod closing;
 #[cfg(test)]
+mod conversations;
+#[cfg(test)]
+mod foreign;
+#[cfg(test)]
 mod lines;
+#[cfg(test)]
+mod lives;
+#[cfg(test)]
+mod phases;
 #[cfg(test)]
 mod rounds;
 #[cfg(test)]
 mod shared;
 #[cfg(test)]
 mod texts;
+#[cfg(test)]
+mod undoing;

@@ -53,7 +53,12 @@ impl Fixed {
 
 /// A builder of the service of this name, for node 5.
 pub fn builder(name: &[u8]) -> Result<Builder, Fail> {
-    Ok(Builder::new(5, ServiceName::new(name)?))
+    builder_of(5, name)
+}
+
+/// A builder of the service of this name, for this node.
+pub fn builder_of(node: u64, name: &[u8]) -> Result<Builder, Fail> {
+    Ok(Builder::new(node, ServiceName::new(name)?))
 }
 
 impl Storage for Fixed {

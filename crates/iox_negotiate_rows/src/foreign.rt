@@ -1,0 +1,74 @@
+//! Foreign nodes, and a table on which they act.
+use iox_describe::{
+    AttributeSpecifier, Description, Header, MessageTypeDetails, MessagingPattern, ServiceHash,
+    ServiceName, Settings, TypeVariant, publish_subscribe, service_hash,
+};
+use iox_negotiate_table::{ForeignStep, StepList, Stepped, Table};
+use std::alloc::Global;
+use std::test::Fail;
+
+/// What a foreign node does to the publish-subscribe service `A`.
+#[derive(Clone, Copy, Debug)]
+pub enum Step {
+    Lock(u64),
+    GiveUp(u64),
+    /// Publishes the description of this service, with this buffer and this room for nodes.
+    Publish(u64, &'static [u8], u64, u64),
+    Register(u64),
+    Leave(u64),
+    Remove(u64),
+}
+
+/// The hash of the publish-subscribe service `A`.
+pub fn hash_of_a() -> Result<ServiceHash, Fail> {
+    Ok(service_hash(MessagingPattern::PublishSubscribe, &ServiceName::new(b"A")?))
+}
+
+// The description of a service of `u64` with a `u64` user header, at default settings but for buffer and room for nodes.
+fn described(alloc: Global, name: &[u8], buffer: u64, nodes: u64) -> Result<Description, Fail> {
+    let types = MessageTypeDetails::from::<Header, u64, u64>(TypeVariant::FixedSize);
+    let mut config = publish_subscribe::StaticConfig::new(types);
+    config.subscriber_max_buffer_size = buffer;
+    config.max_nodes = nodes;
+    let attributes = AttributeSpecifier::new(alloc)?;
+    Ok(Description::new(
+        ServiceName::new(name)?,
+        Settings::PublishSubscribe(config),
+        attributes,
+    ))
+}
+
+fn foreign_step(alloc: Global, step: Step) -> Result<ForeignStep, Fail> {
+    Ok(match step {
+        Step::Lock(node) => ForeignStep::Lock { node },
+        Step::GiveUp(node) => ForeignStep::GiveUp { node },
+        Step::Publish(node, name, buffer, nodes) => ForeignStep::Publish {
+            node,
+            description: described(alloc, name, buffer, nodes)?,
+        },
+        Step::Register(node) => ForeignStep::Register { node },
+        Step::Leave(node) => ForeignStep::Leave { node },
+        Step::Remove(node) => ForeignStep::Remove { node },
+    })
+}
+
+/// Does these steps.
+pub fn act(alloc: Global, table: &mut Table, steps: &[Step]) -> Result<(), Fail> {
+    let hash = hash_of_a()?;
+    for step in steps {
+        table.act(&hash, &foreign_step(alloc, *step)?)?;
+    }
+    Ok(())
+}
+
+/// The table, with these steps to do right before its second access.
+pub fn before_the_second(alloc: Global, table: Table, steps: &[Step]) -> Result<Stepped, Fail> {
+    let mut second = Vec::new(alloc);
+    for step in steps {
+        second.push(foreign_step(alloc, *step)?)?;
+    }
+    let mut lists = Vec::new(alloc);
+    lists.push(StepList::new(Vec::new(alloc)))?;
+    lists.push(StepList::new(second))?;
+    Ok(Stepped::new(table, lists))
+}
