@@ -23,6 +23,8 @@ mod rounds;
 #[cfg(test)]
 mod shared;
 #[cfg(test)]
+mod stages;
+#[cfg(test)]
 mod texts;
 #[cfg(test)]
 mod undoing;

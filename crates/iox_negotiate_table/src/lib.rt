@@ -26,5 +26,3 @@ pub use step::ForeignStep;
 pub use steps::{StepList, Stepped};
 pub use table::Table;
 
-#[cfg(test)]
-mod tests;

@@ -1,5 +1,4 @@
 //! Each access in each stage, each foreign step where it fits and where it doesn't, sizes and repeated calls.
-use crate::*;
 use iox_describe::{
     AttributeSpecifier, Description, Header, MessageTypeDetails, MessagingPattern, ServiceHash,
     ServiceName, Settings, TypeVariant, publish_subscribe, service_hash,
@@ -8,6 +7,7 @@ use iox_negotiate_rounds::{
     LeaveAnswer, LockAnswer, LookAnswer, MakeSegmentAnswer, OpenSegmentAnswer, PublishAnswer,
     RemoveAnswer, Storage,
 };
+use iox_negotiate_table::{ForeignStep, Table};
 use std::alloc::Global;
 use std::test::Fail;
 
