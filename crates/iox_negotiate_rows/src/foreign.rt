@@ -20,7 +20,7 @@ pub enum Step {
 }
 
 /// The hash of the publish-subscribe service `A`.
-pub fn hash_of_a() -> Result<ServiceHash, Fail> {
+pub(crate) fn hash_of_a() -> Result<ServiceHash, Fail> {
     Ok(service_hash(MessagingPattern::PublishSubscribe, &ServiceName::new(b"A")?))
 }
 
@@ -53,7 +53,7 @@ fn foreign_step(alloc: Global, step: Step) -> Result<ForeignStep, Fail> {
 }
 
 /// Does these steps.
-pub fn act(alloc: Global, table: &mut Table, steps: &[Step]) -> Result<(), Fail> {
+pub(crate) fn act(alloc: Global, table: &mut Table, steps: &[Step]) -> Result<(), Fail> {
     let hash = hash_of_a()?;
     for step in steps {
         table.act(&hash, &foreign_step(alloc, *step)?)?;
@@ -62,7 +62,7 @@ pub fn act(alloc: Global, table: &mut Table, steps: &[Step]) -> Result<(), Fail>
 }
 
 /// The table, with these steps to do right before its second access.
-pub fn before_the_second(alloc: Global, table: Table, steps: &[Step]) -> Result<Stepped, Fail> {
+pub(crate) fn before_the_second(alloc: Global, table: Table, steps: &[Step]) -> Result<Stepped, Fail> {
     let mut second = Vec::new(alloc);
     for step in steps {
         second.push(foreign_step(alloc, *step)?)?;

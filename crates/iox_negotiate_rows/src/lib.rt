@@ -3,7 +3,9 @@
 //!
 //! It has no items of its own, only tests: `rounds` counts the rounds that lead to nothing, `lines` holds the lines
 //! that builders publish against rows from outside, `closing` the three refusals of `close`, `texts` what errors display as.
-//! `shared` is what they share.
+//! Over the table, `conversations` has what nodes answer each other, `lives` each pattern from creation to end and again,
+//! `phases` each foreign step where it fits and where it doesn't, `undoing` creations of which an access fails.
+//! `shared` and `foreign` are what they share.
 #![tactic(auto)]
 
 #[cfg(test)]

@@ -30,7 +30,7 @@ pub struct Fixed {
 
 impl Fixed {
     /// A storage in which all goes well. It shows this line; nothing, if it is empty.
-    pub fn new(alloc: Global, line: &str) -> Result<Self, Fail> {
+    pub(crate) fn new(alloc: Global, line: &str) -> Result<Self, Fail> {
         let mut bytes = Vec::new(alloc);
         bytes.extend_from_slice(line.as_bytes())?;
         Ok(Fixed {
@@ -52,12 +52,12 @@ impl Fixed {
 }
 
 /// A builder of the service of this name, for node 5.
-pub fn builder(name: &[u8]) -> Result<Builder, Fail> {
+pub(crate) fn builder(name: &[u8]) -> Result<Builder, Fail> {
     builder_of(5, name)
 }
 
 /// A builder of the service of this name, for this node.
-pub fn builder_of(node: u64, name: &[u8]) -> Result<Builder, Fail> {
+pub(crate) fn builder_of(node: u64, name: &[u8]) -> Result<Builder, Fail> {
     Ok(Builder::new(node, ServiceName::new(name)?))
 }
 
