@@ -62,7 +62,11 @@ pub(crate) fn act(alloc: Global, table: &mut Table, steps: &[Step]) -> Result<()
 }
 
 /// The table, with these steps to do right before its second access.
-pub(crate) fn before_the_second(alloc: Global, table: Table, steps: &[Step]) -> Result<Stepped, Fail> {
+pub(crate) fn before_the_second(
+    alloc: Global,
+    table: Table,
+    steps: &[Step],
+) -> Result<Stepped, Fail> {
     let mut second = Vec::new(alloc);
     for step in steps {
         second.push(foreign_step(alloc, *step)?)?;
