@@ -25,4 +25,3 @@ pub use node::Node;
 pub use step::ForeignStep;
 pub use steps::{StepList, Stepped};
 pub use table::Table;
-
