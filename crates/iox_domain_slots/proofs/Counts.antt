@@ -1,10 +1,10 @@
 -- How often a slot stands in a list, when the list changes.
-use Rattle.std.proofs.Common.{arith, ◌≡◌, ◌+◌, ◌-◌, ◌<◌, ◌≤◌, ◌∷◌, [], ◌++◌, ℕ, Bool, true, false, cond, List, length, get_or, set, remove, zero, suc, refl, ◌∙◌}
+use Rattle.std.proofs.Common.{arith, ◌≡◌, ◌+◌, ◌-◌, ◌<◌, ◌≤◌, ◌∷◌, [], ◌++◌, ℕ, Bool, true, false, cond, List, length, get_or, set, zero, suc, refl, ◌∙◌}
 use Rattle.std.proofs.Math.Logic.{⊎_elim}
 use Rattle.std.proofs.lemmas.Bool.Decides.{eqb_tells}
 use Rattle.std.proofs.Math.Dec.{eqb}
 use Rattle.std.proofs.lemmas.List.{get_or-set_same, get_or-set_other}
-use Rattle.std.proofs.lemmas.List.Sums.{sum_by-append, sum_by-cons, sum_by-remove}
+use Rattle.std.proofs.lemmas.List.Sums.{sum_by-append, sum_by-cons}
 use Rattle.iox_domain_slots.specs.Counting.{times}
 
 -- what one slot adds to the count of another
@@ -22,9 +22,6 @@ times_one slot x = omega (arith, times_cons slot x [])
 
 pub times_end : (slot : ℕ) (xs : List ℕ) (x : ℕ) → times slot (xs ++ x ∷ []) ≡ times slot xs + one slot x
 times_end slot xs x = omega (arith, times_append slot xs (x ∷ []), times_one slot x)
-
-pub times_remove : (slot : ℕ) (xs : List ℕ) (i : ℕ) → i < length xs → times slot (remove xs i) + one slot (get_or xs i 0) ≡ times slot xs
-times_remove slot xs i below = sum_by-remove (λ other. cond (eqb slot other) 1 0) xs i 0 below
 
 -- a count above 0 is that of a slot in range
 pub within : (counts : List ℕ) (slot : ℕ) → 0 < get_or counts slot 0 → slot < length counts

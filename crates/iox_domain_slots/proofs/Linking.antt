@@ -37,10 +37,6 @@ moves_on old mid new before between after first second = record {
   moved = λ k. omega (arith, first.moved k, second.moved k);
 }
 
--- nothing moves
-pub stays : (old : SlotsState) (all : List ℕ) → Moves old all old all
-stays old all = record { same = refl; length = refl; moved = λ k. refl }
-
 -- some of those that came back are taken back, `count` of `end`
 pub record TakingBack (first : LinkState) (slots : SlotsState) (link : LinkState) (now : SlotsState) (count end : ℕ) : Type 0 where
   pub same : link ≡ record first { returned = link.returned }

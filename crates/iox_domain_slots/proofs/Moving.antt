@@ -4,7 +4,7 @@ use Rattle.std.proofs.Math.Logic.{⊎_elim}
 use Rattle.std.proofs.lemmas.Bool.Decides.{eqb_tells}
 use Rattle.std.proofs.lemmas.List.{length-set}
 use Rattle.iox_domain_slots.specs.Counting.{SlotsState, Moves, times, uses_of, referred, let_go}
-use Rattle.iox_domain_slots.proofs.Counts.{one, times_cons, times_end, one_more, one_less, one_at_most, one_other}
+use Rattle.iox_domain_slots.proofs.Counts.{one, times_end, one_more, one_less, one_at_most, one_other}
 
 -- a use more of a slot that is at the end of the list then
 pub refer_moves : (old : SlotsState) (slot : ℕ) (before after : List ℕ) → 0 < uses_of slot old
@@ -23,21 +23,6 @@ let_go_moves old slot before after used less = record {
   length = length-set old.references slot (uses_of slot old - 1);
   moved = λ k. omega (arith, one_less old.references slot k used, less k);
 }
-
--- the oldest of a history leaves
-pub oldest_moves : (old new : SlotsState) (oldest : ℕ) (rest : List ℕ) → old.history ≡ oldest ∷ rest → 0 < uses_of oldest old
-    → new ≡ record (let_go oldest old) { history = rest } → Moves old old.history (record new { history = old.history }) rest
-oldest_moves old new oldest rest split used is = rw is (record {
-  same = refl;
-  length = length-set old.references oldest (uses_of oldest old - 1);
-  moved = λ k.
-      let all : times k old.history ≡ one k oldest + times k rest = ap (times k) split ∙ times_cons k oldest rest in
-      omega (arith, all, one_less old.references oldest k used);
-})
-
--- nothing moves
-pub stays : (old : SlotsState) → Moves old old.history (record old { history = old.history }) old.history
-stays old = record { same = refl; length = refl; moved = λ k. refl }
 
 -- a slot with a further use becomes the newest of a history in which room was made
 pub remember_moves : (old mid new : SlotsState) (slot : ℕ) → 0 < uses_of slot old

@@ -32,18 +32,6 @@ taken_for_waits overflows limit waiting slot oldest answer = go (nat_lt (length 
     go false true same = (refl, search (rules, same))
     go false false same = search (rules, same)
 
--- what waits once a put was refused
-pub refused_waits : (overflows : Bool) (limit : ℕ) (waiting : List ℕ) (slot : ℕ) → Refused ≡ put_answer overflows limit waiting slot
-    → put_into overflows limit waiting slot ≡ waiting
-refused_waits overflows limit waiting slot answer = go (nat_lt (length waiting) limit) overflows answer
-  where
-    go : (fits overflows : Bool) → Refused ≡ (if fits then Taken else if overflows then TakenFor (get_or (waiting ++ slot ∷ []) 0 0) else Refused)
-        → (if overflows then (if fits then waiting ++ slot ∷ [] else drop 1 (waiting ++ slot ∷ [])) else (if fits then waiting ++ slot ∷ [] else waiting)) ≡ waiting
-    go true true same = search (rules, same)
-    go true false same = search (rules, same)
-    go false true same = search (rules, same)
-    go false false same = refl
-
 -- the oldest of a list to which a slot was added, and the rest
 pub head_of_end : (k slot : ℕ) (waiting : List ℕ) → times k (drop 1 (waiting ++ slot ∷ [])) + one k (get_or (waiting ++ slot ∷ []) 0 0) ≡ times k (waiting ++ slot ∷ [])
 head_of_end k slot [] = omega (arith, times_cons k slot [])

@@ -7,7 +7,7 @@ use Rattle.std.proofs.lemmas.List.Sums.{count_by-le-length}
 use Rattle.std.proofs.lemmas.Bool.Decides.{eqb_tells}
 use Rattle.std.proofs.lemmas.List.{get_or-set_same, get_or-set_other}
 use Rattle.iox_domain_slots.specs.Uses.{Uses, Connection, held, in_use, loaned}
-use Rattle.iox_domain_slots.specs.Counting.{SlotsState, Moves, Covers, LoanSlot, LoanUse, times, uses_of}
+use Rattle.iox_domain_slots.specs.Counting.{SlotsState, Moves, LoanSlot, LoanUse, times, uses_of}
 use Rattle.iox_domain_slots.specs.Links.{LinksState, all_slots, seen, seen_uses, IsTally, IsSmall}
 use Rattle.iox_domain_slots.proofs.Counts.{one, times_append, times_end}
 
@@ -33,9 +33,6 @@ pub tally_moved : (old new : SlotsState) (sending : Option ℕ) (before after : 
     → Moves old (all_slots before.links) new (all_slots after.links) → IsTally new sending after
 tally_moved old new sending before after tally moves slot =
     omega (arith, tally slot, moves.moved slot, ap (λ s. times slot s.loans) moves.same, ap (λ s. times slot s.history) moves.same)
-
-pub covers_of : (slots : SlotsState) (sending : Option ℕ) (links : LinksState) → IsTally slots sending links → Covers slots (all_slots links.links)
-covers_of slots sending links tally slot = omega (arith, tally slot)
 
 -- and once a loan is out
 pub tally_loaned : (old new : SlotsState) (sending : Option ℕ) (links : LinksState) (result : Option ℕ) → IsTally old sending links → LoanSlot old result new → IsTally new sending links
