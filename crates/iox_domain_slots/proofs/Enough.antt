@@ -96,7 +96,7 @@ held_few overflows most_waiting most_borrowed (x ∷ rest) kinds =
     held_more overflows most_waiting most_borrowed x rest (kinds zero) (held_few overflows most_waiting most_borrowed rest (λ index. kinds (suc index)))
 
 -- with as many slots as the worst case needs not all of them are in use
-pub enough : (uses : Uses ℕ) → uses.sending ≡ None → length uses.loans < uses.most_loans → length uses.history ≤ uses.kept
+pub enough : (uses : Uses ℕ ℕ) → uses.sending ≡ None → length uses.loans < uses.most_loans → length uses.history ≤ uses.kept
     → length (held uses.connections) ≤ how_many uses.connections * (uses.most_waiting + uses.most_borrowed) → worst_case uses ≤ uses.size
     → ((slot : ℕ) → uses.first ≤ slot → slot < uses.first + uses.size → 0 < times slot (in_use uses)) → ⊥
 enough uses idle room short few suffices all =
@@ -116,7 +116,7 @@ enough uses idle room short few suffices all =
     )
 
 -- so a loan is not refused
-pub never_none : (old new : Uses ℕ) (result : Option ℕ) → LoanUse old result new → old.sending ≡ None → length old.loans < old.most_loans → length old.history ≤ old.kept
+pub never_none : (old new : Uses ℕ ℕ) (result : Option ℕ) → LoanUse old result new → old.sending ≡ None → length old.loans < old.most_loans → length old.history ≤ old.kept
     → length (held old.connections) ≤ how_many old.connections * (old.most_waiting + old.most_borrowed) → worst_case old ≤ old.size → IsSome result
 never_none old new None loan idle room short few suffices = absurd (enough old idle room short few suffices loan.0)
 never_none old new (Some slot) loan idle room short few suffices = search rules

@@ -1,8 +1,8 @@
 -- When the places of a segment are all held, and when none of them is.
-use Rattle.std.proofs.Common.{rules, arith, ◌≡◌, ◌+◌, ◌-◌, ◌<◌, ◌≤◌, ◌∷◌, [], ℕ, zero, suc, Bool, true, false, not, ◌&&◌, List, nat_lt, get_or, replicate, Err, refl, sym, subst, ◌∙◌}
+use Rattle.std.proofs.Common.{rules, arith, ◌≡◌, ◌+◌, ◌-◌, ◌<◌, ◌≤◌, ◌∷◌, [], ◌++◌, ℕ, length, zero, suc, Bool, true, false, not, ◌&&◌, List, take, nat_lt, get_or, replicate, Err, refl, sym, subst, ◌∙◌}
 use Rattle.std.specs.List.{range_with_len}
 use Rattle.std.proofs.Math.ListN.{get_or-replicate}
-use Rattle.std.proofs.lemmas.List.{length-replicate}
+use Rattle.std.proofs.lemmas.List.{get_or_past, length-replicate, take_all}
 use Rattle.iox_index_base.specs.declared.error.UniqueIndexSetAcquireFailure.{UniqueIndexSetAcquireFailure}
 use Rattle.iox_index_base.specs.Unique.{answer_of, is_among, is_held, new_unique_set}
 use Rattle.iox_index_base.proofs.FreeLists.{AreFree-start}
@@ -41,3 +41,21 @@ none_at (suc size) (suc index) = none_at size index
 -- of new slots none has a use
 pub none_used : (size index : ℕ) → nat_lt 0 (get_or (replicate size 0) (0 + index) 0) ≡ false
 none_used size index = none_at size (0 + index)
+
+-- slots without a use behind others change nobody's count
+pub count_stays : (references : List ℕ) (size slot : ℕ) → get_or (references ++ replicate size 0) slot 0 ≡ get_or references slot 0
+count_stays [] zero slot = refl
+count_stays [] (suc size) zero = refl
+count_stays [] (suc size) (suc slot) = count_stays [] size slot
+count_stays (x ∷ references) size zero = refl
+count_stays (x ∷ references) size (suc slot) = count_stays references size slot
+
+-- of the slots of a new segment none has a use
+pub segment_unused : (references : List ℕ) (size index : ℕ) → nat_lt 0 (get_or (references ++ replicate size 0) (length references + index) 0) ≡ false
+segment_unused references size index = rw (count_stays references size (length references + index)) (rw (get_or_past references (length references + index) 0 (omega arith)) refl)
+
+-- a list that is filled up to as many more
+pub filled_up : (xs : List ℕ) (size : ℕ) → take (length xs + size) xs ++ replicate (length xs + size - length xs) 0 ≡ xs ++ replicate size 0
+filled_up xs size =
+    let more : length xs + size - length xs ≡ size = omega arith in
+    rw (take_all (length xs + size) xs (omega arith)) (rw more refl)

@@ -1,6 +1,7 @@
 -- The bookkeeping of a publisher through its steps.
-use Rattle.std.proofs.Common.{arith, ◌≡◌, ◌+◌, ◌^◌, ◌<◌, ◌≤◌, ◌∷◌, [], ◌++◌, ℕ, List, length, length-append, get_or, set, map, Option, Some, None, sym, subst, ap, ◌∙◌}
+use Rattle.std.proofs.Common.{arith, ◌≡◌, ◌+◌, ◌^◌, ◌<◌, ◌≤◌, ◌∷◌, [], ◌++◌, ℕ, List, length, length-append, get_or, set, map, Option, Some, None, sym, subst, ap, ◌∙◌, replicate, Result, Ok, Err, IfOk, OnErr}
 use Rattle.std.specs.Option.{option_to_list}
+use Rattle.std.specs.declared.alloc.AllocError.{AllocError}
 use Rattle.std.proofs.Math.Logic.{⊎_elim}
 use Rattle.std.proofs.Math.Dec.{eqb}
 use Rattle.std.proofs.lemmas.List.Sums.{count_by-le-length}
@@ -9,10 +10,11 @@ use Rattle.std.proofs.lemmas.List.{get_or-set_same, get_or-set_other}
 use Rattle.iox_domain_slots.specs.Uses.{Uses, Connection, held, in_use, loaned}
 use Rattle.iox_domain_slots.specs.Counting.{SlotsState, Moves, LoanSlot, LoanUse, times, uses_of}
 use Rattle.iox_domain_slots.specs.Links.{LinksState, all_slots, seen, seen_uses, IsTally, IsSmall}
+use Rattle.iox_domain_slots.proofs.Full.{count_stays}
 use Rattle.iox_domain_slots.proofs.Counts.{one, times_append, times_end}
 
 -- what is in use, counted by its parts
-pub in_use_times : (uses : Uses ℕ) (k : ℕ) → times k (in_use uses) ≡
+pub in_use_times : (uses : Uses ℕ ℕ) (k : ℕ) → times k (in_use uses) ≡
     times k (option_to_list uses.sending) + (times k uses.loans + (times k uses.history + times k (held uses.connections)))
 in_use_times uses k = omega (
   arith,
@@ -47,7 +49,7 @@ small_loaned old new (Some lent) small room loan =
     subst IsSmall (sym loan.3) (omega (arith, length-append old.loans (lent ∷ []), room), small.1, small.2, small.3)
 
 -- with other connections
-abbrev with_connections : Uses ℕ → List (Connection ℕ) → Uses ℕ
+abbrev with_connections : Uses ℕ ℕ → List (Connection ℕ) → Uses ℕ ℕ
 with_connections uses connections = record uses { connections = connections }
 
 -- what came back is taken back: nothing of it is seen
@@ -104,3 +106,21 @@ countable slots sending links tally small few slot =
     single : (one : Option ℕ) → length (option_to_list one) ≤ 1
     single None = omega arith
     single (Some x) = omega arith
+
+-- all uses stay counted when a segment is opened
+pub tally_opened : (old new : SlotsState) (sending : Option ℕ) (links : LinksState) (result : Result (Unit {0}) AllocError) → IsTally old sending links → IsSmall old
+    → IfOk result (λ _. new ≡ record old { first = old.first + old.size; references = old.references ++ replicate old.size 0 })
+    → OnErr result (new ≡ old) → IsTally new sending links × IsSmall new
+tally_opened old new sending links (Ok done) tally small opened refused =
+    let counts : new.references ≡ old.references ++ replicate old.size 0 = ap (λ s. s.references) opened in (
+      (λ slot. omega (
+        arith,
+        tally slot,
+        ap (λ rs. get_or rs slot 0) counts,
+        count_stays old.references old.size slot,
+        ap (λ s. times slot s.loans) opened,
+        ap (λ s. times slot s.history) opened,
+      )),
+      subst IsSmall (sym opened) small,
+    )
+tally_opened old new sending links (Err error) tally small opened refused = subst (λ s. IsTally s sending links × IsSmall s) (sym refused) (tally, small)

@@ -8,7 +8,7 @@ use Rattle.iox_domain_slots.proofs.AllSlots.{set_twice}
 use Rattle.iox_domain_slots.specs.Uses.{Uses, Connection, connection_at, with_connection, offered}
 
 -- so many of the last entries of the history have come, up to a place of it
-pub record Welcoming (index : ℕ) (first now : Uses ℕ) (place : ℕ) : Type 0 where
+pub record Welcoming (index : ℕ) (first now : Uses ℕ ℕ) (place : ℕ) : Type 0 where
   pub from : length first.history - (connection_at index first).limit ≤ place
   pub came : now ≡ with_connection index (record (connection_at index first) {
     waiting = take (place - (length first.history - (connection_at index first).limit)) (drop (length first.history - (connection_at index first).limit) first.history);
@@ -19,7 +19,7 @@ abbrev waiting_at : Connection ℕ → List ℕ → Connection ℕ
 waiting_at connection waiting = record connection { waiting = waiting }
 
 -- the publisher with other connections
-abbrev connections_of : Uses ℕ → List (Connection ℕ) → Uses ℕ
+abbrev connections_of : Uses ℕ ℕ → List (Connection ℕ) → Uses ℕ ℕ
 connections_of uses connections = record uses { connections = connections }
 
 -- a message comes to a mailbox with room
@@ -35,7 +35,7 @@ goes_on_within (x ∷ xs) zero live = omega arith
 goes_on_within (x ∷ xs) (suc index) live = omega (arith, goes_on_within xs index live)
 
 -- one entry more comes
-pub welcome_step : (index : ℕ) (first now next : Uses ℕ) (place slot : ℕ) → Welcoming index first now place → place < length first.history
+pub welcome_step : (index : ℕ) (first now next : Uses ℕ ℕ) (place slot : ℕ) → Welcoming index first now place → place < length first.history
     → (connection_at index first).stage ≡ stage.Live → slot ≡ get_or now.history place 0
     → next ≡ with_connection index (offered now.overflows slot (connection_at index now)) now → Welcoming index first next (place + 1)
 welcome_step index first now next place slot so_far within live is_slot is_next =

@@ -50,7 +50,7 @@ abbrev pub Covers : SlotsState → List ℕ → Type 0
 Covers slots further = (slot : ℕ) → times slot slots.loans + (times slot slots.history + times slot further) ≤ uses_of slot slots
 
 -- a loan takes any slot of the current segment that nothing uses; there is none exactly if each of them is in use
-abbrev pub LoanUse : Uses ℕ → Option ℕ → Uses ℕ → Type 0
+abbrev pub LoanUse : Uses ℕ ℕ → Option ℕ → Uses ℕ ℕ → Type 0
 LoanUse old None new = ((slot : ℕ) → old.first ≤ slot → slot < old.first + old.size → 0 < times slot (in_use old)) × (new ≡ old)
 LoanUse old (Some slot) new =
     (old.first ≤ slot) × (slot < old.first + old.size) × (times slot (in_use old) ≡ 0) × (new ≡ loaned slot old)

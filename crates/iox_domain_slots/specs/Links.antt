@@ -125,7 +125,7 @@ IsTakenBack None = Unit {0}
 IsTakenBack (Some link) = link.returned ≡ []
 
 -- what is seen of a publisher's bookkeeping: who uses which slot
-abbrev pub seen_uses : SlotsState → Option ℕ → LinksState → Uses ℕ
+abbrev pub seen_uses : SlotsState → Option ℕ → LinksState → Uses ℕ ℕ
 seen_uses slots sending links = record {
   first = slots.first;
   size = slots.size;

@@ -1,4 +1,5 @@
--- Who uses the messages of one publisher. A message goes by whatever X is: a slot's number here, the message itself above.
+-- Who uses the messages of one publisher. A loan goes by whatever L is, a message by whatever X is: both by a slot's number
+-- here, by what they hold above.
 use Rattle.std.specs.Prelude.{ℕ, ◌+◌, ◌-◌, ◌*◌, Bool, true, false, ◌||◌, List, [], ◌∷◌, ◌++◌, length, drop, take, get_or, set, remove, nat_lt, count_by, Option, None, Some, option_to_list, if◌then◌else◌}
 use Rattle.iox_queues_base.specs.Waiting.{put, put_over}
 use Rattle.iox_domain_slots.specs.declared.stage.Stage.{Stage}
@@ -18,7 +19,7 @@ nobody = record { stage = stage.Vacant; limit = 0; waiting = []; borrowed = [] }
 -- One publisher. Its slots come in segments of `size`; `first` is the first slot of the current one. At most `most_loans`
 -- loans are out, the last `kept` messages are its history; of a connection at most `most_waiting` wait, and its subscriber
 -- holds at most `most_borrowed`.
-pub record Uses (X : Type 0) : Type 0 where
+pub record Uses (L X : Type 0) : Type 0 where
   pub first : ℕ
   pub size : ℕ
   pub most_loans : ℕ
@@ -27,7 +28,7 @@ pub record Uses (X : Type 0) : Type 0 where
   pub most_borrowed : ℕ
   pub overflows : Bool
   pub sending : Option X
-  pub loans : List X
+  pub loans : List L
   pub history : List X
   pub connections : List (Connection X)
 
@@ -41,7 +42,7 @@ held [] = []
 held (connection ∷ connections) = held_by connection ++ held connections
 
 -- what is in use: the message that is being sent, the loans, the history, and what waits or is borrowed
-abbrev pub in_use : {X : Type 0} → Uses X → List X
+abbrev pub in_use : {X : Type 0} → Uses X X → List X
 in_use uses = option_to_list uses.sending ++ (uses.loans ++ (uses.history ++ held uses.connections))
 
 -- the last n of a list
@@ -49,15 +50,19 @@ abbrev pub newest : {X : Type 0} → ℕ → List X → List X
 newest n xs = drop (length xs - n) xs
 
 -- a loan is out
-abbrev pub loaned : {X : Type 0} → X → Uses X → Uses X
-loaned message uses = record uses { loans = uses.loans ++ message ∷ [] }
+abbrev pub loaned : {L X : Type 0} → L → Uses L X → Uses L X
+loaned loan uses = record uses { loans = uses.loans ++ loan ∷ [] }
+
+-- a segment of as many slots is opened behind the others, and is the current one
+abbrev pub segment_opened : {L X : Type 0} → Uses L X → Uses L X
+segment_opened uses = record uses { first = uses.first + uses.size }
 
 -- the loan at this place of the list is given up
-abbrev pub dropped : {X : Type 0} → ℕ → Uses X → Uses X
+abbrev pub dropped : {L X : Type 0} → ℕ → Uses L X → Uses L X
 dropped at uses = record uses { loans = remove uses.loans at }
 
 -- the send of a loan begins: it is no loan any longer, and the newest of the history
-abbrev pub begun : {X : Type 0} → ℕ → X → Uses X → Uses X
+abbrev pub begun : {L X : Type 0} → ℕ → X → Uses L X → Uses L X
 begun at message uses = record uses {
   sending = Some message;
   loans = remove uses.loans at;
@@ -65,15 +70,15 @@ begun at message uses = record uses {
 }
 
 -- the send is over
-abbrev pub finished : {X : Type 0} → Uses X → Uses X
+abbrev pub finished : {L X : Type 0} → Uses L X → Uses L X
 finished uses = record uses { sending = None }
 
 -- the connection of this index
-abbrev pub connection_at : {X : Type 0} → ℕ → Uses X → Connection X
+abbrev pub connection_at : {L X : Type 0} → ℕ → Uses L X → Connection X
 connection_at index uses = get_or uses.connections index nobody
 
 -- another connection stands at this index
-abbrev pub with_connection : {X : Type 0} → ℕ → Connection X → Uses X → Uses X
+abbrev pub with_connection : {L X : Type 0} → ℕ → Connection X → Uses L X → Uses L X
 with_connection index connection uses = record uses { connections = set uses.connections index connection }
 
 -- a message finds room, if need be that of the oldest
@@ -130,5 +135,5 @@ abbrev pub how_many : {X : Type 0} → List (Connection X) → ℕ
 how_many connections = count_by is_there connections
 
 -- the slots that suffice: for all that may wait and be borrowed of the connections, for the history and for the loans
-abbrev pub worst_case : {X : Type 0} → Uses X → ℕ
+abbrev pub worst_case : {L X : Type 0} → Uses L X → ℕ
 worst_case uses = how_many uses.connections * (uses.most_waiting + uses.most_borrowed) + (uses.kept + uses.most_loans)

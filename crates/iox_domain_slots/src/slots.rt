@@ -1,5 +1,5 @@
 //! The slots of one publisher: which are free, and how many uses the others have.
-ghost use Rattle.std.specs.Prelude.{◌≡◌, ◌+◌, ◌-◌, ◌^◌, ◌<◌, ◌≤◌, ◌++◌, ◌∷◌, [], length, drop, get_or, remove, nat_lt, replicate, IfOk, None, position, ◌==◌};
+ghost use Rattle.std.specs.Prelude.{◌≡◌, ◌+◌, ◌-◌, ◌^◌, ◌<◌, ◌≤◌, ◌++◌, ◌∷◌, [], length, drop, get_or, remove, nat_lt, replicate, IfOk, OnErr, None, position, ◌==◌};
 ghost use Rattle.iox_domain_slots.specs.Uses.{newest};
 ghost use Rattle.iox_domain_slots.specs.Counting.{SlotsState, times, uses_of, referred, let_go, LoanSlot, Moves, Covers};
 
@@ -169,6 +169,25 @@ impl Slots {
             most_loans,
             kept,
         })
+    }
+
+    /// Opens a segment of as many slots as the current one has, which is the current one from now on: the free slots of the
+    /// former ones are lent no more. It fails only where memory is wanting, and then nothing has changed.
+    pub fn open_segment(&mut self, alloc: Global) -> Result<(), AllocError>
+        ensures opened { IfOk result (λ _. self.new ≡ record self.old {
+          first = self.old.first + self.old.size;
+          references = self.old.references ++ replicate self.old.size 0;
+        }) }
+        ensures refused { OnErr result (self.new ≡ self.old) }
+    {
+        let size = self.places.capacity();
+        let places = UniqueIndexSet::new(alloc, size)?;
+        let before = self.references.len();
+        self.references.reserve(size)?;
+        self.references.resize(before + size, 0)?;
+        self.first = before;
+        self.places = places;
+        Ok(())
     }
 
     /// How many loans are out.

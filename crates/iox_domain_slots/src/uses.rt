@@ -1,7 +1,7 @@
 //! All that one publisher's slots are used for.
 ghost use Rattle.std.specs.Prelude.{◌≡◌, ℕ, ◌+◌, ◌^◌, ◌<◌, ◌≤◌, ◌==◌, ◌++◌, ◌∷◌, [], length, map, set, drop, take, get_or, remove, nat_lt, is_some, position, option_to_list, slice_get, IfOk, IsOk, IsSome, OnErr, Some, None, true, false};
 ghost use Rattle.iox_domain_slots.specs.declared.stage.Stage.TheVariants as stage;
-ghost use Rattle.iox_domain_slots.specs.Uses.{Uses, nobody, accepts, offered, taken, given_back, settled, ended, held, in_use, loaned, dropped, begun, finished, connection_at, with_connection, connected, worst_case, welcomed, is_there};
+ghost use Rattle.iox_domain_slots.specs.Uses.{Uses, nobody, accepts, offered, taken, given_back, settled, ended, held, in_use, loaned, dropped, begun, finished, connection_at, with_connection, connected, worst_case, welcomed, is_there, segment_opened};
 ghost use Rattle.iox_domain_slots.specs.Counting.{times, LoanUse};
 ghost use Rattle.iox_domain_slots.specs.Links.{placed};
 
@@ -26,7 +26,7 @@ impl Model for SlotUses {
     ghost use Rattle.iox_domain_slots.specs.Links.{seen_uses, IsTally, IsSmall};
     ghost use Rattle.std.specs.Prelude.{ℕ};
 
-    ghost Value = { Uses ℕ };
+    ghost Value = { Uses ℕ ℕ };
 
     ghost view = { λ u. seen_uses u.slots u.sending u.links };
 
@@ -177,6 +177,15 @@ impl SlotUses {
             sending: None,
             links: Links::new(alloc, overflows, most_waiting, most_borrowed),
         })
+    }
+
+    /// Opens a segment of as many slots as the current one has, which is the current one from now on: slots of the former ones
+    /// are lent no more, and stay in use as they were. It fails only where memory is wanting, and then nothing has changed.
+    pub fn open_segment(&mut self, alloc: Global) -> Result<(), AllocError>
+        ensures opened { IfOk result (λ _. self.new ≡ segment_opened self.old) }
+        ensures refused { OnErr result (self.new ≡ self.old) }
+    {
+        self.slots.open_segment(alloc)
     }
 
     // Puts a slot of the history, or the one that is being sent, into the mailbox of a connection.

@@ -1,0 +1,4 @@
+pub mod Rows
+pub mod Payloads
+pub mod Messages
+pub mod Sending

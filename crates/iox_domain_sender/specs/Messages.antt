@@ -1,0 +1,44 @@
+-- Messages and loans by what they hold.
+use Rattle.std.specs.Prelude.{ℕ, ◌+◌, ◌<◌, ◌≤◌, ◌≡◌, Bool, true, false, List, [], ◌∷◌, ◌++◌, length, get_or, set, replicate, is_some, Option, None, Some, if◌then◌else◌}
+use Rattle.std.specs.List.{list_all}
+
+-- A message: the slot that it stands in, which no other message in use has, the number of its elements, its user header and
+-- its values.
+pub record Message (T U : Type 0) : Type 0 where
+  pub slot : ℕ
+  pub elements : ℕ
+  pub user_header : U
+  pub values : List T
+
+-- a loan: the same, and some values may not be written yet
+pub record Loan (T U : Type 0) : Type 0 where
+  pub slot : ℕ
+  pub elements : ℕ
+  pub user_header : U
+  pub values : List (Option T)
+
+-- the values that are written
+abbrev pub written_of : {T : Type 0} → List (Option T) → List T
+written_of [] = []
+written_of (None ∷ values) = written_of values
+written_of (Some value ∷ values) = value ∷ written_of values
+
+-- whether each value is written
+abbrev pub is_written : {T U : Type 0} → Loan T U → Bool
+is_written loan = list_all is_some loan.values
+
+-- the message that a written loan becomes
+abbrev pub sent_as : {T U : Type 0} → Loan T U → Message T U
+sent_as loan = record { slot = loan.slot; elements = loan.elements; user_header = loan.user_header; values = written_of loan.values }
+
+-- a new loan: none of its values is written
+abbrev pub new_loan : {T U : Type 0} → ℕ → ℕ → ℕ → U → Loan T U
+new_loan slot values elements user_header = record { slot = slot; elements = elements; user_header = user_header; values = replicate values None }
+
+-- a value is written at a place
+abbrev pub write_value : {T U : Type 0} → ℕ → T → Loan T U → Loan T U
+write_value place value loan = record loan { values = set loan.values place (Some value) }
+
+-- another user header
+abbrev pub write_user_header : {T U : Type 0} → U → Loan T U → Loan T U
+write_user_header user_header loan = record loan { user_header = user_header }

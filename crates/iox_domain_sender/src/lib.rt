@@ -1,0 +1,16 @@
+//! One publisher: its messages and loans by what they hold, over the slots that they stand in.
+//!
+//! - [`rows`]: the values of the slots of one segment.
+//! - [`payloads`]: the values of the slots of all segments.
+//! - [`slot_header`]: what is told of a message beside its values.
+//! - [`sender`]: all of one publisher together.
+#![tactic(auto)]
+
+pub mod payloads;
+pub mod rows;
+pub mod sender;
+pub mod slot_header;
+
+pub use payloads::Payloads;
+pub use sender::Sender;
+pub use slot_header::SlotHeader;

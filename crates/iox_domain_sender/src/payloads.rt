@@ -1,0 +1,105 @@
+//! The values that stand in the slots of a publisher.
+ghost use Rattle.std.specs.Prelude.{◌≡◌, ◌+◌, ◌*◌, ◌/◌, ◌%◌, ◌<◌, ◌≤◌, ◌++◌, length, get_or, set, replicate, [], IfOk, OnErr};
+ghost use Rattle.iox_domain_sender.specs.Payloads.{PayloadsState, payload_at, with_payload};
+
+use crate::rows::Rows;
+use std::alloc::{AllocError, Global};
+use std::marker::Model;
+
+/// The values of each slot. Slots come in segments: those of one have the same room, in one block of memory.
+///
+/// Contracts see the values of each slot.
+#[derive(Drop)]
+pub struct Payloads<T> {
+    segments: Vec<Rows<T>>,
+    size: usize,
+}
+
+impl<T> Model for Payloads<T> {
+    ghost use Rattle.std.specs.Prelude.{◌≡◌, ◌*◌, length};
+    ghost use Rattle.iox_domain_sender.specs.Rows.{RowsState};
+    ghost use Rattle.iox_domain_sender.specs.Payloads.{PayloadsState, all_rows, last_segment, AllOfSize};
+
+    ghost Value = { PayloadsState T };
+
+    ghost view = { λ p. record { size = p.size; room = (last_segment p.segments.items).room; payloads = all_rows p.segments.items } };
+
+    ghost invariant = { λ p. AllOfSize p.size p.segments.items };
+}
+
+impl<T: Copy> Payloads<T> {
+    /// No slots, to come in segments of this size.
+    pub fn new(alloc: Global, size: usize) -> Payloads<T>
+        ensures { result ≡ record { size = size; room = 0; payloads = [] } }
+    {
+        Payloads {
+            segments: Vec::new(alloc),
+            size,
+        }
+    }
+
+    /// Adds a segment, in whose slots is this room and no value. It fails only where memory is wanting, and then nothing has changed.
+    pub fn add_segment(&mut self, alloc: Global, room: usize, blank: T) -> Result<(), AllocError>
+        ensures added { IfOk result (λ _. self.new ≡ record self.old { room = room; payloads = self.old.payloads ++ replicate self.old.size [] }) }
+        ensures refused { OnErr result (self.new ≡ self.old) }
+    {
+        let rows = Rows::new(alloc, self.size, room, blank)?;
+        self.segments.push(rows)?;
+        Ok(())
+    }
+
+    /// Gives a slot of the last segment so many values, whichever stand there.
+    pub fn set_length(&mut self, slot: usize, count: usize)
+        requires slot { slot < length self.old.payloads }
+        requires last { length self.old.payloads ≤ slot + self.old.size }
+        requires room { count ≤ self.old.room }
+        ensures length { length (payload_at slot self.new) ≡ count }
+        ensures rest { self.new ≡ with_payload slot (payload_at slot self.new) self.old }
+    {
+        let row = slot % self.size;
+        let segment = &mut self.segments[slot / self.size];
+        segment.set_length(row, count);
+    }
+
+    /// Gives a slot of the last segment this value so many times.
+    pub fn fill(&mut self, slot: usize, count: usize, value: T)
+        requires slot { slot < length self.old.payloads }
+        requires last { length self.old.payloads ≤ slot + self.old.size }
+        requires room { count ≤ self.old.room }
+        ensures { self.new ≡ with_payload slot (replicate count value) self.old }
+    {
+        let row = slot % self.size;
+        let segment = &mut self.segments[slot / self.size];
+        segment.fill(row, count, value);
+    }
+
+    /// Puts a value at a place of a slot.
+    pub fn write(&mut self, slot: usize, place: usize, value: T)
+        requires { place < length (payload_at slot self.old) }
+        ensures { self.new ≡ with_payload slot (set (payload_at slot self.old) place value) self.old }
+    {
+        let row = slot % self.size;
+        let segment = &mut self.segments[slot / self.size];
+        segment.write(row, place, value);
+    }
+
+    /// The values of a slot.
+    pub fn values(&self, slot: usize) -> &[T]
+        requires { slot < length self.now.payloads }
+        ensures { result.now ≡ payload_at slot self.now }
+    {
+        let row = slot % self.size;
+        let segment = &self.segments[slot / self.size];
+        segment.row(row)
+    }
+
+    /// How many values may stand in a slot of the last segment.
+    pub fn room(&self) -> usize
+        ensures { result ≡ self.now.room }
+    {
+        match self.segments.last() {
+            Some(segment) => segment.room(),
+            None => 0,
+        }
+    }
+}

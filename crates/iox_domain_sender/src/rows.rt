@@ -1,0 +1,97 @@
+//! Rows of values in one block of memory.
+ghost use Rattle.std.specs.Prelude.{◌≡◌, ◌+◌, ◌*◌, ◌^◌, ◌<◌, ◌≤◌, length, get_or, set, take, drop, replicate, [], IfOk};
+ghost use Rattle.iox_domain_sender.specs.Rows.{RowsState, row_at, with_row};
+
+use std::alloc::{AllocError, Global};
+use std::marker::Model;
+
+/// Rows of values, each in as much room as the others, in one block of memory.
+///
+/// Contracts see the values of each row.
+#[derive(Drop)]
+pub struct Rows<T> {
+    values: Vec<T>,
+    lengths: Vec<usize>,
+    room: usize,
+}
+
+impl<T> Model for Rows<T> {
+    ghost use Rattle.std.specs.Prelude.{◌≡◌, ◌*◌, length};
+    ghost use Rattle.iox_domain_sender.specs.Rows.{RowsState, rows_in, AllWithin};
+
+    ghost Value = { RowsState T };
+
+    ghost view = { λ r. record { room = r.room; rows = rows_in r.room r.lengths.items r.values.items } };
+
+    ghost invariant = { λ r. (length r.values.items ≡ length r.lengths.items * r.room) × AllWithin r.room r.lengths.items };
+}
+
+impl<T: Copy> Rows<T> {
+    /// Rows without a value, with this room each. It fails only where memory is wanting.
+    pub fn new(alloc: Global, rows: usize, room: usize, blank: T) -> Result<Rows<T>, AllocError>
+        ensures { IfOk result (λ made. made ≡ record { room = room; rows = replicate rows [] }) }
+    {
+        let Some(places) = rows.checked_mul(room) else {
+            return Err(AllocError);
+        };
+        Ok(Rows {
+            values: vec![in alloc; blank; places]?,
+            lengths: vec![in alloc; 0; rows]?,
+            room,
+        })
+    }
+
+    /// How many values may stand in a row.
+    pub fn room(&self) -> usize
+        ensures { result ≡ self.now.room }
+    {
+        self.room
+    }
+
+    /// Gives a row so many values, whichever stand there.
+    pub fn set_length(&mut self, row: usize, count: usize)
+        requires row { row < length self.old.rows }
+        requires room { count ≤ self.old.room }
+        ensures length { length (row_at row self.new) ≡ count }
+        ensures rest { self.new ≡ with_row row (row_at row self.new) self.old }
+    {
+        self.lengths[row] = count;
+    }
+
+    /// Gives a row this value so many times.
+    pub fn fill(&mut self, row: usize, count: usize, value: T)
+        requires row { row < length self.old.rows }
+        requires room { count ≤ self.old.room }
+        ensures { self.new ≡ with_row row (replicate count value) self.old }
+    {
+        self.set_length(row, count);
+        for place in 0..count {
+            self.write(row, place, value);
+        }
+    }
+
+    /// Puts a value at a place of a row.
+    pub fn write(&mut self, row: usize, place: usize, value: T)
+        requires { place < length (row_at row self.old) }
+        ensures { self.new ≡ with_row row (set (row_at row self.old) place value) self.old }
+    {
+        let at = row * self.room + place;
+        self.values[at] = value;
+    }
+
+    /// The values of a row.
+    pub fn row(&self, row: usize) -> &[T]
+        requires { row < length self.now.rows }
+        ensures { result.now ≡ row_at row self.now }
+    {
+        part(&self.values, row * self.room, self.lengths[row])
+    }
+}
+
+// So many values from a place on.
+fn part<T>(values: &[T], start: usize, count: usize) -> &[T]
+    requires { start + count ≤ length values.now }
+    ensures { result.now ≡ take count (drop start values.now) }
+{
+    &values[start..start + count]
+}

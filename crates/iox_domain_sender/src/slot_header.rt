@@ -1,0 +1,12 @@
+//! What is told of the message in a slot.
+
+/// What is told of the message that stands in a slot.
+///
+/// Ported from `iceoryx2::service::header::publish_subscribe::Header`, without what all messages of a publisher share.
+#[derive(Clone, Copy)]
+pub struct SlotHeader<U> {
+    /// How many elements it has.
+    pub elements: u64,
+    /// Its user header.
+    pub user_header: U,
+}
