@@ -1,10 +1,11 @@
 -- What holds of a publisher holds after each step.
-use Rattle.std.proofs.Common.{rules, arith, ◌≡◌, ◌+◌, ◌-◌, ◌<◌, ◌≤◌, ◌∷◌, [], ◌++◌, ℕ, zero, suc, Bool, true, false, nat_lt, if◌then◌else◌, is_some, List, length, get_or, set, take, drop, remove, Option, None, Some, refl, sym, subst, ap, ◌∙◌}
+use Rattle.std.proofs.Common.{rules, arith, ◌≡◌, ◌+◌, ◌-◌, ◌<◌, ◌≤◌, ◌∷◌, [], ◌++◌, ℕ, zero, suc, Bool, true, false, nat_lt, if◌then◌else◌, is_some, List, length, get_or, set, take, drop, remove, Option, None, Some, Result, Ok, Err, IfOk, OnErr, ◌==◌, refl, sym, subst, ap, ◌∙◌}
 use Rattle.std.specs.Option.{option_to_list}
+use Rattle.std.specs.declared.alloc.AllocError.{AllocError}
 use Rattle.iox_queues_base.specs.Waiting.{put, put_over}
 use Rattle.iox_domain_slots.specs.declared.stage.Stage.{Stage}
 use Rattle.iox_domain_slots.specs.declared.stage.Stage.TheVariants as stage
-use Rattle.iox_domain_slots.specs.Uses.{Uses, Connection, nobody, offered, taken, given_back, settled, ended, newest, dropped, begun, finished, connection_at, with_connection, welcomed, held, held_by, in_use}
+use Rattle.iox_domain_slots.specs.Uses.{Uses, Connection, nobody, placed, connected, offered, taken, given_back, settled, ended, newest, dropped, begun, finished, connection_at, with_connection, welcomed, held, held_by, in_use}
 use Rattle.iox_domain_slots.specs.Counting.{times}
 use Rattle.iox_domain_slots.proofs.Counts.{one, times_append, times_cons, times_end, one_same}
 use Rattle.iox_domain_slots.proofs.Publishing.{in_use_times}
@@ -166,3 +167,26 @@ offer_kept store old new index is sends made = at old.sending refl
     at None none = let wrong = sym (ap is_some none) ∙ sends in search (rules, wrong)
     at (Some slot) same = subst (λ uses. IsSender store uses) (sym (made slot same)) (connection_kept store old index (offered old.overflows slot (connection_at index old)) is
       (λ k. omega (arith, offer_holds old.overflows slot (connection_at index old) k, ap (λ s. times k (option_to_list s)) same, times_cons k slot [])))
+
+nothing_behind : (connections : List (Connection ℕ)) (limit k : ℕ) → times k (held (connections ++ connected limit ∷ [])) ≡ times k (held connections)
+nothing_behind [] limit k = refl
+nothing_behind (first ∷ rest) limit k =
+    omega (arith, nothing_behind rest limit k, times_append k (held_by first) (held rest), times_append k (held_by first) (held (rest ++ connected limit ∷ [])))
+
+place_holds : (connections : List (Connection ℕ)) (index limit k : ℕ) → times k (held (placed index (connected limit) connections)) ≤ times k (held connections)
+place_holds connections index limit k = at (index == length connections) refl
+  where
+    at : (behind : Bool) → (index == length connections) ≡ behind → times k (held (placed index (connected limit) connections)) ≤ times k (held connections)
+    at true is = rw is (omega (arith, nothing_behind connections limit k))
+    at false is = rw is (omega (arith, held_change connections index (connected limit) k 0 (omega arith)))
+
+-- a connection is made
+pub connect_kept : {T U : Type 0} (store : Store T U) (old new : Uses ℕ ℕ) (limit : ℕ) (result : Result ℕ AllocError) → IsSender store old
+    → IfOk result (λ index. new ≡ record old { connections = placed index (connected limit) old.connections }) → OnErr result (new ≡ old) → IsSender store new
+connect_kept store old new limit (Err error) is made refused = subst (IsSender store) (sym refused) is
+connect_kept store old new limit (Ok index) is made refused = subst (IsSender store) (sym made) (kept store old after is refl refl
+    (λ k loans. (loans, omega (arith, place_holds old.connections index limit k, in_use_times old k, in_use_times after k)))
+    (λ k inside. omega (arith, inside, place_holds old.connections index limit k, in_use_times old k, in_use_times after k)))
+  where
+    after : Uses ℕ ℕ
+    after = record old { connections = placed index (connected limit) old.connections }

@@ -6,3 +6,5 @@ pub mod Kept
 pub mod Seen
 pub mod Agreeing
 pub mod Loaning
+pub mod Writing
+pub mod Reading

@@ -41,10 +41,10 @@ pub record LoanPut {T U : Type 0} (old : Store T U) (slot count elements : ℕ) 
   pub blank : new.blank ≡ old.blank
 
 -- what stands in other slots stays
-other_payload : {T : Type 0} (old new : PayloadsState T) (slot k : ℕ) (values : List T) → new ≡ with_payload slot values old → k ≢ slot → payload_at k new ≡ payload_at k old
+pub other_payload : {T : Type 0} (old new : PayloadsState T) (slot k : ℕ) (values : List T) → new ≡ with_payload slot values old → k ≢ slot → payload_at k new ≡ payload_at k old
 other_payload old new slot k values is apart = ap (payload_at k) is ∙ get_or-set_other old.payloads slot k values [] apart
 
-this_payload : {T : Type 0} (old new : PayloadsState T) (slot : ℕ) (values : List T) → new ≡ with_payload slot values old → slot < length old.payloads → payload_at slot new ≡ values
+pub this_payload : {T : Type 0} (old new : PayloadsState T) (slot : ℕ) (values : List T) → new ≡ with_payload slot values old → slot < length old.payloads → payload_at slot new ≡ values
 this_payload old new slot values is below = ap (payload_at slot) is ∙ get_or-set_same old.payloads slot values [] below
 
 abbrev pub loan_of : {T U : Type 0} → ℕ → SlotHeader U → List (Option T) → Loan T U

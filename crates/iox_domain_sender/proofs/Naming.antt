@@ -1,10 +1,11 @@
 -- Each step goes with the names that loans and messages go by.
-use Rattle.std.proofs.Common.{rules, arith, ◌≡◌, ◌+◌, ◌-◌, ◌<◌, ◌≤◌, ◌∷◌, [], ◌++◌, ℕ, zero, suc, Bool, true, false, nat_lt, if◌then◌else◌, List, length, get_or, set, map, take, drop, remove, Option, None, Some, option_map, refl, sym, subst, ap, ◌∙◌}
+use Rattle.std.proofs.Common.{rules, arith, ◌≡◌, ◌+◌, ◌-◌, ◌<◌, ◌≤◌, ◌∷◌, [], ◌++◌, ℕ, zero, suc, Bool, true, false, nat_lt, if◌then◌else◌, List, length, get_or, set, map, take, drop, remove, position, ◌==◌, cond, not, Option, None, Some, option_map, refl, sym, subst, ap, ◌∙◌}
 use Rattle.std.proofs.lemmas.List.{map-set, map-append, length-map}
+use Rattle.std.specs.List.{position_or_len}
 use Rattle.iox_queues_base.specs.Waiting.{put, put_over}
 use Rattle.iox_domain_slots.specs.declared.stage.Stage.{Stage}
 use Rattle.iox_domain_slots.specs.declared.stage.Stage.TheVariants as stage
-use Rattle.iox_domain_slots.specs.Uses.{Uses, Connection, nobody, accepts, offered, taken, given_back, settled, ended, newest, loaned, dropped, begun, finished, connection_at, with_connection, connected, welcomed}
+use Rattle.iox_domain_slots.specs.Uses.{Uses, Connection, nobody, placed, accepts, offered, taken, given_back, settled, ended, newest, loaned, dropped, begun, finished, connection_at, with_connection, connected, welcomed}
 use Rattle.iox_domain_sender.specs.Sending.{connection_by, uses_by}
 
 map_drop : {X Y : Type 0} (f : X → Y) (n : ℕ) (xs : List X) → map f (drop n xs) ≡ drop n (map f xs)
@@ -101,3 +102,23 @@ ended_by message connection = settled_by message stage.Ended connection.limit []
 pub welcomed_by : {X Y : Type 0} (message : X → Y) (history : List X) (connection : Connection X)
     → connection_by message (welcomed history connection) ≡ welcomed (map message history) (connection_by message connection)
 welcomed_by message history connection = ap (λ waiting. record (connection_by message connection) { waiting = waiting }) (map_newest message connection.limit history)
+
+pub placed_by : {X Y : Type 0} (message : X → Y) (index : ℕ) (connection : Connection X) (connections : List (Connection X))
+    → map (connection_by message) (placed index connection connections) ≡ placed index (connection_by message connection) (map (connection_by message) connections)
+placed_by message index connection connections = at (index == length connections) refl
+  where
+    same : (index == length (map (connection_by message) connections)) ≡ (index == length connections)
+    same = ap (λ n. index == n) (length-map connections (connection_by message))
+
+    at : (behind : Bool) → (index == length connections) ≡ behind
+        → map (connection_by message) (placed index connection connections) ≡ placed index (connection_by message connection) (map (connection_by message) connections)
+    at true is = rw same (rw is (map-append (connection_by message) connections (connection ∷ [])))
+    at false is = rw same (rw is (map-set (connection_by message) connections index connection))
+
+first_by : {Y : Type 0} (name : ℕ → Y) (test : Y → Bool) (xs : List ℕ) → position_or_len test (map name xs) ≡ position_or_len (λ k. test (name k)) xs
+first_by name test [] = refl
+first_by name test (x ∷ xs) = ap (λ n. cond (not (test (name x))) (1 + n) 0) (first_by name test xs)
+
+-- the first of a list that passes, by names
+pub position_by : {Y : Type 0} (name : ℕ → Y) (test : Y → Bool) (xs : List ℕ) → position test (map name xs) ≡ position (λ k. test (name k)) xs
+position_by name test xs = rw (first_by name test xs) (rw (length-map xs name) refl)

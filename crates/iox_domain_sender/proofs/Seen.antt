@@ -1,9 +1,18 @@
 -- What is seen of a publisher after each step.
-use Rattle.std.proofs.Common.{rules, arith, ◌≡◌, ◌+◌, ◌<◌, ◌≤◌, ◌∷◌, [], ◌++◌, ℕ, Bool, true, false, is_some, option_map, List, length, get_or, set, map, Option, None, Some, refl, sym, subst, ap, ◌∙◌}
-use Rattle.iox_domain_slots.specs.Uses.{Uses, Connection, connection_at, with_connection, offered}
+use Rattle.std.proofs.Common.{rules, arith, ◌≡◌, ◌+◌, ◌<◌, ◌≤◌, ◌∷◌, [], ◌++◌, ℕ, Bool, true, false, is_some, option_map, List, length, get_or, set, map, Option, None, Some, Result, Ok, Err, IfOk, replicate, zero, suc, refl, sym, subst, ap, ◌∙◌}
+use Rattle.iox_domain_slots.specs.Uses.{Uses, Connection, connection_at, with_connection, offered, placed, connected}
 use Rattle.iox_domain_sender.specs.Messages.{Message, Loan}
-use Rattle.iox_domain_sender.specs.Sending.{SenderState, Store, seen_sender, with_uses, uses_by, connection_by, loan_in, message_in}
-use Rattle.iox_domain_sender.proofs.Naming.{connection_at_by, with_connection_by, offered_by}
+use Rattle.std.specs.declared.alloc.AllocError.{AllocError}
+use Rattle.std.specs.Option.{option_to_list}
+use Rattle.std.proofs.lemmas.List.{length-map, length-replicate}
+use Rattle.iox_domain_slots.specs.Uses.{in_use, held}
+use Rattle.iox_domain_sender.specs.Payloads.{PayloadsState, payload_at}
+use Rattle.iox_domain_sender.specs.declared.slot_header.SlotHeader.{SlotHeader}
+use Rattle.iox_domain_slots.specs.Counting.{times}
+use Rattle.iox_domain_slots.proofs.Publishing.{in_use_times}
+use Rattle.iox_domain_sender.specs.Sending.{SenderState, Store, IsSender, has_loan, has_place, seen_sender, with_uses, uses_by, connection_by, loan_in, message_in}
+use Rattle.iox_domain_sender.proofs.Writing.{lent_at, place_at}
+use Rattle.iox_domain_sender.proofs.Naming.{connection_at_by, with_connection_by, offered_by, placed_by}
 
 -- a step of the uses alone
 pub seen_step : {T U : Type 0} (store : Store T U) (old new : Uses ℕ ℕ) (state : SenderState T U) (step : Uses (Loan T U) (Message T U) → Uses (Loan T U) (Message T U))
@@ -65,3 +74,86 @@ offer_seen {T = T} {U = U} store old new state index is made message sent = at o
           ∙ ap (λ m. offered old.overflows m (connection_by (message_in store) (connection_at index old))) is_it
           ∙ ap (offered old.overflows message) (sym (connection_at_by (loan_in store) (message_in store) index old))
         )
+
+none_of_option : {X Y : Type 0} (f : X → Y) (one : Option X) → option_map f one ≡ None → one ≡ None
+none_of_option f None none = refl
+none_of_option f (Some x) none = search (rules, none)
+
+-- nothing is sent where nothing is seen to be
+pub none_sends : {T U : Type 0} (store : Store T U) (old : Uses ℕ ℕ) (state : SenderState T U) → seen_sender store old ≡ state → state.uses.sending ≡ None → old.sending ≡ None
+none_sends store old state is none = none_of_option (message_in store) old.sending (ap (λ s. s.uses.sending) is ∙ none)
+
+-- a place of the list of loans that is seen is one of it
+pub lent_below : {T U : Type 0} (store : Store T U) (old : Uses ℕ ℕ) (state : SenderState T U) (at : ℕ) → seen_sender store old ≡ state → at < length state.uses.loans → at < length old.loans
+lent_below store old state at is below = omega (arith, below, ap (λ s. length s.uses.loans) is, length-map old.loans (loan_in store))
+
+-- a slot that there is, as it is seen
+pub slot_below : {T U : Type 0} (store : Store T U) (old : Uses ℕ ℕ) (state : SenderState T U) (slot : ℕ) → seen_sender store old ≡ state → IsSender store old
+    → slot < state.uses.first + state.uses.size → slot < length store.headers
+slot_below store old state slot is sender below = omega (arith, below, sender.headers, ap (λ s. s.uses.first) is, ap (λ s. s.uses.size) is)
+
+-- the slot of a loan is one that there is
+pub lent_slot : {T U : Type 0} (store : Store T U) (old : Uses ℕ ℕ) (slot : ℕ) → IsSender store old → 0 < times slot old.loans → slot < old.first + old.size
+lent_slot store old slot sender lent = sender.within slot (omega (arith, lent, in_use_times old slot))
+
+pub loan_below : {T U : Type 0} (store : Store T U) (old : Uses ℕ ℕ) (state : SenderState T U) (slot : ℕ) → seen_sender store old ≡ state → IsSender store old
+    → has_loan slot state.uses ≡ true → slot < old.first + old.size
+loan_below store old state slot is sender there = lent_slot store old slot sender (lent_at store slot old.loans (ap (λ s. has_loan slot s.uses) is ∙ there))
+
+pub place_lent : {T U : Type 0} (store : Store T U) (old : Uses ℕ ℕ) (state : SenderState T U) (slot place : ℕ) → seen_sender store old ≡ state
+    → has_place slot place state.uses ≡ true → (0 < times slot old.loans) × (place < length (loan_in store slot).values)
+place_lent store old state slot place is there = place_at store slot place old.loans (ap (λ s. has_place slot place s.uses) is ∙ there)
+
+pub loan_lent : {T U : Type 0} (store : Store T U) (old : Uses ℕ ℕ) (state : SenderState T U) (slot : ℕ) → seen_sender store old ≡ state
+    → has_loan slot state.uses ≡ true → 0 < times slot old.loans
+loan_lent store old state slot is there = lent_at store slot old.loans (ap (λ s. has_loan slot s.uses) is ∙ there)
+
+-- a connection is made
+pub connect_seen : {T U : Type 0} (store : Store T U) (old new : Uses ℕ ℕ) (state : SenderState T U) (limit : ℕ) (result : Result ℕ AllocError) → seen_sender store old ≡ state
+    → IfOk result (λ index. new ≡ record old { connections = placed index (connected limit) old.connections })
+    → IfOk result (λ index. seen_sender store new ≡ with_uses (record state.uses { connections = placed index (connected limit) state.uses.connections }) state)
+connect_seen store old new state limit (Err error) is made = made
+connect_seen store old new state limit (Ok index) is made =
+    seen_step store old new state (λ uses. record uses { connections = placed index (connected limit) uses.connections }) is (
+      ap (uses_by (loan_in store) (message_in store)) made
+      ∙ ap (λ connections. record (uses_by (loan_in store) (message_in store) old) { connections = connections }) (placed_by (message_in store) index (connected limit) old.connections)
+    )
+
+empty_at : {T : Type 0} (size slot : ℕ) → get_or {A = List T} (replicate size []) slot [] ≡ []
+empty_at zero slot = refl
+empty_at (suc size) zero = refl
+empty_at (suc size) (suc slot) = empty_at size slot
+
+abbrev with_segment : {T : Type 0} → ℕ → PayloadsState T → PayloadsState T
+with_segment room payloads = record payloads { room = room; payloads = payloads.payloads ++ replicate payloads.size [] }
+
+-- the slots of a first segment
+pub first_segment : {T : Type 0} (new old : PayloadsState T) (size room : ℕ) → new ≡ with_segment room old → old ≡ (record { size = size; room = 0; payloads = [] })
+    → new ≡ (record { size = size; room = room; payloads = [] ++ replicate size [] })
+first_segment new old size room made is = made ∙ ap (λ payloads. with_segment room payloads) is
+
+-- a publisher that was just made
+pub fresh : {T U : Type 0} (values : PayloadsState T) (written : PayloadsState Bool) (headers : List (SlotHeader U)) (blank : SlotHeader U) (uses : Uses ℕ ℕ) (size room : ℕ)
+    → uses.first ≡ 0 → uses.size ≡ size → uses.sending ≡ None → uses.loans ≡ [] → uses.history ≡ [] → uses.connections ≡ []
+    → values ≡ (record { size = size; room = room; payloads = [] ++ replicate size [] })
+    → written ≡ (record { size = size; room = room; payloads = [] ++ replicate size [] })
+    → length headers ≡ size → IsSender (record { values = values; written = written; headers = headers; blank = blank }) uses
+fresh {T = T} values written headers blank uses size room first size_is sending loans history connections values_are marks headers_are = record {
+  values = omega (arith, first, size_is, ap (λ v. length v.payloads) values_are, length-replicate {A = List T} size []);
+  written = omega (arith, first, size_is, ap (λ v. length v.payloads) marks, length-replicate {A = List Bool} size []);
+  headers = omega (arith, first, size_is, headers_are);
+  values_size = ap (λ v. v.size) values_are ∙ sym size_is;
+  written_size = ap (λ v. v.size) marks ∙ sym size_is;
+  room = ap (λ v. v.room) marks ∙ sym (ap (λ v. v.room) values_are);
+  marks = λ k. ap (λ v. length (payload_at k v)) marks ∙ ap length (empty_at {T = Bool} size k) ∙ sym (ap (λ v. length (payload_at k v)) values_are ∙ ap length (empty_at {T = T} size k));
+  sole = λ k lent. absurd (omega (arith, lent, ap (times k) loans));
+  within = λ k used. absurd (omega (
+    arith,
+    used,
+    in_use_times uses k,
+    ap (λ s. times k (option_to_list s)) sending,
+    ap (times k) loans,
+    ap (times k) history,
+    ap (λ cs. times k (held cs)) connections,
+  ));
+}

@@ -1,5 +1,6 @@
 -- One publisher with its messages.
-use Rattle.std.specs.Prelude.{ℕ, ◌+◌, ◌<◌, ◌≤◌, ◌≡◌, Bool, true, false, List, [], ◌∷◌, ◌++◌, length, get_or, set, map, Option, None, Some, option_map, if◌then◌else◌}
+use Rattle.std.specs.Prelude.{ℕ, ◌+◌, ◌<◌, ◌≤◌, ◌≡◌, Bool, true, false, List, [], ◌∷◌, ◌++◌, length, get_or, set, map, Option, None, Some, option_map, if◌then◌else◌, eqb, nat_lt, ◌&&◌}
+use Rattle.std.specs.List.{list_any}
 use Rattle.iox_domain_slots.specs.Uses.{Uses, Connection, in_use, loaned, connection_at}
 use Rattle.iox_domain_slots.specs.Counting.{times}
 use Rattle.iox_domain_sender.specs.Messages.{Message, Loan, new_loan}
@@ -54,9 +55,17 @@ LoanMade old values elements (Some slot) new =
     (old.uses.first ≤ slot) × (slot < old.uses.first + old.uses.size) × (times slot (in_use (slots_of old)) ≡ 0)
     × (new ≡ with_uses (loaned (new_loan slot values elements old.user_header) old.uses) old)
 
--- the loan at this place of the list
-abbrev pub loan_at : {T U : Type 0} → U → ℕ → SenderState T U → Loan T U
-loan_at blank at sender = get_or sender.uses.loans at (new_loan 0 0 0 blank)
+-- another loan where one stands in this slot
+abbrev pub change_loan : {T U : Type 0} → ℕ → (Loan T U → Loan T U) → Uses (Loan T U) (Message T U) → Uses (Loan T U) (Message T U)
+change_loan slot change uses = record uses { loans = map (λ loan. if eqb slot loan.slot then change loan else loan) uses.loans }
+
+-- one of the loans stands in this slot
+abbrev pub has_loan : {T U : Type 0} → ℕ → Uses (Loan T U) (Message T U) → Bool
+has_loan slot uses = list_any (λ loan. eqb slot loan.slot) uses.loans
+
+-- one of the loans stands in this slot, and has this place
+abbrev pub has_place : {T U : Type 0} → ℕ → ℕ → Uses (Loan T U) (Message T U) → Bool
+has_place slot place uses = list_any (λ loan. eqb slot loan.slot && nat_lt place (length loan.values)) uses.loans
 
 -- What stands in the slots: the values, which of them are written, and what is told of them; a slot that there isn't has `blank`.
 pub record Store (T U : Type 0) : Type 0 where

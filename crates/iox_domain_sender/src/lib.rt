@@ -3,14 +3,17 @@
 //! - [`rows`]: the values of the slots of one segment.
 //! - [`payloads`]: the values of the slots of all segments.
 //! - [`slot_header`]: what is told of a message beside its values.
+//! - [`sender_config`]: how a publisher is made.
 //! - [`sender`]: all of one publisher together.
 #![tactic(auto)]
 
 pub mod payloads;
 pub mod rows;
 pub mod sender;
+pub mod sender_config;
 pub mod slot_header;
 
 pub use payloads::Payloads;
 pub use sender::Sender;
+pub use sender_config::SenderConfig;
 pub use slot_header::SlotHeader;

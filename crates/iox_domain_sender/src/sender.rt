@@ -1,13 +1,15 @@
 //! One publisher with its messages.
-ghost use Rattle.std.specs.Prelude.{◌≡◌, ℕ, ◌+◌, ◌<◌, ◌≤◌, length, get_or, set, map, is_some, slice_get, [], true, false, None, Some};
+ghost use Rattle.std.specs.Prelude.{◌≡◌, ℕ, ◌+◌, ◌<◌, ◌≤◌, length, get_or, set, map, is_some, option_copied, slice_get, position, nat_lt, IfOk, OnErr, ◌^◌, ◌==◌, [], true, false, None, Some};
 ghost use Rattle.iox_domain_slots.specs.declared.stage.Stage.TheVariants as stage;
-ghost use Rattle.iox_domain_slots.specs.Uses.{Uses, accepts, offered, taken, given_back, ended, welcomed, dropped, finished, connection_at, with_connection};
-ghost use Rattle.iox_domain_sender.specs.Messages.{Message, Loan};
-ghost use Rattle.iox_domain_sender.specs.Sending.{SenderState, LoanMade, with_uses, loan_at};
+ghost use Rattle.iox_domain_slots.specs.Uses.{Uses, nobody, placed, connected, is_there, accepts, offered, taken, given_back, ended, welcomed, dropped, begun, finished, connection_at, with_connection};
+ghost use Rattle.std.specs.List.{list_all};
+ghost use Rattle.iox_domain_sender.specs.Messages.{Message, Loan, write_value, write_user_header, is_written, sent_as};
+ghost use Rattle.iox_domain_sender.specs.Sending.{SenderState, LoanMade, with_uses, change_loan, has_loan, has_place};
 
 use crate::payloads::Payloads;
 use crate::slot_header::SlotHeader;
-use iox_domain_slots::SlotUses;
+use crate::sender_config::SenderConfig;
+use iox_domain_slots::{SlotUses, Stage};
 use std::alloc::{AllocError, Global};
 use std::marker::Model;
 
@@ -34,6 +36,63 @@ impl<T, U> Model for Sender<T, U> {
 }
 
 impl<T: Copy, U: Copy> Sender<T, U> {
+    /// A publisher with one segment of slots, of which none is in use. `blank` fills the slots, and a new loan has this user
+    /// header. It fails only where memory is wanting.
+    pub fn new(
+        alloc: Global,
+        config: SenderConfig,
+        blank: T,
+        user_header: U,
+    ) -> Result<Sender<T, U>, AllocError>
+        requires loans { config.most_loans < 2 ^ 32 }
+        requires history { config.history < 2 ^ 32 }
+        requires waiting { config.most_waiting < 2 ^ 32 }
+        requires borrowed { config.most_borrowed < 2 ^ 32 }
+        ensures { IfOk result (λ made. made ≡ record {
+          room = config.room;
+          user_header = user_header;
+          uses = record {
+            first = 0;
+            size = config.slots;
+            most_loans = config.most_loans;
+            kept = config.history;
+            most_waiting = config.most_waiting;
+            most_borrowed = config.most_borrowed;
+            overflows = config.overflows;
+            sending = None;
+            loans = [];
+            history = [];
+            connections = [];
+          };
+        }) }
+    {
+        let uses = SlotUses::new(
+            alloc,
+            config.overflows,
+            config.slots,
+            config.most_loans,
+            config.history,
+            config.most_waiting,
+            config.most_borrowed,
+        )?;
+        let mut values = Payloads::new(alloc, config.slots);
+        values.add_segment(alloc, config.room, blank)?;
+        let mut written = Payloads::new(alloc, config.slots);
+        written.add_segment(alloc, config.room, false)?;
+        let blank = SlotHeader {
+            elements: 0,
+            user_header,
+        };
+        let headers = vec![in alloc; blank; config.slots]?;
+        Ok(Sender {
+            uses,
+            values,
+            written,
+            headers,
+            blank,
+        })
+    }
+
     /// Makes a loan of so many values, of which none is written; None if each slot of the current segment is in use.
     pub fn loan(&mut self, values: usize, elements: u64) -> Option<usize>
         requires room { values ≤ self.old.room }
@@ -48,6 +107,78 @@ impl<T: Copy, U: Copy> Sender<T, U> {
             user_header: self.blank.user_header,
         };
         Some(slot)
+    }
+
+    /// Writes a value at a place of the loan in this slot.
+    pub fn write(&mut self, slot: usize, place: usize, value: T)
+        requires { has_place slot place self.old.uses ≡ true }
+        ensures { self.new ≡ with_uses (change_loan slot (write_value place value) self.old.uses) self.old }
+    {
+        self.values.write(slot, place, value);
+        self.written.write(slot, place, true);
+    }
+
+    /// Writes the user header of the loan in this slot.
+    pub fn write_user_header(&mut self, slot: usize, user_header: U)
+        requires { has_loan slot self.old.uses ≡ true }
+        ensures { self.new ≡ with_uses (change_loan slot (write_user_header user_header) self.old.uses) self.old }
+    {
+        self.headers[slot].user_header = user_header;
+    }
+
+    /// Whether each value of the loan in this slot is written.
+    pub fn is_written(&self, slot: usize) -> bool
+        requires { has_loan slot self.now.uses ≡ true }
+        ensures { (at : ℕ) (loan : Loan T U) → slice_get self.now.uses.loans at ≡ Some loan → loan.slot ≡ slot → result ≡ is_written loan }
+    {
+        all_marked(self.written.values(slot))
+    }
+
+    /// The value at a place of the loan in this slot, if it is written.
+    pub fn value(&self, slot: usize, place: usize) -> Option<&T>
+        requires { has_place slot place self.now.uses ≡ true }
+        ensures { (at : ℕ) (loan : Loan T U) → slice_get self.now.uses.loans at ≡ Some loan → loan.slot ≡ slot → option_copied result ≡ get_or loan.values place None }
+    {
+        if !self.written.values(slot)[place] {
+            return None;
+        }
+        Some(&self.values.values(slot)[place])
+    }
+
+    /// Begins the send of the written loan at this place of the list, and answers its slot: it is no loan any longer, but in use
+    /// until the send is finished, and the newest of the history.
+    pub fn begin_send(&mut self, at: usize) -> usize
+        requires loan { at < length self.old.uses.loans }
+        requires alone { self.old.uses.sending ≡ None }
+        requires written { (loan : Loan T U) → slice_get self.old.uses.loans at ≡ Some loan → is_written loan ≡ true }
+        ensures slot { (loan : Loan T U) → slice_get self.old.uses.loans at ≡ Some loan → result ≡ loan.slot }
+        ensures new { (loan : Loan T U) → slice_get self.old.uses.loans at ≡ Some loan → self.new ≡ with_uses (begun at (sent_as loan) self.old.uses) self.old }
+    {
+        self.uses.begin_send(at)
+    }
+
+    /// The values of the message in this slot.
+    pub fn payload(&self, slot: usize) -> &[T]
+        requires { slot < self.now.uses.first + self.now.uses.size }
+        ensures borrowed { (index at : ℕ) (message : Message T U) → slice_get (connection_at index self.now.uses).borrowed at ≡ Some message → message.slot ≡ slot → result.now ≡ message.values }
+    {
+        self.values.values(slot)
+    }
+
+    /// How many elements the message in this slot has.
+    pub fn elements(&self, slot: usize) -> u64
+        requires { slot < self.now.uses.first + self.now.uses.size }
+        ensures borrowed { (index at : ℕ) (message : Message T U) → slice_get (connection_at index self.now.uses).borrowed at ≡ Some message → message.slot ≡ slot → result ≡ message.elements }
+    {
+        self.headers[slot].elements
+    }
+
+    /// The user header of the message in this slot.
+    pub fn user_header(&self, slot: usize) -> &U
+        requires { slot < self.now.uses.first + self.now.uses.size }
+        ensures borrowed { (index at : ℕ) (message : Message T U) → slice_get (connection_at index self.now.uses).borrowed at ≡ Some message → message.slot ≡ slot → result.now ≡ message.user_header }
+    {
+        &self.headers[slot].user_header
     }
 
     /// Gives up the loan at this place of the list of loans.
@@ -102,6 +233,99 @@ impl<T: Copy, U: Copy> Sender<T, U> {
         self.uses.end(index);
     }
 
+    /// Makes a connection where at most `limit` messages may wait, and answers its index, at which there was none. It fails where
+    /// memory is wanting, and then nothing has changed.
+    pub fn connect(&mut self, alloc: Global, limit: usize) -> Result<usize, AllocError>
+        requires { limit ≤ self.old.uses.most_waiting }
+        ensures vacant { IfOk result (λ index. connection_at index self.old.uses ≡ nobody) }
+        ensures within { IfOk result (λ index. index ≤ length self.old.uses.connections) }
+        ensures new { IfOk result (λ index. self.new ≡ with_uses (record self.old.uses { connections = placed index (connected limit) self.old.uses.connections }) self.old) }
+        ensures refused { OnErr result (self.new ≡ self.old) }
+    {
+        self.uses.connect(alloc, limit)
+    }
+
+    /// How far the connection is; vacant where there is none.
+    pub fn stage(&self, index: usize) -> Stage
+        ensures { result ≡ (connection_at index self.now.uses).stage }
+    {
+        self.uses.stage(index)
+    }
+
+    /// How many messages may wait at the connection.
+    pub fn limit(&self, index: usize) -> usize
+        requires { is_there (connection_at index self.now.uses) ≡ true }
+        ensures { result ≡ (connection_at index self.now.uses).limit }
+    {
+        self.uses.limit(index)
+    }
+
+    /// How many messages wait at the connection.
+    pub fn waiting(&self, index: usize) -> usize
+        requires { is_there (connection_at index self.now.uses) ≡ true }
+        ensures { result ≡ length (connection_at index self.now.uses).waiting }
+    {
+        self.uses.waiting(index)
+    }
+
+    /// How many messages are borrowed of the connection.
+    pub fn borrowed(&self, index: usize) -> usize
+        requires { is_there (connection_at index self.now.uses) ≡ true }
+        ensures { result ≡ length (connection_at index self.now.uses).borrowed }
+    {
+        self.uses.borrowed(index)
+    }
+
+    /// Where in the connection's list of borrowed messages the first in this slot is; None if none is borrowed.
+    pub fn place_of_borrowed(&self, index: usize, slot: usize) -> Option<usize>
+        requires { is_there (connection_at index self.now.uses) ≡ true }
+        ensures { result ≡ position (λ message. message.slot == slot) (connection_at index self.now.uses).borrowed }
+    {
+        self.uses.place_of_borrowed(index, slot)
+    }
+
+    /// Where in the list of loans the first in this slot is; None if none is out there.
+    pub fn place_of_loan(&self, slot: usize) -> Option<usize>
+        ensures { result ≡ position (λ loan. loan.slot == slot) self.now.uses.loans }
+    {
+        self.uses.place_of_loan(slot)
+    }
+
+    /// How many loans are out.
+    pub fn loans(&self) -> usize
+        ensures { result ≡ length self.now.uses.loans }
+    {
+        self.uses.loans()
+    }
+
+    /// Whether one more loan may be out: a condition of `loan`.
+    pub fn may_loan(&self) -> bool
+        ensures { result ≡ nat_lt (length self.now.uses.loans) self.now.uses.most_loans }
+    {
+        self.uses.may_loan()
+    }
+
+    /// How many values a new loan may have at most.
+    pub fn room(&self) -> usize
+        ensures { result ≡ self.now.room }
+    {
+        self.values.room()
+    }
+
+    /// Whether a message is being sent.
+    pub fn is_sending(&self) -> bool
+        ensures { result ≡ is_some self.now.uses.sending }
+    {
+        self.uses.sending().is_some()
+    }
+
+    /// How many messages may be borrowed of a connection.
+    pub fn most_borrowed(&self) -> usize
+        ensures { result ≡ self.now.uses.most_borrowed }
+    {
+        self.uses.most_borrowed()
+    }
+
     /// Gives a new connection as much of the history as may wait there, the oldest first.
     pub fn welcome(&mut self, index: usize)
         requires live { (connection_at index self.old.uses).stage ≡ stage.Live }
@@ -110,4 +334,11 @@ impl<T: Copy, U: Copy> Sender<T, U> {
     {
         self.uses.welcome(index);
     }
+}
+
+// Whether all of these are set.
+fn all_marked(marks: &[bool]) -> bool
+    ensures { result ≡ list_all (λ mark. mark) marks.now }
+{
+    marks.iter().all(|mark| *mark)
 }

@@ -2,9 +2,9 @@
 use Rattle.std.proofs.Common.{rules, arith, ◌≡◌, ◌+◌, ◌*◌, ◌^◌, ◌==◌, ◌<◌, ◌≤◌, ◌∷◌, [], ◌++◌, ℕ, zero, suc, Bool, true, false, is_some, if◌then◌else◌, remove, List, length, get_or, set, map, Option, Some, None, refl, sym, subst, ap, ◌∙◌}
 use Rattle.iox_domain_slots.specs.Counting.{SlotsState, Moves, Covers, times, uses_of}
 use Rattle.std.proofs.lemmas.List.{map-set, set-get_or, get_or-set_same, get_or-set_other, length-map, length-set}
-use Rattle.iox_domain_slots.specs.Uses.{Connection, given_back, settled, nobody, held, held_by}
+use Rattle.iox_domain_slots.specs.Uses.{Connection, placed, given_back, settled, nobody, held, held_by}
 use Rattle.iox_domain_slots.specs.declared.stage.Stage.TheVariants as stage
-use Rattle.iox_domain_slots.specs.Links.{LinkState, all_of, all_slots, slots_at, seen, connection_of, IsOf, IsGone, IsTakenBack, LinksState, placed, taken_back}
+use Rattle.iox_domain_slots.specs.Links.{LinkState, all_of, all_slots, slots_at, seen, connection_of, IsOf, IsGone, IsTakenBack, LinksState, taken_back}
 use Rattle.std.proofs.Math.Logic.{⊎_elim}
 use Rattle.std.proofs.Math.Dec.{eqb}
 use Rattle.std.proofs.lemmas.List.Sums.{count_by-le-length}

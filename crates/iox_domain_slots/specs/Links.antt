@@ -109,11 +109,6 @@ IsOf overflows most_waiting most_borrowed None = Unit {0}
 IsOf overflows most_waiting most_borrowed (Some link) =
     (link.overflows ≡ overflows) × (link.limit ≤ most_waiting) × (link.most_borrowed ≡ most_borrowed) × IsOverIfEnded link × IsFit link
 
--- a connection comes to an index where there was none, or behind the others
-abbrev pub placed : ℕ → Connection ℕ → List (Connection ℕ) → List (Connection ℕ)
-placed index connection connections =
-    if index == length connections then connections ++ connection ∷ [] else set connections index connection
-
 -- a connection that ended and holds nothing
 abbrev pub IsGone : Option LinkState → Type 0
 IsGone None = ⊥

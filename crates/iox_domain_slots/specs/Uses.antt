@@ -1,6 +1,6 @@
 -- Who uses the messages of one publisher. A loan goes by whatever L is, a message by whatever X is: both by a slot's number
 -- here, by what they hold above.
-use Rattle.std.specs.Prelude.{ℕ, ◌+◌, ◌-◌, ◌*◌, Bool, true, false, ◌||◌, List, [], ◌∷◌, ◌++◌, length, drop, take, get_or, set, remove, nat_lt, count_by, Option, None, Some, option_to_list, if◌then◌else◌}
+use Rattle.std.specs.Prelude.{ℕ, ◌+◌, ◌-◌, ◌*◌, Bool, true, false, ◌||◌, ◌==◌, List, [], ◌∷◌, ◌++◌, length, drop, take, get_or, set, remove, nat_lt, count_by, Option, None, Some, option_to_list, if◌then◌else◌}
 use Rattle.iox_queues_base.specs.Waiting.{put, put_over}
 use Rattle.iox_domain_slots.specs.declared.stage.Stage.{Stage}
 use Rattle.iox_domain_slots.specs.declared.stage.Stage.TheVariants as stage
@@ -115,6 +115,11 @@ ended connection = settled stage.Ended connection.limit [] connection.borrowed
 -- a new connection, to which nothing was delivered
 abbrev pub connected : {X : Type 0} → ℕ → Connection X
 connected limit = record { stage = stage.Live; limit = limit; waiting = []; borrowed = [] }
+
+-- a connection comes to an index where there was none, or behind the others
+abbrev pub placed : {X : Type 0} → ℕ → Connection X → List (Connection X) → List (Connection X)
+placed index connection connections =
+    if index == length connections then connections ++ connection ∷ [] else set connections index connection
 
 -- a new connection gets as much of the history as may wait, the oldest first
 abbrev pub welcomed : {X : Type 0} → List X → Connection X → Connection X

@@ -1,9 +1,9 @@
 //! The connections of one publisher.
 ghost use Rattle.std.specs.Prelude.{◌≡◌, ℕ, ◌+◌, ◌*◌, ◌^◌, ◌<◌, ◌≤◌, ◌==◌, ◌++◌, ◌∷◌, [], length, map, set, drop, take, get_or, remove, is_some, position, slice_get, IfOk, IsOk, OnErr, Some, None, true, false};
-ghost use Rattle.iox_domain_slots.specs.Uses.{nobody, accepts, offered, taken, given_back, settled, ended, held, connected, how_many};
+ghost use Rattle.iox_domain_slots.specs.Uses.{nobody, placed, accepts, offered, taken, given_back, settled, ended, held, connected, how_many};
 ghost use Rattle.iox_domain_slots.specs.declared.stage.Stage.TheVariants as stage;
 ghost use Rattle.iox_domain_slots.specs.Counting.{SlotsState, times, uses_of, Moves, Covers};
-ghost use Rattle.iox_domain_slots.specs.Links.{LinksState, LinkState, seen, all_slots, all_of, connection_of, taken_back, IsGone, IsOf, placed};
+ghost use Rattle.iox_domain_slots.specs.Links.{LinksState, LinkState, seen, all_slots, all_of, connection_of, taken_back, IsGone, IsOf};
 
 use crate::link::Link;
 use crate::slots::Slots;

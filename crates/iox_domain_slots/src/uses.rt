@@ -1,9 +1,8 @@
 //! All that one publisher's slots are used for.
 ghost use Rattle.std.specs.Prelude.{◌≡◌, ℕ, ◌+◌, ◌^◌, ◌<◌, ◌≤◌, ◌==◌, ◌++◌, ◌∷◌, [], length, map, set, drop, take, get_or, remove, nat_lt, is_some, position, option_to_list, slice_get, IfOk, IsOk, IsSome, OnErr, Some, None, true, false};
 ghost use Rattle.iox_domain_slots.specs.declared.stage.Stage.TheVariants as stage;
-ghost use Rattle.iox_domain_slots.specs.Uses.{Uses, nobody, accepts, offered, taken, given_back, settled, ended, held, in_use, loaned, dropped, begun, finished, connection_at, with_connection, connected, worst_case, welcomed, is_there, segment_opened};
+ghost use Rattle.iox_domain_slots.specs.Uses.{Uses, nobody, placed, accepts, offered, taken, given_back, settled, ended, held, in_use, loaned, dropped, begun, finished, connection_at, with_connection, connected, worst_case, welcomed, is_there, segment_opened};
 ghost use Rattle.iox_domain_slots.specs.Counting.{times, LoanUse};
-ghost use Rattle.iox_domain_slots.specs.Links.{placed};
 
 use crate::links::Links;
 use crate::slots::Slots;

@@ -1,0 +1,6 @@
+use Rattle.std.proofs.Common.{rules, arith, ◌≡◌, ◌+◌, ◌<◌, ◌≤◌, ◌∙◌, ◌++◌, ◌∷◌, [], ℕ, Bool, true, false, if◌then◌else◌, length, get_or, ap, sym, subst, map, Some, None, Option, refl, set}
+use Rattle.iox_domain_sender.proofs.Reading.{borrowed_is}
+use Rattle.iox_domain_sender.proofs.sender.Sender.payload.Goals as goal
+
+pub returns : goal.returns
+returns g c = record { borrowed = λ index at message there stands. c.values.ensures ∙ ap (λ m. m.values) (borrowed_is (record { values = c.self.inside.values; written = c.self.inside.written; headers = c.self.inside.headers.items; blank = c.self.inside.blank }) c.self.inside.uses c.args.self.now c.args.slot index at message c.self.view_is there stands) }
