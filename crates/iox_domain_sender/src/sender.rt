@@ -1,7 +1,7 @@
 //! One publisher with its messages.
-ghost use Rattle.std.specs.Prelude.{◌≡◌, ℕ, ◌+◌, ◌<◌, ◌≤◌, length, get_or, set, map, is_some, option_copied, slice_get, position, nat_lt, IfOk, OnErr, ◌^◌, ◌==◌, [], true, false, None, Some};
+ghost use Rattle.std.specs.Prelude.{◌≡◌, ℕ, ◌+◌, ◌<◌, ◌≤◌, length, get_or, set, map, is_some, option_copied, slice_get, position, nat_lt, IsSome, IfOk, OnErr, ◌^◌, ◌==◌, [], true, false, None, Some};
 ghost use Rattle.iox_domain_slots.specs.declared.stage.Stage.TheVariants as stage;
-ghost use Rattle.iox_domain_slots.specs.Uses.{Uses, nobody, placed, connected, is_there, accepts, offered, taken, given_back, ended, welcomed, dropped, begun, finished, connection_at, with_connection};
+ghost use Rattle.iox_domain_slots.specs.Uses.{Uses, nobody, placed, connected, is_there, worst_case, accepts, offered, taken, given_back, ended, welcomed, dropped, begun, finished, connection_at, with_connection};
 ghost use Rattle.std.specs.List.{list_all};
 ghost use Rattle.iox_domain_sender.specs.Messages.{Message, Loan, write_value, write_user_header, is_written, sent_as};
 ghost use Rattle.iox_domain_sender.specs.Sending.{SenderState, LoanMade, with_uses, change_loan, has_loan, has_place};
@@ -93,11 +93,13 @@ impl<T: Copy, U: Copy> Sender<T, U> {
         })
     }
 
-    /// Makes a loan of so many values, of which none is written; None if each slot of the current segment is in use.
+    /// Makes a loan of so many values, of which none is written; None if each slot of the current segment is in use. With as many
+    /// slots as the worst case needs, one is always free.
     pub fn loan(&mut self, values: usize, elements: u64) -> Option<usize>
         requires room { values ≤ self.old.room }
         requires loans { length self.old.uses.loans < self.old.uses.most_loans }
-        ensures { LoanMade self.old values elements result self.new }
+        ensures step { LoanMade self.old values elements result self.new }
+        ensures enough { self.old.uses.sending ≡ None → worst_case self.old.uses ≤ self.old.uses.size → IsSome result }
     {
         let slot = self.uses.loan()?;
         self.values.set_length(slot, values);
