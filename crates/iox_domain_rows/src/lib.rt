@@ -1,9 +1,12 @@
-//! Tests of the ports' values and of the bookkeeping of slots: what no clause says.
+//! Tests of the ports' values, of the bookkeeping of slots and of messages: what no clause says.
 //!
+//! - `messages`: the way of a message by what it holds.
 //! - `slots`: the way of a message through the slots of a publisher.
 //! - `values`: texts, and the objects that a caller hands in.
 #![tactic(auto)]
 
+#[cfg(test)]
+mod messages;
 #[cfg(test)]
 mod slots;
 #[cfg(test)]

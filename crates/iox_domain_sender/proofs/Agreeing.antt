@@ -1,12 +1,12 @@
 -- Names that agree on what is in use name the same uses.
-use Rattle.std.proofs.Common.{rules, arith, ◌≡◌, ◌+◌, ◌<◌, ◌≤◌, ◌∷◌, [], ◌++◌, ℕ, zero, suc, List, length, get_or, set, map, Option, None, Some, option_map, refl, sym, subst, ap, ◌∙◌}
+use Rattle.std.proofs.Common.{arith, ◌≡◌, ◌+◌, ◌<◌, ◌∷◌, [], ℕ, List, map, Option, None, Some, option_map, refl, ap, ◌∙◌}
 use Rattle.std.specs.Option.{option_to_list}
 use Rattle.iox_domain_slots.specs.Uses.{Uses, Connection, held, held_by, in_use}
 use Rattle.iox_domain_slots.specs.Counting.{times}
-use Rattle.iox_domain_slots.proofs.Counts.{one, times_append, times_cons, one_same}
+use Rattle.iox_domain_slots.proofs.Counts.{times_append, times_cons, one_same}
 use Rattle.iox_domain_slots.proofs.Publishing.{in_use_times}
 use Rattle.iox_domain_sender.specs.Messages.{Message, Loan}
-use Rattle.iox_domain_sender.specs.Sending.{SenderState, Store, seen_sender, slots_of, uses_by, connection_by, loan_in, message_in}
+use Rattle.iox_domain_sender.specs.Sending.{Store, seen_sender, slots_of, uses_by, connection_by, loan_in, message_in}
 
 pub map_agree : {Y : Type 0} (f g : ℕ → Y) (xs : List ℕ) → ((k : ℕ) → 0 < times k xs → f k ≡ g k) → map f xs ≡ map g xs
 map_agree f g [] same = refl

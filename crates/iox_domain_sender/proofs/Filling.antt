@@ -1,6 +1,6 @@
 -- A row that is filled place by place.
-use Rattle.std.proofs.Common.{rules, arith, ◌≡◌, ◌+◌, ◌<◌, ◌≤◌, ◌∷◌, [], ◌++◌, ℕ, zero, suc, List, length, get_or, set, take, replicate, refl, sym, subst, ap, ◌∙◌}
-use Rattle.std.proofs.lemmas.List.{get_or-set_same, length-set, take_all, take_more_set}
+use Rattle.std.proofs.Common.{arith, ◌≡◌, ◌+◌, ◌<◌, ◌∷◌, [], ◌++◌, ℕ, zero, suc, List, length, set, take, replicate, refl, sym, ap, ◌∙◌}
+use Rattle.std.proofs.lemmas.List.{get_or-set_same, length-set, take_more_set}
 use Rattle.iox_domain_sender.specs.Rows.{RowsState, row_at, with_row}
 
 -- the row has its length, and the value stands at its first places
@@ -18,10 +18,6 @@ one_again : {T : Type 0} (count : ℕ) (value : T) → replicate count value ++ 
 one_again zero value = refl
 one_again (suc count) value = ap (λ xs. value ∷ xs) (one_again count value)
 
-pub fill_start : {T : Type 0} (row count : ℕ) (value : T) (first now : RowsState T) → length (row_at row now) ≡ count → now ≡ with_row row (row_at row now) first
-    → Filling row count value first now 0
-fill_start row count value first now long is = record { rest = is; length_is = long; done = refl }
-
 pub fill_step : {T : Type 0} (row count : ℕ) (value : T) (first now next : RowsState T) (place : ℕ) → Filling row count value first now place
     → row < length first.rows → place < count → next ≡ with_row row (set (row_at row now) place value) now → Filling row count value first next (place + 1)
 fill_step row count value first now next place so_far there inside made =
@@ -38,11 +34,3 @@ fill_step row count value first now next place so_far there inside made =
       done = ap (take (place + 1)) at ∙ take_more_set (row_at row now) place value (omega (arith, inside, so_far.length_is))
           ∙ ap (λ xs. xs ++ value ∷ []) so_far.done ∙ one_again place value ∙ ap (λ n. replicate n value) (sym more);
     }
-
-pub fill_end : {T : Type 0} (row count : ℕ) (value : T) (first now : RowsState T) (place : ℕ) → Filling row count value first now place → count ≤ place → place ≤ count
-    → now ≡ with_row row (replicate count value) first
-fill_end row count value first now place so_far low high =
-    let same : place ≡ count = omega (arith, low, high) in
-    let whole : row_at row now ≡ replicate count value =
-    sym (take_all count (row_at row now) (omega (arith, so_far.length_is))) ∙ ap (λ n. take n (row_at row now)) (sym same) ∙ so_far.done ∙ ap (λ n. replicate n value) same in
-    so_far.rest ∙ ap (λ values. with_row row values first) whole

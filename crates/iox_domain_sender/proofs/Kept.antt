@@ -1,13 +1,12 @@
 -- What holds of a publisher holds after each step.
-use Rattle.std.proofs.Common.{rules, arith, ◌≡◌, ◌+◌, ◌-◌, ◌<◌, ◌≤◌, ◌∷◌, [], ◌++◌, ℕ, zero, suc, Bool, true, false, nat_lt, if◌then◌else◌, is_some, List, length, get_or, set, take, drop, remove, Option, None, Some, Result, Ok, Err, IfOk, OnErr, ◌==◌, refl, sym, subst, ap, ◌∙◌}
+use Rattle.std.proofs.Common.{rules, arith, ◌≡◌, ◌+◌, ◌-◌, ◌<◌, ◌≤◌, ◌∷◌, [], ◌++◌, ℕ, zero, suc, Bool, true, false, nat_lt, is_some, List, length, get_or, set, take, drop, remove, Option, None, Some, Result, Ok, Err, IfOk, OnErr, ◌==◌, refl, sym, subst, ap, ◌∙◌}
 use Rattle.std.specs.Option.{option_to_list}
 use Rattle.std.specs.declared.alloc.AllocError.{AllocError}
-use Rattle.iox_queues_base.specs.Waiting.{put, put_over}
 use Rattle.iox_domain_slots.specs.declared.stage.Stage.{Stage}
 use Rattle.iox_domain_slots.specs.declared.stage.Stage.TheVariants as stage
 use Rattle.iox_domain_slots.specs.Uses.{Uses, Connection, nobody, placed, connected, offered, taken, given_back, settled, ended, newest, dropped, begun, finished, connection_at, with_connection, welcomed, held, held_by, in_use}
 use Rattle.iox_domain_slots.specs.Counting.{times}
-use Rattle.iox_domain_slots.proofs.Counts.{one, times_append, times_cons, times_end, one_same}
+use Rattle.iox_domain_slots.proofs.Counts.{one, times_append, times_cons, times_end}
 use Rattle.iox_domain_slots.proofs.Publishing.{in_use_times}
 use Rattle.iox_domain_sender.specs.Sending.{Store, IsSender}
 
@@ -166,7 +165,7 @@ offer_kept store old new index is sends made = at old.sending refl
     at : (sending : Option ℕ) → old.sending ≡ sending → IsSender store new
     at None none = let wrong = sym (ap is_some none) ∙ sends in search (rules, wrong)
     at (Some slot) same = subst (λ uses. IsSender store uses) (sym (made slot same)) (connection_kept store old index (offered old.overflows slot (connection_at index old)) is
-      (λ k. omega (arith, offer_holds old.overflows slot (connection_at index old) k, ap (λ s. times k (option_to_list s)) same, times_cons k slot [])))
+        (λ k. omega (arith, offer_holds old.overflows slot (connection_at index old) k, ap (λ s. times k (option_to_list s)) same, times_cons k slot [])))
 
 nothing_behind : (connections : List (Connection ℕ)) (limit k : ℕ) → times k (held (connections ++ connected limit ∷ [])) ≡ times k (held connections)
 nothing_behind [] limit k = refl

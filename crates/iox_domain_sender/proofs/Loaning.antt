@@ -1,6 +1,5 @@
 -- A loan is made in a slot in which nothing in use stands.
-use Rattle.std.proofs.Common.{rules, arith, ◌≡◌, ◌≢◌, ◌+◌, ◌<◌, ◌≤◌, ◌∷◌, [], ◌++◌, ℕ, zero, suc, Bool, true, false, List, length, length-append, get_or, set, replicate, Option, None, Some, refl, sym, subst, ap, ◌∙◌}
-use Rattle.std.specs.Option.{option_to_list}
+use Rattle.std.proofs.Common.{arith, ◌≡◌, ◌≢◌, ◌+◌, ◌<◌, ◌∷◌, [], ℕ, zero, suc, false, List, length, get_or, set, replicate, Option, None, Some, refl, sym, subst, ap, ◌∙◌}
 use Rattle.std.proofs.Math.Logic.{⊎_elim}
 use Rattle.std.proofs.Math.Dec.{eqb}
 use Rattle.std.proofs.lemmas.Bool.Decides.{eqb_tells}
@@ -21,8 +20,8 @@ pub none_made : {T U : Type 0} (store : Store T U) (old new : Uses ℕ ℕ) (sta
     → LoanUse old None new → LoanMade state values elements None (seen_sender store new)
 none_made store old new state values elements is loan = (
   (λ slot low high.
-    let used : 0 < times slot (in_use old) = loan.0 slot (omega (arith, low, ap (λ s. s.uses.first) is)) (omega (arith, high, ap (λ s. s.uses.first) is, ap (λ s. s.uses.size) is)) in
-    omega (arith, used, ap (λ uses. times slot (in_use uses)) (slots_seen store old), ap (λ s. times slot (in_use (slots_of s))) is)),
+      let used : 0 < times slot (in_use old) = loan.0 slot (omega (arith, low, ap (λ s. s.uses.first) is)) (omega (arith, high, ap (λ s. s.uses.first) is, ap (λ s. s.uses.size) is)) in
+      omega (arith, used, ap (λ uses. times slot (in_use uses)) (slots_seen store old), ap (λ s. times slot (in_use (slots_of s))) is)),
   ap (seen_sender store) loan.1 ∙ is,
 )
 
@@ -84,10 +83,10 @@ loan_made {T = T} {U = U} before store old new state slot count elements is send
   omega (arith, loan.1, ap (λ s. s.uses.first) is, ap (λ s. s.uses.size) is),
   omega (arith, loan.2, ap (λ uses. times slot (in_use uses)) (slots_seen before old), ap (λ s. times slot (in_use (slots_of s))) is),
   ap (seen_sender store) loan.3
-  ∙ ap (λ uses. record { room = store.values.room; user_header = store.blank.user_header; uses = uses }) named
-  ∙ ap (λ room. record { room = room; user_header = store.blank.user_header; uses = after }) (ap (λ v. v.room) put.values)
-  ∙ ap (λ blank. record { room = before.values.room; user_header = blank.user_header; uses = after }) put.blank
-  ∙ ap (λ s. with_uses (loaned (new_loan slot count elements s.user_header) s.uses) s) is,
+      ∙ ap (λ uses. record { room = store.values.room; user_header = store.blank.user_header; uses = uses }) named
+      ∙ ap (λ room. record { room = room; user_header = store.blank.user_header; uses = after }) (ap (λ v. v.room) put.values)
+      ∙ ap (λ blank. record { room = before.values.room; user_header = blank.user_header; uses = after }) put.blank
+      ∙ ap (λ s. with_uses (loaned (new_loan slot count elements s.user_header) s.uses) s) is,
 )
   where
     after : Uses (Loan T U) (Message T U)

@@ -1,12 +1,11 @@
 -- Each step goes with the names that loans and messages go by.
-use Rattle.std.proofs.Common.{rules, arith, ◌≡◌, ◌+◌, ◌*◌, ◌-◌, ◌<◌, ◌≤◌, ◌∷◌, [], ◌++◌, ℕ, zero, suc, Bool, true, false, nat_lt, if◌then◌else◌, List, length, get_or, set, map, take, drop, remove, position, ◌==◌, cond, not, Option, None, Some, option_map, refl, sym, subst, ap, ◌∙◌}
+use Rattle.std.proofs.Common.{◌≡◌, ◌+◌, ◌-◌, ◌∷◌, [], ◌++◌, ℕ, zero, suc, Bool, true, false, nat_lt, if◌then◌else◌, List, length, get_or, map, take, drop, remove, position, ◌==◌, cond, not, Some, refl, sym, ap, ◌∙◌}
 use Rattle.std.proofs.lemmas.List.{map-set, map-append, length-map}
 use Rattle.std.specs.List.{position_or_len}
-use Rattle.std.proofs.lemmas.List.Sums.{sum_by-cons}
 use Rattle.iox_queues_base.specs.Waiting.{put, put_over}
 use Rattle.iox_domain_slots.specs.declared.stage.Stage.{Stage}
 use Rattle.iox_domain_slots.specs.declared.stage.Stage.TheVariants as stage
-use Rattle.iox_domain_slots.specs.Uses.{Uses, Connection, nobody, placed, accepts, offered, taken, given_back, settled, ended, newest, loaned, dropped, begun, finished, connection_at, with_connection, connected, welcomed, how_many, is_there, worst_case}
+use Rattle.iox_domain_slots.specs.Uses.{Uses, Connection, nobody, placed, offered, taken, given_back, settled, ended, newest, loaned, dropped, begun, connection_at, with_connection, welcomed}
 use Rattle.iox_domain_sender.specs.Sending.{connection_by, uses_by}
 
 map_drop : {X Y : Type 0} (f : X → Y) (n : ℕ) (xs : List X) → map f (drop n xs) ≡ drop n (map f xs)
@@ -41,9 +40,6 @@ begun_by loan message at one uses =
     map_newest message uses.kept (uses.history ++ one ∷ []) ∙ ap (newest uses.kept) (map-append message uses.history (one ∷ [])) in
     ap (λ loans. record (uses_by loan message uses) { sending = Some (message one); loans = loans; history = map message (newest uses.kept (uses.history ++ one ∷ [])) }) (map_remove loan uses.loans at)
     ∙ ap (λ messages. record (uses_by loan message uses) { sending = Some (message one); loans = remove (map loan uses.loans) at; history = messages }) history
-
-pub finished_by : {L X M Y : Type 0} (loan : L → M) (message : X → Y) (uses : Uses L X) → uses_by loan message (finished uses) ≡ finished (uses_by loan message uses)
-finished_by loan message uses = refl
 
 connection_of_named : {X Y : Type 0} (message : X → Y) (connections : List (Connection X)) (index : ℕ)
     → get_or (map (connection_by message) connections) index nobody ≡ connection_by message (get_or connections index nobody)
@@ -123,16 +119,3 @@ first_by name test (x ∷ xs) = ap (λ n. cond (not (test (name x))) (1 + n) 0) 
 -- the first of a list that passes, by names
 pub position_by : {Y : Type 0} (name : ℕ → Y) (test : Y → Bool) (xs : List ℕ) → position test (map name xs) ≡ position (λ k. test (name k)) xs
 position_by name test xs = rw (first_by name test xs) (rw (length-map xs name) refl)
-
-many_by : {X Y : Type 0} (message : X → Y) (connections : List (Connection X)) → how_many (map (connection_by message) connections) ≡ how_many connections
-many_by message [] = refl
-many_by message (connection ∷ rest) = omega (
-  arith,
-  many_by message rest,
-  sum_by-cons (λ c. cond (is_there c) 1 0) (connection_by message connection) (map (connection_by message) rest),
-  sum_by-cons (λ c. cond (is_there c) 1 0) connection rest,
-)
-
--- the worst case doesn't depend on names
-pub worst_by : {L X M Y : Type 0} (loan : L → M) (message : X → Y) (uses : Uses L X) → worst_case (uses_by loan message uses) ≡ worst_case uses
-worst_by loan message uses = ap (λ n. n * (uses.most_waiting + uses.most_borrowed) + (uses.kept + uses.most_loans)) (many_by message uses.connections)

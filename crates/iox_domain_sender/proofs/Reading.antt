@@ -1,11 +1,10 @@
 -- What is read of loans and messages.
-use Rattle.std.proofs.Common.{rules, arith, ◌≡◌, ◌+◌, ◌<◌, ◌≤◌, ◌∷◌, [], ◌++◌, ◌&&◌, ℕ, zero, suc, Bool, true, false, if◌then◌else◌, List, length, get_or, set, map, slice_get, Option, None, Some, is_some, refl, sym, subst, ap, ◌∙◌}
+use Rattle.std.proofs.Common.{rules, arith, ◌≡◌, ◌<◌, ◌∷◌, [], ℕ, zero, suc, Bool, true, false, List, length, get_or, map, slice_get, None, Some, is_some, refl, sym, ap, ◌∙◌}
 use Rattle.std.specs.List.{list_all}
-use Rattle.iox_domain_slots.specs.Uses.{Uses, Connection, connection_at, begun}
-use Rattle.iox_domain_sender.specs.Payloads.{PayloadsState, payload_at}
+use Rattle.iox_domain_slots.specs.Uses.{Uses, connection_at, begun}
+use Rattle.iox_domain_sender.specs.Payloads.{payload_at}
 use Rattle.iox_domain_sender.specs.Messages.{Message, Loan, sent_as, written_of, is_written}
-use Rattle.iox_domain_sender.specs.Sending.{SenderState, Store, IsSender, seen_sender, with_uses, uses_by, connection_by, loan_in, message_in, masked}
-use Rattle.iox_domain_sender.specs.declared.slot_header.SlotHeader.{SlotHeader}
+use Rattle.iox_domain_sender.specs.Sending.{SenderState, Store, IsSender, seen_sender, with_uses, uses_by, loan_in, message_in, masked, is_written_loan}
 use Rattle.iox_domain_sender.proofs.Naming.{connection_at_by, begun_by}
 use Rattle.iox_domain_sender.proofs.Seen.{seen_step}
 
@@ -78,6 +77,12 @@ begin_seen store old new state at loan is sender there written made =
     let it = loan_is store old state at loan is there in
     let message : message_in store (get_or old.loans at 0) ≡ sent_as loan = becomes store old (get_or old.loans at 0) sender (sym (ap is_written it) ∙ written) ∙ sym (ap sent_as it) in
     seen_step store old new state (begun at (sent_as loan)) is (
-      ap (uses_by (loan_in store) (message_in store)) made ∙ begun_by (loan_in store) (message_in store) at (get_or old.loans at 0) old
-      ∙ ap (λ m. begun at m (uses_by (loan_in store) (message_in store) old)) message
+    ap (uses_by (loan_in store) (message_in store)) made ∙ begun_by (loan_in store) (message_in store) at (get_or old.loans at 0) old
+    ∙ ap (λ m. begun at m (uses_by (loan_in store) (message_in store) old)) message
     )
+
+-- the loan at a place is written if the one in its slot is
+pub written_at : {T U : Type 0} (store : Store T U) (xs : List ℕ) (at : ℕ) → at < length xs → is_written_loan (slice_get (map (loan_in store) xs) at) ≡ is_written (loan_in store (get_or xs at 0))
+written_at store [] at below = absurd (omega (arith, below))
+written_at store (x ∷ xs) zero below = refl
+written_at store (x ∷ xs) (suc at) below = written_at store xs at (omega (arith, below))

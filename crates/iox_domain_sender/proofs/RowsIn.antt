@@ -1,5 +1,5 @@
 -- Rows that stand in one list.
-use Rattle.std.proofs.Common.{rules, arith, ◌≡◌, ◌+◌, ◌*◌, ◌-◌, ◌<◌, ◌≤◌, ◌∷◌, [], ℕ, zero, suc, Bool, true, false, nat_lt, List, length, get_or, set, take, drop, replicate, refl, sym, subst, ap, ◌∙◌}
+use Rattle.std.proofs.Common.{arith, ◌≡◌, ◌+◌, ◌*◌, ◌<◌, ◌≤◌, ◌∷◌, [], ℕ, zero, suc, Bool, true, false, nat_lt, List, length, get_or, set, take, drop, replicate, refl, sym, ap, ◌∙◌}
 use Rattle.std.proofs.lemmas.List.{get_or-set_same, get_or_past, length-set, length-take-le, length-drop, drop-set-lt, drop-set-add, take-set-le}
 use Rattle.std.proofs.Math.Nat.{suc-mul}
 use Rattle.std.proofs.Math.Seq.{take-set-lt}
@@ -47,10 +47,10 @@ lengthened room [] values row count below = absurd (omega (arith, below))
 lengthened room (old ∷ lengths) values zero count below = ap (λ k. take count (drop k values) ∷ rows_in room lengths (drop room values)) (none room)
 lengthened room (old ∷ lengths) values (suc row) count below =
     ap (λ rest. take old values ∷ rest) (
-      lengthened room lengths (drop room values) row count (omega (arith, below))
-      ∙ ap (λ part. set (rows_in room lengths (drop room values)) row (take count part)) (
-        drop_more room (row * room) values ∙ ap (λ k. drop k values) (sym (one_more row room))
-      )
+    lengthened room lengths (drop room values) row count (omega (arith, below))
+    ∙ ap (λ part. set (rows_in room lengths (drop room values)) row (take count part)) (
+    drop_more room (row * room) values ∙ ap (λ k. drop k values) (sym (one_more row room))
+    )
     )
 
 -- a value is put at a place of a row
@@ -62,17 +62,17 @@ written room [] values row place value below fits inside = absurd (omega (arith,
 written room (count ∷ lengths) values zero place value below fits inside =
     let at : 0 * room + place ≡ place = omega arith in
     rw at (rw (take-set-lt count values place value inside) (
-      rw (drop-set-lt room values place value (omega (arith, inside, fits zero))) refl
+    rw (drop-set-lt room values place value (omega (arith, inside, fits zero))) refl
     ))
 written room (count ∷ lengths) values (suc row) place value below fits inside =
     let at : suc row * room + place ≡ room + (row * room + place) = omega (arith, one_more row room) in
     let first : count ≤ room + (row * room + place) = omega (arith, fits zero) in
     rw at (
-      rw (take-set-le count values (room + (row * room + place)) value first) (
-        rw (drop-set-add room values (row * room + place) value) (
-          ap (λ rest. take count values ∷ rest) (written room lengths (drop room values) row place value (omega (arith, below)) (λ k. fits (suc k)) inside)
-        )
-      )
+    rw (take-set-le count values (room + (row * room + place)) value first) (
+    rw (drop-set-add room values (row * room + place) value) (
+    ap (λ rest. take count values ∷ rest) (written room lengths (drop room values) row place value (omega (arith, below)) (λ k. fits (suc k)) inside)
+    )
+    )
     )
 
 -- rows without a value
@@ -83,14 +83,6 @@ rows_empty room (suc count) values = ap (λ rest. [] ∷ rest) (rows_empty room 
 -- a row with another length is as long as that
 pub row_length : {T : Type 0} (values : List T) (start count : ℕ) → start + count ≤ length values → length (take count (drop start values)) ≡ count
 row_length values start count fits = length-take-le count (drop start values) (omega (arith, fits, length-drop start values))
-
--- each row has room after one got another length
-pub all_within_set : (room : ℕ) (lengths : List ℕ) (row count : ℕ) → AllWithin room lengths → count ≤ room → AllWithin room (set lengths row count)
-all_within_set room [] row count fits few k = fits k
-all_within_set room (x ∷ lengths) zero count fits few zero = few
-all_within_set room (x ∷ lengths) zero count fits few (suc k) = fits (suc k)
-all_within_set room (x ∷ lengths) (suc row) count fits few zero = fits zero
-all_within_set room (x ∷ lengths) (suc row) count fits few (suc k) = all_within_set room lengths row count (λ j. fits (suc j)) few k
 
 -- a row that is seen is one that there is
 pub there_is : {T : Type 0} (state : RowsState T) (room : ℕ) (lengths : List ℕ) (values : List T) (row : ℕ)

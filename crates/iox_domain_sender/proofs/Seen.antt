@@ -1,14 +1,19 @@
 -- What is seen of a publisher after each step.
-use Rattle.std.proofs.Common.{rules, arith, ◌≡◌, ◌+◌, ◌<◌, ◌≤◌, ◌∷◌, [], ◌++◌, ℕ, Bool, true, false, is_some, option_map, List, length, get_or, set, map, Option, None, Some, Result, Ok, Err, IfOk, replicate, zero, suc, refl, sym, subst, ap, ◌∙◌}
+use Rattle.std.proofs.Common.{rules, arith, ◌≡◌, ◌+◌, ◌<◌, ◌∷◌, [], ◌++◌, ℕ, Bool, true, is_some, option_map, List, length, get_or, map, Option, None, Some, Result, Ok, Err, IfOk, replicate, zero, suc, refl, sym, ap, ◌∙◌, ◌==◌, nat_lt, ◌||◌, ◌&&◌, position, ◌≢◌, false, ◌≤◌}
 use Rattle.iox_domain_slots.specs.Uses.{Uses, Connection, connection_at, with_connection, offered, placed, connected}
 use Rattle.iox_domain_sender.specs.Messages.{Message, Loan}
 use Rattle.std.specs.declared.alloc.AllocError.{AllocError}
 use Rattle.std.specs.Option.{option_to_list}
 use Rattle.std.proofs.lemmas.List.{length-map, length-replicate}
-use Rattle.iox_domain_slots.specs.Uses.{in_use, held}
+use Rattle.iox_domain_slots.specs.Uses.{held}
 use Rattle.iox_domain_sender.specs.Payloads.{PayloadsState, payload_at}
 use Rattle.iox_domain_sender.specs.declared.slot_header.SlotHeader.{SlotHeader}
 use Rattle.iox_domain_slots.specs.Counting.{times}
+use Rattle.std.specs.List.{list_any, position_or_len}
+use Rattle.std.proofs.Math.Logic.{⊎_elim}
+use Rattle.std.proofs.Math.Dec.{eqb}
+use Rattle.std.proofs.lemmas.Bool.Decides.{eqb_tells}
+use Rattle.iox_domain_slots.proofs.Counts.{times_cons, one_same}
 use Rattle.iox_domain_slots.proofs.Publishing.{in_use_times}
 use Rattle.iox_domain_sender.specs.Sending.{SenderState, Store, IsSender, has_loan, has_place, seen_sender, with_uses, uses_by, connection_by, loan_in, message_in}
 use Rattle.iox_domain_sender.proofs.Writing.{lent_at, place_at}
@@ -29,8 +34,8 @@ pub seen_connection : {T U : Type 0} (store : Store T U) (old new : Uses ℕ ℕ
     → seen_sender store new ≡ with_uses (with_connection index (step state.uses) state.uses) state
 seen_connection store old new state index connection step is made named =
     seen_step store old new state (λ uses. with_connection index (step uses) uses) is (
-      ap (uses_by (loan_in store) (message_in store)) made ∙ with_connection_by (loan_in store) (message_in store) index connection old
-      ∙ ap (λ c. with_connection index c (uses_by (loan_in store) (message_in store) old)) named
+    ap (uses_by (loan_in store) (message_in store)) made ∙ with_connection_by (loan_in store) (message_in store) index connection old
+    ∙ ap (λ c. with_connection index c (uses_by (loan_in store) (message_in store) old)) named
     )
 
 none_of : {X Y : Type 0} (f : X → Y) (xs : List X) → map f xs ≡ [] → xs ≡ []
@@ -70,9 +75,9 @@ offer_seen {T = T} {U = U} store old new state index is made message sent = at o
         let one : Some (message_in store slot) ≡ Some message = ap (option_map (message_in store)) (sym same) ∙ seen in
         let is_it : message_in store slot ≡ message = search (rules, one) in
         seen_connection store old new state index (offered old.overflows slot (connection_at index old)) (λ uses. offered uses.overflows message (connection_at index uses)) is (made slot same) (
-          offered_by (message_in store) old.overflows slot (connection_at index old)
-          ∙ ap (λ m. offered old.overflows m (connection_by (message_in store) (connection_at index old))) is_it
-          ∙ ap (offered old.overflows message) (sym (connection_at_by (loan_in store) (message_in store) index old))
+        offered_by (message_in store) old.overflows slot (connection_at index old)
+        ∙ ap (λ m. offered old.overflows m (connection_by (message_in store) (connection_at index old))) is_it
+        ∙ ap (offered old.overflows message) (sym (connection_at_by (loan_in store) (message_in store) index old))
         )
 
 none_of_option : {X Y : Type 0} (f : X → Y) (one : Option X) → option_map f one ≡ None → one ≡ None
@@ -115,8 +120,8 @@ pub connect_seen : {T U : Type 0} (store : Store T U) (old new : Uses ℕ ℕ) (
 connect_seen store old new state limit (Err error) is made = made
 connect_seen store old new state limit (Ok index) is made =
     seen_step store old new state (λ uses. record uses { connections = placed index (connected limit) uses.connections }) is (
-      ap (uses_by (loan_in store) (message_in store)) made
-      ∙ ap (λ connections. record (uses_by (loan_in store) (message_in store) old) { connections = connections }) (placed_by (message_in store) index (connected limit) old.connections)
+    ap (uses_by (loan_in store) (message_in store)) made
+    ∙ ap (λ connections. record (uses_by (loan_in store) (message_in store) old) { connections = connections }) (placed_by (message_in store) index (connected limit) old.connections)
     )
 
 empty_at : {T : Type 0} (size slot : ℕ) → get_or {A = List T} (replicate size []) slot [] ≡ []
@@ -157,3 +162,90 @@ fresh {T = T} values written headers blank uses size room first size_is sending 
     ap (λ cs. times k (held cs)) connections,
   ));
 }
+
+pub lent_times : (xs : List ℕ) (at : ℕ) → at < length xs → 0 < times (get_or xs at 0) xs
+lent_times [] at below = absurd (omega (arith, below))
+lent_times (x ∷ xs) zero below = omega (arith, times_cons x x xs, one_same x)
+lent_times (x ∷ xs) (suc at) below = omega (arith, times_cons (get_or xs at 0) x xs, lent_times xs at (omega (arith, below)))
+
+same_test : (slot x : ℕ) → (x == slot) ≡ eqb slot x
+same_test slot x = ⊎_elim
+    (λ same. rw same.0 (let is : x ≡ slot = sym same.1 in grind (arith, is)))
+    (λ other. rw other.0 (at (x == slot) refl other.1))
+    (eqb_tells slot x)
+  where
+    at : (b : Bool) → (x == slot) ≡ b → slot ≢ x → (x == slot) ≡ false
+    at false is apart = is
+    at true is apart = let same : x ≡ slot = grind (arith, is) in absurd (apart (sym same))
+
+one_more_first : (slot x : ℕ) (xs : List ℕ) → nat_lt (position_or_len (λ other. other == slot) xs) (length xs) ≡ list_any (λ other. eqb slot other) xs
+    → (b : Bool) → (x == slot) ≡ b → nat_lt (position_or_len (λ other. other == slot) (x ∷ xs)) (length (x ∷ xs)) ≡ list_any (λ other. eqb slot other) (x ∷ xs)
+one_more_first slot x xs rest true is =
+    let first : nat_lt 0 (suc (length xs)) ≡ true = grind arith in
+    rw (sym (same_test slot x)) (rw is first)
+one_more_first slot x xs rest false is =
+    let further : nat_lt (1 + position_or_len (λ other. other == slot) xs) (suc (length xs)) ≡ nat_lt (position_or_len (λ other. other == slot) xs) (length xs) = grind arith in
+    rw (sym (same_test slot x)) (rw is (further ∙ rest))
+
+any_first : (slot : ℕ) (xs : List ℕ) → nat_lt (position_or_len (λ other. other == slot) xs) (length xs) ≡ list_any (λ other. eqb slot other) xs
+any_first slot [] = refl
+any_first slot (x ∷ xs) = one_more_first slot x xs (any_first slot xs) (x == slot) refl
+
+any_named : {T U : Type 0} (store : Store T U) (slot : ℕ) (xs : List ℕ) → list_any (λ loan. eqb slot loan.slot) (map (loan_in store) xs) ≡ list_any (λ other. eqb slot other) xs
+any_named store slot [] = refl
+any_named store slot (x ∷ xs) = ap (λ b. eqb slot x || b) (any_named store slot xs)
+
+some_first : (slot : ℕ) (xs : List ℕ) → is_some (position (λ other. other == slot) xs) ≡ nat_lt (position_or_len (λ other. other == slot) xs) (length xs)
+some_first slot xs = at (nat_lt (position_or_len (λ other. other == slot) xs) (length xs)) refl
+  where
+    at : (b : Bool) → nat_lt (position_or_len (λ other. other == slot) xs) (length xs) ≡ b → is_some (position (λ other. other == slot) xs) ≡ nat_lt (position_or_len (λ other. other == slot) xs) (length xs)
+    at true is = rw is refl
+    at false is = rw is refl
+
+-- a loan is found in a slot if one of the loans stands there
+pub lent_is : {T U : Type 0} (store : Store T U) (old : Uses ℕ ℕ) (state : SenderState T U) (slot : ℕ) → seen_sender store old ≡ state
+    → is_some (position (λ other. other == slot) old.loans) ≡ has_loan slot state.uses
+lent_is store old state slot is = some_first slot old.loans ∙ any_first slot old.loans ∙ sym (any_named store slot old.loans) ∙ ap (λ s. has_loan slot s.uses) is
+
+-- a place of a loan is one of the loan in its slot
+places_are : {T U : Type 0} (store : Store T U) (slot place : ℕ) (xs : List ℕ)
+    → list_any (λ loan. eqb slot loan.slot && nat_lt place (length loan.values)) (map (loan_in store) xs)
+    ≡ (list_any (λ loan. eqb slot loan.slot) (map (loan_in store) xs) && nat_lt place (length (loan_in store slot).values))
+places_are store slot place [] = refl
+places_are store slot place (x ∷ xs) = ⊎_elim
+    (λ same. rw same.0 (rw (sym same.1) (here (nat_lt place (length (loan_in store slot).values)) refl (places_are store slot place xs))))
+    (λ other. rw other.0 (places_are store slot place xs))
+    (eqb_tells slot x)
+  where
+    none : (b : Bool) → (b && false) ≡ false
+    none true = refl
+    none false = refl
+
+    here : (b : Bool) → nat_lt place (length (loan_in store slot).values) ≡ b
+        → list_any (λ loan. eqb slot loan.slot && nat_lt place (length loan.values)) (map (loan_in store) xs)
+        ≡ (list_any (λ loan. eqb slot loan.slot) (map (loan_in store) xs) && nat_lt place (length (loan_in store slot).values))
+        → (nat_lt place (length (loan_in store slot).values) || list_any (λ loan. eqb slot loan.slot && nat_lt place (length loan.values)) (map (loan_in store) xs))
+        ≡ nat_lt place (length (loan_in store slot).values)
+    here true is rest = rw is refl
+    here false is rest = rw rest (rw is (none (list_any (λ loan. eqb slot loan.slot) (map (loan_in store) xs))))
+
+pub place_is : {T U : Type 0} (store : Store T U) (old : Uses ℕ ℕ) (state : SenderState T U) (slot place : ℕ) → seen_sender store old ≡ state
+    → has_place slot place state.uses ≡ (has_loan slot state.uses && nat_lt place (length (loan_in store slot).values))
+place_is store old state slot place is =
+    ap (λ s. has_place slot place s.uses) (sym is) ∙ places_are store slot place old.loans
+    ∙ ap (λ s. has_loan slot s.uses && nat_lt place (length (loan_in store slot).values)) is
+
+no_loan : {T U : Type 0} (slot place : ℕ) (loans : List (Loan T U)) → list_any (λ loan. eqb slot loan.slot) loans ≡ false
+    → false ≡ list_any (λ loan. eqb slot loan.slot && nat_lt place (length loan.values)) loans
+no_loan slot place [] none = refl
+no_loan slot place (loan ∷ loans) none = at (eqb slot loan.slot) refl none (λ rest. no_loan slot place loans rest)
+  where
+    at : (b : Bool) → eqb slot loan.slot ≡ b → (eqb slot loan.slot || list_any (λ l. eqb slot l.slot) loans) ≡ false
+        → (list_any (λ l. eqb slot l.slot) loans ≡ false → false ≡ list_any (λ l. eqb slot l.slot && nat_lt place (length l.values)) loans)
+        → false ≡ ((eqb slot loan.slot && nat_lt place (length loan.values)) || list_any (λ l. eqb slot l.slot && nat_lt place (length l.values)) loans)
+    at true is none rest = let wrong = ap (λ b. b || list_any (λ l. eqb slot l.slot) loans) (sym is) ∙ none in search (rules, wrong)
+    at false is none rest = rw is (rest (ap (λ b. b || list_any (λ l. eqb slot l.slot) loans) (sym is) ∙ none))
+
+-- without a loan in a slot there is no place of one
+pub no_place : {T U : Type 0} (slot place : ℕ) (state : SenderState T U) → has_loan slot state.uses ≡ false → false ≡ has_place slot place state.uses
+no_place slot place state none = no_loan slot place state.uses.loans none

@@ -1,10 +1,10 @@
 -- Rows of several segments.
-use Rattle.std.proofs.Common.{rules, arith, ◌≡◌, ◌+◌, ◌*◌, ◌-◌, ◌/◌, ◌%◌, ◌<◌, ◌≤◌, ◌∷◌, [], ◌++◌, ℕ, zero, suc, Bool, true, false, nat_lt, List, length, length-append, get_or, set, replicate, refl, sym, subst, ap, ◌∙◌, append-nil, append_assoc}
+use Rattle.std.proofs.Common.{arith, ◌≡◌, ◌+◌, ◌*◌, ◌-◌, ◌/◌, ◌%◌, ◌<◌, ◌≤◌, ◌∷◌, [], ◌++◌, ℕ, zero, suc, Bool, true, false, nat_lt, List, length, length-append, get_or, set, replicate, refl, sym, ap, ◌∙◌, append-nil, append_assoc}
 use Rattle.std.proofs.Math.Nat.{div-add-mod, mod-lt, mul_comm, mul-le-mul_right}
 use Rattle.std.proofs.Math.Seq.{get_or-append_seam}
 use Rattle.std.proofs.Math.Logic.{⊎_elim}
 use Rattle.std.proofs.lemmas.Bool.Decides.{eqb_tells}
-use Rattle.std.proofs.lemmas.List.{get_or_append_left, get_or-append-add, get_or-set_same, get_or-set_other, get_or_past, length-set, set-append_left, set-append_right, length-replicate}
+use Rattle.std.proofs.lemmas.List.{get_or_append_left, get_or-append-add, get_or-set_same, get_or-set_other, get_or_past, length-set, set-append_left, set-append_right}
 use Rattle.iox_domain_sender.specs.Rows.{RowsState, row_at, with_row}
 use Rattle.iox_domain_sender.specs.Payloads.{PayloadsState, payload_at, with_payload, all_rows, no_rows, last_segment, AllOfSize}
 use Rattle.iox_domain_sender.proofs.RowsIn.{one_more}
@@ -85,20 +85,6 @@ changed size (first ∷ segments) slot (suc segment) row values all place =
     ap (λ rows. first.rows ++ rows) (changed size segments (slot - size) segment row values (rest_of_size size first segments all) rest)
     ∙ sym (set-append_right first.rows (all_rows segments) size slot values count past)
 
--- each segment has as many rows after that
-pub sizes_stay : {T : Type 0} (size : ℕ) (segments : List (RowsState T)) (segment row : ℕ) (values : List T) → AllOfSize size segments
-    → AllOfSize size (set segments segment (with_row row values (get_or segments segment no_rows)))
-sizes_stay size segments segment row values all index below = ⊎_elim
-    (λ same. rw same.1 (rw (get_or-set_same segments segment (with_row row values (get_or segments segment no_rows)) no_rows (there same.1))
-    (length-set (get_or segments segment no_rows).rows row values ∙ all segment (there same.1))))
-    (λ other. rw (get_or-set_other segments segment index (with_row row values (get_or segments segment no_rows)) no_rows other.1) (all index inside))
-    (eqb_tells index segment)
-  where
-    inside : index < length segments
-    inside = omega (arith, below, length-set segments segment (with_row row values (get_or segments segment no_rows)))
-    there : index ≡ segment → segment < length segments
-    there same = omega (arith, inside, same)
-
 -- the room of a segment stays
 room_at : {T : Type 0} (xs : List (RowsState T)) (index row : ℕ) (values : List T)
     → (get_or (set xs index (with_row row values (get_or xs index no_rows))) index no_rows).room ≡ (get_or xs index no_rows).room
@@ -110,9 +96,9 @@ pub room_stays : {T : Type 0} (segments : List (RowsState T)) (segment row : ℕ
     → (last_segment (set segments segment (with_row row values (get_or segments segment no_rows)))).room ≡ (last_segment segments).room
 room_stays segments segment row values =
     rw (length-set segments segment (with_row row values (get_or segments segment no_rows))) (⊎_elim
-      (λ same. rw same.1 (room_at segments segment row values))
-      (λ other. ap (λ s. s.room) (get_or-set_other segments segment (length segments - 1) (with_row row values (get_or segments segment no_rows)) no_rows other.1))
-      (eqb_tells (length segments - 1) segment))
+    (λ same. rw same.1 (room_at segments segment row values))
+    (λ other. ap (λ s. s.room) (get_or-set_other segments segment (length segments - 1) (with_row row values (get_or segments segment no_rows)) no_rows other.1))
+    (eqb_tells (length segments - 1) segment))
 
 -- what is seen of segments
 abbrev pub seen_of : {T : Type 0} → ℕ → List (RowsState T) → PayloadsState T

@@ -1,18 +1,18 @@
 -- A loan is written in its slot.
-use Rattle.std.proofs.Common.{rules, arith, ◌≡◌, ◌≢◌, ◌+◌, ◌<◌, ◌≤◌, ◌∷◌, [], ◌++◌, ◌&&◌, ◌||◌, ◌⊎◌, inl, inr, ℕ, zero, suc, Bool, true, false, cond, nat_lt, if◌then◌else◌, List, length, get_or, set, map, Option, None, Some, refl, sym, subst, ap, ◌∙◌}
+use Rattle.std.proofs.Common.{rules, arith, ◌≡◌, ◌≢◌, ◌+◌, ◌<◌, ◌∷◌, [], ◌&&◌, ◌||◌, ◌⊎◌, inl, inr, ℕ, zero, suc, Bool, true, false, cond, nat_lt, if◌then◌else◌, List, length, get_or, set, map, Option, None, Some, refl, sym, subst, ap, ◌∙◌}
 use Rattle.std.specs.Option.{option_to_list}
 use Rattle.std.specs.List.{list_any}
 use Rattle.std.proofs.Math.Logic.{⊎_elim}
 use Rattle.std.proofs.Math.Dec.{eqb}
 use Rattle.std.proofs.lemmas.Bool.Decides.{eqb_tells}
-use Rattle.std.proofs.lemmas.List.{get_or-set_same, get_or-set_other, length-set}
-use Rattle.iox_domain_slots.specs.Uses.{Uses, held, in_use}
+use Rattle.std.proofs.lemmas.List.{get_or-set_same, get_or-set_other}
+use Rattle.iox_domain_slots.specs.Uses.{Uses, held}
 use Rattle.iox_domain_slots.specs.Counting.{times}
-use Rattle.iox_domain_slots.proofs.Counts.{one, times_cons, one_same}
+use Rattle.iox_domain_slots.proofs.Counts.{times_cons}
 use Rattle.iox_domain_slots.proofs.Publishing.{in_use_times}
-use Rattle.iox_domain_sender.specs.Payloads.{PayloadsState, payload_at, with_payload}
-use Rattle.iox_domain_sender.specs.Messages.{Message, Loan, write_value, write_user_header}
-use Rattle.iox_domain_sender.specs.Sending.{SenderState, Store, IsSender, seen_sender, with_uses, uses_by, change_loan, has_loan, has_place, loan_in, message_in, masked}
+use Rattle.iox_domain_sender.specs.Payloads.{payload_at, with_payload}
+use Rattle.iox_domain_sender.specs.Messages.{Loan, write_value, write_user_header}
+use Rattle.iox_domain_sender.specs.Sending.{SenderState, Store, IsSender, seen_sender, with_uses, uses_by, change_loan, loan_in, message_in, masked}
 use Rattle.iox_domain_sender.specs.declared.slot_header.SlotHeader.{SlotHeader}
 use Rattle.iox_domain_sender.proofs.Agreeing.{messages_agree, other_uses}
 use Rattle.iox_domain_sender.proofs.Loaning.{loan_of, message_of, other_payload, this_payload}
@@ -43,11 +43,11 @@ pub place_at : {T U : Type 0} (store : Store T U) (slot place : ℕ) (xs : List 
 place_at store slot place [] is = search (rules, is)
 place_at store slot place (x ∷ xs) is = ⊎_elim
     (λ here.
-      let it = both (eqb slot x) (nat_lt place (length (loan_in store x).values)) here in
-      let less : place < length (loan_in store x).values = grind (arith, it.1) in (
-        omega (arith, times_cons slot x xs, ap {B = ℕ} (λ b. cond b 1 0) it.0),
-        subst (λ k. place < length (loan_in store k).values) (sym (same_of slot x it.0)) less,
-      ))
+    let it = both (eqb slot x) (nat_lt place (length (loan_in store x).values)) here in
+    let less : place < length (loan_in store x).values = grind (arith, it.1) in (
+      omega (arith, times_cons slot x xs, ap {B = ℕ} (λ b. cond b 1 0) it.0),
+      subst (λ k. place < length (loan_in store k).values) (sym (same_of slot x it.0)) less,
+    ))
     (λ later. let rest = place_at store slot place xs later in (omega (arith, times_cons slot x xs, rest.0), rest.1))
     (either (eqb slot x && nat_lt place (length (loan_in store x).values)) (list_any (λ loan. eqb slot loan.slot && nat_lt place (length loan.values)) (map (loan_in store) xs)) is)
 
@@ -84,9 +84,9 @@ loans_changed : {T U : Type 0} (old new : Store T U) (slot : ℕ) (change : Loan
 loans_changed old new slot change [] at = refl
 loans_changed old new slot change (x ∷ xs) at =
     ap (λ loan. loan ∷ map (loan_in new) xs) (⊎_elim
-      (λ same. rw same.0 (rw (sym same.1) at.loan))
-      (λ other. rw other.0 (at.loans x (λ same. other.1 (sym same))))
-      (eqb_tells slot x))
+    (λ same. rw same.0 (rw (sym same.1) at.loan))
+    (λ other. rw other.0 (at.loans x (λ same. other.1 (sym same))))
+    (eqb_tells slot x))
     ∙ ap (λ rest. (if eqb slot x then change (loan_in old x) else loan_in old x) ∷ rest) (loans_changed old new slot change xs at)
 
 -- one loan is seen to change
@@ -96,7 +96,7 @@ change_seen old new uses state slot change is sender lent at =
     ap (λ loans. record { room = new.values.room; user_header = new.blank.user_header; uses = other_uses loans (message_in new) uses }) (loans_changed old new slot change uses.loans at)
     ∙ ap (λ others. record { room = new.values.room; user_header = new.blank.user_header; uses = others })
     (messages_agree (map (λ loan. if eqb slot loan.slot then change loan else loan) (map (loan_in old) uses.loans)) (message_in new) (message_in old) uses
-      (λ k used. at.messages k (apart k used)))
+    (λ k used. at.messages k (apart k used)))
     ∙ ap (λ room. record { room = room; user_header = new.blank.user_header; uses = change_loan slot change (uses_by (loan_in old) (message_in old) uses) }) at.room
     ∙ ap (λ blank. record { room = old.values.room; user_header = blank.user_header; uses = change_loan slot change (uses_by (loan_in old) (message_in old) uses) }) at.blank
     ∙ ap (λ s. with_uses (change_loan slot change s.uses) s) is
@@ -171,29 +171,3 @@ header_written old new slot header user_header below made headers values written
   room = ap (λ v. v.room) values;
   blank = blank;
 }
-
--- what holds of a publisher holds after a value is written
-pub write_kept : {T U : Type 0} (old new : Store T U) (uses : Uses ℕ ℕ) (slot place : ℕ) (value : T) → IsSender old uses → slot < length old.values.payloads → slot < length old.written.payloads
-    → new.values ≡ with_payload slot (set (payload_at slot old.values) place value) old.values
-    → new.written ≡ with_payload slot (set (payload_at slot old.written) place true) old.written
-    → new.headers ≡ old.headers → IsSender new uses
-write_kept old new uses slot place value is below here values written headers = record {
-  values = ap (λ v. length v.payloads) values ∙ length-set old.values.payloads slot (set (payload_at slot old.values) place value) ∙ is.values;
-  written = ap (λ v. length v.payloads) written ∙ length-set old.written.payloads slot (set (payload_at slot old.written) place true) ∙ is.written;
-  headers = ap length headers ∙ is.headers;
-  values_size = ap (λ v. v.size) values ∙ is.values_size;
-  written_size = ap (λ v. v.size) written ∙ is.written_size;
-  room = ap (λ v. v.room) written ∙ is.room ∙ sym (ap (λ v. v.room) values);
-  marks = λ k. ⊎_elim (λ same. rw same.1 this) (λ other. that k other.1) (eqb_tells k slot);
-  sole = is.sole;
-  within = is.within;
-}
-  where
-    this : length (payload_at slot new.written) ≡ length (payload_at slot new.values)
-    this = ap length (this_payload old.written new.written slot (set (payload_at slot old.written) place true) written here)
-        ∙ length-set (payload_at slot old.written) place true ∙ is.marks slot ∙ sym (length-set (payload_at slot old.values) place value)
-        ∙ sym (ap length (this_payload old.values new.values slot (set (payload_at slot old.values) place value) values below))
-
-    that : (k : ℕ) → k ≢ slot → length (payload_at k new.written) ≡ length (payload_at k new.values)
-    that k apart = ap length (other_payload old.written new.written slot k (set (payload_at slot old.written) place true) written apart) ∙ is.marks k
-        ∙ sym (ap length (other_payload old.values new.values slot k (set (payload_at slot old.values) place value) values apart))

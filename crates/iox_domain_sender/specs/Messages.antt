@@ -1,5 +1,5 @@
 -- Messages and loans by what they hold.
-use Rattle.std.specs.Prelude.{ℕ, ◌+◌, ◌<◌, ◌≤◌, ◌≡◌, Bool, true, false, List, [], ◌∷◌, ◌++◌, length, get_or, set, replicate, is_some, Option, None, Some, if◌then◌else◌}
+use Rattle.std.specs.Prelude.{ℕ, Bool, List, [], ◌∷◌, set, replicate, is_some, Option, None, Some}
 use Rattle.std.specs.List.{list_all}
 
 -- A message: the slot that it stands in, which no other message in use has, the number of its elements, its user header and

@@ -1,5 +1,5 @@
 -- Rows of values, each in as much room as the others.
-use Rattle.std.specs.Prelude.{ℕ, ◌*◌, ◌<◌, ◌≤◌, ◌≡◌, List, [], ◌∷◌, length, get_or, set, take, drop}
+use Rattle.std.specs.Prelude.{ℕ, ◌≤◌, List, [], ◌∷◌, get_or, set, take, drop}
 
 -- rows of at most `room` values
 pub record RowsState (T : Type 0) : Type 0 where

@@ -1,9 +1,9 @@
 -- One publisher with its messages.
-use Rattle.std.specs.Prelude.{ℕ, ◌+◌, ◌<◌, ◌≤◌, ◌≡◌, Bool, true, false, List, [], ◌∷◌, ◌++◌, length, get_or, set, map, Option, None, Some, option_map, if◌then◌else◌, eqb, nat_lt, ◌&&◌}
+use Rattle.std.specs.Prelude.{false, ℕ, ◌+◌, ◌<◌, ◌≤◌, ◌≡◌, Bool, List, [], ◌∷◌, length, get_or, map, Option, None, Some, option_map, if◌then◌else◌, eqb, nat_lt, ◌&&◌, slice_get}
 use Rattle.std.specs.List.{list_any}
-use Rattle.iox_domain_slots.specs.Uses.{Uses, Connection, in_use, loaned, connection_at}
+use Rattle.iox_domain_slots.specs.Uses.{Uses, Connection, in_use, loaned}
 use Rattle.iox_domain_slots.specs.Counting.{times}
-use Rattle.iox_domain_sender.specs.Messages.{Message, Loan, new_loan}
+use Rattle.iox_domain_sender.specs.Messages.{Message, Loan, new_loan, is_written}
 use Rattle.iox_domain_sender.specs.Payloads.{PayloadsState, payload_at}
 use Rattle.iox_domain_sender.specs.declared.slot_header.SlotHeader.{SlotHeader}
 
@@ -66,6 +66,15 @@ has_loan slot uses = list_any (λ loan. eqb slot loan.slot) uses.loans
 -- one of the loans stands in this slot, and has this place
 abbrev pub has_place : {T U : Type 0} → ℕ → ℕ → Uses (Loan T U) (Message T U) → Bool
 has_place slot place uses = list_any (λ loan. eqb slot loan.slot && nat_lt place (length loan.values)) uses.loans
+
+-- whether a loan is written; no loan isn't
+abbrev pub is_written_loan : {T U : Type 0} → Option (Loan T U) → Bool
+is_written_loan None = false
+is_written_loan (Some loan) = is_written loan
+
+-- whether the loan at this place of the list is written
+abbrev pub is_written_at : {T U : Type 0} → ℕ → Uses (Loan T U) (Message T U) → Bool
+is_written_at at uses = is_written_loan (slice_get uses.loans at)
 
 -- What stands in the slots: the values, which of them are written, and what is told of them; a slot that there isn't has `blank`.
 pub record Store (T U : Type 0) : Type 0 where

@@ -3,12 +3,12 @@ ghost use Rattle.std.specs.Prelude.{◌≡◌, ℕ, ◌+◌, ◌<◌, ◌≤◌,
 ghost use Rattle.iox_domain_slots.specs.declared.stage.Stage.TheVariants as stage;
 ghost use Rattle.iox_domain_slots.specs.Uses.{Uses, nobody, placed, connected, is_there, worst_case, accepts, offered, taken, given_back, ended, welcomed, dropped, begun, finished, connection_at, with_connection};
 ghost use Rattle.std.specs.List.{list_all};
-ghost use Rattle.iox_domain_sender.specs.Messages.{Message, Loan, write_value, write_user_header, is_written, sent_as};
-ghost use Rattle.iox_domain_sender.specs.Sending.{SenderState, LoanMade, with_uses, change_loan, has_loan, has_place};
+ghost use Rattle.iox_domain_sender.specs.Messages.{Message, Loan, write_value, write_user_header, sent_as};
+ghost use Rattle.iox_domain_sender.specs.Sending.{SenderState, LoanMade, with_uses, change_loan, has_loan, has_place, is_written_at};
 
 use crate::payloads::Payloads;
-use crate::slot_header::SlotHeader;
 use crate::sender_config::SenderConfig;
+use crate::slot_header::SlotHeader;
 use iox_domain_slots::{SlotUses, Stage};
 use std::alloc::{AllocError, Global};
 use std::marker::Model;
@@ -128,12 +128,29 @@ impl<T: Copy, U: Copy> Sender<T, U> {
         self.headers[slot].user_header = user_header;
     }
 
-    /// Whether each value of the loan in this slot is written.
-    pub fn is_written(&self, slot: usize) -> bool
-        requires { has_loan slot self.now.uses ≡ true }
-        ensures { (at : ℕ) (loan : Loan T U) → slice_get self.now.uses.loans at ≡ Some loan → loan.slot ≡ slot → result ≡ is_written loan }
+    /// Whether each value of the loan at this place of the list is written: the condition of its send.
+    pub fn is_written(&self, at: usize) -> bool
+        requires { at < length self.now.uses.loans }
+        ensures { result ≡ is_written_at at self.now.uses }
     {
-        all_marked(self.written.values(slot))
+        all_marked(self.written.values(self.uses.lent(at)))
+    }
+
+    /// Whether a loan stands in this slot: the condition of writing its user header.
+    pub fn has_loan(&self, slot: usize) -> bool
+        ensures { result ≡ has_loan slot self.now.uses }
+    {
+        self.uses.place_of_loan(slot).is_some()
+    }
+
+    /// Whether a loan stands in this slot and has this place: the condition of writing there.
+    pub fn has_place(&self, slot: usize, place: usize) -> bool
+        ensures { result ≡ has_place slot place self.now.uses }
+    {
+        if !self.has_loan(slot) {
+            return false;
+        }
+        place < self.values.values(slot).len()
     }
 
     /// The value at a place of the loan in this slot, if it is written.
@@ -152,11 +169,18 @@ impl<T: Copy, U: Copy> Sender<T, U> {
     pub fn begin_send(&mut self, at: usize) -> usize
         requires loan { at < length self.old.uses.loans }
         requires alone { self.old.uses.sending ≡ None }
-        requires written { (loan : Loan T U) → slice_get self.old.uses.loans at ≡ Some loan → is_written loan ≡ true }
+        requires written { is_written_at at self.old.uses ≡ true }
         ensures slot { (loan : Loan T U) → slice_get self.old.uses.loans at ≡ Some loan → result ≡ loan.slot }
         ensures new { (loan : Loan T U) → slice_get self.old.uses.loans at ≡ Some loan → self.new ≡ with_uses (begun at (sent_as loan) self.old.uses) self.old }
     {
         self.uses.begin_send(at)
+    }
+
+    /// Whether there is such a slot: the condition of reading what stands there.
+    pub fn has_slot(&self, slot: usize) -> bool
+        ensures { result ≡ nat_lt slot (self.now.uses.first + self.now.uses.size) }
+    {
+        slot < self.headers.len()
     }
 
     /// The values of the message in this slot.
@@ -319,6 +343,13 @@ impl<T: Copy, U: Copy> Sender<T, U> {
         ensures { result ≡ is_some self.now.uses.sending }
     {
         self.uses.sending().is_some()
+    }
+
+    /// How many messages may wait at a connection at most.
+    pub fn most_waiting(&self) -> usize
+        ensures { result ≡ self.now.uses.most_waiting }
+    {
+        self.uses.most_waiting()
     }
 
     /// How many messages may be borrowed of a connection.

@@ -204,6 +204,14 @@ impl Slots {
         self.loans.iter().position(|other| *other == slot)
     }
 
+    /// The slot of the loan at this place of the list.
+    pub fn lent(&self, at: usize) -> usize
+        requires { at < length self.now.loans }
+        ensures { result ≡ get_or self.now.loans at 0 }
+    {
+        self.loans[at]
+    }
+
     /// How long the history is.
     pub fn history(&self) -> usize
         ensures { result ≡ length self.now.history }

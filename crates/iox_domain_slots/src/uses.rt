@@ -271,6 +271,14 @@ impl SlotUses {
         self.slots.place_of_loan(slot)
     }
 
+    /// The slot of the loan at this place of the list.
+    pub fn lent(&self, at: usize) -> usize
+        requires { at < length self.now.loans }
+        ensures { result ≡ get_or self.now.loans at 0 }
+    {
+        self.slots.lent(at)
+    }
+
     /// The slot that is being sent, if one is.
     pub fn sending(&self) -> Option<usize>
         ensures { result ≡ self.now.sending }

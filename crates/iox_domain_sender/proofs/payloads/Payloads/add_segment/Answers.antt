@@ -1,4 +1,4 @@
-use Rattle.std.proofs.Common.{rules, arith, ◌≡◌, ◌∙◌, ◌++◌, ◌∷◌, [], ap, sym}
+use Rattle.std.proofs.Common.{rules, ◌≡◌, ◌++◌, ◌∷◌, []}
 use Rattle.iox_domain_sender.proofs.Segments.{segment_added}
 use Rattle.iox_domain_sender.proofs.payloads.Payloads.add_segment.Goals as goal
 

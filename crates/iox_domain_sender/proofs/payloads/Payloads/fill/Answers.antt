@@ -1,8 +1,8 @@
-use Rattle.std.proofs.Common.{rules, arith, ◌≡◌, ◌+◌, ◌*◌, ◌-◌, ◌/◌, ◌%◌, ◌<◌, ◌≤◌, ◌∙◌, length, get_or, ap, sym, subst, set, replicate, ℕ}
+use Rattle.std.proofs.Common.{rules, arith, ◌≡◌, ◌/◌, ◌%◌, ◌∙◌, length, get_or, ap, replicate}
 use Rattle.std.proofs.lemmas.List.{get_or_default}
-use Rattle.iox_domain_sender.specs.Payloads.{PayloadsState, no_rows, payload_at, with_payload, last_segment}
-use Rattle.iox_domain_sender.specs.Rows.{row_at, with_row}
-use Rattle.iox_domain_sender.proofs.Segments.{seen_of, seen_placed, seen_changed, payload_changed, in_last, sizes_stay}
+use Rattle.iox_domain_sender.specs.Payloads.{no_rows}
+use Rattle.iox_domain_sender.specs.Rows.{with_row}
+use Rattle.iox_domain_sender.proofs.Segments.{seen_placed, seen_changed, in_last}
 use Rattle.iox_domain_sender.proofs.payloads.Payloads.fill.Goals as goal
 
 pub index_mut-segment-requires : goal.index_mut-segment-requires

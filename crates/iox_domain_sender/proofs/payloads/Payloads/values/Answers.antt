@@ -1,6 +1,6 @@
-use Rattle.std.proofs.Common.{rules, arith, ◌≡◌, ◌+◌, ◌*◌, ◌/◌, ◌%◌, ◌<◌, ◌≤◌, ◌∙◌, length, get_or, ap, sym, set, ℕ}
+use Rattle.std.proofs.Common.{rules, arith, ◌≡◌, ◌/◌, ◌%◌, ◌∙◌, length, get_or, ap, sym}
 use Rattle.std.proofs.lemmas.List.{get_or_default}
-use Rattle.iox_domain_sender.specs.Payloads.{no_rows, payload_at}
+use Rattle.iox_domain_sender.specs.Payloads.{no_rows}
 use Rattle.iox_domain_sender.specs.Rows.{row_at}
 use Rattle.iox_domain_sender.proofs.Segments.{seen_placed, seen_row}
 use Rattle.iox_domain_sender.proofs.payloads.Payloads.values.Goals as goal

@@ -1,8 +1,8 @@
-use Rattle.std.proofs.Common.{rules, arith, ◌≡◌, ◌+◌, ◌*◌, ◌-◌, ◌/◌, ◌%◌, ◌<◌, ◌≤◌, ◌∙◌, length, get_or, ap, sym, subst, set, ℕ}
+use Rattle.std.proofs.Common.{rules, arith, ◌≡◌, ◌/◌, ◌%◌, ◌∙◌, length, get_or, ap, sym, set}
 use Rattle.std.proofs.lemmas.List.{get_or_default}
-use Rattle.iox_domain_sender.specs.Payloads.{PayloadsState, no_rows, payload_at, with_payload, last_segment}
+use Rattle.iox_domain_sender.specs.Payloads.{no_rows, payload_at}
 use Rattle.iox_domain_sender.specs.Rows.{row_at, with_row}
-use Rattle.iox_domain_sender.proofs.Segments.{seen_of, seen_placed, seen_row, seen_changed, slot_within, sizes_stay}
+use Rattle.iox_domain_sender.proofs.Segments.{seen_placed, seen_row, seen_changed, slot_within}
 use Rattle.iox_domain_sender.proofs.payloads.Payloads.write.Goals as goal
 
 pub nonzero_rem-row : goal.nonzero_rem-row

@@ -1,4 +1,3 @@
-use Rattle.std.proofs.Common.{arith}
 use Rattle.iox_domain_sender.proofs.Filling.{fill_step}
 use Rattle.iox_domain_sender.proofs.rows.Rows.fill.Goals as goal
 

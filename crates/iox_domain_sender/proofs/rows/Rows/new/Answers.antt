@@ -1,4 +1,4 @@
-use Rattle.std.proofs.Common.{rules, ◌≡◌, ◌∙◌, ap, replicate, arith}
+use Rattle.std.proofs.Common.{rules, ◌≡◌, ap, replicate}
 use Rattle.iox_domain_sender.specs.Rows.{rows_in}
 use Rattle.iox_domain_sender.proofs.RowsIn.{rows_empty}
 use Rattle.iox_domain_sender.proofs.rows.Rows.new.Goals as goal

@@ -1,7 +1,6 @@
-use Rattle.std.proofs.Common.{rules, arith, ◌≡◌, ◌+◌, ◌*◌, ◌<◌, ◌≤◌, ◌∙◌, length, get_or, ap, sym, take, drop, set, ℕ}
-use Rattle.iox_domain_sender.specs.Rows.{RowsState, row_at, with_row, rows_in}
+use Rattle.std.proofs.Common.{rules, arith, ◌≡◌, ◌*◌, ◌≤◌, ◌∙◌, length, get_or, ap, sym, take, drop}
 use Rattle.std.proofs.lemmas.Grind.{get_or_default_zero}
-use Rattle.iox_domain_sender.proofs.RowsIn.{rows_length, row_within, row_seen, there_is}
+use Rattle.iox_domain_sender.proofs.RowsIn.{row_within, row_seen, there_is}
 use Rattle.iox_domain_sender.proofs.rows.Rows.row.Goals as goal
 
 pub overflow_mul-row : goal.overflow_mul-row

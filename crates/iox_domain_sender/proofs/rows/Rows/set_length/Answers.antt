@@ -1,6 +1,5 @@
-use Rattle.std.proofs.Common.{rules, arith, ◌≡◌, ◌+◌, ◌*◌, ◌<◌, ◌≤◌, ◌∙◌, length, get_or, ap, sym, take, drop, set, ℕ}
-use Rattle.iox_domain_sender.specs.Rows.{RowsState, row_at, with_row, rows_in}
-use Rattle.iox_domain_sender.proofs.RowsIn.{there_is, set_length_rest, set_length_count, all_within_set}
+use Rattle.std.proofs.Common.{rules, arith, ◌≤◌, ap}
+use Rattle.iox_domain_sender.proofs.RowsIn.{there_is, set_length_rest, set_length_count}
 use Rattle.iox_domain_sender.proofs.rows.Rows.set_length.Goals as goal
 
 pub index_mut-requires : goal.index_mut-requires

@@ -1,5 +1,4 @@
-use Rattle.std.proofs.Common.{rules, arith, ◌≡◌, ◌+◌, ◌*◌, ◌<◌, ◌≤◌, ◌∙◌, length, get_or, ap, sym, take, drop, set, ℕ}
-use Rattle.iox_domain_sender.specs.Rows.{RowsState, row_at, with_row, rows_in}
+use Rattle.std.proofs.Common.{rules}
 use Rattle.iox_domain_sender.proofs.RowsIn.{place_in_values, write_rest}
 use Rattle.iox_domain_sender.proofs.rows.Rows.write.Goals as goal
 

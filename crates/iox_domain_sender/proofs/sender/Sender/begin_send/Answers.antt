@@ -1,6 +1,5 @@
-use Rattle.std.proofs.Common.{rules, arith, ◌≡◌, ◌+◌, ◌<◌, ◌≤◌, ◌∙◌, ◌++◌, ◌∷◌, [], ℕ, Bool, true, false, if◌then◌else◌, length, get_or, ap, sym, subst, map, Some, None, Option, refl, set}
-use Rattle.iox_domain_slots.specs.Uses.{begun}
-use Rattle.iox_domain_sender.specs.Sending.{IsSender}
+use Rattle.std.proofs.Common.{◌∙◌, ap, sym, subst}
+use Rattle.iox_domain_sender.specs.Sending.{IsSender, is_written_loan}
 use Rattle.iox_domain_sender.proofs.Kept.{begin_kept}
 use Rattle.iox_domain_sender.proofs.Reading.{loan_is, begin_seen}
 use Rattle.iox_domain_sender.proofs.Seen.{none_sends, lent_below}
@@ -14,4 +13,4 @@ pub returns-clause-slot : goal.returns-clause-slot
 returns-clause-slot g c = λ loan there. c.begin_send.ensures.slot ∙ sym (ap (λ l. l.slot) (loan_is (record { values = c.self.inside.values; written = c.self.inside.written; headers = c.self.inside.headers.items; blank = c.self.inside.blank }) c.self.inside.uses c.args.self.now c.args.at loan c.self.view_is there))
 
 pub returns-clause-new : goal.returns-clause-new
-returns-clause-new g c = λ loan there. begin_seen (record { values = c.self.inside.values; written = c.self.inside.written; headers = c.self.inside.headers.items; blank = c.self.inside.blank }) c.self.inside.uses c.begin_send.new.self c.args.self.now c.args.at loan c.self.view_is c.self.invariant there (c.requires.written loan there) c.begin_send.ensures.new
+returns-clause-new g c = λ loan there. begin_seen (record { values = c.self.inside.values; written = c.self.inside.written; headers = c.self.inside.headers.items; blank = c.self.inside.blank }) c.self.inside.uses c.begin_send.new.self c.args.self.now c.args.at loan c.self.view_is c.self.invariant there (ap is_written_loan (sym there) ∙ c.requires.written) c.begin_send.ensures.new

@@ -1,4 +1,3 @@
-use Rattle.std.proofs.Common.{rules, arith, ◌≡◌, ◌+◌, ◌<◌, ◌≤◌, ◌∙◌, ◌++◌, ◌∷◌, ◌==◌, [], ℕ, Bool, true, false, if◌then◌else◌, length, get_or, ap, sym, subst, map, Some, None, Option, refl, set, position, replicate}
 use Rattle.iox_domain_sender.proofs.Kept.{connect_kept}
 use Rattle.iox_domain_sender.proofs.Seen.{connect_seen}
 use Rattle.iox_domain_sender.proofs.sender.Sender.connect.Goals as goal

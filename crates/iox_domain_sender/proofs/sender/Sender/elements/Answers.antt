@@ -1,4 +1,4 @@
-use Rattle.std.proofs.Common.{rules, arith, ◌≡◌, ◌+◌, ◌<◌, ◌≤◌, ◌∙◌, ◌++◌, ◌∷◌, [], ℕ, Bool, true, false, if◌then◌else◌, length, get_or, ap, sym, subst, map, Some, None, Option, refl, set}
+use Rattle.std.proofs.Common.{◌∙◌, ap}
 use Rattle.iox_domain_sender.proofs.Reading.{borrowed_is}
 use Rattle.iox_domain_sender.proofs.Seen.{slot_below}
 use Rattle.std.proofs.lemmas.List.{get_or_default}
@@ -7,6 +7,8 @@ use Rattle.iox_domain_sender.proofs.sender.Sender.elements.Goals as goal
 pub returns : goal.returns
 returns g c =
     let below = slot_below (record { values = c.self.inside.values; written = c.self.inside.written; headers = c.self.inside.headers.items; blank = c.self.inside.blank }) c.self.inside.uses c.args.self.now c.args.slot c.self.view_is c.self.invariant c.requires in
-    record { borrowed = λ index at message there stands.
-      ap (λ h. h.elements) (c.index.ensures ∙ get_or_default c.self.inside.headers.items c.args.slot c.index.result.now c.self.inside.blank below)
-      ∙ ap (λ m. m.elements) (borrowed_is (record { values = c.self.inside.values; written = c.self.inside.written; headers = c.self.inside.headers.items; blank = c.self.inside.blank }) c.self.inside.uses c.args.self.now c.args.slot index at message c.self.view_is there stands) }
+    record {
+      borrowed = λ index at message there stands.
+          ap (λ h. h.elements) (c.index.ensures ∙ get_or_default c.self.inside.headers.items c.args.slot c.index.result.now c.self.inside.blank below)
+          ∙ ap (λ m. m.elements) (borrowed_is (record { values = c.self.inside.values; written = c.self.inside.written; headers = c.self.inside.headers.items; blank = c.self.inside.blank }) c.self.inside.uses c.args.self.now c.args.slot index at message c.self.view_is there stands);
+    }

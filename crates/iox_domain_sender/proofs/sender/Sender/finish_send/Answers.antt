@@ -1,8 +1,4 @@
-use Rattle.std.proofs.Common.{rules, arith, ◌≡◌, ◌+◌, ◌<◌, ◌≤◌, ◌∙◌, ◌++◌, ◌∷◌, [], ℕ, length, get_or, ap, sym, subst, map, Some}
-use Rattle.std.specs.Option.{option_to_list}
-use Rattle.iox_domain_slots.specs.Counting.{times}
-use Rattle.iox_domain_slots.specs.Uses.{Uses, Connection, connection_at, with_connection, offered, taken, given_back, ended, welcomed, dropped, finished}
-use Rattle.iox_domain_sender.specs.Sending.{Store, loan_in, message_in, uses_by, connection_by, seen_sender}
+use Rattle.std.proofs.Common.{sym, subst}
 use Rattle.iox_domain_sender.specs.Sending.{IsSender}
 use Rattle.iox_domain_sender.proofs.Kept.{finish_kept}
 use Rattle.iox_domain_sender.proofs.sender.Sender.finish_send.Goals as goal

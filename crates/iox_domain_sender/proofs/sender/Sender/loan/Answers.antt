@@ -1,7 +1,6 @@
-use Rattle.std.proofs.Common.{rules, arith, ◌≡◌, ◌+◌, ◌<◌, ◌≤◌, ◌∙◌, ◌++◌, ◌∷◌, [], ℕ, length, get_or, ap, sym, subst, map, Some, None, refl, set}
-use Rattle.iox_domain_sender.specs.Payloads.{payload_at, with_payload}
+use Rattle.std.proofs.Common.{rules, ◌≡◌, sym, subst, None, refl, set}
 use Rattle.iox_domain_sender.specs.Sending.{LoanMade, seen_sender}
-use Rattle.iox_domain_sender.proofs.Loaning.{LoanPut, none_made, loan_made, loan_kept}
+use Rattle.iox_domain_sender.proofs.Loaning.{none_made, loan_made, loan_kept}
 use Rattle.iox_domain_sender.proofs.sender.Sender.loan.Goals as goal
 
 pub returns-in_err-slot-clause-step : goal.returns-in_err-slot-clause-step

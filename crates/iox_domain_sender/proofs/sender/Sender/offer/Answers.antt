@@ -1,4 +1,3 @@
-use Rattle.std.proofs.Common.{rules, arith, ◌≡◌, ◌+◌, ◌<◌, ◌≤◌, ◌∙◌, ◌++◌, ◌∷◌, [], ℕ, length, get_or, ap, sym, subst, map, Some}
 use Rattle.iox_domain_sender.proofs.Kept.{offer_kept}
 use Rattle.iox_domain_sender.proofs.Seen.{sends, offer_seen}
 use Rattle.iox_domain_sender.proofs.sender.Sender.offer.Goals as goal

@@ -1,4 +1,4 @@
-use Rattle.std.proofs.Common.{rules, arith, ◌≡◌, ◌+◌, ◌<◌, ◌≤◌, ◌∙◌, ◌++◌, ◌∷◌, [], ℕ, Bool, true, false, if◌then◌else◌, length, get_or, ap, sym, subst, map, Some, None, Option, refl, set}
+use Rattle.std.proofs.Common.{◌∙◌, ap}
 use Rattle.iox_domain_sender.proofs.Reading.{borrowed_is}
 use Rattle.iox_domain_sender.proofs.sender.Sender.payload.Goals as goal
 

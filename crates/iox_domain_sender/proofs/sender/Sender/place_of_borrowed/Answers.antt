@@ -1,4 +1,4 @@
-use Rattle.std.proofs.Common.{rules, arith, ◌≡◌, ◌+◌, ◌<◌, ◌≤◌, ◌∙◌, ◌++◌, ◌∷◌, ◌==◌, [], ℕ, Bool, true, false, if◌then◌else◌, length, get_or, ap, sym, subst, map, Some, None, Option, refl, set, position, replicate}
+use Rattle.std.proofs.Common.{◌∙◌, ◌==◌, ap, sym, position}
 use Rattle.iox_domain_slots.specs.Uses.{connection_at}
 use Rattle.iox_domain_sender.specs.Sending.{message_in, loan_in}
 use Rattle.iox_domain_sender.proofs.Naming.{position_by, connection_at_by}

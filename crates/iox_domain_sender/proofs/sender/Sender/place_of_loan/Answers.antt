@@ -1,4 +1,4 @@
-use Rattle.std.proofs.Common.{rules, arith, ◌≡◌, ◌+◌, ◌<◌, ◌≤◌, ◌∙◌, ◌++◌, ◌∷◌, ◌==◌, [], ℕ, Bool, true, false, if◌then◌else◌, length, get_or, ap, sym, subst, map, Some, None, Option, refl, set, position, replicate}
+use Rattle.std.proofs.Common.{◌∙◌, ◌==◌, ap, sym, position}
 use Rattle.iox_domain_sender.specs.Sending.{loan_in}
 use Rattle.iox_domain_sender.proofs.Naming.{position_by}
 use Rattle.iox_domain_sender.proofs.sender.Sender.place_of_loan.Goals as goal

@@ -1,8 +1,6 @@
-use Rattle.std.proofs.Common.{rules, arith, ◌≡◌, ◌+◌, ◌<◌, ◌≤◌, ◌∙◌, ◌++◌, ◌∷◌, [], ℕ, length, get_or, ap, sym, subst, map, Some}
-use Rattle.std.specs.Option.{option_to_list}
-use Rattle.iox_domain_slots.specs.Counting.{times}
-use Rattle.iox_domain_slots.specs.Uses.{Uses, Connection, connection_at, with_connection, offered, taken, given_back, ended, welcomed, dropped, finished}
-use Rattle.iox_domain_sender.specs.Sending.{Store, loan_in, message_in, uses_by, connection_by, seen_sender}
+use Rattle.std.proofs.Common.{arith, ◌∙◌, ap, sym, subst}
+use Rattle.iox_domain_slots.specs.Uses.{connection_at, taken}
+use Rattle.iox_domain_sender.specs.Sending.{loan_in, message_in}
 use Rattle.iox_domain_sender.specs.Sending.{IsSender}
 use Rattle.iox_domain_sender.proofs.Kept.{connection_kept, take_holds}
 use Rattle.iox_domain_sender.proofs.Naming.{connection_at_by, taken_by}

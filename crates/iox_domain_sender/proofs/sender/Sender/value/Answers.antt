@@ -1,7 +1,5 @@
-use Rattle.std.proofs.Common.{rules, arith, ◌≡◌, ◌+◌, ◌<◌, ◌≤◌, ◌∙◌, ◌++◌, ◌∷◌, [], ℕ, Bool, true, false, if◌then◌else◌, length, get_or, ap, sym, subst, map, Some, None, Option, refl, set}
-use Rattle.std.proofs.lemmas.List.{get_or_default}
+use Rattle.std.proofs.Common.{arith, ◌≡◌, ◌∙◌, true, false, length, get_or, ap, sym, Some, None}
 use Rattle.iox_domain_sender.specs.Payloads.{payload_at}
-use Rattle.iox_domain_sender.specs.Sending.{loan_in}
 use Rattle.iox_domain_sender.proofs.Reading.{loan_in_is, value_absent, value_present}
 use Rattle.iox_domain_sender.proofs.Writing.{value_there}
 use Rattle.iox_domain_sender.proofs.Seen.{place_lent, lent_slot}

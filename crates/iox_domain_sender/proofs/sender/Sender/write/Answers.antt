@@ -1,5 +1,5 @@
-use Rattle.std.proofs.Common.{rules, arith, ◌≡◌, ◌+◌, ◌<◌, ◌≤◌, ◌∙◌, ◌++◌, ◌∷◌, [], ℕ, Bool, true, false, if◌then◌else◌, length, get_or, ap, sym, subst, map, Some, None, Option, refl, set}
-use Rattle.iox_domain_sender.proofs.Writing.{place_at, value_there, value_written, write_kept, change_seen}
+use Rattle.std.proofs.Common.{arith, refl}
+use Rattle.iox_domain_sender.proofs.Writing.{value_there, value_written, change_seen}
 use Rattle.iox_domain_sender.specs.Messages.{write_value}
 use Rattle.iox_domain_sender.proofs.Seen.{place_lent, lent_slot}
 use Rattle.iox_domain_sender.proofs.sender.Sender.write.Goals as goal

@@ -1,4 +1,4 @@
-use Rattle.std.proofs.Common.{rules, arith, ◌≡◌, ◌+◌, ◌<◌, ◌≤◌, ◌∙◌, ◌++◌, ◌∷◌, [], ℕ, Bool, true, false, if◌then◌else◌, length, get_or, ap, sym, subst, map, Some, None, Option, refl, set}
+use Rattle.std.proofs.Common.{rules, arith, ◌≡◌, ◌<◌, ◌∙◌, length, get_or, refl, set}
 use Rattle.std.proofs.lemmas.List.{get_or_default}
 use Rattle.iox_domain_sender.specs.Messages.{write_user_header}
 use Rattle.iox_domain_sender.proofs.Writing.{same_with, header_written, change_seen}

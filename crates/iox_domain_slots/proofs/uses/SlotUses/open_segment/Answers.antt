@@ -1,4 +1,3 @@
-use Rattle.std.proofs.Common.{ap, sym, subst, ◌∙◌, ◌≡◌, ◌+◌, ◌++◌, replicate, Ok, Err, Result}
 use Rattle.iox_domain_slots.proofs.uses.SlotUses.open_segment.Goals as goal
 use Rattle.iox_domain_slots.proofs.Publishing.{tally_opened}
 

@@ -1,0 +1,136 @@
+//! The way of a message by what it holds.
+use iox_domain_sender::{Sender, SenderConfig};
+use iox_domain_slots::Stage;
+use std::alloc::{AllocError, Global};
+use std::test::Fail;
+
+// A publisher of so many slots with room for so many numbers, one loan, no history, and one message waiting and borrowed.
+fn publisher(alloc: Global, slots: usize, room: usize) -> Result<Sender<u64, u8>, AllocError> {
+    let config = SenderConfig {
+        overflows: true,
+        slots,
+        room,
+        most_loans: 2,
+        history: 0,
+        most_waiting: 1,
+        most_borrowed: 1,
+    };
+    Sender::new(alloc, config, 0, 7)
+}
+
+// Makes a connection of one message.
+fn join(sender: &mut Sender<u64, u8>, alloc: Global) -> Result<usize, AllocError> {
+    if sender.most_waiting() < 1 {
+        return Err(AllocError);
+    }
+    sender.connect(alloc, 1)
+}
+
+// Makes a loan of so many values.
+fn lend(sender: &mut Sender<u64, u8>, values: usize) -> usize {
+    if !sender.may_loan() || values > sender.room() {
+        return usize::MAX;
+    }
+    sender.loan(values, values as u64).unwrap_or(usize::MAX)
+}
+
+// Writes a value where a loan has that place.
+fn write(sender: &mut Sender<u64, u8>, slot: usize, place: usize, value: u64) -> bool {
+    if !sender.has_place(slot, place) {
+        return false;
+    }
+    sender.write(slot, place, value);
+    sender.value(slot, place) == Some(&value)
+}
+
+// Whether all values of a loan are written.
+fn is_whole(sender: &Sender<u64, u8>, slot: usize) -> bool {
+    let at = sender.place_of_loan(slot).unwrap_or(usize::MAX);
+    at < sender.loans() && sender.is_written(at)
+}
+
+// Sends a written loan to a connection; whether it was delivered.
+fn send(sender: &mut Sender<u64, u8>, slot: usize, index: usize) -> bool {
+    let at = sender.place_of_loan(slot).unwrap_or(usize::MAX);
+    if at >= sender.loans() || sender.is_sending() || !sender.is_written(at) {
+        return false;
+    }
+    let _slot = sender.begin_send(at);
+    if !sender.is_sending() || !matches!(sender.stage(index), Stage::Live) {
+        return false;
+    }
+    let took = sender.offer(index);
+    sender.finish_send();
+    took
+}
+
+// Borrows the oldest message that waits.
+fn receive(sender: &mut Sender<u64, u8>, index: usize) -> usize {
+    if !matches!(sender.stage(index), Stage::Live) || sender.waiting(index) == 0 {
+        return usize::MAX;
+    }
+    if sender.borrowed(index) >= sender.most_borrowed() {
+        return usize::MAX;
+    }
+    sender.take(index)
+}
+
+// Whether the message in a slot has these values, that user header and as many elements.
+fn reads(sender: &Sender<u64, u8>, slot: usize, values: &[u64], user_header: u8) -> bool {
+    sender.has_slot(slot)
+        && sender.payload(slot) == values
+        && *sender.user_header(slot) == user_header
+        && sender.elements(slot) == values.len() as u64
+}
+
+// Sends one message of three values, written from the last to the first; its slot.
+fn publish(sender: &mut Sender<u64, u8>, index: usize, first: u64) -> bool {
+    let slot = lend(sender, 3);
+    let early = is_whole(sender, slot);
+    let written = write(sender, slot, 2, first + 2) && write(sender, slot, 1, first + 1);
+    let half = is_whole(sender, slot) || send(sender, slot, index);
+    let whole = write(sender, slot, 0, first) && is_whole(sender, slot);
+    !early && written && !half && whole && send(sender, slot, index)
+}
+
+#[test]
+fn a_message_is_read_as_it_was_sent(rt: HostRuntime) -> Result<(), Fail> {
+    let mut sender = publisher(rt.alloc(), 4, 3)?;
+    let index = join(&mut sender, rt.alloc())?;
+    assert!(rt; publish(&mut sender, index, 10));
+    let held = receive(&mut sender, index);
+    assert!(rt; reads(&sender, held, &[10, 11, 12], 7));
+    for first in 20..26 {
+        assert!(rt; publish(&mut sender, index, first) && reads(&sender, held, &[10, 11, 12], 7));
+    }
+    Ok(())
+}
+
+#[test]
+fn a_user_header_is_its_loans_own(rt: HostRuntime) -> Result<(), Fail> {
+    let mut sender = publisher(rt.alloc(), 3, 1)?;
+    let index = join(&mut sender, rt.alloc())?;
+    let slot = lend(&mut sender, 1);
+    let other = lend(&mut sender, 0);
+    assert!(rt; slot != other && is_whole(&sender, other) && !write(&mut sender, other, 0, 5));
+    assert!(rt; sender.has_loan(slot) && !sender.has_loan(9) && lend(&mut sender, 0) == usize::MAX);
+    if sender.has_loan(slot) {
+        sender.write_user_header(slot, 9);
+    }
+    assert!(rt; write(&mut sender, slot, 0, 5) && send(&mut sender, slot, index));
+    let held = receive(&mut sender, index);
+    assert!(rt; held == slot && reads(&sender, held, &[5], 9));
+    Ok(())
+}
+
+#[test]
+fn ample_memory_is_never_wanting_to_publishers(rt: HostRuntime) -> Result<(), Fail> {
+    for slots in [0, 1, 2, 7, 64, 8192] {
+        for room in [0, 1, 2, 7, 64] {
+            let mut sender = publisher(rt.alloc(), slots, room)?;
+            let index = join(&mut sender, rt.alloc())?;
+            assert!(rt; index == 0 && sender.room() == room && sender.has_slot(slots) == false);
+        }
+    }
+    Ok(())
+}
