@@ -9,6 +9,7 @@ fn publisher(alloc: Global, slots: usize, room: usize) -> Result<Sender<u64, u8>
     let config = SenderConfig {
         overflows: true,
         slots,
+        most_segments: 2,
         room,
         most_loans: 2,
         history: 0,
@@ -40,7 +41,7 @@ fn write(sender: &mut Sender<u64, u8>, slot: usize, place: usize, value: u64) ->
         return false;
     }
     sender.write(slot, place, value);
-    sender.value(slot, place) == Some(&value)
+    sender.has_place(slot, place) && sender.value(slot, place) == Some(&value)
 }
 
 // Whether all values of a loan are written.
@@ -87,7 +88,8 @@ fn reads(sender: &Sender<u64, u8>, slot: usize, values: &[u64], user_header: u8)
 fn publish(sender: &mut Sender<u64, u8>, index: usize, first: u64) -> bool {
     let slot = lend(sender, 3);
     let early = is_whole(sender, slot);
-    let written = write(sender, slot, 2, first + 2) && write(sender, slot, 1, first + 1);
+    let written = write(sender, slot, 2, first.wrapping_add(2))
+        && write(sender, slot, 1, first.wrapping_add(1));
     let half = is_whole(sender, slot) || send(sender, slot, index);
     let whole = write(sender, slot, 0, first) && is_whole(sender, slot);
     !early && written && !half && whole && send(sender, slot, index)
@@ -120,6 +122,24 @@ fn a_user_header_is_its_loans_own(rt: HostRuntime) -> Result<(), Fail> {
     assert!(rt; write(&mut sender, slot, 0, 5) && send(&mut sender, slot, index));
     let held = receive(&mut sender, index);
     assert!(rt; held == slot && reads(&sender, held, &[5], 9));
+    Ok(())
+}
+
+#[test]
+fn a_segment_is_opened_for_longer_loans(rt: HostRuntime) -> Result<(), Fail> {
+    let mut sender = publisher(rt.alloc(), 3, 1)?;
+    let index = join(&mut sender, rt.alloc())?;
+    let first = lend(&mut sender, 1);
+    assert!(rt; write(&mut sender, first, 0, 5) && send(&mut sender, first, index));
+    let held = receive(&mut sender, index);
+    assert!(rt; lend(&mut sender, 3) == usize::MAX && sender.segments_left() == 1);
+    if sender.segments_left() > 0 {
+        sender.open_segment(rt.alloc(), 3, 0)?;
+    }
+    assert!(rt; sender.room() == 3 && sender.segments_left() == 0);
+    for number in 10..16 {
+        assert!(rt; publish(&mut sender, index, number) && reads(&sender, held, &[5], 7));
+    }
     Ok(())
 }
 

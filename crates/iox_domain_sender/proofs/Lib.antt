@@ -8,3 +8,4 @@ pub mod Agreeing
 pub mod Loaning
 pub mod Writing
 pub mod Reading
+pub mod Opening

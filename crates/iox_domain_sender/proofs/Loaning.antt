@@ -10,7 +10,7 @@ use Rattle.iox_domain_slots.proofs.Counts.{one, times_end, one_same, one_other}
 use Rattle.iox_domain_slots.proofs.Publishing.{in_use_times}
 use Rattle.iox_domain_sender.specs.Payloads.{PayloadsState, payload_at, with_payload}
 use Rattle.iox_domain_sender.specs.Messages.{Message, Loan, new_loan}
-use Rattle.iox_domain_sender.specs.Sending.{SenderState, Store, IsSender, LoanMade, seen_sender, slots_of, with_uses, uses_by, loan_in, message_in, masked}
+use Rattle.iox_domain_sender.specs.Sending.{SenderState, Store, IsSender, LoanMade, seen_sender, sender_of, slots_of, with_uses, uses_by, loan_in, message_in, masked}
 use Rattle.iox_domain_sender.specs.declared.slot_header.SlotHeader.{SlotHeader}
 use Rattle.iox_domain_sender.proofs.Agreeing.{uses_agree, slots_seen}
 use Rattle.iox_domain_sender.proofs.Naming.{loaned_by}
@@ -83,9 +83,9 @@ loan_made {T = T} {U = U} before store old new state slot count elements is send
   omega (arith, loan.1, ap (λ s. s.uses.first) is, ap (λ s. s.uses.size) is),
   omega (arith, loan.2, ap (λ uses. times slot (in_use uses)) (slots_seen before old), ap (λ s. times slot (in_use (slots_of s))) is),
   ap (seen_sender store) loan.3
-      ∙ ap (λ uses. record { room = store.values.room; user_header = store.blank.user_header; uses = uses }) named
-      ∙ ap (λ room. record { room = room; user_header = store.blank.user_header; uses = after }) (ap (λ v. v.room) put.values)
-      ∙ ap (λ blank. record { room = before.values.room; user_header = blank.user_header; uses = after }) put.blank
+      ∙ ap (λ uses. sender_of store.values store.blank uses) named
+      ∙ ap (λ values. sender_of values store.blank after) put.values
+      ∙ ap (λ blank. sender_of before.values blank after) put.blank
       ∙ ap (λ s. with_uses (loaned (new_loan slot count elements s.user_header) s.uses) s) is,
 )
   where
@@ -118,6 +118,8 @@ loan_kept before store old new slot count elements sender loan put = subst (IsSe
   values_size = ap (λ v. v.size) put.values ∙ sender.values_size;
   written_size = ap (λ v. v.size) put.written ∙ sender.written_size;
   room = ap (λ v. v.room) put.written ∙ sender.room ∙ sym (ap (λ v. v.room) put.values);
+  segments = ap (λ v. v.segments) put.written ∙ sender.segments ∙ sym (ap (λ v. v.segments) put.values);
+  most_segments = ap (λ v. v.most_segments) put.written ∙ sender.most_segments ∙ sym (ap (λ v. v.most_segments) put.values);
   marks = λ k. ⊎_elim (λ same. rw same.1 (marks_here)) (λ other. marks_there k other.1) (eqb_tells k slot);
   sole = λ k lent. ⊎_elim (λ same. rw same.1 (once)) (λ other. still k other.0 lent) (eqb_tells k slot);
   within = λ k used. ⊎_elim (λ same. rw same.1 loan.1) (λ other. sender.within k (omega (arith, used, counted k, one_other k slot other.0))) (eqb_tells k slot);

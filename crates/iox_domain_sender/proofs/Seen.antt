@@ -1,11 +1,12 @@
 -- What is seen of a publisher after each step.
-use Rattle.std.proofs.Common.{rules, arith, ◌≡◌, ◌+◌, ◌<◌, ◌∷◌, [], ◌++◌, ℕ, Bool, true, is_some, option_map, List, length, get_or, map, Option, None, Some, Result, Ok, Err, IfOk, replicate, zero, suc, refl, sym, ap, ◌∙◌, ◌==◌, nat_lt, ◌||◌, ◌&&◌, position, ◌≢◌, false, ◌≤◌}
+use Rattle.std.proofs.Common.{rules, arith, ◌≡◌, ◌+◌, ◌<◌, ◌∷◌, [], ◌++◌, ℕ, Bool, true, is_some, option_map, List, length, get_or, map, Option, None, Some, Result, Ok, Err, IfOk, replicate, zero, suc, refl, sym, ap, ◌∙◌, ◌==◌, nat_lt, ◌||◌, ◌&&◌, position, ◌≢◌, false}
 use Rattle.iox_domain_slots.specs.Uses.{Uses, Connection, connection_at, with_connection, offered, placed, connected}
 use Rattle.iox_domain_sender.specs.Messages.{Message, Loan}
 use Rattle.std.specs.declared.alloc.AllocError.{AllocError}
 use Rattle.std.specs.Option.{option_to_list}
 use Rattle.std.proofs.lemmas.List.{length-map, length-replicate}
 use Rattle.iox_domain_slots.specs.Uses.{held}
+use Rattle.iox_domain_sender.specs.Rows.{RowsState}
 use Rattle.iox_domain_sender.specs.Payloads.{PayloadsState, payload_at}
 use Rattle.iox_domain_sender.specs.declared.slot_header.SlotHeader.{SlotHeader}
 use Rattle.iox_domain_slots.specs.Counting.{times}
@@ -15,8 +16,9 @@ use Rattle.std.proofs.Math.Dec.{eqb}
 use Rattle.std.proofs.lemmas.Bool.Decides.{eqb_tells}
 use Rattle.iox_domain_slots.proofs.Counts.{times_cons, one_same}
 use Rattle.iox_domain_slots.proofs.Publishing.{in_use_times}
-use Rattle.iox_domain_sender.specs.Sending.{SenderState, Store, IsSender, has_loan, has_place, seen_sender, with_uses, uses_by, connection_by, loan_in, message_in}
+use Rattle.iox_domain_sender.specs.Sending.{SenderState, Store, IsSender, has_loan, has_place, seen_sender, sender_of, with_uses, uses_by, connection_by, loan_in, message_in}
 use Rattle.iox_domain_sender.proofs.Writing.{lent_at, place_at}
+use Rattle.iox_domain_sender.proofs.Segments.{with_segment}
 use Rattle.iox_domain_sender.proofs.Naming.{connection_at_by, with_connection_by, offered_by, placed_by}
 
 -- a step of the uses alone
@@ -24,7 +26,7 @@ pub seen_step : {T U : Type 0} (store : Store T U) (old new : Uses ℕ ℕ) (sta
     → seen_sender store old ≡ state → uses_by (loan_in store) (message_in store) new ≡ step (uses_by (loan_in store) (message_in store) old)
     → seen_sender store new ≡ with_uses (step state.uses) state
 seen_step store old new state step is named =
-    ap (λ uses. record { room = store.values.room; user_header = store.blank.user_header; uses = uses }) named ∙ ap (λ s. with_uses (step s.uses) s) is
+    ap (λ uses. sender_of store.values store.blank uses) named ∙ ap (λ s. with_uses (step s.uses) s) is
 
 -- a step of a connection
 pub seen_connection : {T U : Type 0} (store : Store T U) (old new : Uses ℕ ℕ) (state : SenderState T U) (index : ℕ)
@@ -129,27 +131,27 @@ empty_at zero slot = refl
 empty_at (suc size) zero = refl
 empty_at (suc size) (suc slot) = empty_at size slot
 
-abbrev with_segment : {T : Type 0} → ℕ → PayloadsState T → PayloadsState T
-with_segment room payloads = record payloads { room = room; payloads = payloads.payloads ++ replicate payloads.size [] }
-
 -- the slots of a first segment
-pub first_segment : {T : Type 0} (new old : PayloadsState T) (size room : ℕ) → new ≡ with_segment room old → old ≡ (record { size = size; room = 0; payloads = [] })
-    → new ≡ (record { size = size; room = room; payloads = [] ++ replicate size [] })
-first_segment new old size room made is = made ∙ ap (λ payloads. with_segment room payloads) is
+pub first_segment : {T : Type 0} (new old : PayloadsState T) (segment : RowsState T) (size most room : ℕ) → new ≡ with_segment segment old
+    → old ≡ (record { size = size; segments = 0; most_segments = most; room = 0; payloads = [] }) → segment ≡ (record { room = room; rows = replicate size [] })
+    → new ≡ (record { size = size; segments = 0 + 1; most_segments = most; room = room; payloads = [] ++ replicate size [] })
+first_segment new old segment size most room made is rows = made ∙ ap (with_segment segment) is ∙ ap (λ s. with_segment s (record { size = size; segments = 0; most_segments = most; room = 0; payloads = [] })) rows
 
 -- a publisher that was just made
-pub fresh : {T U : Type 0} (values : PayloadsState T) (written : PayloadsState Bool) (headers : List (SlotHeader U)) (blank : SlotHeader U) (uses : Uses ℕ ℕ) (size room : ℕ)
+pub fresh : {T U : Type 0} (values : PayloadsState T) (written : PayloadsState Bool) (headers : List (SlotHeader U)) (blank : SlotHeader U) (uses : Uses ℕ ℕ) (size most room : ℕ)
     → uses.first ≡ 0 → uses.size ≡ size → uses.sending ≡ None → uses.loans ≡ [] → uses.history ≡ [] → uses.connections ≡ []
-    → values ≡ (record { size = size; room = room; payloads = [] ++ replicate size [] })
-    → written ≡ (record { size = size; room = room; payloads = [] ++ replicate size [] })
+    → values ≡ (record { size = size; segments = 0 + 1; most_segments = most; room = room; payloads = [] ++ replicate size [] })
+    → written ≡ (record { size = size; segments = 0 + 1; most_segments = most; room = room; payloads = [] ++ replicate size [] })
     → length headers ≡ size → IsSender (record { values = values; written = written; headers = headers; blank = blank }) uses
-fresh {T = T} values written headers blank uses size room first size_is sending loans history connections values_are marks headers_are = record {
+fresh {T = T} values written headers blank uses size most room first size_is sending loans history connections values_are marks headers_are = record {
   values = omega (arith, first, size_is, ap (λ v. length v.payloads) values_are, length-replicate {A = List T} size []);
   written = omega (arith, first, size_is, ap (λ v. length v.payloads) marks, length-replicate {A = List Bool} size []);
   headers = omega (arith, first, size_is, headers_are);
   values_size = ap (λ v. v.size) values_are ∙ sym size_is;
   written_size = ap (λ v. v.size) marks ∙ sym size_is;
   room = ap (λ v. v.room) marks ∙ sym (ap (λ v. v.room) values_are);
+  segments = ap (λ v. v.segments) marks ∙ sym (ap (λ v. v.segments) values_are);
+  most_segments = ap (λ v. v.most_segments) marks ∙ sym (ap (λ v. v.most_segments) values_are);
   marks = λ k. ap (λ v. length (payload_at k v)) marks ∙ ap length (empty_at {T = Bool} size k) ∙ sym (ap (λ v. length (payload_at k v)) values_are ∙ ap length (empty_at {T = T} size k));
   sole = λ k lent. absurd (omega (arith, lent, ap (times k) loans));
   within = λ k used. absurd (omega (

@@ -1,5 +1,5 @@
 -- Rows of several segments.
-use Rattle.std.proofs.Common.{arith, ◌≡◌, ◌+◌, ◌*◌, ◌-◌, ◌/◌, ◌%◌, ◌<◌, ◌≤◌, ◌∷◌, [], ◌++◌, ℕ, zero, suc, Bool, true, false, nat_lt, List, length, length-append, get_or, set, replicate, refl, sym, ap, ◌∙◌, append-nil, append_assoc}
+use Rattle.std.proofs.Common.{subst, arith, ◌≡◌, ◌+◌, ◌*◌, ◌-◌, ◌/◌, ◌%◌, ◌<◌, ◌≤◌, ◌∷◌, [], ◌++◌, ℕ, zero, suc, Bool, true, false, nat_lt, List, length, length-append, get_or, set, refl, sym, ap, ◌∙◌, append-nil, append_assoc}
 use Rattle.std.proofs.Math.Nat.{div-add-mod, mod-lt, mul_comm, mul-le-mul_right}
 use Rattle.std.proofs.Math.Seq.{get_or-append_seam}
 use Rattle.std.proofs.Math.Logic.{⊎_elim}
@@ -101,37 +101,57 @@ room_stays segments segment row values =
     (eqb_tells (length segments - 1) segment))
 
 -- what is seen of segments
-abbrev pub seen_of : {T : Type 0} → ℕ → List (RowsState T) → PayloadsState T
-seen_of size segments = record { size = size; room = (last_segment segments).room; payloads = all_rows segments }
+abbrev pub seen_of : {T : Type 0} → ℕ → ℕ → List (RowsState T) → PayloadsState T
+seen_of size most segments = record { size = size; segments = length segments; most_segments = most; room = (last_segment segments).room; payloads = all_rows segments }
 
-pub seen_placed : {T : Type 0} (state : PayloadsState T) (size : ℕ) (segments : List (RowsState T)) (slot : ℕ) → seen_of size segments ≡ state
+pub seen_placed : {T : Type 0} (state : PayloadsState T) (size most : ℕ) (segments : List (RowsState T)) (slot : ℕ) → seen_of size most segments ≡ state
     → AllOfSize size segments → slot < length state.payloads → Placed size segments slot (slot / size) (slot % size)
-seen_placed state size segments slot is all below = placed size segments slot all (omega (arith, below, ap (λ s. length s.payloads) is))
+seen_placed state size most segments slot is all below = placed size segments slot all (omega (arith, below, ap (λ s. length s.payloads) is))
 
-pub seen_row : {T : Type 0} (state : PayloadsState T) (size : ℕ) (segments : List (RowsState T)) (slot : ℕ) → seen_of size segments ≡ state
+pub seen_row : {T : Type 0} (state : PayloadsState T) (size most : ℕ) (segments : List (RowsState T)) (slot : ℕ) → seen_of size most segments ≡ state
     → AllOfSize size segments → Placed size segments slot (slot / size) (slot % size)
     → payload_at slot state ≡ row_at (slot % size) (get_or segments (slot / size) no_rows)
-seen_row state size segments slot is all place = ap (payload_at slot) (sym is) ∙ read size segments slot (slot / size) (slot % size) all place
+seen_row state size most segments slot is all place = ap (payload_at slot) (sym is) ∙ read size segments slot (slot / size) (slot % size) all place
 
--- a segment without a value behind others
-rows_behind : {T : Type 0} (room size : ℕ) (xs : List (RowsState T)) → all_rows (xs ++ (record { room = room; rows = replicate size [] }) ∷ []) ≡ all_rows xs ++ replicate size []
-rows_behind room size [] = append-nil (replicate size [])
-rows_behind room size (x ∷ xs) = ap (λ rows. x.rows ++ rows) (rows_behind room size xs) ∙ sym (append_assoc x.rows (all_rows xs) (replicate size []))
+-- a segment behind others
+rows_behind : {T : Type 0} (segment : RowsState T) (xs : List (RowsState T)) → all_rows (xs ++ segment ∷ []) ≡ all_rows xs ++ segment.rows
+rows_behind segment [] = append-nil segment.rows
+rows_behind segment (x ∷ xs) = ap (λ rows. x.rows ++ rows) (rows_behind segment xs) ∙ sym (append_assoc x.rows (all_rows xs) segment.rows)
 
-room_of_last : {T : Type 0} (room size : ℕ) (xs : List (RowsState T)) → (last_segment (xs ++ (record { room = room; rows = replicate size [] }) ∷ [])).room ≡ room
-room_of_last room size xs =
-    let count : length (xs ++ (record { room = room; rows = replicate size [] }) ∷ []) - 1 ≡ length xs = omega (arith, length-append xs ((record { room = room; rows = replicate size [] }) ∷ [])) in
-    rw count (ap (λ s. s.room) (get_or-append_seam xs (record { room = room; rows = replicate size [] }) [] no_rows))
+last_behind : {T : Type 0} (segment : RowsState T) (xs : List (RowsState T)) → last_segment (xs ++ segment ∷ []) ≡ segment
+last_behind segment xs =
+    let count : length (xs ++ segment ∷ []) - 1 ≡ length xs = omega (arith, length-append xs (segment ∷ [])) in
+    rw count (get_or-append_seam xs segment [] no_rows)
+
+-- a segment comes behind the others
+abbrev pub with_segment : {T : Type 0} → RowsState T → PayloadsState T → PayloadsState T
+with_segment segment state = record state { segments = state.segments + 1; room = segment.room; payloads = state.payloads ++ segment.rows }
 
 -- a segment is added behind the others
-pub segment_added : {T : Type 0} (state : PayloadsState T) (size room : ℕ) (old new : List (RowsState T)) (added : RowsState T) → seen_of size old ≡ state
-    → new ≡ old ++ added ∷ [] → added ≡ (record { room = room; rows = replicate size [] })
-    → seen_of size new ≡ record { size = state.size; room = room; payloads = state.payloads ++ replicate state.size [] }
-segment_added state size room old new added is pushed made =
-    ap (seen_of size) pushed ∙ ap (λ a. seen_of size (old ++ a ∷ [])) made
-    ∙ ap (λ rows. record { size = size; room = (last_segment (old ++ (record { room = room; rows = replicate size [] }) ∷ [])).room; payloads = rows }) (rows_behind room size old)
-    ∙ ap (λ r. record { size = size; room = r; payloads = all_rows old ++ replicate size [] }) (room_of_last room size old)
-    ∙ ap (λ s. record { size = s.size; room = room; payloads = s.payloads ++ replicate s.size [] }) is
+pub segment_added : {T : Type 0} (state : PayloadsState T) (size most : ℕ) (old new : List (RowsState T)) (added : RowsState T) → seen_of size most old ≡ state
+    → new ≡ old ++ added ∷ []
+    → seen_of size most new ≡ with_segment added state
+segment_added state size most old new added is pushed =
+    ap (seen_of size most) pushed
+    ∙ ap (λ count. record (seen_of size most (old ++ added ∷ [])) { segments = count }) (length-append old (added ∷ []))
+    ∙ ap (λ rows. record (seen_of size most (old ++ added ∷ [])) { segments = length old + 1; payloads = rows }) (rows_behind added old)
+    ∙ ap (λ last. record { size = size; segments = length old + 1; most_segments = most; room = last.room; payloads = all_rows old ++ added.rows }) (last_behind added old)
+    ∙ ap (with_segment added) is
+
+all_behind : {T : Type 0} (size : ℕ) (segment : RowsState T) (xs : List (RowsState T)) → AllOfSize size xs → length segment.rows ≡ size → AllOfSize size (xs ++ segment ∷ [])
+all_behind size segment xs all long index below = at (nat_lt index (length xs)) refl
+  where
+    at : (inside : Bool) → nat_lt index (length xs) ≡ inside → length (get_or (xs ++ segment ∷ []) index no_rows).rows ≡ size
+    at true is =
+        let within : index < length xs = grind (arith, is) in
+        ap (λ s. length s.rows) (get_or_append_left xs (segment ∷ []) no_rows index within) ∙ all index within
+    at false is =
+        let past : length xs ≤ index = grind (arith, is) in
+        let same : index ≡ length xs = omega (arith, past, below, length-append xs (segment ∷ [])) in
+        rw same (ap (λ s. length s.rows) (get_or-append_seam xs segment [] no_rows) ∙ long)
+
+pub sizes_with : {T : Type 0} (size : ℕ) (segment : RowsState T) (old new : List (RowsState T)) → AllOfSize size old → length segment.rows ≡ size → new ≡ old ++ segment ∷ [] → AllOfSize size new
+sizes_with size segment old new all long is = subst (AllOfSize size) (sym is) (all_behind size segment old all long)
 
 -- a slot of the last segment stands there
 pub in_last : {T : Type 0} (size : ℕ) (segments : List (RowsState T)) (slot segment row : ℕ) → AllOfSize size segments → Placed size segments slot segment row
@@ -147,14 +167,16 @@ in_last size segments slot segment row all place last = at (nat_lt (segment + 1)
         omega (arith, end, place.segment_is)
 
 -- other values in a slot, as it is seen
-pub seen_changed : {T : Type 0} (state : PayloadsState T) (size : ℕ) (segments : List (RowsState T)) (slot : ℕ) (values : List T) (new : RowsState T)
-    → seen_of size segments ≡ state → AllOfSize size segments → Placed size segments slot (slot / size) (slot % size)
+pub seen_changed : {T : Type 0} (state : PayloadsState T) (size most : ℕ) (segments : List (RowsState T)) (slot : ℕ) (values : List T) (new : RowsState T)
+    → seen_of size most segments ≡ state → AllOfSize size segments → Placed size segments slot (slot / size) (slot % size)
     → new ≡ with_row (slot % size) values (get_or segments (slot / size) no_rows)
-    → seen_of size (set segments (slot / size) new) ≡ with_payload slot values state
-seen_changed state size segments slot values new is all place made =
-    ap (λ n. seen_of size (set segments (slot / size) n)) made
-    ∙ ap (λ r. record { size = size; room = r; payloads = all_rows (set segments (slot / size) (with_row (slot % size) values (get_or segments (slot / size) no_rows))) }) (room_stays segments (slot / size) (slot % size) values)
-    ∙ ap (λ rows. record { size = size; room = (last_segment segments).room; payloads = rows }) (changed size segments slot (slot / size) (slot % size) values all place)
+    → seen_of size most (set segments (slot / size) new) ≡ with_payload slot values state
+seen_changed state size most segments slot values new is all place made =
+    ap (λ n. seen_of size most (set segments (slot / size) n)) made
+    ∙ ap (λ count. record (seen_of size most (set segments (slot / size) (with_row (slot % size) values (get_or segments (slot / size) no_rows)))) { segments = count })
+    (length-set segments (slot / size) (with_row (slot % size) values (get_or segments (slot / size) no_rows)))
+    ∙ ap (λ r. record { size = size; segments = length segments; most_segments = most; room = r; payloads = all_rows (set segments (slot / size) (with_row (slot % size) values (get_or segments (slot / size) no_rows))) }) (room_stays segments (slot / size) (slot % size) values)
+    ∙ ap (λ rows. record { size = size; segments = length segments; most_segments = most; room = (last_segment segments).room; payloads = rows }) (changed size segments slot (slot / size) (slot % size) values all place)
     ∙ ap (with_payload slot values) is
 
 -- what stands in a slot whose values were changed

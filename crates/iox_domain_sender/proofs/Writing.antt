@@ -11,8 +11,8 @@ use Rattle.iox_domain_slots.specs.Counting.{times}
 use Rattle.iox_domain_slots.proofs.Counts.{times_cons}
 use Rattle.iox_domain_slots.proofs.Publishing.{in_use_times}
 use Rattle.iox_domain_sender.specs.Payloads.{payload_at, with_payload}
-use Rattle.iox_domain_sender.specs.Messages.{Loan, write_value, write_user_header}
-use Rattle.iox_domain_sender.specs.Sending.{SenderState, Store, IsSender, seen_sender, with_uses, uses_by, change_loan, loan_in, message_in, masked}
+use Rattle.iox_domain_sender.specs.Messages.{Message, Loan, write_value, write_user_header}
+use Rattle.iox_domain_sender.specs.Sending.{SenderState, Store, IsSender, seen_sender, sender_of, with_uses, uses_by, change_loan, loan_in, message_in, masked}
 use Rattle.iox_domain_sender.specs.declared.slot_header.SlotHeader.{SlotHeader}
 use Rattle.iox_domain_sender.proofs.Agreeing.{messages_agree, other_uses}
 use Rattle.iox_domain_sender.proofs.Loaning.{loan_of, message_of, other_payload, this_payload}
@@ -76,7 +76,7 @@ pub record ChangedAt {T U : Type 0} (old : Store T U) (slot : ℕ) (change : Loa
   pub loans : (k : ℕ) → k ≢ slot → loan_in new k ≡ loan_in old k
   pub messages : (k : ℕ) → k ≢ slot → message_in new k ≡ message_in old k
   pub loan : loan_in new slot ≡ change (loan_in old slot)
-  pub room : new.values.room ≡ old.values.room
+  pub frame : (blank : SlotHeader U) (uses : Uses (Loan T U) (Message T U)) → sender_of new.values blank uses ≡ sender_of old.values blank uses
   pub blank : new.blank ≡ old.blank
 
 loans_changed : {T U : Type 0} (old new : Store T U) (slot : ℕ) (change : Loan T U → Loan T U) (xs : List ℕ) → ChangedAt old slot change new
@@ -93,12 +93,12 @@ loans_changed old new slot change (x ∷ xs) at =
 pub change_seen : {T U : Type 0} (old new : Store T U) (uses : Uses ℕ ℕ) (state : SenderState T U) (slot : ℕ) (change : Loan T U → Loan T U) → seen_sender old uses ≡ state
     → IsSender old uses → 0 < times slot uses.loans → ChangedAt old slot change new → seen_sender new uses ≡ with_uses (change_loan slot change state.uses) state
 change_seen old new uses state slot change is sender lent at =
-    ap (λ loans. record { room = new.values.room; user_header = new.blank.user_header; uses = other_uses loans (message_in new) uses }) (loans_changed old new slot change uses.loans at)
-    ∙ ap (λ others. record { room = new.values.room; user_header = new.blank.user_header; uses = others })
+    ap (λ loans. sender_of new.values new.blank (other_uses loans (message_in new) uses)) (loans_changed old new slot change uses.loans at)
+    ∙ ap (λ others. sender_of new.values new.blank others)
     (messages_agree (map (λ loan. if eqb slot loan.slot then change loan else loan) (map (loan_in old) uses.loans)) (message_in new) (message_in old) uses
     (λ k used. at.messages k (apart k used)))
-    ∙ ap (λ room. record { room = room; user_header = new.blank.user_header; uses = change_loan slot change (uses_by (loan_in old) (message_in old) uses) }) at.room
-    ∙ ap (λ blank. record { room = old.values.room; user_header = blank.user_header; uses = change_loan slot change (uses_by (loan_in old) (message_in old) uses) }) at.blank
+    ∙ at.frame new.blank (change_loan slot change (uses_by (loan_in old) (message_in old) uses))
+    ∙ ap (λ blank. sender_of old.values blank (change_loan slot change (uses_by (loan_in old) (message_in old) uses))) at.blank
     ∙ ap (λ s. with_uses (change_loan slot change s.uses) s) is
   where
     apart : (k : ℕ) → 0 < times k (option_to_list uses.sending) + (times k uses.history + times k (held uses.connections)) → k ≢ slot
@@ -133,7 +133,7 @@ value_written {T = T} old new slot place value marks below here values written h
       ∙ ap (λ ms. loan_of slot (get_or old.headers slot old.blank) (masked ms (payload_at slot new.values))) (this_payload old.written new.written slot (set (payload_at slot old.written) place true) written here)
       ∙ ap (λ vs. loan_of slot (get_or old.headers slot old.blank) (masked (set (payload_at slot old.written) place true) vs)) (this_payload old.values new.values slot (set (payload_at slot old.values) place value) values below)
       ∙ ap (loan_of slot (get_or old.headers slot old.blank)) (masked_set (payload_at slot old.written) (payload_at slot old.values) place value marks);
-  room = ap (λ v. v.room) values;
+  frame = λ b uses. ap (λ v. sender_of v b uses) values;
   blank = blank;
 }
   where
@@ -168,6 +168,6 @@ header_written old new slot header user_header below made headers values written
       ∙ ap (λ h. loan_of slot h (masked (payload_at slot new.written) (payload_at slot new.values))) made
       ∙ ap (λ w. loan_of slot (record (get_or old.headers slot old.blank) { user_header = user_header }) (masked (payload_at slot w) (payload_at slot new.values))) written
       ∙ ap (λ v. loan_of slot (record (get_or old.headers slot old.blank) { user_header = user_header }) (masked (payload_at slot old.written) (payload_at slot v))) values;
-  room = ap (λ v. v.room) values;
+  frame = λ b uses. ap (λ v. sender_of v b uses) values;
   blank = blank;
 }

@@ -2,9 +2,11 @@
 use Rattle.std.specs.Prelude.{ℕ, ◌-◌, ◌<◌, ◌≡◌, List, [], ◌∷◌, ◌++◌, length, get_or, set}
 use Rattle.iox_domain_sender.specs.Rows.{RowsState}
 
--- The values of each slot. Slots come in segments of `size`; in each of the last one is room for `room` values.
+-- The values of each slot. Slots come in segments of `size`, at most so many; in each of the last one is room for `room` values.
 pub record PayloadsState (T : Type 0) : Type 0 where
   pub size : ℕ
+  pub segments : ℕ
+  pub most_segments : ℕ
   pub room : ℕ
   pub payloads : List (List T)
 

@@ -1,15 +1,18 @@
 -- One publisher with its messages.
 use Rattle.std.specs.Prelude.{false, ℕ, ◌+◌, ◌<◌, ◌≤◌, ◌≡◌, Bool, List, [], ◌∷◌, length, get_or, map, Option, None, Some, option_map, if◌then◌else◌, eqb, nat_lt, ◌&&◌, slice_get}
 use Rattle.std.specs.List.{list_any}
-use Rattle.iox_domain_slots.specs.Uses.{Uses, Connection, in_use, loaned}
+use Rattle.iox_domain_slots.specs.Uses.{Uses, Connection, in_use, loaned, segment_opened}
 use Rattle.iox_domain_slots.specs.Counting.{times}
 use Rattle.iox_domain_sender.specs.Messages.{Message, Loan, new_loan, is_written}
 use Rattle.iox_domain_sender.specs.Payloads.{PayloadsState, payload_at}
 use Rattle.iox_domain_sender.specs.declared.slot_header.SlotHeader.{SlotHeader}
 
--- A publisher: how many values a new loan may have at most, the user header that a new loan has, and who uses which message.
+-- A publisher: how many values a new loan may have at most, how many segments there are and may be, the user header that a new
+-- loan has, and who uses which message.
 pub record SenderState (T U : Type 0) : Type 0 where
   pub room : ℕ
+  pub segments : ℕ
+  pub most_segments : ℕ
   pub user_header : U
   pub uses : Uses (Loan T U) (Message T U)
 
@@ -107,13 +110,23 @@ loan_in store slot = record {
   values = masked (payload_at slot store.written) (payload_at slot store.values);
 }
 
+-- a publisher whose slots have such payloads
+abbrev pub sender_of : {T U : Type 0} → PayloadsState T → SlotHeader U → Uses (Loan T U) (Message T U) → SenderState T U
+sender_of payloads blank uses = record {
+  room = payloads.room;
+  segments = payloads.segments;
+  most_segments = payloads.most_segments;
+  user_header = blank.user_header;
+  uses = uses;
+}
+
 -- what is seen of a publisher: who uses which message, read out of the slots
 abbrev pub seen_sender : {T U : Type 0} → Store T U → Uses ℕ ℕ → SenderState T U
-seen_sender store uses = record {
-  room = store.values.room;
-  user_header = store.blank.user_header;
-  uses = uses_by (loan_in store) (message_in store) uses;
-}
+seen_sender store uses = sender_of store.values store.blank (uses_by (loan_in store) (message_in store) uses)
+
+-- a segment is opened for longer loans
+abbrev pub opened_for : {T U : Type 0} → ℕ → SenderState T U → SenderState T U
+opened_for room sender = record sender { room = room; segments = sender.segments + 1; uses = segment_opened sender.uses }
 
 -- There are as many values as marks in each slot and a header for each; a slot that is lent is used for nothing else; and each slot
 -- that is used is one that there is.
@@ -124,6 +137,8 @@ pub record IsSender {T U : Type 0} (store : Store T U) (uses : Uses ℕ ℕ) : T
   pub values_size : store.values.size ≡ uses.size
   pub written_size : store.written.size ≡ uses.size
   pub room : store.written.room ≡ store.values.room
+  pub segments : store.written.segments ≡ store.values.segments
+  pub most_segments : store.written.most_segments ≡ store.values.most_segments
   pub marks : (slot : ℕ) → length (payload_at slot store.written) ≡ length (payload_at slot store.values)
   pub sole : (slot : ℕ) → 0 < times slot uses.loans → times slot (in_use uses) ≡ 1
   pub within : (slot : ℕ) → 0 < times slot (in_use uses) → slot < uses.first + uses.size

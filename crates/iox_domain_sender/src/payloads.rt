@@ -1,5 +1,5 @@
 //! The values that stand in the slots of a publisher.
-ghost use Rattle.std.specs.Prelude.{◌≡◌, ◌+◌, ◌*◌, ◌/◌, ◌%◌, ◌<◌, ◌≤◌, ◌++◌, length, get_or, set, replicate, [], IfOk, OnErr};
+ghost use Rattle.std.specs.Prelude.{◌≡◌, ◌+◌, ◌-◌, ◌*◌, ◌/◌, ◌%◌, ◌<◌, ◌≤◌, ◌++◌, length, get_or, set, replicate, [], IfOk};
 ghost use Rattle.iox_domain_sender.specs.Payloads.{PayloadsState, payload_at, with_payload};
 
 use crate::rows::Rows;
@@ -13,39 +13,46 @@ use std::marker::Model;
 pub struct Payloads<T> {
     segments: Vec<Rows<T>>,
     size: usize,
+    most_segments: usize,
 }
 
 impl<T> Model for Payloads<T> {
-    ghost use Rattle.std.specs.Prelude.{◌≡◌, ◌*◌, length};
+    ghost use Rattle.std.specs.Prelude.{◌≡◌, ◌*◌, ◌≤◌, length, vec_capacity};
     ghost use Rattle.iox_domain_sender.specs.Rows.{RowsState};
     ghost use Rattle.iox_domain_sender.specs.Payloads.{PayloadsState, all_rows, last_segment, AllOfSize};
 
     ghost Value = { PayloadsState T };
 
-    ghost view = { λ p. record { size = p.size; room = (last_segment p.segments.items).room; payloads = all_rows p.segments.items } };
+    ghost view = { λ p. record {
+      size = p.size;
+      segments = length p.segments.items;
+      most_segments = p.most_segments;
+      room = (last_segment p.segments.items).room;
+      payloads = all_rows p.segments.items;
+    } };
 
-    ghost invariant = { λ p. AllOfSize p.size p.segments.items };
+    ghost invariant = { λ p. AllOfSize p.size p.segments.items × (p.most_segments ≤ vec_capacity p.segments) };
 }
 
 impl<T: Copy> Payloads<T> {
-    /// No slots, to come in segments of this size.
-    pub fn new(alloc: Global, size: usize) -> Payloads<T>
-        ensures { result ≡ record { size = size; room = 0; payloads = [] } }
+    /// No slots, to come in at most so many segments of this size. It fails only where memory is wanting.
+    pub fn new(alloc: Global, size: usize, most_segments: usize) -> Result<Payloads<T>, AllocError>
+        ensures { IfOk result (λ made. made ≡ record { size = size; segments = 0; most_segments = most_segments; room = 0; payloads = [] }) }
     {
-        Payloads {
-            segments: Vec::new(alloc),
+        Ok(Payloads {
+            segments: Vec::with_capacity(alloc, most_segments)?,
             size,
-        }
+            most_segments,
+        })
     }
 
-    /// Adds a segment, in whose slots is this room and no value. It fails only where memory is wanting, and then nothing has changed.
-    pub fn add_segment(&mut self, alloc: Global, room: usize, blank: T) -> Result<(), AllocError>
-        ensures added { IfOk result (λ _. self.new ≡ record self.old { room = room; payloads = self.old.payloads ++ replicate self.old.size [] }) }
-        ensures refused { OnErr result (self.new ≡ self.old) }
+    /// Adds a segment.
+    pub fn push(&mut self, segment: Rows<T>)
+        requires size { length segment.rows ≡ self.old.size }
+        requires room { self.old.segments < self.old.most_segments }
+        ensures { self.new ≡ record self.old { segments = self.old.segments + 1; room = segment.room; payloads = self.old.payloads ++ segment.rows } }
     {
-        let rows = Rows::new(alloc, self.size, room, blank)?;
-        self.segments.push(rows)?;
-        Ok(())
+        self.segments.push_reserved(segment);
     }
 
     /// Gives a slot of the last segment so many values, whichever stand there.
@@ -101,5 +108,19 @@ impl<T: Copy> Payloads<T> {
             Some(segment) => segment.room(),
             None => 0,
         }
+    }
+
+    /// How many slots a segment has.
+    pub fn size(&self) -> usize
+        ensures { result ≡ self.now.size }
+    {
+        self.size
+    }
+
+    /// How many segments more there may be.
+    pub fn segments_left(&self) -> usize
+        ensures { result ≡ self.now.most_segments - self.now.segments }
+    {
+        self.most_segments.saturating_sub(self.segments.len())
     }
 }

@@ -1,12 +1,13 @@
 //! One publisher with its messages.
-ghost use Rattle.std.specs.Prelude.{◌≡◌, ℕ, ◌+◌, ◌<◌, ◌≤◌, length, get_or, set, map, is_some, option_copied, slice_get, position, nat_lt, IsSome, IfOk, OnErr, ◌^◌, ◌==◌, [], true, false, None, Some};
+ghost use Rattle.std.specs.Prelude.{◌≡◌, ℕ, ◌+◌, ◌<◌, ◌≤◌, length, get_or, set, map, is_some, option_copied, slice_get, position, nat_lt, IsSome, IfOk, OnErr, ◌-◌, ◌^◌, ◌==◌, [], true, false, None, Some};
 ghost use Rattle.iox_domain_slots.specs.declared.stage.Stage.TheVariants as stage;
 ghost use Rattle.iox_domain_slots.specs.Uses.{Uses, nobody, placed, connected, is_there, worst_case, accepts, offered, taken, given_back, ended, welcomed, dropped, begun, finished, connection_at, with_connection};
 ghost use Rattle.std.specs.List.{list_all};
 ghost use Rattle.iox_domain_sender.specs.Messages.{Message, Loan, write_value, write_user_header, sent_as};
-ghost use Rattle.iox_domain_sender.specs.Sending.{SenderState, LoanMade, with_uses, change_loan, has_loan, has_place, is_written_at};
+ghost use Rattle.iox_domain_sender.specs.Sending.{SenderState, LoanMade, with_uses, change_loan, has_loan, has_place, is_written_at, opened_for};
 
 use crate::payloads::Payloads;
+use crate::rows::Rows;
 use crate::sender_config::SenderConfig;
 use crate::slot_header::SlotHeader;
 use iox_domain_slots::{SlotUses, Stage};
@@ -48,8 +49,11 @@ impl<T: Copy, U: Copy> Sender<T, U> {
         requires history { config.history < 2 ^ 32 }
         requires waiting { config.most_waiting < 2 ^ 32 }
         requires borrowed { config.most_borrowed < 2 ^ 32 }
+        requires segments { 0 < config.most_segments }
         ensures { IfOk result (λ made. made ≡ record {
           room = config.room;
+          segments = 1;
+          most_segments = config.most_segments;
           user_header = user_header;
           uses = record {
             first = 0;
@@ -75,10 +79,10 @@ impl<T: Copy, U: Copy> Sender<T, U> {
             config.most_waiting,
             config.most_borrowed,
         )?;
-        let mut values = Payloads::new(alloc, config.slots);
-        values.add_segment(alloc, config.room, blank)?;
-        let mut written = Payloads::new(alloc, config.slots);
-        written.add_segment(alloc, config.room, false)?;
+        let mut values = Payloads::new(alloc, config.slots, config.most_segments)?;
+        values.push(Rows::new(alloc, config.slots, config.room, blank)?);
+        let mut written = Payloads::new(alloc, config.slots, config.most_segments)?;
+        written.push(Rows::new(alloc, config.slots, config.room, false)?);
         let blank = SlotHeader {
             elements: 0,
             user_header,
@@ -205,6 +209,33 @@ impl<T: Copy, U: Copy> Sender<T, U> {
         ensures borrowed { (index at : ℕ) (message : Message T U) → slice_get (connection_at index self.now.uses).borrowed at ≡ Some message → message.slot ≡ slot → result.now ≡ message.user_header }
     {
         &self.headers[slot].user_header
+    }
+
+    /// Opens a segment of as many slots, in which loans may have so many values; only its slots are lent from now on. What is in
+    /// use stays as it is. It fails only where memory is wanting, and then nothing has changed.
+    pub fn open_segment(&mut self, alloc: Global, room: usize, blank: T) -> Result<(), AllocError>
+        requires { self.old.segments < self.old.most_segments }
+        ensures opened { IfOk result (λ _. self.new ≡ opened_for room self.old) }
+        ensures refused { OnErr result (self.new ≡ self.old) }
+    {
+        let size = self.values.size();
+        let values = Rows::new(alloc, size, room, blank)?;
+        let written = Rows::new(alloc, size, room, false)?;
+        let before = self.headers.len();
+        self.headers.reserve(size)?;
+        self.uses.open_segment(alloc)?;
+        // Its room is there.
+        let _resized = self.headers.resize(before + size, self.blank);
+        self.values.push(values);
+        self.written.push(written);
+        Ok(())
+    }
+
+    /// How many segments more there may be.
+    pub fn segments_left(&self) -> usize
+        ensures { result ≡ self.now.most_segments - self.now.segments }
+    {
+        self.values.segments_left()
     }
 
     /// Gives up the loan at this place of the list of loans.

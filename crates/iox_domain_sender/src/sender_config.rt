@@ -7,7 +7,9 @@ pub struct SenderConfig {
     pub overflows: bool,
     /// How many slots a segment has.
     pub slots: usize,
-    /// How many values stand in a slot at most.
+    /// How many segments there may be, at least 1.
+    pub most_segments: usize,
+    /// How many values stand in a slot of the first segment at most.
     pub room: usize,
     /// How many loans may be out.
     pub most_loans: usize,

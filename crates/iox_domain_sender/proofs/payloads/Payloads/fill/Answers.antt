@@ -7,29 +7,29 @@ use Rattle.iox_domain_sender.proofs.payloads.Payloads.fill.Goals as goal
 
 pub index_mut-segment-requires : goal.index_mut-segment-requires
 index_mut-segment-requires g c =
-    let place = seen_placed c.args.self.now c.self.inside.size c.self.inside.segments.items c.args.slot c.self.view_is c.self.invariant c.requires.slot in
+    let place = seen_placed c.args.self.now c.self.inside.size c.self.inside.most_segments c.self.inside.segments.items c.args.slot c.self.view_is c.self.invariant.0 c.requires.slot in
     search (rules, place.segment_is)
 
 pub fill-requires-clause-row : goal.fill-requires-clause-row
 fill-requires-clause-row g c =
-    let place = seen_placed c.args.self.now c.self.inside.size c.self.inside.segments.items c.args.slot c.self.view_is c.self.invariant c.requires.slot in
+    let place = seen_placed c.args.self.now c.self.inside.size c.self.inside.most_segments c.self.inside.segments.items c.args.slot c.self.view_is c.self.invariant.0 c.requires.slot in
     let found : c.index_mut-segment.result.now ≡ get_or c.self.inside.segments.items (c.args.slot / c.self.inside.size) no_rows =
     c.index_mut-segment.ensures.value ∙ get_or_default c.self.inside.segments.items (c.args.slot / c.self.inside.size) c.index_mut-segment.result.now no_rows place.segment_is in
-    omega (arith, place.row_is, c.self.invariant (c.args.slot / c.self.inside.size) place.segment_is, ap (λ s. length s.rows) found)
+    omega (arith, place.row_is, c.self.invariant.0 (c.args.slot / c.self.inside.size) place.segment_is, ap (λ s. length s.rows) found)
 
 pub fill-requires-clause-room : goal.fill-requires-clause-room
 fill-requires-clause-room g c =
-    let place = seen_placed c.args.self.now c.self.inside.size c.self.inside.segments.items c.args.slot c.self.view_is c.self.invariant c.requires.slot in
+    let place = seen_placed c.args.self.now c.self.inside.size c.self.inside.most_segments c.self.inside.segments.items c.args.slot c.self.view_is c.self.invariant.0 c.requires.slot in
     let found : c.index_mut-segment.result.now ≡ get_or c.self.inside.segments.items (c.args.slot / c.self.inside.size) no_rows =
     c.index_mut-segment.ensures.value ∙ get_or_default c.self.inside.segments.items (c.args.slot / c.self.inside.size) c.index_mut-segment.result.now no_rows place.segment_is in
-    let last = in_last c.self.inside.size c.self.inside.segments.items c.args.slot (c.args.slot / c.self.inside.size) (c.args.slot % c.self.inside.size) c.self.invariant place
+    let last = in_last c.self.inside.size c.self.inside.segments.items c.args.slot (c.args.slot / c.self.inside.size) (c.args.slot % c.self.inside.size) c.self.invariant.0 place
     (omega (arith, c.requires.last, ap (λ s. length s.payloads) c.self.view_is, ap (λ s. s.size) c.self.view_is)) in
     omega (arith, c.requires.room, ap (λ s. s.room) c.self.view_is, ap (λ s. s.room) found, ap (λ i. (get_or c.self.inside.segments.items i no_rows).room) last)
 
 pub returns : goal.returns
 returns g c =
-    let place = seen_placed c.args.self.now c.self.inside.size c.self.inside.segments.items c.args.slot c.self.view_is c.self.invariant c.requires.slot in
+    let place = seen_placed c.args.self.now c.self.inside.size c.self.inside.most_segments c.self.inside.segments.items c.args.slot c.self.view_is c.self.invariant.0 c.requires.slot in
     let found : c.index_mut-segment.result.now ≡ get_or c.self.inside.segments.items (c.args.slot / c.self.inside.size) no_rows =
     c.index_mut-segment.ensures.value ∙ get_or_default c.self.inside.segments.items (c.args.slot / c.self.inside.size) c.index_mut-segment.result.now no_rows place.segment_is in
-    seen_changed c.args.self.now c.self.inside.size c.self.inside.segments.items c.args.slot (replicate c.args.count c.args.value) c.fill.new.self c.self.view_is c.self.invariant place
+    seen_changed c.args.self.now c.self.inside.size c.self.inside.most_segments c.self.inside.segments.items c.args.slot (replicate c.args.count c.args.value) c.fill.new.self c.self.view_is c.self.invariant.0 place
     (c.fill.ensures ∙ ap (with_row (c.args.slot % c.self.inside.size) (replicate c.args.count c.args.value)) found)

@@ -1,4 +1,4 @@
-use Rattle.std.proofs.Common.{rules, arith, ◌≡◌, ◌+◌, ◌<◌, ◌≤◌, ◌∙◌, ◌++◌, ◌∷◌, ◌==◌, ◌&&◌, [], ℕ, Bool, true, false, if◌then◌else◌, length, get_or, ap, sym, subst, map, Some, None, Option, refl, set, position, replicate, is_some, nat_lt}
+use Rattle.std.proofs.Common.{◌∙◌, ap, is_some}
 use Rattle.iox_domain_sender.proofs.Seen.{lent_is}
 use Rattle.iox_domain_sender.proofs.sender.Sender.has_loan.Goals as goal
 

@@ -1,4 +1,4 @@
-use Rattle.std.proofs.Common.{rules, arith, ◌≡◌, ◌+◌, ◌<◌, ◌≤◌, ◌∙◌, ◌++◌, ◌∷◌, ◌==◌, ◌&&◌, [], ℕ, Bool, true, false, if◌then◌else◌, length, get_or, ap, sym, subst, map, Some, None, Option, refl, set, position, replicate, is_some, nat_lt}
+use Rattle.std.proofs.Common.{arith, ◌≡◌, ◌∙◌, ◌&&◌, true, length, ap, sym, nat_lt}
 use Rattle.iox_domain_sender.specs.Payloads.{payload_at}
 use Rattle.iox_domain_sender.specs.Sending.{loan_in, has_loan}
 use Rattle.iox_domain_sender.proofs.Seen.{place_is, no_place, loan_below}

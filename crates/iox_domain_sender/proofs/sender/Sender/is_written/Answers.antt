@@ -1,6 +1,5 @@
-use Rattle.std.proofs.Common.{rules, arith, ◌≡◌, ◌+◌, ◌<◌, ◌≤◌, ◌∙◌, ◌++◌, ◌∷◌, ◌==◌, [], ℕ, Bool, true, false, if◌then◌else◌, length, get_or, ap, sym, subst, map, Some, None, Option, refl, set, position, replicate, is_some}
+use Rattle.std.proofs.Common.{arith, ◌∙◌, get_or, ap, sym}
 use Rattle.std.specs.List.{list_all}
-use Rattle.iox_domain_sender.specs.Messages.{is_written}
 use Rattle.iox_domain_sender.specs.Sending.{is_written_at}
 use Rattle.iox_domain_sender.specs.Payloads.{payload_at}
 use Rattle.iox_domain_sender.proofs.Reading.{written_at, all_written}
