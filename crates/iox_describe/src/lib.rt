@@ -16,7 +16,7 @@ pub mod writer;
 
 pub use error::DescriptionError;
 pub use iox_describe_base::{
-    Attribute, AttributeKey, AttributeSpecifier, AttributeValue, AttributeVerifier, Header,
+    Attribute, AttributeError, AttributeKey, AttributeSpecifier, AttributeValue, AttributeVerifier, Header,
     LimitError, MessageTypeDetails, MessagingPattern, ServiceHash, ServiceName, TypeDetail,
     TypeVariant, ZeroCopySend, service_hash,
 };
