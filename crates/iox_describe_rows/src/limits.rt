@@ -99,7 +99,7 @@ fn is_so_long(alloc: Global, was: &str, length: usize) -> Result<bool, Fail> {
     let name = "x".repeat(alloc, length)?;
     let to = format!(in alloc; "\"name\":\"{name}\"")?;
     let text = changed(alloc, PUBLISH_SUBSCRIBE, from.as_str(), to.as_str())?;
-    is_read(alloc, text.as_bytes())
+    Ok(is_read(alloc, text.as_bytes())?)
 }
 
 /// Whether a line with an attribute of so many letters is read.
@@ -108,7 +108,7 @@ fn is_attribute(alloc: Global, key: usize, value: usize) -> Result<bool, Fail> {
     let value = "v".repeat(alloc, value)?;
     let to = format!(in alloc; "[[\"{key}\",\"{value}\"]]")?;
     let text = changed(alloc, PUBLISH_SUBSCRIBE, "[]", to.as_str())?;
-    is_read(alloc, text.as_bytes())
+    Ok(is_read(alloc, text.as_bytes())?)
 }
 
 #[test]
@@ -148,7 +148,7 @@ fn are_attributes(alloc: Global, more: &str) -> Result<bool, Fail> {
         "[\"b\",\"\"],[\"a\",\"1\"],[\"a\",\"1\"],[\"\\\"\",\"\\\\\"],[\"c\",\"2\"],[\"d\",\"3\"],[\"e\",\"4\"]";
     let to = format!(in alloc; "[{seven}{more}]")?;
     let text = changed(alloc, PUBLISH_SUBSCRIBE, "[]", to.as_str())?;
-    is_read(alloc, text.as_bytes())
+    Ok(is_read(alloc, text.as_bytes())?)
 }
 
 #[test]

@@ -4,11 +4,11 @@ use crate::shared::{
     request_response_service,
 };
 use iox_describe::{Description, encode};
-use std::alloc::Global;
+use std::alloc::{AllocError, Global};
 use std::test::Fail;
 
 /// Whether the description is written as this line, which is read.
-fn is_spelled(alloc: Global, description: &Description, line: &str) -> Result<bool, Fail> {
+fn is_spelled(alloc: Global, description: &Description, line: &str) -> Result<bool, AllocError> {
     let written = encode(alloc, description)?;
     Ok(written.as_slice() == line.as_bytes() && is_read(alloc, line.as_bytes())?)
 }
@@ -16,9 +16,9 @@ fn is_spelled(alloc: Global, description: &Description, line: &str) -> Result<bo
 #[test]
 fn a_service_of_each_pattern_is_spelled_so(rt: HostRuntime) -> Result<(), Fail> {
     let alloc: Global = rt.alloc();
-    assert!(rt; is_spelled(alloc, &publish_subscribe_service(alloc)?, PUBLISH_SUBSCRIBE)?);
-    assert!(rt; is_spelled(alloc, &event_service(alloc)?, EVENT)?);
-    assert!(rt; is_spelled(alloc, &request_response_service(alloc)?, REQUEST_RESPONSE)?);
+    assert!(rt; is_spelled(alloc, &publish_subscribe_service()?, PUBLISH_SUBSCRIBE)?);
+    assert!(rt; is_spelled(alloc, &event_service()?, EVENT)?);
+    assert!(rt; is_spelled(alloc, &request_response_service()?, REQUEST_RESPONSE)?);
     Ok(())
 }
 
@@ -34,7 +34,7 @@ fn no_beginning_of_a_line_is_read(rt: HostRuntime) -> Result<(), Fail> {
 }
 
 /// Whether the line is read with this byte at a place.
-fn is_read_with(alloc: Global, place: usize, strange: u8) -> Result<bool, Fail> {
+fn is_read_with(alloc: Global, place: usize, strange: u8) -> Result<bool, AllocError> {
     let mut bytes = Vec::from_slice(alloc, PUBLISH_SUBSCRIBE.as_bytes())?;
     if let Some(byte) = bytes.get_mut(place) {
         *byte = strange;

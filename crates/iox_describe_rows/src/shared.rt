@@ -1,9 +1,9 @@
 //! The service `23` of each pattern, and its line.
 use iox_describe::{
-    AttributeSpecifier, Description, DescriptionError, Header, MessageTypeDetails, ServiceName,
-    Settings, TypeVariant, decode, encode, event, publish_subscribe, request_response,
+    AttributeSpecifier, Description, DescriptionError, Header, LimitError, MessageTypeDetails,
+    ServiceName, Settings, TypeVariant, decode, encode, event, publish_subscribe, request_response,
 };
-use std::alloc::Global;
+use std::alloc::{AllocError, Global};
 use std::test::Fail;
 
 /// Service `23` over slices of `u64` with a `u64` user header, at default settings.
@@ -22,36 +22,36 @@ pub(crate) fn types() -> MessageTypeDetails {
     MessageTypeDetails::from::<Header, u64, u64>(TypeVariant::Dynamic)
 }
 
-pub(crate) fn described(alloc: Global, settings: Settings) -> Result<Description, Fail> {
-    let attributes = AttributeSpecifier::new(alloc)?;
-    Ok(Description::new(ServiceName::new(b"23")?, settings, attributes))
+fn described(settings: Settings) -> Result<Description, LimitError> {
+    Ok(Description::new(
+        ServiceName::new(b"23")?,
+        settings,
+        AttributeSpecifier::new(),
+    ))
 }
 
-pub(crate) fn publish_subscribe_service(alloc: Global) -> Result<Description, Fail> {
-    described(
-        alloc,
-        Settings::PublishSubscribe(publish_subscribe::StaticConfig::new(types())),
-    )
+pub(crate) fn publish_subscribe_service() -> Result<Description, LimitError> {
+    described(Settings::PublishSubscribe(publish_subscribe::StaticConfig::new(types())))
 }
 
-pub(crate) fn event_service(alloc: Global) -> Result<Description, Fail> {
-    described(alloc, Settings::Event(event::StaticConfig::new()))
+pub(crate) fn event_service() -> Result<Description, LimitError> {
+    described(Settings::Event(event::StaticConfig::new()))
 }
 
-pub(crate) fn request_response_service(alloc: Global) -> Result<Description, Fail> {
+pub(crate) fn request_response_service() -> Result<Description, LimitError> {
     let config = request_response::StaticConfig::new(types(), types());
-    described(alloc, Settings::RequestResponse(config))
+    described(Settings::RequestResponse(config))
 }
 
 /// Whether the bytes are read as a description that is spelled so.
-pub(crate) fn is_read(alloc: Global, bytes: &[u8]) -> Result<bool, Fail> {
+pub(crate) fn is_read(alloc: Global, bytes: &[u8]) -> Result<bool, AllocError> {
     match decode(alloc, bytes) {
         Ok(description) => {
             let line = encode(alloc, &description)?;
             Ok(line.as_slice() == bytes)
         }
         Err(DescriptionError::Invalid) => Ok(false),
-        Err(DescriptionError::OutOfMemory) => Err("no memory".into()),
+        Err(DescriptionError::OutOfMemory) => Err(AllocError),
     }
 }
 

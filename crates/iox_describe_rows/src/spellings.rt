@@ -55,7 +55,7 @@ const REFUSED: [(&str, &str); 32] = [
 /// Whether the line is read with a text in the place of another.
 fn is_read_with(alloc: Global, line: &str, from: &str, to: &str) -> Result<bool, Fail> {
     let text = changed(alloc, line, from, to)?;
-    is_read(alloc, text.as_bytes())
+    Ok(is_read(alloc, text.as_bytes())?)
 }
 
 #[test]

@@ -1,6 +1,7 @@
 //! Conversations of nodes, of others too, over one table.
 use crate::foreign::{Step, act, before_the_second};
 use crate::shared::builder_of;
+use iox_describe::LimitError;
 use iox_describe::pattern::PublishSubscribe;
 use iox_negotiate::ServiceBuilder;
 use iox_negotiate_table::{Stepped, Table};
@@ -32,13 +33,9 @@ type Line = (u64, Call, &'static [Named], &'static str);
 const NONE: Others = (&[], &[]);
 
 // The builder of service `A` for this node, with these settings named.
-fn asked(
-    alloc: Global,
-    node: u64,
-    settings: &[Named],
-) -> Result<ServiceBuilder<PublishSubscribe>, Fail> {
+fn asked(node: u64, settings: &[Named]) -> Result<ServiceBuilder<PublishSubscribe>, LimitError> {
     let mut asked = builder_of(node, b"A")?
-        .publish_subscribe::<u64>(alloc)?
+        .publish_subscribe::<u64>()
         .user_header::<u64>();
     for setting in settings {
         asked = match *setting {
@@ -54,7 +51,7 @@ fn asked(
 
 // What the line is answered.
 fn answered(alloc: Global, line: Line, storage: &mut Stepped) -> Result<String, Fail> {
-    let asked = asked(alloc, line.0, line.2)?;
+    let asked = asked(line.0, line.2)?;
     let refusal = match line.1 {
         Call::Create => match asked.create(alloc, storage) {
             Ok(_) => None,
@@ -82,7 +79,7 @@ fn first_wrong(
 ) -> Result<Option<(String, &'static str)>, Fail> {
     let mut table = Table::new(alloc, 1);
     for (others, line) in talk {
-        act(alloc, &mut table, others.0)?;
+        act(&mut table, others.0)?;
         let mut storage = before_the_second(alloc, table, others.1)?;
         let answer = answered(alloc, *line, &mut storage)?;
         if answer.as_str() != line.3 {
