@@ -90,103 +90,105 @@ fn first_wrong(
     Ok(None)
 }
 
+/// Six talks, each over a table of its own.
+const TALKS: [&[(Others, Line)]; 6] = [
+    &[
+        (NONE, (1, Call::Create, &[Named::Subscribers(1)], "ok")),
+        (
+            NONE,
+            (
+                2,
+                Call::Open,
+                &[Named::Subscribers(2)],
+                "PublishSubscribeOpenError::DoesNotSupportRequestedAmountOfSubscribers",
+            ),
+        ),
+    ],
+    &[
+        (NONE, (1, Call::Create, &[Named::Nodes(1)], "ok")),
+        (
+            NONE,
+            (
+                2,
+                Call::Open,
+                &[],
+                "PublishSubscribeOpenError::ExceedsMaxNumberOfNodes",
+            ),
+        ),
+        (NONE, (1, Call::Open, &[], "ok")),
+    ],
+    &[
+        (
+            NONE,
+            (
+                1,
+                Call::Create,
+                &[Named::Overflow(false), Named::Buffer(2), Named::History(3)],
+                "PublishSubscribeCreateError::SubscriberBufferMustBeLargerThanHistorySize",
+            ),
+        ),
+        (
+            NONE,
+            (
+                1,
+                Call::Open,
+                &[],
+                "PublishSubscribeOpenError::DoesNotExist",
+            ),
+        ),
+    ],
+    &[
+        (
+            (&[Step::Lock(1)], &[]),
+            (
+                1,
+                Call::Open,
+                &[],
+                "PublishSubscribeOpenError::HangsInCreation",
+            ),
+        ),
+        (
+            (&[Step::GiveUp(1)], &[Step::Lock(1)]),
+            (
+                1,
+                Call::Create,
+                &[],
+                "PublishSubscribeCreateError::IsBeingCreatedByAnotherInstance",
+            ),
+        ),
+    ],
+    &[
+        (
+            (
+                &[Step::Lock(1), Step::Publish(1, b"A", 3, 20)],
+                &[
+                    Step::Leave(1),
+                    Step::Remove(1),
+                    Step::Lock(1),
+                    Step::Publish(1, b"A", 5, 20),
+                ],
+            ),
+            (1, Call::Open, &[Named::Buffer(3)], "ok"),
+        ),
+        (NONE, (1, Call::Open, &[Named::Buffer(5)], "ok")),
+    ],
+    &[
+        (NONE, (1, Call::Create, &[Named::Buffer(2)], "ok")),
+        (
+            NONE,
+            (
+                2,
+                Call::OpenOrCreate,
+                &[Named::Buffer(3)],
+                "PublishSubscribeOpenOrCreateError::PublishSubscribeOpenError(DoesNotSupportRequestedMinBufferSize)",
+            ),
+        ),
+    ],
+];
+
 #[test]
 fn nodes_talk_of_a_service(rt: HostRuntime) -> Result<(), Fail> {
-    let talks: [&[(Others, Line)]; 6] = [
-        &[
-            (NONE, (1, Call::Create, &[Named::Subscribers(1)], "ok")),
-            (
-                NONE,
-                (
-                    2,
-                    Call::Open,
-                    &[Named::Subscribers(2)],
-                    "PublishSubscribeOpenError::DoesNotSupportRequestedAmountOfSubscribers",
-                ),
-            ),
-        ],
-        &[
-            (NONE, (1, Call::Create, &[Named::Nodes(1)], "ok")),
-            (
-                NONE,
-                (
-                    2,
-                    Call::Open,
-                    &[],
-                    "PublishSubscribeOpenError::ExceedsMaxNumberOfNodes",
-                ),
-            ),
-            (NONE, (1, Call::Open, &[], "ok")),
-        ],
-        &[
-            (
-                NONE,
-                (
-                    1,
-                    Call::Create,
-                    &[Named::Overflow(false), Named::Buffer(2), Named::History(3)],
-                    "PublishSubscribeCreateError::SubscriberBufferMustBeLargerThanHistorySize",
-                ),
-            ),
-            (
-                NONE,
-                (
-                    1,
-                    Call::Open,
-                    &[],
-                    "PublishSubscribeOpenError::DoesNotExist",
-                ),
-            ),
-        ],
-        &[
-            (
-                (&[Step::Lock(1)], &[]),
-                (
-                    1,
-                    Call::Open,
-                    &[],
-                    "PublishSubscribeOpenError::HangsInCreation",
-                ),
-            ),
-            (
-                (&[Step::GiveUp(1)], &[Step::Lock(1)]),
-                (
-                    1,
-                    Call::Create,
-                    &[],
-                    "PublishSubscribeCreateError::IsBeingCreatedByAnotherInstance",
-                ),
-            ),
-        ],
-        &[
-            (
-                (
-                    &[Step::Lock(1), Step::Publish(1, b"A", 3, 20)],
-                    &[
-                        Step::Leave(1),
-                        Step::Remove(1),
-                        Step::Lock(1),
-                        Step::Publish(1, b"A", 5, 20),
-                    ],
-                ),
-                (1, Call::Open, &[Named::Buffer(3)], "ok"),
-            ),
-            (NONE, (1, Call::Open, &[Named::Buffer(5)], "ok")),
-        ],
-        &[
-            (NONE, (1, Call::Create, &[Named::Buffer(2)], "ok")),
-            (
-                NONE,
-                (
-                    2,
-                    Call::OpenOrCreate,
-                    &[Named::Buffer(3)],
-                    "PublishSubscribeOpenOrCreateError::PublishSubscribeOpenError(DoesNotSupportRequestedMinBufferSize)",
-                ),
-            ),
-        ],
-    ];
-    for talk in talks {
+    for talk in TALKS {
         assert_eq!(rt; first_wrong(rt.alloc(), talk)?, None);
     }
     Ok(())
