@@ -59,49 +59,53 @@ fn is_publish_subscribe_so(
 }
 
 /// What is answered where the clause at a place and all later ones fail.
-const PUBLISH_SUBSCRIBE_ANSWERS: [(usize, Result<(), publish_subscribe::ClauseError>); 10] = [
-    (1, Err(publish_subscribe::ClauseError::IncompatibleTypes)),
-    (
-        2,
-        Err(publish_subscribe::ClauseError::IncompatibleAttributes),
-    ),
-    (
-        3,
-        Err(publish_subscribe::ClauseError::IncompatibleOverflowBehavior),
-    ),
-    (
-        4,
-        Err(publish_subscribe::ClauseError::DoesNotSupportRequestedAmountOfPublishers),
-    ),
-    (
-        5,
-        Err(publish_subscribe::ClauseError::DoesNotSupportRequestedAmountOfSubscribers),
-    ),
-    (
-        6,
-        Err(publish_subscribe::ClauseError::DoesNotSupportRequestedMinBufferSize),
-    ),
-    (
-        7,
-        Err(publish_subscribe::ClauseError::DoesNotSupportRequestedMinHistorySize),
-    ),
-    (
-        8,
-        Err(publish_subscribe::ClauseError::DoesNotSupportRequestedMinSubscriberBorrowedSamples),
-    ),
-    (
-        9,
-        Err(publish_subscribe::ClauseError::DoesNotSupportRequestedAmountOfNodes),
-    ),
-    (10, Ok(())),
-];
+fn publish_subscribe_answers() -> [(usize, Result<(), publish_subscribe::ClauseError>); 10] {
+    [
+        (1, Err(publish_subscribe::ClauseError::IncompatibleTypes)),
+        (
+            2,
+            Err(publish_subscribe::ClauseError::IncompatibleAttributes),
+        ),
+        (
+            3,
+            Err(publish_subscribe::ClauseError::IncompatibleOverflowBehavior),
+        ),
+        (
+            4,
+            Err(publish_subscribe::ClauseError::DoesNotSupportRequestedAmountOfPublishers),
+        ),
+        (
+            5,
+            Err(publish_subscribe::ClauseError::DoesNotSupportRequestedAmountOfSubscribers),
+        ),
+        (
+            6,
+            Err(publish_subscribe::ClauseError::DoesNotSupportRequestedMinBufferSize),
+        ),
+        (
+            7,
+            Err(publish_subscribe::ClauseError::DoesNotSupportRequestedMinHistorySize),
+        ),
+        (
+            8,
+            Err(
+                publish_subscribe::ClauseError::DoesNotSupportRequestedMinSubscriberBorrowedSamples,
+            ),
+        ),
+        (
+            9,
+            Err(publish_subscribe::ClauseError::DoesNotSupportRequestedAmountOfNodes),
+        ),
+        (10, Ok(())),
+    ]
+}
 
 #[test]
 fn clauses_of_publish_subscribe_stand_in_order(rt: HostRuntime) -> Result<(), Fail> {
     let pattern = Err(publish_subscribe::ClauseError::IncompatibleMessagingPattern);
     assert!(rt; is_publish_subscribe_so(rt.alloc(), &event_service()?, 0, pattern)?);
     let service = publish_subscribe_service()?;
-    for (place, answer) in PUBLISH_SUBSCRIBE_ANSWERS {
+    for (place, answer) in publish_subscribe_answers() {
         assert!(rt;
             is_publish_subscribe_so(rt.alloc(), &service, place, answer)?,
             "{place}"
@@ -135,37 +139,39 @@ fn is_event_so(
 }
 
 /// What is answered where the clause at a place and all later ones fail.
-const EVENT_ANSWERS: [(usize, Result<(), event::ClauseError>); 10] = [
-    (1, Err(event::ClauseError::IncompatibleAttributes)),
-    (2, Err(event::ClauseError::IncompatibleDeadline)),
-    (
-        3,
-        Err(event::ClauseError::DoesNotSupportRequestedAmountOfNotifiers),
-    ),
-    (
-        4,
-        Err(event::ClauseError::DoesNotSupportRequestedAmountOfListeners),
-    ),
-    (
-        5,
-        Err(event::ClauseError::DoesNotSupportRequestedMaxEventId),
-    ),
-    (6, Err(event::ClauseError::IncompatibleNotifierCreatedEvent)),
-    (7, Err(event::ClauseError::IncompatibleNotifierDroppedEvent)),
-    (8, Err(event::ClauseError::IncompatibleNotifierDeadEvent)),
-    (
-        9,
-        Err(event::ClauseError::DoesNotSupportRequestedAmountOfNodes),
-    ),
-    (10, Ok(())),
-];
+fn event_answers() -> [(usize, Result<(), event::ClauseError>); 10] {
+    [
+        (1, Err(event::ClauseError::IncompatibleAttributes)),
+        (2, Err(event::ClauseError::IncompatibleDeadline)),
+        (
+            3,
+            Err(event::ClauseError::DoesNotSupportRequestedAmountOfNotifiers),
+        ),
+        (
+            4,
+            Err(event::ClauseError::DoesNotSupportRequestedAmountOfListeners),
+        ),
+        (
+            5,
+            Err(event::ClauseError::DoesNotSupportRequestedMaxEventId),
+        ),
+        (6, Err(event::ClauseError::IncompatibleNotifierCreatedEvent)),
+        (7, Err(event::ClauseError::IncompatibleNotifierDroppedEvent)),
+        (8, Err(event::ClauseError::IncompatibleNotifierDeadEvent)),
+        (
+            9,
+            Err(event::ClauseError::DoesNotSupportRequestedAmountOfNodes),
+        ),
+        (10, Ok(())),
+    ]
+}
 
 #[test]
 fn clauses_of_event_stand_in_order(rt: HostRuntime) -> Result<(), Fail> {
     let pattern = Err(event::ClauseError::IncompatibleMessagingPattern);
     assert!(rt; is_event_so(rt.alloc(), &request_response_service()?, 0, pattern)?);
     let service = event_service()?;
-    for (place, answer) in EVENT_ANSWERS {
+    for (place, answer) in event_answers() {
         assert!(rt;
             is_event_so(rt.alloc(), &service, place, answer)?,
             "{place}"
@@ -207,70 +213,74 @@ fn is_request_response_so(
 }
 
 /// What is answered where the clause at a place and all later ones fail.
-const REQUEST_RESPONSE_ANSWERS: [(usize, Result<(), request_response::ClauseError>); 14] = [
-    (
-        1,
-        Err(request_response::ClauseError::IncompatibleRequestType),
-    ),
-    (
-        2,
-        Err(request_response::ClauseError::IncompatibleResponseType),
-    ),
-    (
-        3,
-        Err(request_response::ClauseError::IncompatibleAttributes),
-    ),
-    (
-        4,
-        Err(request_response::ClauseError::IncompatibleOverflowBehaviorForRequests),
-    ),
-    (
-        5,
-        Err(request_response::ClauseError::IncompatibleOverflowBehaviorForResponses),
-    ),
-    (
-        6,
-        Err(request_response::ClauseError::IncompatibleBehaviorForFireAndForgetRequests),
-    ),
-    (
-        7,
-        Err(request_response::ClauseError::DoesNotSupportRequestedAmountOfClientRequestLoans),
-    ),
-    (
-        8,
-        Err(request_response::ClauseError::DoesNotSupportRequestedAmountOfActiveRequestsPerClient),
-    ),
-    (
-        9,
-        Err(request_response::ClauseError::DoesNotSupportRequestedResponseBufferSize),
-    ),
-    (
-        10,
-        Err(request_response::ClauseError::DoesNotSupportRequestedAmountOfServers),
-    ),
-    (
-        11,
-        Err(request_response::ClauseError::DoesNotSupportRequestedAmountOfClients),
-    ),
-    (
-        12,
-        Err(
-            request_response::ClauseError::DoesNotSupportRequestedAmountOfBorrowedResponsesPerPendingResponse,
+fn request_response_answers() -> [(usize, Result<(), request_response::ClauseError>); 14] {
+    [
+        (
+            1,
+            Err(request_response::ClauseError::IncompatibleRequestType),
         ),
-    ),
-    (
-        13,
-        Err(request_response::ClauseError::DoesNotSupportRequestedAmountOfNodes),
-    ),
-    (14, Ok(())),
-];
+        (
+            2,
+            Err(request_response::ClauseError::IncompatibleResponseType),
+        ),
+        (
+            3,
+            Err(request_response::ClauseError::IncompatibleAttributes),
+        ),
+        (
+            4,
+            Err(request_response::ClauseError::IncompatibleOverflowBehaviorForRequests),
+        ),
+        (
+            5,
+            Err(request_response::ClauseError::IncompatibleOverflowBehaviorForResponses),
+        ),
+        (
+            6,
+            Err(request_response::ClauseError::IncompatibleBehaviorForFireAndForgetRequests),
+        ),
+        (
+            7,
+            Err(request_response::ClauseError::DoesNotSupportRequestedAmountOfClientRequestLoans),
+        ),
+        (
+            8,
+            Err(
+                request_response::ClauseError::DoesNotSupportRequestedAmountOfActiveRequestsPerClient,
+            ),
+        ),
+        (
+            9,
+            Err(request_response::ClauseError::DoesNotSupportRequestedResponseBufferSize),
+        ),
+        (
+            10,
+            Err(request_response::ClauseError::DoesNotSupportRequestedAmountOfServers),
+        ),
+        (
+            11,
+            Err(request_response::ClauseError::DoesNotSupportRequestedAmountOfClients),
+        ),
+        (
+            12,
+            Err(
+                request_response::ClauseError::DoesNotSupportRequestedAmountOfBorrowedResponsesPerPendingResponse,
+            ),
+        ),
+        (
+            13,
+            Err(request_response::ClauseError::DoesNotSupportRequestedAmountOfNodes),
+        ),
+        (14, Ok(())),
+    ]
+}
 
 #[test]
 fn clauses_of_request_response_stand_in_order(rt: HostRuntime) -> Result<(), Fail> {
     let pattern = Err(request_response::ClauseError::IncompatibleMessagingPattern);
     assert!(rt; is_request_response_so(rt.alloc(), &publish_subscribe_service()?, 0, pattern)?);
     let service = request_response_service()?;
-    for (place, answer) in REQUEST_RESPONSE_ANSWERS {
+    for (place, answer) in request_response_answers() {
         assert!(rt;
             is_request_response_so(rt.alloc(), &service, place, answer)?,
             "{place}"

@@ -1,5 +1,5 @@
 //! The calls that make the parts of a description: at their limits, one past them, and with ample memory.
-use crate::shared::{PUBLISH_SUBSCRIBE, publish_subscribe_service};
+use crate::shared::{publish_subscribe_line, publish_subscribe_service};
 use iox_describe::{
     AttributeError, AttributeSpecifier, AttributeVerifier, LimitError, MessagingPattern,
     ServiceName, TypeDetail, TypeVariant, encode, service_hash,
@@ -158,7 +158,7 @@ fn the_first_key_that_is_not_met_is_told(rt: HostRuntime) -> Result<(), Fail> {
 fn is_description_copied(alloc: Global) -> Result<bool, Fail> {
     let copy = publish_subscribe_service()?.try_clone(alloc)?;
     let line = encode(alloc, &copy)?;
-    Ok(line.as_slice() == PUBLISH_SUBSCRIBE.as_bytes())
+    Ok(line.as_slice() == publish_subscribe_line().as_bytes())
 }
 
 /// Whether copies of requirements and of attributes say what they do.

@@ -16,36 +16,38 @@ type Row = (
     u64,
 );
 
-const ROWS: [Row; 4] = [
-    (
-        LeaveAnswer::Stays,
-        RemoveAnswer::Fault,
-        RemoveAnswer::Fault,
-        None,
-        1,
-    ),
-    (
-        LeaveAnswer::Emptied,
-        RemoveAnswer::Removed,
-        RemoveAnswer::Removed,
-        None,
-        3,
-    ),
-    (
-        LeaveAnswer::Emptied,
-        RemoveAnswer::Fault,
-        RemoveAnswer::Removed,
-        Some(CloseError::UnableToRemoveDescription),
-        2,
-    ),
-    (
-        LeaveAnswer::Emptied,
-        RemoveAnswer::Removed,
-        RemoveAnswer::Fault,
-        Some(CloseError::UnableToRemoveSegment),
-        3,
-    ),
-];
+fn rows() -> [Row; 4] {
+    [
+        (
+            LeaveAnswer::Stays,
+            RemoveAnswer::Fault,
+            RemoveAnswer::Fault,
+            None,
+            1,
+        ),
+        (
+            LeaveAnswer::Emptied,
+            RemoveAnswer::Removed,
+            RemoveAnswer::Removed,
+            None,
+            3,
+        ),
+        (
+            LeaveAnswer::Emptied,
+            RemoveAnswer::Fault,
+            RemoveAnswer::Removed,
+            Some(CloseError::UnableToRemoveDescription),
+            2,
+        ),
+        (
+            LeaveAnswer::Emptied,
+            RemoveAnswer::Removed,
+            RemoveAnswer::Fault,
+            Some(CloseError::UnableToRemoveSegment),
+            3,
+        ),
+    ]
+}
 
 /// The factory, handed back by a close in another storage; nothing if it isn't, or if the storage is accessed.
 fn handed_back(factory: PortFactory<Event>, storage: &mut Fixed) -> Option<PortFactory<Event>> {
@@ -83,7 +85,7 @@ fn is_so(alloc: Global, storage: &mut Fixed, row: Row) -> Result<bool, Fail> {
 
 #[test]
 fn a_factory_is_closed_in_its_storage(rt: HostRuntime) -> Result<(), Fail> {
-    for row in ROWS {
+    for row in rows() {
         let mut storage = Fixed::new(rt.alloc(), "")?;
         assert!(rt; is_so(rt.alloc(), &mut storage, row)?, "{row:?}");
     }

@@ -45,38 +45,41 @@ const LEAVE: Step = Step::Leave(1);
 // What nodes of others did, the step, and the phase after it.
 type Row = (&'static [Step], Step, Phase);
 
-const ROWS: [Row; 22] = [
-    (&[], LOCK, Phase::Locked),
-    (&[LOCK], Step::GiveUp(1), Phase::Absent),
-    (&[LOCK], TWO, Phase::Opens),
-    (&[LOCK, TWO], Step::Register(2), Phase::Full),
-    (&[LOCK, TWO, Step::Register(2)], LEAVE, Phase::Opens),
-    (&[LOCK, ONE], LEAVE, Phase::Emptied),
-    (&[LOCK, ONE, LEAVE], Step::Remove(1), Phase::Absent),
-    (&[LOCK, Step::Lock(2)], Step::GiveUp(1), Phase::Absent),
-    (&[LOCK, ONE], Step::Lock(2), Phase::Full),
-    (&[LOCK, ONE, LEAVE], Step::Lock(2), Phase::Emptied),
-    (&[], Step::GiveUp(1), Phase::Absent),
-    (&[LOCK], Step::GiveUp(2), Phase::Locked),
-    (&[], TWO, Phase::Absent),
-    (&[LOCK], Step::Publish(2, b"A", 2, 2), Phase::Locked),
-    (&[LOCK], Step::Publish(1, b"B", 2, 2), Phase::Locked),
-    (
-        &[LOCK],
-        Step::Publish(1, b"A", 2, 16_777_216),
-        Phase::Locked,
-    ),
-    (&[LOCK], Step::Register(2), Phase::Locked),
-    (&[LOCK, TWO], Step::Register(1), Phase::Opens),
-    (&[LOCK, ONE, Step::Register(2)], LEAVE, Phase::Emptied),
-    (&[LOCK, ONE], Step::Leave(2), Phase::Full),
-    (&[LOCK, ONE], Step::Remove(1), Phase::Full),
-    (&[LOCK, ONE, LEAVE], Step::Remove(2), Phase::Emptied),
-];
+/// What is done, and the phase after it.
+fn rows() -> [Row; 22] {
+    [
+        (&[], LOCK, Phase::Locked),
+        (&[LOCK], Step::GiveUp(1), Phase::Absent),
+        (&[LOCK], TWO, Phase::Opens),
+        (&[LOCK, TWO], Step::Register(2), Phase::Full),
+        (&[LOCK, TWO, Step::Register(2)], LEAVE, Phase::Opens),
+        (&[LOCK, ONE], LEAVE, Phase::Emptied),
+        (&[LOCK, ONE, LEAVE], Step::Remove(1), Phase::Absent),
+        (&[LOCK, Step::Lock(2)], Step::GiveUp(1), Phase::Absent),
+        (&[LOCK, ONE], Step::Lock(2), Phase::Full),
+        (&[LOCK, ONE, LEAVE], Step::Lock(2), Phase::Emptied),
+        (&[], Step::GiveUp(1), Phase::Absent),
+        (&[LOCK], Step::GiveUp(2), Phase::Locked),
+        (&[], TWO, Phase::Absent),
+        (&[LOCK], Step::Publish(2, b"A", 2, 2), Phase::Locked),
+        (&[LOCK], Step::Publish(1, b"B", 2, 2), Phase::Locked),
+        (
+            &[LOCK],
+            Step::Publish(1, b"A", 2, 16_777_216),
+            Phase::Locked,
+        ),
+        (&[LOCK], Step::Register(2), Phase::Locked),
+        (&[LOCK, TWO], Step::Register(1), Phase::Opens),
+        (&[LOCK, ONE, Step::Register(2)], LEAVE, Phase::Emptied),
+        (&[LOCK, ONE], Step::Leave(2), Phase::Full),
+        (&[LOCK, ONE], Step::Remove(1), Phase::Full),
+        (&[LOCK, ONE, LEAVE], Step::Remove(2), Phase::Emptied),
+    ]
+}
 
 #[test]
 fn a_step_changes_a_phase_where_it_fits(rt: HostRuntime) -> Result<(), Fail> {
-    for (before, step, after) in ROWS {
+    for (before, step, after) in rows() {
         let mut table = Table::new(rt.alloc(), 1);
         act(&mut table, before)?;
         act(&mut table, &[step])?;

@@ -114,16 +114,18 @@ const INTERNAL: PublishSubscribeCreateError = PublishSubscribeCreateError::Inter
 
 const CORRUPTED: PublishSubscribeCreateError = PublishSubscribeCreateError::ServiceInCorruptedState;
 
-const ROWS: [Row; 8] = [
-    (1, Failure::Memory, MEMORY, 1),
-    (2, Failure::Memory, MEMORY, 1),
-    (3, Failure::Memory, MEMORY, 2),
-    (4, Failure::Memory, MEMORY, 2),
-    (1, Failure::Fault, CORRUPTED, 1),
-    (2, Failure::Fault, INTERNAL, 1),
-    (3, Failure::Fault, INTERNAL, 2),
-    (4, Failure::Fault, INTERNAL, 2),
-];
+fn rows() -> [Row; 8] {
+    [
+        (1, Failure::Memory, MEMORY, 1),
+        (2, Failure::Memory, MEMORY, 1),
+        (3, Failure::Memory, MEMORY, 2),
+        (4, Failure::Memory, MEMORY, 2),
+        (1, Failure::Fault, CORRUPTED, 1),
+        (2, Failure::Fault, INTERNAL, 1),
+        (3, Failure::Fault, INTERNAL, 2),
+        (4, Failure::Fault, INTERNAL, 2),
+    ]
+}
 
 /// Whether a creation is refused so, at the access that fails.
 fn is_refused(
@@ -147,7 +149,7 @@ fn is_nothing_left(table: &mut Table, next: u64) -> Result<bool, LimitError> {
 
 #[test]
 fn nothing_is_left_of_a_creation_that_failed(rt: HostRuntime) -> Result<(), Fail> {
-    for (at, failure, error, next) in ROWS {
+    for (at, failure, error, next) in rows() {
         let mut storage = Failing {
             table: Table::new(rt.alloc(), 1),
             left: at,
