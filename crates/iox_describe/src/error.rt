@@ -2,6 +2,7 @@
 ghost use Rattle.std.specs.Prelude.{◌≡◌};
 ghost use Rattle.iox_describe.specs.declared.error.DescriptionError.TheVariants.{OutOfMemory};
 
+use iox_describe_base::AttributeError;
 use serde_json::Error;
 use std::alloc::AllocError;
 
@@ -21,6 +22,19 @@ impl From<AllocError> for DescriptionError {
 
     fn from(_error: AllocError) -> DescriptionError {
         DescriptionError::OutOfMemory
+    }
+}
+
+impl From<AttributeError> for DescriptionError {
+    ghost use Rattle.iox_describe.specs.Reading.{description_error};
+
+    ghost from_gives = { λ refused error. error ≡ description_error refused };
+
+    fn from(error: AttributeError) -> DescriptionError {
+        match error {
+            AttributeError::LimitError(_) => DescriptionError::Invalid,
+            AttributeError::OutOfMemory => DescriptionError::OutOfMemory,
+        }
     }
 }
 

@@ -16,8 +16,8 @@ pub mod writer;
 
 pub use error::DescriptionError;
 pub use iox_describe_base::{
-    Attribute, AttributeKey, AttributeSpecifier, AttributeValue, AttributeVerifier, Header,
-    LimitError, MessageTypeDetails, MessagingPattern, ServiceHash, ServiceName, TypeDetail,
+    Attribute, AttributeError, AttributeKey, AttributeSpecifier, AttributeValue, AttributeVerifier,
+    Header, LimitError, MessageTypeDetails, MessagingPattern, ServiceHash, ServiceName, TypeDetail,
     TypeVariant, ZeroCopySend, service_hash,
 };
 pub use iox_describe_settings::{

@@ -1,5 +1,5 @@
 //! The description that a line spells.
-ghost use Rattle.std.specs.Prelude.{◌≡◌, ◌⊎◌, ◌↔◌, ◌<◌, ◌++◌, ◌∷◌, [], List, ℕ, length, Ok, Err, Some, IfOk, IfSome, IsTrue, MatchResult};
+ghost use Rattle.std.specs.Prelude.{◌≡◌, ◌⊎◌, ◌↔◌, ◌<◌, ◌++◌, ◌∷◌, [], List, ℕ, length, Ok, Err, Some, IfOk, IfSome, IsSomeAnd, IsTrue, MatchResult};
 ghost use Rattle.serde_json.specs.Find.{get};
 ghost use Rattle.serde_json.specs.View.{view};
 ghost use Rattle.iox_describe_base.specs.declared.attribute.Attribute.{Attribute};
@@ -49,8 +49,8 @@ pub fn decode(alloc: Global, bytes: &[u8]) -> Result<Description, DescriptionErr
     if bytes.len() > MAX_LINE_LENGTH {
         return Err(DescriptionError::Invalid);
     }
-    let attributes = AttributeSpecifier::new(alloc)?;
     let value = value_of(alloc, bytes)?;
+    let attributes = attributes_of(alloc, &value)?;
     let description = candidate(attributes, &value).ok_or(DescriptionError::Invalid)?;
     if !is_within_limits(&description) {
         return Err(DescriptionError::Invalid);
@@ -97,16 +97,26 @@ fn value_of(alloc: Global, bytes: &[u8]) -> Result<Value, DescriptionError>
     Ok(Value::from_slice(alloc, bytes)?)
 }
 
-/// The one description whose JSON this may be.
+/// The attributes of the one description whose JSON this may be.
+fn attributes_of(alloc: Global, value: &Value) -> Result<AttributeSpecifier, DescriptionError>
+    ensures { (description : Agreement) → IsWithinLimits description → view value.now ≡ tree description
+        → MatchResult result (λ attributes. attributes ≡ description.attributes) (λ error. error ≡ OutOfMemory) }
+{
+    match value.get("attributes") {
+        Some(list) => defined(alloc, list),
+        None => Err(DescriptionError::Invalid),
+    }
+}
+
+/// The one description of these attributes whose JSON this may be.
 fn candidate(attributes: AttributeSpecifier, value: &Value) -> Option<Description>
-    ensures { (description : Agreement) → IsWithinLimits description → attributes ≡ [] → view value.now ≡ tree description
+    ensures { (description : Agreement) → IsWithinLimits description → attributes ≡ description.attributes → view value.now ≡ tree description
         → result ≡ Some description }
 {
     let name = ServiceName::new(text_at(value, "name")?.as_bytes()).ok()?;
     let hash = hash_of(text_at(value, "service_hash")?);
     let pattern = pattern_of(text_at(value, "pattern")?);
     let settings = settings_of(pattern, value.get("settings")?)?;
-    let attributes = defined(attributes, value.get("attributes")?)?;
     Some(Description::of_parts(name, hash, settings, attributes))
 }
 
@@ -130,26 +140,43 @@ fn hash_of(digits: &str) -> ServiceHash
     ServiceHash { digest }
 }
 
-/// The attributes, defined in their order.
-fn defined(attributes: AttributeSpecifier, value: &Value) -> Option<AttributeSpecifier>
-    ensures { (pairs : List Attribute) → AreAttributes pairs → attributes ≡ [] → view value.now ≡ attributes_tree pairs
-        → result ≡ Some pairs }
+/// The attributes of a list, defined in their order.
+fn defined(alloc: Global, value: &Value) -> Result<AttributeSpecifier, DescriptionError>
+    ensures { (pairs : List Attribute) → AreAttributes pairs → view value.now ≡ attributes_tree pairs
+        → MatchResult result (λ attributes. attributes ≡ pairs) (λ error. error ≡ OutOfMemory) }
 {
-    let mut attributes = attributes;
-    for item in value.as_array()? {
-        define(&mut attributes, item)?;
+    let Some(list) = value.as_array() else {
+        return Err(DescriptionError::Invalid);
+    };
+    let mut attributes = AttributeSpecifier::new();
+    for item in list {
+        define(alloc, &mut attributes, item)?;
     }
-    Some(attributes)
+    Ok(attributes)
 }
 
 /// Defines an attribute.
-fn define(attributes: &mut AttributeSpecifier, value: &Value) -> Option<()>
+fn define(
+    alloc: Global,
+    attributes: &mut AttributeSpecifier,
+    value: &Value,
+) -> Result<(), DescriptionError>
     ensures { (pair : Attribute) → IsAttribute pair → length attributes.old < 8 → view value.now ≡ attribute_tree pair
-        → (result ≡ Some tt) × (attributes.new ≡ attributes.old ++ pair ∷ []) }
+        → MatchResult result (λ _. attributes.new ≡ attributes.old ++ pair ∷ []) (λ error. error ≡ OutOfMemory) }
 {
-    let key = value.get(0)?.as_str()?;
-    let text = value.get(1)?.as_str()?;
-    attributes.define(key.as_bytes(), text.as_bytes()).ok()
+    let (Some(key), Some(text)) = (text_of(value, 0), text_of(value, 1)) else {
+        return Err(DescriptionError::Invalid);
+    };
+    attributes.define(alloc, key.as_bytes(), text.as_bytes())?;
+    Ok(())
+}
+
+/// The text at a place of a list.
+fn text_of(value: &Value, place: usize) -> Option<&str>
+    ensures first { (pair : Attribute) → view value.now ≡ attribute_tree pair → place ≡ 0 → IsSomeAnd result (λ text. text.now ≡ pair.key) }
+    ensures second { (pair : Attribute) → view value.now ≡ attribute_tree pair → place ≡ 1 → IsSomeAnd result (λ text. text.now ≡ pair.value) }
+{
+    value.get(place)?.as_str()
 }
 
 /// The settings of a service of the pattern.

@@ -1,2 +1,1 @@
-pub mod AttributesLemmas
 pub mod CompatibleLemmas

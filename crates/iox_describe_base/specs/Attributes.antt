@@ -3,6 +3,8 @@ use Rattle.std.specs.Prelude.{ℕ, ◌≤◌, List, length, All, Contains, Bool,
 use Rattle.std.specs.List.{list_any, find}
 use Rattle.std.specs.Cmp.Lexicographic.{pointwise}
 use Rattle.iox_describe_base.specs.declared.attribute.Attribute.{Attribute}
+use Rattle.iox_describe_base.specs.declared.attribute.AttributeError.{AttributeError}
+use Rattle.iox_describe_base.specs.declared.attribute.AttributeError.TheVariants as refusal
 use Rattle.iox_describe_base.specs.Limits.{IsText}
 
 -- an attribute, by its parts
@@ -16,6 +18,12 @@ IsAttribute a = IsText 1 64 a.key × IsText 0 256 a.value
 -- at most eight attributes
 abbrev pub AreAttributes : List Attribute → Type 0
 AreAttributes pairs = (length pairs ≤ 8) × All IsAttribute pairs
+
+-- one more is taken exactly if it is within the limits, and only the first can lack memory
+abbrev pub AnswersOneMore : Type 0 → Type 0 → Result (Unit {0}) AttributeError → Type 0
+AnswersOneMore is_within is_first (Ok taken) = is_within
+AnswersOneMore is_within is_first (Err (refusal.LimitError limit)) = is_within → ⊥
+AnswersOneMore is_within is_first (Err refusal.OutOfMemory) = is_within × is_first
 
 -- the pairs and the keys that an opener requires
 pub record Required : Type 0 where

@@ -2,5 +2,6 @@ pub mod Limits
 pub mod Detail
 pub mod Compatible
 pub mod Hash
+pub mod Few
 pub mod Attributes
 pub mod SameAttributes

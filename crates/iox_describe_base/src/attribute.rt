@@ -3,12 +3,14 @@ ghost use Rattle.std.specs.Prelude.{◌≡◌, ◌<◌, ◌↔◌, [], ◌∷◌
 ghost use Rattle.iox_describe_base.specs.Limits.{IsText};
 ghost use Rattle.iox_describe_base.specs.Attributes.{IsAttribute};
 
+use crate::few::Few;
 use crate::limits::{
     LimitError, MAX_ATTRIBUTE_KEY_LENGTH, MAX_ATTRIBUTE_VALUE_LENGTH, MAX_ATTRIBUTES,
 };
 use iox_string::StaticString;
 use std::alloc::{AllocError, Global};
 use std::marker::Model;
+use thiserror::Error;
 
 /// The key of an attribute: 1 to 64 bytes of 1..=127.
 pub type AttributeKey = StaticString<MAX_ATTRIBUTE_KEY_LENGTH>;
@@ -27,6 +29,37 @@ pub struct Attribute {
     pub value: AttributeValue,
 }
 
+/// Why a pair is not defined or required, or a key not required.
+#[derive(Clone, Copy, Debug, PartialEq, Eq, Error)]
+pub enum AttributeError {
+    /// It is outside the limits, or there are eight already.
+    #[error("{0}")]
+    LimitError(LimitError),
+    /// There was no memory.
+    #[error("AttributeError::OutOfMemory")]
+    OutOfMemory,
+}
+
+impl From<LimitError> for AttributeError {
+    ghost use Rattle.iox_describe_base.specs.declared.attribute.AttributeError.TheVariants as refusal;
+
+    ghost from_gives = { λ limit error. error ≡ refusal.LimitError limit };
+
+    fn from(error: LimitError) -> AttributeError {
+        AttributeError::LimitError(error)
+    }
+}
+
+impl From<AllocError> for AttributeError {
+    ghost use Rattle.iox_describe_base.specs.declared.attribute.AttributeError.TheVariants.{OutOfMemory};
+
+    ghost from_gives = { λ _ error. error ≡ OutOfMemory };
+
+    fn from(_error: AllocError) -> AttributeError {
+        AttributeError::OutOfMemory
+    }
+}
+
 /// The attributes that a service is created with, in the order in which they were defined; at most 8.
 /// The same key, and the same pair, may stand several times.
 /// Contracts see it as the list of its pairs.
@@ -34,57 +67,57 @@ pub struct Attribute {
 /// Ported from `iceoryx2::service::attribute::AttributeSpecifier`.
 #[derive(Debug, Drop)]
 pub struct AttributeSpecifier {
-    pairs: Vec<Attribute>,
+    pairs: Few<Attribute>,
 }
 
 impl Model for AttributeSpecifier {
-    ghost use Rattle.std.specs.Prelude.{List, ◌≤◌, vec_capacity};
+    ghost use Rattle.std.specs.Prelude.{List};
     ghost use Rattle.iox_describe_base.specs.declared.attribute.Attribute.{Attribute};
     ghost use Rattle.iox_describe_base.specs.Attributes.{AreAttributes};
 
     ghost Value = { List Attribute };
 
-    ghost view = { λ s. s.pairs.items };
+    ghost view = { λ s. s.pairs };
 
-    ghost invariant = { λ s. AreAttributes s.pairs.items × (8 ≤ vec_capacity s.pairs) };
+    ghost invariant = { λ s. AreAttributes s.pairs };
 }
 
 impl AttributeSpecifier {
-    ghost use Rattle.iox_describe_base.specs.Attributes.{AreAttributes, attribute};
+    ghost use Rattle.iox_describe_base.specs.Attributes.{AreAttributes, attribute, AnswersOneMore};
 
-    /// No attributes, with the room for all that may be defined. Refused only for want of memory.
-    pub fn new(alloc: Global) -> Result<Self, AllocError>
-        ensures { IfOk result (λ attributes. attributes ≡ []) }
+    /// No attributes. They take no memory.
+    pub fn new() -> Self
+        ensures { result ≡ [] }
     {
-        Ok(AttributeSpecifier {
-            pairs: Vec::with_capacity(alloc, MAX_ATTRIBUTES)?,
-        })
+        AttributeSpecifier { pairs: Few::new() }
     }
 
-    /// Appends a pair.
+    /// Appends a pair. The first one takes the room for all that may be defined.
     ///
-    /// Refused with `OutsideLimits`, and nothing changes, if there are 8 pairs, if the key has no bytes
-    /// or more than 64, the value more than 256, or if a byte of either lies outside 1..=127.
-    pub fn define(&mut self, key: &[u8], value: &[u8]) -> Result<(), LimitError>
-        ensures accepted { IsOk result ↔ ((length self.old < 8) × IsText 1 64 key.now × IsText 0 256 value.now) }
+    /// Refused, and nothing changes, with `LimitError::OutsideLimits` if there are 8 pairs, if the key has no bytes or more
+    /// than 64, the value more than 256, or if a byte of either lies outside 1..=127; else with `OutOfMemory` if it is the
+    /// first pair and memory is wanting.
+    pub fn define(&mut self, alloc: Global, key: &[u8], value: &[u8]) -> Result<(), AttributeError>
+        ensures answer { AnswersOneMore ((length self.old < 8) × IsText 1 64 key.now × IsText 0 256 value.now) (self.old ≡ []) result }
         ensures ok { OnOk result (self.new ≡ self.old ++ attribute key.now value.now ∷ []) }
         ensures err { OnErr result (self.new ≡ self.old) }
     {
-        if self.pairs.len() >= MAX_ATTRIBUTES {
-            return Err(LimitError::OutsideLimits);
+        if self.pairs.as_slice().len() >= MAX_ATTRIBUTES {
+            return Err(AttributeError::LimitError(LimitError::OutsideLimits));
         }
         let attribute = attribute_of(key, value)?;
-        self.pairs.push_reserved(attribute);
+        self.pairs.push(alloc, attribute)?;
         Ok(())
     }
 
-    /// The same attributes, in memory of their own. Refused only for want of memory.
+    /// The same attributes, in memory of their own. Refused only for want of memory, which no attributes take none of.
     pub fn try_clone(&self, alloc: Global) -> Result<Self, AllocError>
-        ensures { IfOk result (λ attributes. attributes ≡ self.now) }
+        ensures same { IfOk result (λ attributes. attributes ≡ self.now) }
+        ensures empty { self.now ≡ [] → IsOk result }
     {
-        let mut pairs = Vec::with_capacity(alloc, MAX_ATTRIBUTES)?;
-        pairs.extend_from_slice(self.pairs.as_slice())?;
-        Ok(AttributeSpecifier { pairs })
+        Ok(AttributeSpecifier {
+            pairs: self.pairs.try_clone(alloc)?,
+        })
     }
 
     /// The pairs, in the order in which they were defined.

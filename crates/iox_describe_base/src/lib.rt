@@ -7,11 +7,13 @@
 //! | `hash` | under which hash a service is found |
 //! | `type_detail`, `message_type`, `zero_copy_send` | how a type lies in memory, the three types of a message, the types that know theirs |
 //! | `header` | what a service writes before each message |
+//! | `few` | a list that takes no memory while it is empty |
 //! | `attribute`, `verifier` | attributes, and what an opener requires of them |
 //! | `laws` | what holds of compatibility |
 #![tactic(auto)]
 
 pub mod attribute;
+mod few;
 pub mod hash;
 pub mod header;
 pub mod laws;
@@ -23,7 +25,7 @@ pub mod type_detail;
 pub mod verifier;
 pub mod zero_copy_send;
 
-pub use attribute::{Attribute, AttributeKey, AttributeSpecifier, AttributeValue};
+pub use attribute::{Attribute, AttributeError, AttributeKey, AttributeSpecifier, AttributeValue};
 pub use hash::{ServiceHash, service_hash};
 pub use header::Header;
 pub use limits::LimitError;

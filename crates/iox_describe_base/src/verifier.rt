@@ -3,7 +3,8 @@ ghost use Rattle.std.specs.Prelude.{◌≡◌, ◌<◌, ◌↔◌, [], ◌∷◌
 ghost use Rattle.iox_describe_base.specs.Limits.{IsText};
 ghost use Rattle.iox_describe_base.specs.Attributes.{has_pair, has_key, unmet_pair, unmet_lone_key};
 
-use crate::attribute::{Attribute, AttributeKey, AttributeSpecifier, key_of};
+use crate::attribute::{Attribute, AttributeError, AttributeKey, AttributeSpecifier, key_of};
+use crate::few::Few;
 use crate::limits::{LimitError, MAX_ATTRIBUTES};
 use std::alloc::{AllocError, Global};
 use std::marker::Model;
@@ -15,70 +16,71 @@ use std::marker::Model;
 #[derive(Debug, Drop)]
 pub struct AttributeVerifier {
     pairs: AttributeSpecifier,
-    keys: Vec<AttributeKey>,
+    keys: Few<AttributeKey>,
 }
 
 impl Model for AttributeVerifier {
-    ghost use Rattle.std.specs.Prelude.{◌≤◌, vec_capacity};
     ghost use Rattle.iox_describe_base.specs.Attributes.{Required, required, AreKeys};
 
     ghost Value = { Required };
 
-    ghost view = { λ v. required v.pairs v.keys.items };
+    ghost view = { λ v. required v.pairs v.keys };
 
-    ghost invariant = { λ v. AreKeys v.keys.items × (8 ≤ vec_capacity v.keys) };
+    ghost invariant = { λ v. AreKeys v.keys };
 }
 
 impl AttributeVerifier {
-    ghost use Rattle.iox_describe_base.specs.Attributes.{required, attribute, unmet_key, result_of, has_required};
+    ghost use Rattle.iox_describe_base.specs.Attributes.{required, attribute, unmet_key, result_of, has_required, AnswersOneMore};
 
-    /// Nothing required, with the room for all that may be. Refused only for want of memory.
-    pub fn new(alloc: Global) -> Result<Self, AllocError>
-        ensures { IfOk result (λ verifier. verifier ≡ required [] []) }
+    /// Nothing required. It takes no memory.
+    pub fn new() -> Self
+        ensures { result ≡ required [] [] }
     {
-        Ok(AttributeVerifier {
-            pairs: AttributeSpecifier::new(alloc)?,
-            keys: Vec::with_capacity(alloc, MAX_ATTRIBUTES)?,
-        })
+        AttributeVerifier {
+            pairs: AttributeSpecifier::new(),
+            keys: Few::new(),
+        }
     }
 
-    /// Requires a pair.
+    /// Requires a pair. The first one takes the room for all that may be required.
     ///
-    /// Refused with `OutsideLimits`, and nothing changes, if 8 pairs are required, if the key has no
-    /// bytes or more than 64, the value more than 256, or if a byte of either lies outside 1..=127.
-    pub fn require(&mut self, key: &[u8], value: &[u8]) -> Result<(), LimitError>
-        ensures accepted { IsOk result ↔ ((length self.old.pairs < 8) × IsText 1 64 key.now × IsText 0 256 value.now) }
+    /// Refused, and nothing changes, with `LimitError::OutsideLimits` if 8 pairs are required, if the key has no bytes or
+    /// more than 64, the value more than 256, or if a byte of either lies outside 1..=127; else with `OutOfMemory` if it is
+    /// the first pair and memory is wanting.
+    pub fn require(&mut self, alloc: Global, key: &[u8], value: &[u8]) -> Result<(), AttributeError>
+        ensures answer { AnswersOneMore ((length self.old.pairs < 8) × IsText 1 64 key.now × IsText 0 256 value.now) (self.old.pairs ≡ []) result }
         ensures ok { OnOk result (self.new ≡ required (self.old.pairs ++ attribute key.now value.now ∷ []) self.old.keys) }
         ensures err { OnErr result (self.new ≡ self.old) }
     {
-        self.pairs.define(key, value)
+        self.pairs.define(alloc, key, value)
     }
 
-    /// Requires that some pair has this key.
+    /// Requires that some pair has this key. The first one takes the room for all that may be required.
     ///
-    /// Refused with `OutsideLimits`, and nothing changes, if 8 keys are required, if the key has no
-    /// bytes or more than 64, or if one lies outside 1..=127.
-    pub fn require_key(&mut self, key: &[u8]) -> Result<(), LimitError>
-        ensures accepted { IsOk result ↔ ((length self.old.keys < 8) × IsText 1 64 key.now) }
+    /// Refused, and nothing changes, with `LimitError::OutsideLimits` if 8 keys are required, if the key has no bytes or
+    /// more than 64, or if one lies outside 1..=127; else with `OutOfMemory` if it is the first key and memory is wanting.
+    pub fn require_key(&mut self, alloc: Global, key: &[u8]) -> Result<(), AttributeError>
+        ensures answer { AnswersOneMore ((length self.old.keys < 8) × IsText 1 64 key.now) (self.old.keys ≡ []) result }
         ensures ok { OnOk result (self.new ≡ required self.old.pairs (self.old.keys ++ key.now ∷ [])) }
         ensures err { OnErr result (self.new ≡ self.old) }
     {
-        if self.keys.len() >= MAX_ATTRIBUTES {
-            return Err(LimitError::OutsideLimits);
+        if self.keys.as_slice().len() >= MAX_ATTRIBUTES {
+            return Err(AttributeError::LimitError(LimitError::OutsideLimits));
         }
         let key = key_of(key)?;
-        self.keys.push_reserved(key);
+        self.keys.push(alloc, key)?;
         Ok(())
     }
 
-    /// The same requirements, in memory of their own. Refused only for want of memory.
+    /// The same requirements, in memory of their own. Refused only for want of memory, which nothing required takes none of.
     pub fn try_clone(&self, alloc: Global) -> Result<Self, AllocError>
-        ensures { IfOk result (λ verifier. verifier ≡ self.now) }
+        ensures same { IfOk result (λ verifier. verifier ≡ self.now) }
+        ensures empty { self.now ≡ required [] [] → IsOk result }
     {
-        let pairs = self.pairs.try_clone(alloc)?;
-        let mut keys = Vec::with_capacity(alloc, MAX_ATTRIBUTES)?;
-        keys.extend_from_slice(self.keys.as_slice())?;
-        Ok(AttributeVerifier { pairs, keys })
+        Ok(AttributeVerifier {
+            pairs: self.pairs.try_clone(alloc)?,
+            keys: self.keys.try_clone(alloc)?,
+        })
     }
 
     /// The required pairs.

@@ -38,7 +38,7 @@ fn is_too_long(requirement: &publish_subscribe::Requirement) -> bool {
 
 #[test]
 fn what_was_not_named_stands_at_its_default(rt: HostRuntime) -> Result<(), Fail> {
-    let verifier = AttributeVerifier::new(rt.alloc())?;
+    let verifier = AttributeVerifier::new();
     let mut requirement = publish_subscribe::Requirement::new(types(), verifier);
     requirement.subscriber_max_buffer_size = Some(0);
     requirement.history_size = Some(0);
@@ -73,7 +73,7 @@ fn is_request_response_so(requirement: &request_response::Requirement) -> bool {
 
 /// The copy of a requirement of no server and nine clients.
 fn copied(alloc: Global) -> Result<request_response::Requirement, AllocError> {
-    let verifier = AttributeVerifier::new(alloc)?;
+    let verifier = AttributeVerifier::new();
     let mut requirement = request_response::Requirement::new(types(), types(), verifier);
     requirement.max_servers = Some(0);
     requirement.max_clients = Some(9);
@@ -82,7 +82,7 @@ fn copied(alloc: Global) -> Result<request_response::Requirement, AllocError> {
 
 #[test]
 fn a_zero_that_can_serve_stays(rt: HostRuntime) -> Result<(), Fail> {
-    let mut requirement = event::Requirement::new(AttributeVerifier::new(rt.alloc())?);
+    let mut requirement = event::Requirement::new(AttributeVerifier::new());
     requirement.event_id_max_value = Some(0);
     requirement.max_nodes = Some(0);
     requirement.deadline = Some(Some(0));

@@ -2,7 +2,8 @@
 use crate::shared::{event_service, publish_subscribe_service, request_response_service, types};
 use iox_describe::requirement::{event, publish_subscribe, request_response};
 use iox_describe::{
-    AttributeVerifier, Description, Header, MessageTypeDetails, TypeDetail, TypeVariant,
+    AttributeError, AttributeVerifier, Description, Header, LimitError, MessageTypeDetails,
+    TypeDetail, TypeVariant,
 };
 use std::alloc::Global;
 use std::test::Fail;
@@ -13,10 +14,10 @@ fn other_types() -> MessageTypeDetails {
 }
 
 /// A requirement of attributes, which a service without any meets or doesn't.
-fn verifier(alloc: Global, met: bool) -> Result<AttributeVerifier, Fail> {
-    let mut verifier = AttributeVerifier::new(alloc)?;
+fn verifier(alloc: Global, met: bool) -> Result<AttributeVerifier, AttributeError> {
+    let mut verifier = AttributeVerifier::new();
     if !met {
-        verifier.require_key(b"color")?;
+        verifier.require_key(alloc, b"color")?;
     }
     Ok(verifier)
 }
@@ -34,7 +35,7 @@ fn asked(given: u64, met: bool) -> Option<u64> {
 fn publish_subscribe_from(
     alloc: Global,
     place: usize,
-) -> Result<publish_subscribe::Requirement, Fail> {
+) -> Result<publish_subscribe::Requirement, AttributeError> {
     let types = if place > 1 { types() } else { other_types() };
     let mut required = publish_subscribe::Requirement::new(types, verifier(alloc, place > 2)?);
     required.enable_safe_overflow = Some(place > 3);
@@ -47,47 +48,66 @@ fn publish_subscribe_from(
     Ok(required)
 }
 
-/// What the service answers to a requirement that fails the clause at a place, and all later ones.
-fn publish_subscribe_verdict(
+/// Whether the service answers so to a requirement that fails the clause at a place, and all later ones.
+fn is_publish_subscribe_so(
     alloc: Global,
     service: &Description,
     place: usize,
-) -> Result<Result<(), publish_subscribe::ClauseError>, Fail> {
-    Ok(publish_subscribe_from(alloc, place)?.verdict(service))
+    answer: Result<(), publish_subscribe::ClauseError>,
+) -> Result<bool, AttributeError> {
+    Ok(publish_subscribe_from(alloc, place)?.verdict(service) == answer)
+}
+
+/// What is answered where the clause at a place and all later ones fail.
+fn publish_subscribe_answers() -> [(usize, Result<(), publish_subscribe::ClauseError>); 10] {
+    [
+        (1, Err(publish_subscribe::ClauseError::IncompatibleTypes)),
+        (
+            2,
+            Err(publish_subscribe::ClauseError::IncompatibleAttributes),
+        ),
+        (
+            3,
+            Err(publish_subscribe::ClauseError::IncompatibleOverflowBehavior),
+        ),
+        (
+            4,
+            Err(publish_subscribe::ClauseError::DoesNotSupportRequestedAmountOfPublishers),
+        ),
+        (
+            5,
+            Err(publish_subscribe::ClauseError::DoesNotSupportRequestedAmountOfSubscribers),
+        ),
+        (
+            6,
+            Err(publish_subscribe::ClauseError::DoesNotSupportRequestedMinBufferSize),
+        ),
+        (
+            7,
+            Err(publish_subscribe::ClauseError::DoesNotSupportRequestedMinHistorySize),
+        ),
+        (
+            8,
+            Err(
+                publish_subscribe::ClauseError::DoesNotSupportRequestedMinSubscriberBorrowedSamples,
+            ),
+        ),
+        (
+            9,
+            Err(publish_subscribe::ClauseError::DoesNotSupportRequestedAmountOfNodes),
+        ),
+        (10, Ok(())),
+    ]
 }
 
 #[test]
 fn clauses_of_publish_subscribe_stand_in_order(rt: HostRuntime) -> Result<(), Fail> {
-    use publish_subscribe::ClauseError;
-    let other = event_service(rt.alloc())?;
-    assert!(rt;
-        publish_subscribe_verdict(rt.alloc(), &other, 0)?
-            == Err(ClauseError::IncompatibleMessagingPattern)
-    );
-    let service = publish_subscribe_service(rt.alloc())?;
-    for (place, answer) in [
-        (1, Err(ClauseError::IncompatibleTypes)),
-        (2, Err(ClauseError::IncompatibleAttributes)),
-        (3, Err(ClauseError::IncompatibleOverflowBehavior)),
-        (
-            4,
-            Err(ClauseError::DoesNotSupportRequestedAmountOfPublishers),
-        ),
-        (
-            5,
-            Err(ClauseError::DoesNotSupportRequestedAmountOfSubscribers),
-        ),
-        (6, Err(ClauseError::DoesNotSupportRequestedMinBufferSize)),
-        (7, Err(ClauseError::DoesNotSupportRequestedMinHistorySize)),
-        (
-            8,
-            Err(ClauseError::DoesNotSupportRequestedMinSubscriberBorrowedSamples),
-        ),
-        (9, Err(ClauseError::DoesNotSupportRequestedAmountOfNodes)),
-        (10, Ok(())),
-    ] {
+    let pattern = Err(publish_subscribe::ClauseError::IncompatibleMessagingPattern);
+    assert!(rt; is_publish_subscribe_so(rt.alloc(), &event_service()?, 0, pattern)?);
+    let service = publish_subscribe_service()?;
+    for (place, answer) in publish_subscribe_answers() {
         assert!(rt;
-            publish_subscribe_verdict(rt.alloc(), &service, place)? == answer,
+            is_publish_subscribe_so(rt.alloc(), &service, place, answer)?,
             "{place}"
         );
     }
@@ -95,7 +115,7 @@ fn clauses_of_publish_subscribe_stand_in_order(rt: HostRuntime) -> Result<(), Fa
 }
 
 /// A requirement of event that fails the clause at a place, and all later ones.
-fn event_from(alloc: Global, place: usize) -> Result<event::Requirement, Fail> {
+fn event_from(alloc: Global, place: usize) -> Result<event::Requirement, AttributeError> {
     let mut required = event::Requirement::new(verifier(alloc, place > 1)?);
     required.deadline = Some(asked(0, false).filter(|_| place <= 2));
     required.max_notifiers = asked(16, place > 3);
@@ -108,43 +128,52 @@ fn event_from(alloc: Global, place: usize) -> Result<event::Requirement, Fail> {
     Ok(required)
 }
 
-/// What the service answers to a requirement that fails the clause at a place, and all later ones.
-fn event_verdict(
+/// Whether the service answers so to a requirement that fails the clause at a place, and all later ones.
+fn is_event_so(
     alloc: Global,
     service: &Description,
     place: usize,
-) -> Result<Result<(), event::ClauseError>, Fail> {
-    Ok(event_from(alloc, place)?.verdict(service))
+    answer: Result<(), event::ClauseError>,
+) -> Result<bool, AttributeError> {
+    Ok(event_from(alloc, place)?.verdict(service) == answer)
+}
+
+/// What is answered where the clause at a place and all later ones fail.
+fn event_answers() -> [(usize, Result<(), event::ClauseError>); 10] {
+    [
+        (1, Err(event::ClauseError::IncompatibleAttributes)),
+        (2, Err(event::ClauseError::IncompatibleDeadline)),
+        (
+            3,
+            Err(event::ClauseError::DoesNotSupportRequestedAmountOfNotifiers),
+        ),
+        (
+            4,
+            Err(event::ClauseError::DoesNotSupportRequestedAmountOfListeners),
+        ),
+        (
+            5,
+            Err(event::ClauseError::DoesNotSupportRequestedMaxEventId),
+        ),
+        (6, Err(event::ClauseError::IncompatibleNotifierCreatedEvent)),
+        (7, Err(event::ClauseError::IncompatibleNotifierDroppedEvent)),
+        (8, Err(event::ClauseError::IncompatibleNotifierDeadEvent)),
+        (
+            9,
+            Err(event::ClauseError::DoesNotSupportRequestedAmountOfNodes),
+        ),
+        (10, Ok(())),
+    ]
 }
 
 #[test]
 fn clauses_of_event_stand_in_order(rt: HostRuntime) -> Result<(), Fail> {
-    use event::ClauseError;
-    let other = request_response_service(rt.alloc())?;
-    assert!(rt;
-        event_verdict(rt.alloc(), &other, 0)? == Err(ClauseError::IncompatibleMessagingPattern)
-    );
-    let service = event_service(rt.alloc())?;
-    for (place, answer) in [
-        (1, Err(ClauseError::IncompatibleAttributes)),
-        (2, Err(ClauseError::IncompatibleDeadline)),
-        (
-            3,
-            Err(ClauseError::DoesNotSupportRequestedAmountOfNotifiers),
-        ),
-        (
-            4,
-            Err(ClauseError::DoesNotSupportRequestedAmountOfListeners),
-        ),
-        (5, Err(ClauseError::DoesNotSupportRequestedMaxEventId)),
-        (6, Err(ClauseError::IncompatibleNotifierCreatedEvent)),
-        (7, Err(ClauseError::IncompatibleNotifierDroppedEvent)),
-        (8, Err(ClauseError::IncompatibleNotifierDeadEvent)),
-        (9, Err(ClauseError::DoesNotSupportRequestedAmountOfNodes)),
-        (10, Ok(())),
-    ] {
+    let pattern = Err(event::ClauseError::IncompatibleMessagingPattern);
+    assert!(rt; is_event_so(rt.alloc(), &request_response_service()?, 0, pattern)?);
+    let service = event_service()?;
+    for (place, answer) in event_answers() {
         assert!(rt;
-            event_verdict(rt.alloc(), &service, place)? == answer,
+            is_event_so(rt.alloc(), &service, place, answer)?,
             "{place}"
         );
     }
@@ -155,7 +184,7 @@ fn clauses_of_event_stand_in_order(rt: HostRuntime) -> Result<(), Fail> {
 fn request_response_from(
     alloc: Global,
     place: usize,
-) -> Result<request_response::Requirement, Fail> {
+) -> Result<request_response::Requirement, AttributeError> {
     let request_types = if place > 1 { types() } else { other_types() };
     let response_types = if place > 2 { types() } else { other_types() };
     let verifier = verifier(alloc, place > 3)?;
@@ -173,60 +202,87 @@ fn request_response_from(
     Ok(required)
 }
 
-/// What the service answers to a requirement that fails the clause at a place, and all later ones.
-fn request_response_verdict(
+/// Whether the service answers so to a requirement that fails the clause at a place, and all later ones.
+fn is_request_response_so(
     alloc: Global,
     service: &Description,
     place: usize,
-) -> Result<Result<(), request_response::ClauseError>, Fail> {
-    Ok(request_response_from(alloc, place)?.verdict(service))
+    answer: Result<(), request_response::ClauseError>,
+) -> Result<bool, AttributeError> {
+    Ok(request_response_from(alloc, place)?.verdict(service) == answer)
+}
+
+/// What is answered where the clause at a place and all later ones fail.
+fn request_response_answers() -> [(usize, Result<(), request_response::ClauseError>); 14] {
+    [
+        (
+            1,
+            Err(request_response::ClauseError::IncompatibleRequestType),
+        ),
+        (
+            2,
+            Err(request_response::ClauseError::IncompatibleResponseType),
+        ),
+        (
+            3,
+            Err(request_response::ClauseError::IncompatibleAttributes),
+        ),
+        (
+            4,
+            Err(request_response::ClauseError::IncompatibleOverflowBehaviorForRequests),
+        ),
+        (
+            5,
+            Err(request_response::ClauseError::IncompatibleOverflowBehaviorForResponses),
+        ),
+        (
+            6,
+            Err(request_response::ClauseError::IncompatibleBehaviorForFireAndForgetRequests),
+        ),
+        (
+            7,
+            Err(request_response::ClauseError::DoesNotSupportRequestedAmountOfClientRequestLoans),
+        ),
+        (
+            8,
+            Err(
+                request_response::ClauseError::DoesNotSupportRequestedAmountOfActiveRequestsPerClient,
+            ),
+        ),
+        (
+            9,
+            Err(request_response::ClauseError::DoesNotSupportRequestedResponseBufferSize),
+        ),
+        (
+            10,
+            Err(request_response::ClauseError::DoesNotSupportRequestedAmountOfServers),
+        ),
+        (
+            11,
+            Err(request_response::ClauseError::DoesNotSupportRequestedAmountOfClients),
+        ),
+        (
+            12,
+            Err(
+                request_response::ClauseError::DoesNotSupportRequestedAmountOfBorrowedResponsesPerPendingResponse,
+            ),
+        ),
+        (
+            13,
+            Err(request_response::ClauseError::DoesNotSupportRequestedAmountOfNodes),
+        ),
+        (14, Ok(())),
+    ]
 }
 
 #[test]
 fn clauses_of_request_response_stand_in_order(rt: HostRuntime) -> Result<(), Fail> {
-    use request_response::ClauseError;
-    let other = publish_subscribe_service(rt.alloc())?;
-    assert!(rt;
-        request_response_verdict(rt.alloc(), &other, 0)?
-            == Err(ClauseError::IncompatibleMessagingPattern)
-    );
-    let service = request_response_service(rt.alloc())?;
-    for (place, answer) in [
-        (1, Err(ClauseError::IncompatibleRequestType)),
-        (2, Err(ClauseError::IncompatibleResponseType)),
-        (3, Err(ClauseError::IncompatibleAttributes)),
-        (4, Err(ClauseError::IncompatibleOverflowBehaviorForRequests)),
-        (
-            5,
-            Err(ClauseError::IncompatibleOverflowBehaviorForResponses),
-        ),
-        (
-            6,
-            Err(ClauseError::IncompatibleBehaviorForFireAndForgetRequests),
-        ),
-        (
-            7,
-            Err(ClauseError::DoesNotSupportRequestedAmountOfClientRequestLoans),
-        ),
-        (
-            8,
-            Err(ClauseError::DoesNotSupportRequestedAmountOfActiveRequestsPerClient),
-        ),
-        (
-            9,
-            Err(ClauseError::DoesNotSupportRequestedResponseBufferSize),
-        ),
-        (10, Err(ClauseError::DoesNotSupportRequestedAmountOfServers)),
-        (11, Err(ClauseError::DoesNotSupportRequestedAmountOfClients)),
-        (
-            12,
-            Err(ClauseError::DoesNotSupportRequestedAmountOfBorrowedResponsesPerPendingResponse),
-        ),
-        (13, Err(ClauseError::DoesNotSupportRequestedAmountOfNodes)),
-        (14, Ok(())),
-    ] {
+    let pattern = Err(request_response::ClauseError::IncompatibleMessagingPattern);
+    assert!(rt; is_request_response_so(rt.alloc(), &publish_subscribe_service()?, 0, pattern)?);
+    let service = request_response_service()?;
+    for (place, answer) in request_response_answers() {
         assert!(rt;
-            request_response_verdict(rt.alloc(), &service, place)? == answer,
+            is_request_response_so(rt.alloc(), &service, place, answer)?,
             "{place}"
         );
     }
@@ -234,49 +290,44 @@ fn clauses_of_request_response_stand_in_order(rt: HostRuntime) -> Result<(), Fai
 }
 
 /// Whether a service of each pattern meets a requirement that names nothing.
-fn are_met(alloc: Global) -> Result<(bool, bool, bool), Fail> {
-    let required = publish_subscribe::Requirement::new(types(), verifier(alloc, true)?);
-    let first = required.verdict(&publish_subscribe_service(alloc)?).is_ok();
-    let required = event::Requirement::new(verifier(alloc, true)?);
-    let second = required.verdict(&event_service(alloc)?).is_ok();
-    let required = request_response::Requirement::new(types(), types(), verifier(alloc, true)?);
-    Ok((
-        first,
-        second,
-        required.verdict(&request_response_service(alloc)?).is_ok(),
-    ))
+fn are_met() -> Result<bool, LimitError> {
+    let first = publish_subscribe::Requirement::new(types(), AttributeVerifier::new());
+    let second = event::Requirement::new(AttributeVerifier::new());
+    let third = request_response::Requirement::new(types(), types(), AttributeVerifier::new());
+    Ok(
+        first.verdict(&publish_subscribe_service()?).is_ok()
+            && second.verdict(&event_service()?).is_ok()
+            && third.verdict(&request_response_service()?).is_ok(),
+    )
 }
 
 #[test]
 fn what_was_not_named_is_not_tested(rt: HostRuntime) -> Result<(), Fail> {
-    assert!(rt; are_met(rt.alloc())? == (true, true, true));
+    assert!(rt; are_met()?);
     Ok(())
 }
 
-/// What the service answers where a payload of this alignment is required.
-fn verdict_on_alignment(
-    alloc: Global,
+/// Whether the service answers so where a payload of this alignment is required.
+fn is_aligned_so(
     service: &Description,
     alignment: u64,
-) -> Result<Result<(), publish_subscribe::ClauseError>, Fail> {
+    answer: Result<(), publish_subscribe::ClauseError>,
+) -> Result<bool, LimitError> {
     let mut types = types();
     types.payload = TypeDetail::new(TypeVariant::Dynamic, b"u64", 8, alignment)?;
-    let required = publish_subscribe::Requirement::new(types, verifier(alloc, true)?);
-    Ok(required.verdict(service))
+    let required = publish_subscribe::Requirement::new(types, AttributeVerifier::new());
+    Ok(required.verdict(service) == answer)
 }
 
 #[test]
 fn at_most_the_services_alignment_is_asked(rt: HostRuntime) -> Result<(), Fail> {
-    let service = publish_subscribe_service(rt.alloc())?;
+    let service = publish_subscribe_service()?;
     for (alignment, answer) in [
         (16, Err(publish_subscribe::ClauseError::IncompatibleTypes)),
         (8, Ok(())),
         (4, Ok(())),
     ] {
-        assert!(rt;
-            verdict_on_alignment(rt.alloc(), &service, alignment)? == answer,
-            "{alignment}"
-        );
+        assert!(rt; is_aligned_so(&service, alignment, answer)?, "{alignment}");
     }
     Ok(())
 }

@@ -1,5 +1,5 @@
 //! What is just within the limits, and one past it.
-use crate::shared::{EVENT, PUBLISH_SUBSCRIBE, REQUEST_RESPONSE, changed, is_read};
+use crate::shared::{changed, event_line, is_read, publish_subscribe_line, request_response_line};
 use std::alloc::Global;
 use std::test::Fail;
 
@@ -10,41 +10,55 @@ const SAMPLES: (&str, &str) = ("4294967295", "4294967296");
 /// The same of a number that may be any of 64 bits.
 const ANY: (&str, &str) = ("18446744073709551615", "18446744073709551616");
 
-/// A number of publish-subscribe: its key, its default, whether it may be 0, and its end.
-const OF_PUBLISH_SUBSCRIBE: [(&str, &str, bool, (&str, &str)); 8] = [
-    ("max_nodes", "20", false, PORTS),
-    ("max_publishers", "2", false, PORTS),
-    ("max_subscribers", "8", false, PORTS),
-    ("subscriber_max_borrowed_samples", "2", false, SAMPLES),
-    ("subscriber_max_buffer_size", "2", false, SAMPLES),
-    ("history_size", "0", true, SAMPLES),
-    ("alignment", "8", false, ANY),
-    ("size", "24", true, ANY),
-];
+/// A number: its key, its default, whether it may be 0, and its end.
+type Number = (
+    &'static str,
+    &'static str,
+    bool,
+    (&'static str, &'static str),
+);
 
-/// The same of event.
-const OF_EVENT: [(&str, &str, bool, (&str, &str)); 4] = [
-    ("max_nodes", "36", false, PORTS),
-    ("max_listeners", "16", false, ANY),
-    ("max_notifiers", "16", false, ANY),
-    ("event_id_max_value", "4294967295", true, ANY),
-];
+/// The numbers of publish-subscribe.
+fn of_publish_subscribe() -> [Number; 8] {
+    [
+        ("max_nodes", "20", false, PORTS),
+        ("max_publishers", "2", false, PORTS),
+        ("max_subscribers", "8", false, PORTS),
+        ("subscriber_max_borrowed_samples", "2", false, SAMPLES),
+        ("subscriber_max_buffer_size", "2", false, SAMPLES),
+        ("history_size", "0", true, SAMPLES),
+        ("alignment", "8", false, ANY),
+        ("size", "24", true, ANY),
+    ]
+}
 
-/// The same of request-response.
-const OF_REQUEST_RESPONSE: [(&str, &str, bool, (&str, &str)); 7] = [
-    ("max_nodes", "20", false, PORTS),
-    ("max_active_requests_per_client", "4", false, ANY),
-    (
-        "max_borrowed_responses_per_pending_response",
-        "2",
-        false,
-        ANY,
-    ),
-    ("max_clients", "8", false, ANY),
-    ("max_loaned_requests", "2", false, ANY),
-    ("max_response_buffer_size", "2", false, ANY),
-    ("max_servers", "2", false, ANY),
-];
+/// Those of event.
+fn of_event() -> [Number; 4] {
+    [
+        ("max_nodes", "36", false, PORTS),
+        ("max_listeners", "16", false, ANY),
+        ("max_notifiers", "16", false, ANY),
+        ("event_id_max_value", "4294967295", true, ANY),
+    ]
+}
+
+/// Those of request-response.
+fn of_request_response() -> [Number; 7] {
+    [
+        ("max_nodes", "20", false, PORTS),
+        ("max_active_requests_per_client", "4", false, ANY),
+        (
+            "max_borrowed_responses_per_pending_response",
+            "2",
+            false,
+            ANY,
+        ),
+        ("max_clients", "8", false, ANY),
+        ("max_loaned_requests", "2", false, ANY),
+        ("max_response_buffer_size", "2", false, ANY),
+        ("max_servers", "2", false, ANY),
+    ]
+}
 
 /// Whether the line is read with a number in the place of another, exactly if `read` says so.
 fn is_so(
@@ -76,20 +90,32 @@ fn is_number(
     )
 }
 
-#[test]
-fn numbers_have_their_ends(rt: HostRuntime) -> Result<(), Fail> {
-    for (line, numbers) in [
-        (PUBLISH_SUBSCRIBE, OF_PUBLISH_SUBSCRIBE.as_slice()),
-        (EVENT, OF_EVENT.as_slice()),
-        (REQUEST_RESPONSE, OF_REQUEST_RESPONSE.as_slice()),
-    ] {
-        for (key, was, zero, end) in numbers {
-            assert!(rt;
-                is_number(rt.alloc(), line, (*key, *was), *zero, *end)?,
-                "{key}"
-            );
+/// The key of the first number that has other ends than these, if there is one.
+fn first_wrong(
+    alloc: Global,
+    line: &str,
+    numbers: &[Number],
+) -> Result<Option<&'static str>, Fail> {
+    for (key, was, zero, end) in numbers {
+        if !is_number(alloc, line, (*key, *was), *zero, *end)? {
+            return Ok(Some(*key));
         }
     }
+    Ok(None)
+}
+
+#[test]
+fn numbers_have_their_ends(rt: HostRuntime) -> Result<(), Fail> {
+    let wrong = first_wrong(
+        rt.alloc(),
+        publish_subscribe_line(),
+        &of_publish_subscribe(),
+    )?;
+    assert!(rt; wrong.is_none(), "{wrong:?}");
+    let wrong = first_wrong(rt.alloc(), event_line(), &of_event())?;
+    assert!(rt; wrong.is_none(), "{wrong:?}");
+    let wrong = first_wrong(rt.alloc(), request_response_line(), &of_request_response())?;
+    assert!(rt; wrong.is_none(), "{wrong:?}");
     Ok(())
 }
 
@@ -98,8 +124,8 @@ fn is_so_long(alloc: Global, was: &str, length: usize) -> Result<bool, Fail> {
     let from = format!(in alloc; "\"name\":\"{was}\"")?;
     let name = "x".repeat(alloc, length)?;
     let to = format!(in alloc; "\"name\":\"{name}\"")?;
-    let text = changed(alloc, PUBLISH_SUBSCRIBE, from.as_str(), to.as_str())?;
-    is_read(alloc, text.as_bytes())
+    let text = changed(alloc, publish_subscribe_line(), from.as_str(), to.as_str())?;
+    Ok(is_read(alloc, text.as_bytes())?)
 }
 
 /// Whether a line with an attribute of so many letters is read.
@@ -107,8 +133,8 @@ fn is_attribute(alloc: Global, key: usize, value: usize) -> Result<bool, Fail> {
     let key = "k".repeat(alloc, key)?;
     let value = "v".repeat(alloc, value)?;
     let to = format!(in alloc; "[[\"{key}\",\"{value}\"]]")?;
-    let text = changed(alloc, PUBLISH_SUBSCRIBE, "[]", to.as_str())?;
-    is_read(alloc, text.as_bytes())
+    let text = changed(alloc, publish_subscribe_line(), "[]", to.as_str())?;
+    Ok(is_read(alloc, text.as_bytes())?)
 }
 
 #[test]
@@ -147,8 +173,8 @@ fn are_attributes(alloc: Global, more: &str) -> Result<bool, Fail> {
     let seven =
         "[\"b\",\"\"],[\"a\",\"1\"],[\"a\",\"1\"],[\"\\\"\",\"\\\\\"],[\"c\",\"2\"],[\"d\",\"3\"],[\"e\",\"4\"]";
     let to = format!(in alloc; "[{seven}{more}]")?;
-    let text = changed(alloc, PUBLISH_SUBSCRIBE, "[]", to.as_str())?;
-    is_read(alloc, text.as_bytes())
+    let text = changed(alloc, publish_subscribe_line(), "[]", to.as_str())?;
+    Ok(is_read(alloc, text.as_bytes())?)
 }
 
 #[test]

@@ -1,8 +1,8 @@
 //! The calls that make the parts of a description: at their limits, one past them, and with ample memory.
-use crate::shared::{PUBLISH_SUBSCRIBE, publish_subscribe_service};
+use crate::shared::{publish_subscribe_line, publish_subscribe_service};
 use iox_describe::{
-    AttributeSpecifier, AttributeVerifier, LimitError, MessagingPattern, ServiceName, TypeDetail,
-    TypeVariant, encode, service_hash,
+    AttributeError, AttributeSpecifier, AttributeVerifier, LimitError, MessagingPattern,
+    ServiceName, TypeDetail, TypeVariant, encode, service_hash,
 };
 use std::alloc::{AllocError, Global};
 use std::test::Fail;
@@ -63,19 +63,29 @@ fn a_type_has_a_name_and_an_alignment(rt: HostRuntime) -> Result<(), Fail> {
     Ok(())
 }
 
+/// Whether an attribute is defined, required, and its key required alone.
+type Accepted = [bool; 3];
+
+/// Whether one more is within the limits.
+fn is_accepted(answer: Result<(), AttributeError>) -> Result<bool, AllocError> {
+    match answer {
+        Ok(()) => Ok(true),
+        Err(AttributeError::LimitError(_)) => Ok(false),
+        Err(AttributeError::OutOfMemory) => Err(AllocError),
+    }
+}
+
 /// Whether an attribute of so many letters is defined, required, and its key required alone.
-fn is_attribute(alloc: Global, key: usize, value: usize) -> Result<(bool, bool, bool), Fail> {
+fn is_attribute(alloc: Global, key: usize, value: usize) -> Result<Accepted, AllocError> {
     let key = "x".repeat(alloc, key)?;
     let value = "x".repeat(alloc, value)?;
-    let mut attributes = AttributeSpecifier::new(alloc)?;
-    let mut verifier = AttributeVerifier::new(alloc)?;
-    let defined = attributes.define(key.as_bytes(), value.as_bytes()).is_ok();
-    let required = verifier.require(key.as_bytes(), value.as_bytes()).is_ok();
-    Ok((
-        defined,
-        required,
-        verifier.require_key(key.as_bytes()).is_ok(),
-    ))
+    let mut attributes = AttributeSpecifier::new();
+    let mut verifier = AttributeVerifier::new();
+    Ok([
+        is_accepted(attributes.define(alloc, key.as_bytes(), value.as_bytes()))?,
+        is_accepted(verifier.require(alloc, key.as_bytes(), value.as_bytes()))?,
+        is_accepted(verifier.require_key(alloc, key.as_bytes()))?,
+    ])
 }
 
 #[test]
@@ -88,30 +98,31 @@ fn an_attribute_has_a_key_and_a_value(rt: HostRuntime) -> Result<(), Fail> {
         (64, 257, false, true),
     ] {
         let told = is_attribute(rt.alloc(), key, value)?;
-        assert!(rt; told == (accepted, accepted, alone), "{key} {value}");
+        assert!(rt; told == [accepted, accepted, alone], "{key} {value}");
     }
     Ok(())
 }
 
 /// Whether one more attribute is defined, one more required, and one more key.
 fn takes_one_more(
+    alloc: Global,
     attributes: &mut AttributeSpecifier,
     verifier: &mut AttributeVerifier,
-) -> (bool, bool, bool) {
-    (
-        attributes.define(b"color", b"red").is_ok(),
-        verifier.require(b"color", b"red").is_ok(),
-        verifier.require_key(b"color").is_ok(),
-    )
+) -> Result<Accepted, AllocError> {
+    Ok([
+        is_accepted(attributes.define(alloc, b"color", b"red"))?,
+        is_accepted(verifier.require(alloc, b"color", b"red"))?,
+        is_accepted(verifier.require_key(alloc, b"color"))?,
+    ])
 }
 
 #[test]
 fn at_most_eight_stand(rt: HostRuntime) -> Result<(), Fail> {
-    let mut attributes = AttributeSpecifier::new(rt.alloc())?;
-    let mut verifier = AttributeVerifier::new(rt.alloc())?;
+    let mut attributes = AttributeSpecifier::new();
+    let mut verifier = AttributeVerifier::new();
     for count in 0..9u8 {
-        let more = count < 8;
-        assert!(rt; takes_one_more(&mut attributes, &mut verifier) == (more, more, more));
+        let told = takes_one_more(rt.alloc(), &mut attributes, &mut verifier)?;
+        assert!(rt; told == [count < 8; 3], "{count}");
     }
     assert!(rt; verifier.is_met_by(&attributes));
     Ok(())
@@ -125,31 +136,35 @@ fn is_unmet(verifier: &AttributeVerifier, attributes: &AttributeSpecifier, key: 
     }
 }
 
+/// Whether a service that is red meets these requirements but for the shape, and then but for the other color.
+fn are_unmet_in_order(alloc: Global) -> Result<bool, AttributeError> {
+    let mut attributes = AttributeSpecifier::new();
+    let mut verifier = AttributeVerifier::new();
+    attributes.define(alloc, b"color", b"red")?;
+    verifier.require_key(alloc, b"shape")?;
+    verifier.require(alloc, b"color", b"red")?;
+    let shape = is_unmet(&verifier, &attributes, b"shape");
+    verifier.require(alloc, b"color", b"green")?;
+    Ok(shape && is_unmet(&verifier, &attributes, b"color"))
+}
+
 #[test]
 fn the_first_key_that_is_not_met_is_told(rt: HostRuntime) -> Result<(), Fail> {
-    let mut attributes = AttributeSpecifier::new(rt.alloc())?;
-    let mut verifier = AttributeVerifier::new(rt.alloc())?;
-    assert!(rt; attributes.define(b"color", b"red").is_ok());
-    assert!(rt;
-        verifier.require_key(b"shape").is_ok() && verifier.require(b"color", b"red").is_ok()
-    );
-    assert!(rt; is_unmet(&verifier, &attributes, b"shape"));
-    assert!(rt; verifier.require(b"color", b"green").is_ok());
-    assert!(rt; is_unmet(&verifier, &attributes, b"color"));
+    assert!(rt; are_unmet_in_order(rt.alloc())?);
     Ok(())
 }
 
 /// Whether a copy of a description is spelled as it is.
 fn is_description_copied(alloc: Global) -> Result<bool, Fail> {
-    let copy = publish_subscribe_service(alloc)?.try_clone(alloc)?;
+    let copy = publish_subscribe_service()?.try_clone(alloc)?;
     let line = encode(alloc, &copy)?;
-    Ok(line.as_slice() == PUBLISH_SUBSCRIBE.as_bytes())
+    Ok(line.as_slice() == publish_subscribe_line().as_bytes())
 }
 
 /// Whether copies of requirements and of attributes say what they do.
 fn is_verifier_copied(alloc: Global) -> Result<bool, Fail> {
-    let mut verifier = AttributeVerifier::new(alloc)?;
-    verifier.require(b"color", b"red")?;
+    let mut verifier = AttributeVerifier::new();
+    verifier.require(alloc, b"color", b"red")?;
     let copy = verifier.try_clone(alloc)?;
     let attributes = copy.attributes().try_clone(alloc)?;
     Ok(copy.is_met_by(&attributes))

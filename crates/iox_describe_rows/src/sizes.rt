@@ -17,9 +17,9 @@ fn of_size(
     let name = "x".repeat(alloc, name)?;
     let key = "k".repeat(alloc, 64)?;
     let value = "\u{1}".repeat(alloc, value)?;
-    let mut specifier = AttributeSpecifier::new(alloc)?;
+    let mut specifier = AttributeSpecifier::new();
     for _ in 0..attributes {
-        specifier.define(key.as_bytes(), value.as_bytes())?;
+        specifier.define(alloc, key.as_bytes(), value.as_bytes())?;
     }
     let settings = Settings::PublishSubscribe(publish_subscribe::StaticConfig::new(types()));
     Ok(Description::new(ServiceName::new(name.as_bytes())?, settings, specifier))

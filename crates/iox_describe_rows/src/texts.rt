@@ -1,176 +1,188 @@
 //! The text of each error: its type, and its variant.
 use iox_describe::requirement::{event, publish_subscribe, request_response};
-use iox_describe::{DescriptionError, LimitError};
-use std::alloc::Global;
+use iox_describe::{AttributeError, DescriptionError, LimitError};
+use std::alloc::{AllocError, Global};
 use std::fmt::Display;
 use std::test::Fail;
 
 /// Whether the error is told so.
-fn is_told<E: Display>(alloc: Global, error: &E, text: &str) -> Result<bool, Fail> {
+fn is_told<E: Display>(alloc: Global, error: &E, text: &str) -> Result<bool, AllocError> {
     Ok(format!(in alloc; "{error}")?.as_str() == text)
+}
+
+/// The errors of publish-subscribe, and how they are told.
+fn publish_subscribe_texts() -> [(publish_subscribe::ClauseError, &'static str); 10] {
+    [
+        (
+            publish_subscribe::ClauseError::IncompatibleMessagingPattern,
+            "ClauseError::IncompatibleMessagingPattern",
+        ),
+        (
+            publish_subscribe::ClauseError::IncompatibleTypes,
+            "ClauseError::IncompatibleTypes",
+        ),
+        (
+            publish_subscribe::ClauseError::IncompatibleAttributes,
+            "ClauseError::IncompatibleAttributes",
+        ),
+        (
+            publish_subscribe::ClauseError::IncompatibleOverflowBehavior,
+            "ClauseError::IncompatibleOverflowBehavior",
+        ),
+        (
+            publish_subscribe::ClauseError::DoesNotSupportRequestedAmountOfPublishers,
+            "ClauseError::DoesNotSupportRequestedAmountOfPublishers",
+        ),
+        (
+            publish_subscribe::ClauseError::DoesNotSupportRequestedAmountOfSubscribers,
+            "ClauseError::DoesNotSupportRequestedAmountOfSubscribers",
+        ),
+        (
+            publish_subscribe::ClauseError::DoesNotSupportRequestedMinBufferSize,
+            "ClauseError::DoesNotSupportRequestedMinBufferSize",
+        ),
+        (
+            publish_subscribe::ClauseError::DoesNotSupportRequestedMinHistorySize,
+            "ClauseError::DoesNotSupportRequestedMinHistorySize",
+        ),
+        (
+            publish_subscribe::ClauseError::DoesNotSupportRequestedMinSubscriberBorrowedSamples,
+            "ClauseError::DoesNotSupportRequestedMinSubscriberBorrowedSamples",
+        ),
+        (
+            publish_subscribe::ClauseError::DoesNotSupportRequestedAmountOfNodes,
+            "ClauseError::DoesNotSupportRequestedAmountOfNodes",
+        ),
+    ]
 }
 
 #[test]
 fn errors_of_publish_subscribe_are_told_by_name(rt: HostRuntime) -> Result<(), Fail> {
-    use publish_subscribe::ClauseError;
-    for (error, text) in [
-        (
-            ClauseError::IncompatibleMessagingPattern,
-            "ClauseError::IncompatibleMessagingPattern",
-        ),
-        (
-            ClauseError::IncompatibleTypes,
-            "ClauseError::IncompatibleTypes",
-        ),
-        (
-            ClauseError::IncompatibleAttributes,
-            "ClauseError::IncompatibleAttributes",
-        ),
-        (
-            ClauseError::IncompatibleOverflowBehavior,
-            "ClauseError::IncompatibleOverflowBehavior",
-        ),
-        (
-            ClauseError::DoesNotSupportRequestedAmountOfPublishers,
-            "ClauseError::DoesNotSupportRequestedAmountOfPublishers",
-        ),
-        (
-            ClauseError::DoesNotSupportRequestedAmountOfSubscribers,
-            "ClauseError::DoesNotSupportRequestedAmountOfSubscribers",
-        ),
-        (
-            ClauseError::DoesNotSupportRequestedMinBufferSize,
-            "ClauseError::DoesNotSupportRequestedMinBufferSize",
-        ),
-        (
-            ClauseError::DoesNotSupportRequestedMinHistorySize,
-            "ClauseError::DoesNotSupportRequestedMinHistorySize",
-        ),
-        (
-            ClauseError::DoesNotSupportRequestedMinSubscriberBorrowedSamples,
-            "ClauseError::DoesNotSupportRequestedMinSubscriberBorrowedSamples",
-        ),
-        (
-            ClauseError::DoesNotSupportRequestedAmountOfNodes,
-            "ClauseError::DoesNotSupportRequestedAmountOfNodes",
-        ),
-    ] {
+    for (error, text) in publish_subscribe_texts() {
         assert!(rt; is_told(rt.alloc(), &error, text)?, "{text}");
     }
     Ok(())
+}
+
+/// The errors of event, and how they are told.
+fn event_texts() -> [(event::ClauseError, &'static str); 10] {
+    [
+        (
+            event::ClauseError::IncompatibleMessagingPattern,
+            "ClauseError::IncompatibleMessagingPattern",
+        ),
+        (
+            event::ClauseError::IncompatibleAttributes,
+            "ClauseError::IncompatibleAttributes",
+        ),
+        (
+            event::ClauseError::IncompatibleDeadline,
+            "ClauseError::IncompatibleDeadline",
+        ),
+        (
+            event::ClauseError::DoesNotSupportRequestedAmountOfNotifiers,
+            "ClauseError::DoesNotSupportRequestedAmountOfNotifiers",
+        ),
+        (
+            event::ClauseError::DoesNotSupportRequestedAmountOfListeners,
+            "ClauseError::DoesNotSupportRequestedAmountOfListeners",
+        ),
+        (
+            event::ClauseError::DoesNotSupportRequestedMaxEventId,
+            "ClauseError::DoesNotSupportRequestedMaxEventId",
+        ),
+        (
+            event::ClauseError::IncompatibleNotifierCreatedEvent,
+            "ClauseError::IncompatibleNotifierCreatedEvent",
+        ),
+        (
+            event::ClauseError::IncompatibleNotifierDroppedEvent,
+            "ClauseError::IncompatibleNotifierDroppedEvent",
+        ),
+        (
+            event::ClauseError::IncompatibleNotifierDeadEvent,
+            "ClauseError::IncompatibleNotifierDeadEvent",
+        ),
+        (
+            event::ClauseError::DoesNotSupportRequestedAmountOfNodes,
+            "ClauseError::DoesNotSupportRequestedAmountOfNodes",
+        ),
+    ]
 }
 
 #[test]
 fn errors_of_event_are_told_by_name(rt: HostRuntime) -> Result<(), Fail> {
-    use event::ClauseError;
-    for (error, text) in [
-        (
-            ClauseError::IncompatibleMessagingPattern,
-            "ClauseError::IncompatibleMessagingPattern",
-        ),
-        (
-            ClauseError::IncompatibleAttributes,
-            "ClauseError::IncompatibleAttributes",
-        ),
-        (
-            ClauseError::IncompatibleDeadline,
-            "ClauseError::IncompatibleDeadline",
-        ),
-        (
-            ClauseError::DoesNotSupportRequestedAmountOfNotifiers,
-            "ClauseError::DoesNotSupportRequestedAmountOfNotifiers",
-        ),
-        (
-            ClauseError::DoesNotSupportRequestedAmountOfListeners,
-            "ClauseError::DoesNotSupportRequestedAmountOfListeners",
-        ),
-        (
-            ClauseError::DoesNotSupportRequestedMaxEventId,
-            "ClauseError::DoesNotSupportRequestedMaxEventId",
-        ),
-        (
-            ClauseError::IncompatibleNotifierCreatedEvent,
-            "ClauseError::IncompatibleNotifierCreatedEvent",
-        ),
-        (
-            ClauseError::IncompatibleNotifierDroppedEvent,
-            "ClauseError::IncompatibleNotifierDroppedEvent",
-        ),
-        (
-            ClauseError::IncompatibleNotifierDeadEvent,
-            "ClauseError::IncompatibleNotifierDeadEvent",
-        ),
-        (
-            ClauseError::DoesNotSupportRequestedAmountOfNodes,
-            "ClauseError::DoesNotSupportRequestedAmountOfNodes",
-        ),
-    ] {
+    for (error, text) in event_texts() {
         assert!(rt; is_told(rt.alloc(), &error, text)?, "{text}");
     }
     Ok(())
 }
 
-#[test]
-fn errors_of_request_response_are_told_by_name(rt: HostRuntime) -> Result<(), Fail> {
-    use request_response::ClauseError;
-    for (error, text) in [
+/// The errors of request-response, and how they are told.
+fn request_response_texts() -> [(request_response::ClauseError, &'static str); 14] {
+    [
         (
-            ClauseError::IncompatibleMessagingPattern,
+            request_response::ClauseError::IncompatibleMessagingPattern,
             "ClauseError::IncompatibleMessagingPattern",
         ),
         (
-            ClauseError::IncompatibleRequestType,
+            request_response::ClauseError::IncompatibleRequestType,
             "ClauseError::IncompatibleRequestType",
         ),
         (
-            ClauseError::IncompatibleResponseType,
+            request_response::ClauseError::IncompatibleResponseType,
             "ClauseError::IncompatibleResponseType",
         ),
         (
-            ClauseError::IncompatibleAttributes,
+            request_response::ClauseError::IncompatibleAttributes,
             "ClauseError::IncompatibleAttributes",
         ),
         (
-            ClauseError::IncompatibleOverflowBehaviorForRequests,
+            request_response::ClauseError::IncompatibleOverflowBehaviorForRequests,
             "ClauseError::IncompatibleOverflowBehaviorForRequests",
         ),
         (
-            ClauseError::IncompatibleOverflowBehaviorForResponses,
+            request_response::ClauseError::IncompatibleOverflowBehaviorForResponses,
             "ClauseError::IncompatibleOverflowBehaviorForResponses",
         ),
         (
-            ClauseError::IncompatibleBehaviorForFireAndForgetRequests,
+            request_response::ClauseError::IncompatibleBehaviorForFireAndForgetRequests,
             "ClauseError::IncompatibleBehaviorForFireAndForgetRequests",
         ),
         (
-            ClauseError::DoesNotSupportRequestedAmountOfClientRequestLoans,
+            request_response::ClauseError::DoesNotSupportRequestedAmountOfClientRequestLoans,
             "ClauseError::DoesNotSupportRequestedAmountOfClientRequestLoans",
         ),
         (
-            ClauseError::DoesNotSupportRequestedAmountOfActiveRequestsPerClient,
+            request_response::ClauseError::DoesNotSupportRequestedAmountOfActiveRequestsPerClient,
             "ClauseError::DoesNotSupportRequestedAmountOfActiveRequestsPerClient",
         ),
         (
-            ClauseError::DoesNotSupportRequestedResponseBufferSize,
+            request_response::ClauseError::DoesNotSupportRequestedResponseBufferSize,
             "ClauseError::DoesNotSupportRequestedResponseBufferSize",
         ),
         (
-            ClauseError::DoesNotSupportRequestedAmountOfServers,
+            request_response::ClauseError::DoesNotSupportRequestedAmountOfServers,
             "ClauseError::DoesNotSupportRequestedAmountOfServers",
         ),
         (
-            ClauseError::DoesNotSupportRequestedAmountOfClients,
+            request_response::ClauseError::DoesNotSupportRequestedAmountOfClients,
             "ClauseError::DoesNotSupportRequestedAmountOfClients",
         ),
         (
-            ClauseError::DoesNotSupportRequestedAmountOfBorrowedResponsesPerPendingResponse,
+            request_response::ClauseError::DoesNotSupportRequestedAmountOfBorrowedResponsesPerPendingResponse,
             "ClauseError::DoesNotSupportRequestedAmountOfBorrowedResponsesPerPendingResponse",
         ),
         (
-            ClauseError::DoesNotSupportRequestedAmountOfNodes,
+            request_response::ClauseError::DoesNotSupportRequestedAmountOfNodes,
             "ClauseError::DoesNotSupportRequestedAmountOfNodes",
         ),
-    ] {
+    ]
+}
+
+#[test]
+fn errors_of_request_response_are_told_by_name(rt: HostRuntime) -> Result<(), Fail> {
+    for (error, text) in request_response_texts() {
         assert!(rt; is_told(rt.alloc(), &error, text)?, "{text}");
     }
     Ok(())
@@ -179,11 +191,25 @@ fn errors_of_request_response_are_told_by_name(rt: HostRuntime) -> Result<(), Fa
 #[test]
 fn other_errors_are_told_by_name(rt: HostRuntime) -> Result<(), Fail> {
     let alloc: Global = rt.alloc();
+    for (error, text) in [
+        (DescriptionError::Invalid, "DescriptionError::Invalid"),
+        (
+            DescriptionError::OutOfMemory,
+            "DescriptionError::OutOfMemory",
+        ),
+    ] {
+        assert!(rt; is_told(alloc, &error, text)?, "{text}");
+    }
     let outside = LimitError::OutsideLimits;
     assert!(rt; is_told(alloc, &outside, "LimitError::OutsideLimits")?);
-    let invalid = DescriptionError::Invalid;
-    assert!(rt; is_told(alloc, &invalid, "DescriptionError::Invalid")?);
-    let wanting = DescriptionError::OutOfMemory;
-    assert!(rt; is_told(alloc, &wanting, "DescriptionError::OutOfMemory")?);
+    for (error, text) in [
+        (
+            AttributeError::LimitError(outside),
+            "LimitError::OutsideLimits",
+        ),
+        (AttributeError::OutOfMemory, "AttributeError::OutOfMemory"),
+    ] {
+        assert!(rt; is_told(alloc, &error, text)?, "{text}");
+    }
     Ok(())
 }

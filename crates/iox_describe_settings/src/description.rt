@@ -1,5 +1,5 @@
 //! The description of a service: what its nodes agree on.
-ghost use Rattle.std.specs.Prelude.{◌≡◌, ◌↔◌, IfOk, IsTrue};
+ghost use Rattle.std.specs.Prelude.{◌≡◌, ◌↔◌, [], IsOk, IfOk, IsTrue};
 
 use crate::static_config::Settings;
 use iox_describe_base::attribute::AttributeSpecifier;
@@ -67,9 +67,10 @@ impl Description {
         }
     }
 
-    /// The same description, in memory of its own. Refused only for want of memory.
+    /// The same description, in memory of its own. Refused only for want of memory, which one without attributes takes none of.
     pub fn try_clone(&self, alloc: Global) -> Result<Self, AllocError>
-        ensures { IfOk result (λ description. description ≡ self.now) }
+        ensures same { IfOk result (λ description. description ≡ self.now) }
+        ensures empty { self.now.attributes ≡ [] → IsOk result }
     {
         Ok(Description {
             name: self.name,

@@ -1,7 +1,7 @@
 //! A messaging pattern, with all that making and opening a service needs of it.
-ghost use Rattle.std.specs.Prelude.{◌≡◌, ◌≤◌, ◌<◌, ◌^◌, ◌↔◌, List, Option, Result, Ok, Some, IfOk, IsSome, IsTrue};
+ghost use Rattle.std.specs.Prelude.{◌≡◌, ◌≤◌, ◌<◌, ◌^◌, ◌↔◌, List, [], Option, Result, Ok, Some, IsOk, IfOk, IsSome, IsTrue};
 ghost use Rattle.iox_describe_base.specs.declared.pattern.MessagingPattern.{MessagingPattern};
-ghost use Rattle.iox_describe_base.specs.Attributes.{Required};
+ghost use Rattle.iox_describe_base.specs.Attributes.{Required, required};
 ghost use Rattle.iox_describe_base.specs.Hash.{service_hash_of};
 ghost use Rattle.iox_describe_settings.specs.declared.static_config.Settings.{Settings};
 ghost use Rattle.iox_describe_settings.specs.Agreement.{Agreement, agreement, max_nodes_of, pattern_of, AreWithinLimits};
@@ -98,12 +98,13 @@ pub trait Pattern {
     ) -> Result<(), Self::ClauseError>
         ensures { result ≡ verdict requirement.now description.now };
 
-    /// The same requirement, in memory of its own. Refused only for want of memory.
+    /// The same requirement, in memory of its own. Refused only for want of memory, which one of no attributes takes none of.
     fn try_clone(
         requirement: &Self::Requirement,
         alloc: Global,
     ) -> Result<Self::Requirement, AllocError>
-        ensures { IfOk result (λ copy. copy ≡ requirement.now) };
+        ensures same { IfOk result (λ copy. copy ≡ requirement.now) }
+        ensures empty { attributes requirement.now ≡ required [] [] → IsOk result };
 
     // settings are of the pattern that they are made of
     ghost settings_are_of_pattern: { (config : Self.StaticConfig) → pattern_of (settings config) ≡ pattern };

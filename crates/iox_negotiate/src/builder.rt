@@ -1,5 +1,5 @@
 //! Builders: what is asked of a service is said setting by setting, and the service then created or opened.
-ghost use Rattle.std.specs.Prelude.{◌≡◌, [], IfOk};
+ghost use Rattle.std.specs.Prelude.{◌≡◌, [], IsOk, IfOk};
 ghost use Rattle.std.specs.Result.{result_map_both};
 ghost use Rattle.iox_describe_base.specs.Attributes.{required};
 ghost use Rattle.iox_describe_base.specs.Hash.{service_hash_of};
@@ -43,56 +43,48 @@ impl Builder {
         Builder { node, name }
     }
 
-    /// A builder of an event service, of which no setting is named. Refused only for want of memory, which the room for
-    /// attributes takes.
-    pub fn event(self, alloc: Global) -> Result<ServiceBuilder<Event>, AllocError>
-        ensures { IfOk result (λ builder. builder ≡ record { node = self.node; name = self.name; requirement = event_of.unnamed (required [] []) }) }
+    /// A builder of an event service, of which no setting is named. It takes no memory.
+    pub fn event(self) -> ServiceBuilder<Event>
+        ensures { result ≡ record { node = self.node; name = self.name; requirement = event_of.unnamed (required [] []) } }
     {
-        let attributes = AttributeVerifier::new(alloc)?;
-        Ok(ServiceBuilder {
+        ServiceBuilder {
             node: self.node,
             name: self.name,
-            requirement: requirement::event::Requirement::new(attributes),
-        })
+            requirement: requirement::event::Requirement::new(AttributeVerifier::new()),
+        }
     }
 
-    /// A builder of a publish-subscribe service with this payload and no user header, of which no setting is named. Refused
-    /// only for want of memory, which the room for attributes takes.
-    pub fn publish_subscribe<M: Payload>(
-        self,
-        alloc: Global,
-    ) -> Result<ServiceBuilder<PublishSubscribe>, AllocError>
-        ensures { IfOk result (λ builder. builder ≡ record { node = self.node; name = self.name; requirement = publish_subscribe_of.unnamed (types_of M.detail) (required [] []) }) }
+    /// A builder of a publish-subscribe service with this payload and no user header, of which no setting is named. It
+    /// takes no memory.
+    pub fn publish_subscribe<M: Payload>(self) -> ServiceBuilder<PublishSubscribe>
+        ensures { result ≡ record { node = self.node; name = self.name; requirement = publish_subscribe_of.unnamed (types_of M.detail) (required [] []) } }
     {
-        let attributes = AttributeVerifier::new(alloc)?;
-        Ok(ServiceBuilder {
+        ServiceBuilder {
             node: self.node,
             name: self.name,
             requirement: requirement::publish_subscribe::Requirement::new(
                 types_of(M::type_detail()),
-                attributes,
+                AttributeVerifier::new(),
             ),
-        })
+        }
     }
 
-    /// A builder of a request-response service with these payloads and no user headers, of which no setting is named.
-    /// Refused only for want of memory, which the room for attributes takes.
-    pub fn request_response<M: Payload, N: Payload>(
-        self,
-        alloc: Global,
-    ) -> Result<ServiceBuilder<RequestResponse>, AllocError>
-        ensures { IfOk result (λ builder. builder ≡ record { node = self.node; name = self.name; requirement = request_response_of.unnamed (types_of M.detail) (types_of N.detail) (required [] []) }) }
+    /// A builder of a request-response service with these payloads and no user headers, of which no setting is named. It
+    /// takes no memory.
+    pub fn request_response<M: Payload, N: Payload>(self) -> ServiceBuilder<RequestResponse>
+        ensures { result ≡ record { node = self.node; name = self.name; requirement = request_response_of.unnamed (types_of M.detail) (types_of N.detail) (required [] []) } }
     {
-        let attributes = AttributeVerifier::new(alloc)?;
         let requests = types_of(M::type_detail());
         let responses = types_of(N::type_detail());
-        Ok(ServiceBuilder {
+        ServiceBuilder {
             node: self.node,
             name: self.name,
             requirement: requirement::request_response::Requirement::new(
-                requests, responses, attributes,
+                requests,
+                responses,
+                AttributeVerifier::new(),
             ),
-        })
+        }
     }
 }
 
@@ -108,9 +100,11 @@ pub struct ServiceBuilder<P: Negotiated> {
 }
 
 impl<P: Negotiated> ServiceBuilder<P> {
-    /// The same builder, in memory of its own. Refused only for want of memory.
+    /// The same builder, in memory of its own. Refused only for want of memory, which one that asks for no attributes takes
+    /// none of.
     pub fn try_clone(&self, alloc: Global) -> Result<Self, AllocError>
-        ensures { IfOk result (λ builder. builder ≡ self.now) }
+        ensures same { IfOk result (λ builder. builder ≡ self.now) }
+        ensures empty { P.attributes self.now.requirement ≡ required [] [] → IsOk result }
     {
         Ok(ServiceBuilder {
             node: self.node,

@@ -2,11 +2,11 @@
 ghost use Rattle.std.specs.Prelude.{◌≡◌};
 ghost use Rattle.iox_negotiate_errors.specs.CloseText.{close_text};
 
+use std::fmt;
 use thiserror::Error;
 
 /// Why a factory isn't closed, or was closed and left something behind.
 #[derive(Clone, Copy, Debug, PartialEq, Eq, Error)]
-#[error("{}", self.text())]
 pub enum CloseError {
     /// The service lies in a storage of another id. The factory is handed back.
     NotThisStorage,
@@ -29,5 +29,15 @@ impl CloseError {
             CloseError::UnableToRemoveSegment => "CloseError::UnableToRemoveSegment",
             CloseError::StillInUse => "CloseError::StillInUse",
         }
+    }
+}
+
+impl fmt::Display for CloseError {
+    ghost use Rattle.std.specs.Prelude.{Some};
+
+    ghost output = { λ error. Some (close_text error) };
+
+    fn fmt<W: fmt::Write>(&self, f: &mut fmt::Formatter<W>) -> fmt::Result {
+        f.pad(self.text())
     }
 }

@@ -6,6 +6,7 @@ ghost use Rattle.iox_negotiate_errors.specs.declared.event.EventOpenOrCreateErro
 
 use iox_describe_verdict::requirement::event::ClauseError;
 use iox_negotiate_rounds::{CreateFailure, OpenFailure, OpenOrCreateFailure};
+use std::fmt;
 use thiserror::Error;
 
 /// Why an event service isn't opened. The clauses that it may not meet stand first, in the order in which they are
@@ -13,7 +14,6 @@ use thiserror::Error;
 ///
 /// Ported from `iceoryx2::service::builder::event::EventOpenError`.
 #[derive(Clone, Copy, Debug, PartialEq, Eq, Error)]
-#[error("{}", self.text())]
 pub enum EventOpenError {
     /// The service has another messaging pattern.
     IncompatibleMessagingPattern,
@@ -89,11 +89,20 @@ impl EventOpenError {
     }
 }
 
+impl fmt::Display for EventOpenError {
+    ghost use Rattle.std.specs.Prelude.{Some};
+
+    ghost output = { λ error. Some (open_text error) };
+
+    fn fmt<W: fmt::Write>(&self, f: &mut fmt::Formatter<W>) -> fmt::Result {
+        f.pad(self.text())
+    }
+}
+
 /// Why an event service isn't created.
 ///
 /// Ported from `iceoryx2::service::builder::event::EventCreateError`.
 #[derive(Clone, Copy, Debug, PartialEq, Eq, Error)]
-#[error("{}", self.text())]
 pub enum EventCreateError {
     /// A service stands.
     AlreadyExists,
@@ -131,11 +140,20 @@ impl EventCreateError {
     }
 }
 
+impl fmt::Display for EventCreateError {
+    ghost use Rattle.std.specs.Prelude.{Some};
+
+    ghost output = { λ error. Some (create_text error) };
+
+    fn fmt<W: fmt::Write>(&self, f: &mut fmt::Formatter<W>) -> fmt::Result {
+        f.pad(self.text())
+    }
+}
+
 /// Why an event service is neither opened nor created.
 ///
 /// Ported from `iceoryx2::service::builder::event::EventOpenOrCreateError`.
 #[derive(Clone, Copy, Debug, PartialEq, Eq, Error)]
-#[error("{}", self.text())]
 pub enum EventOpenOrCreateError {
     /// There is one, which isn't opened.
     EventOpenError(EventOpenError),
@@ -210,6 +228,16 @@ impl EventOpenOrCreateError {
                 "EventOpenOrCreateError::EventCreateError(OutOfMemory)",
             EventOpenOrCreateError::SystemInFlux => "EventOpenOrCreateError::SystemInFlux",
         }
+    }
+}
+
+impl fmt::Display for EventOpenOrCreateError {
+    ghost use Rattle.std.specs.Prelude.{Some};
+
+    ghost output = { λ error. Some (open_or_create_text error) };
+
+    fn fmt<W: fmt::Write>(&self, f: &mut fmt::Formatter<W>) -> fmt::Result {
+        f.pad(self.text())
     }
 }
 

@@ -6,6 +6,7 @@ ghost use Rattle.iox_negotiate_errors.specs.declared.publish_subscribe.PublishSu
 
 use iox_describe_verdict::requirement::publish_subscribe::ClauseError;
 use iox_negotiate_rounds::{CreateFailure, OpenFailure, OpenOrCreateFailure};
+use std::fmt;
 use thiserror::Error;
 
 /// Why a publish-subscribe service isn't opened. The clauses that it may not meet stand first, in the order in
@@ -13,7 +14,6 @@ use thiserror::Error;
 ///
 /// Ported from `iceoryx2::service::builder::publish_subscribe::PublishSubscribeOpenError`.
 #[derive(Clone, Copy, Debug, PartialEq, Eq, Error)]
-#[error("{}", self.text())]
 pub enum PublishSubscribeOpenError {
     /// The service has another messaging pattern.
     IncompatibleMessagingPattern,
@@ -97,11 +97,20 @@ impl PublishSubscribeOpenError {
     }
 }
 
+impl fmt::Display for PublishSubscribeOpenError {
+    ghost use Rattle.std.specs.Prelude.{Some};
+
+    ghost output = { λ error. Some (open_text error) };
+
+    fn fmt<W: fmt::Write>(&self, f: &mut fmt::Formatter<W>) -> fmt::Result {
+        f.pad(self.text())
+    }
+}
+
 /// Why a publish-subscribe service isn't created.
 ///
 /// Ported from `iceoryx2::service::builder::publish_subscribe::PublishSubscribeCreateError`.
 #[derive(Clone, Copy, Debug, PartialEq, Eq, Error)]
-#[error("{}", self.text())]
 pub enum PublishSubscribeCreateError {
     /// A service stands.
     AlreadyExists,
@@ -146,11 +155,20 @@ impl PublishSubscribeCreateError {
     }
 }
 
+impl fmt::Display for PublishSubscribeCreateError {
+    ghost use Rattle.std.specs.Prelude.{Some};
+
+    ghost output = { λ error. Some (create_text error) };
+
+    fn fmt<W: fmt::Write>(&self, f: &mut fmt::Formatter<W>) -> fmt::Result {
+        f.pad(self.text())
+    }
+}
+
 /// Why a publish-subscribe service is neither opened nor created.
 ///
 /// Ported from `iceoryx2::service::builder::publish_subscribe::PublishSubscribeOpenOrCreateError`.
 #[derive(Clone, Copy, Debug, PartialEq, Eq, Error)]
-#[error("{}", self.text())]
 pub enum PublishSubscribeOpenOrCreateError {
     /// There is one, which isn't opened.
     PublishSubscribeOpenError(PublishSubscribeOpenError),
@@ -264,6 +282,16 @@ impl PublishSubscribeOpenOrCreateError {
             PublishSubscribeOpenOrCreateError::SystemInFlux =>
                 "PublishSubscribeOpenOrCreateError::SystemInFlux",
         }
+    }
+}
+
+impl fmt::Display for PublishSubscribeOpenOrCreateError {
+    ghost use Rattle.std.specs.Prelude.{Some};
+
+    ghost output = { λ error. Some (open_or_create_text error) };
+
+    fn fmt<W: fmt::Write>(&self, f: &mut fmt::Formatter<W>) -> fmt::Result {
+        f.pad(self.text())
     }
 }
 

@@ -6,6 +6,7 @@ ghost use Rattle.iox_negotiate_errors.specs.declared.request_response.RequestRes
 
 use iox_describe_verdict::requirement::request_response::ClauseError;
 use iox_negotiate_rounds::{CreateFailure, OpenFailure, OpenOrCreateFailure};
+use std::fmt;
 use thiserror::Error;
 
 /// Why a request-response service isn't opened. The clauses that it may not meet stand first, in the order in which
@@ -13,7 +14,6 @@ use thiserror::Error;
 ///
 /// Ported from `iceoryx2::service::builder::request_response::RequestResponseOpenError`.
 #[derive(Clone, Copy, Debug, PartialEq, Eq, Error)]
-#[error("{}", self.text())]
 pub enum RequestResponseOpenError {
     /// The service has another messaging pattern.
     IncompatibleMessagingPattern,
@@ -113,11 +113,20 @@ impl RequestResponseOpenError {
     }
 }
 
+impl fmt::Display for RequestResponseOpenError {
+    ghost use Rattle.std.specs.Prelude.{Some};
+
+    ghost output = { λ error. Some (open_text error) };
+
+    fn fmt<W: fmt::Write>(&self, f: &mut fmt::Formatter<W>) -> fmt::Result {
+        f.pad(self.text())
+    }
+}
+
 /// Why a request-response service isn't created.
 ///
 /// Ported from `iceoryx2::service::builder::request_response::RequestResponseCreateError`.
 #[derive(Clone, Copy, Debug, PartialEq, Eq, Error)]
-#[error("{}", self.text())]
 pub enum RequestResponseCreateError {
     /// A service stands.
     AlreadyExists,
@@ -158,11 +167,20 @@ impl RequestResponseCreateError {
     }
 }
 
+impl fmt::Display for RequestResponseCreateError {
+    ghost use Rattle.std.specs.Prelude.{Some};
+
+    ghost output = { λ error. Some (create_text error) };
+
+    fn fmt<W: fmt::Write>(&self, f: &mut fmt::Formatter<W>) -> fmt::Result {
+        f.pad(self.text())
+    }
+}
+
 /// Why a request-response service is neither opened nor created.
 ///
 /// Ported from `iceoryx2::service::builder::request_response::RequestResponseOpenOrCreateError`.
 #[derive(Clone, Copy, Debug, PartialEq, Eq, Error)]
-#[error("{}", self.text())]
 pub enum RequestResponseOpenOrCreateError {
     /// There is one, which isn't opened.
     RequestResponseOpenError(RequestResponseOpenError),
@@ -289,6 +307,16 @@ impl RequestResponseOpenOrCreateError {
             RequestResponseOpenOrCreateError::SystemInFlux =>
                 "RequestResponseOpenOrCreateError::SystemInFlux",
         }
+    }
+}
+
+impl fmt::Display for RequestResponseOpenOrCreateError {
+    ghost use Rattle.std.specs.Prelude.{Some};
+
+    ghost output = { λ error. Some (open_or_create_text error) };
+
+    fn fmt<W: fmt::Write>(&self, f: &mut fmt::Formatter<W>) -> fmt::Result {
+        f.pad(self.text())
     }
 }
 

@@ -1,6 +1,6 @@
 -- A service that is open for an own node stays so, with as many factories of the node, whatever foreign nodes do, and what
 -- the accesses of own nodes make of it.
-use Rattle.std.proofs.Common.{◌≡◌, ◌≢◌, ℕ, ◌+◌, ◌-◌, ◌^◌, ◌≤◌, Bool, true, false, cond, not, ◌&&◌, List, Option, None, Some, is_some, Result, Ok, Err, length, nat_eq, nat_lt, refl, sym, ap, subst, ◌∙◌, inl, inr, arith}
+use Rattle.std.proofs.Common.{◌≡◌, ◌≢◌, ℕ, ◌+◌, ◌-◌, ◌^◌, ◌≤◌, Bool, true, false, cond, not, ◌&&◌, List, Option, None, Some, is_some, Result, length, nat_eq, nat_lt, refl, sym, ap, subst, ◌∙◌, inl, inr, arith}
 use Rattle.std.specs.declared.alloc.AllocError.{AllocError}
 use Rattle.std.specs.Ordering.{nat_cmp}
 use Rattle.std.specs.Cmp.{nat_cmp_total}
@@ -12,18 +12,18 @@ use Rattle.iox_negotiate_rounds.specs.declared.answer.OpenSegmentAnswer.{OpenSeg
 use Rattle.iox_negotiate_rounds.specs.declared.answer.OpenSegmentAnswer.TheVariants as opening
 use Rattle.iox_negotiate_rounds.specs.declared.answer.LeaveAnswer.{LeaveAnswer}
 use Rattle.iox_negotiate_rounds.specs.declared.answer.RemoveAnswer.{RemoveAnswer}
-use Rattle.iox_negotiate_table.specs.declared.node.Node.TheVariants.{Own, Foreign}
+use Rattle.iox_negotiate_table.specs.declared.node.Node.TheVariants.{Own}
 use Rattle.iox_negotiate_table.specs.declared.entry.Entry.TheVariants.{Described}
 use Rattle.iox_negotiate_table.specs.declared.segment.Segment.{Segment}
 use Rattle.iox_negotiate_table.specs.declared.segment.Segment.TheVariants.{Open, Emptied}
 use Rattle.iox_negotiate_table.specs.declared.step.ForeignStep.{ForeignStep}
-use Rattle.iox_negotiate_table.specs.declared.step.ForeignStep.TheVariants as step
-use Rattle.iox_negotiate_table.specs.Nodes.{Nodes, count_in, factories_of, with_factories, without_node, less_one, left, has_foreign, with_foreign, without_foreign, RegistersIf, Enters, EntersWith, EntersAgain, EntersFirst}
-use Rattle.iox_negotiate_table.specs.Segments.{RegistersIn, foreign_left_if, closed_if, Opens}
-use Rattle.iox_negotiate_table.specs.Contents.{Contents, entry_at, segment_at, with_segment, with_lock, without_entry, without_segment, place_cmp, is_published, is_left, may_make, may_publish, may_unlock, may_remove_description, may_remove_segment}
-use Rattle.iox_negotiate_table.specs.Foreign.{Acts, DoneOrLacking, Done, foreign_lock, PublishesForeign, RegistersForeign, RegistersAt, published_number, after_leaving, left_at, after_removal, is_left_by}
+use Rattle.iox_negotiate_table.specs.Nodes.{Nodes, count_in, factories_of, with_factories, without_node, less_one, left, Enters, EntersWith, EntersAgain, EntersFirst}
+use Rattle.iox_negotiate_table.specs.Segments.{closed_if, Opens}
+use Rattle.iox_negotiate_table.specs.Contents.{Contents, entry_at, segment_at, with_segment, without_entry, without_segment, place_cmp, is_published, is_left, may_make, may_publish, may_unlock, may_remove_description, may_remove_segment}
+use Rattle.iox_negotiate_table.specs.Foreign.{Acts}
 use Rattle.iox_negotiate_table.specs.Sights.{Sight, LocksAt, Makes, Publishes, Unlocks, OpensAt, OpensPublished, LeavesAt, LeavesPublished, Removes}
-use Rattle.iox_negotiate_table.proofs.Entries.{lookup-set, lookup-added, length-insert_key, length-removed, found-length, is-self}
+use Rattle.iox_negotiate_table.proofs.Staying.{IsSeated, stays-seated}
+use Rattle.iox_negotiate_table.proofs.Entries.{lookup-set, lookup-added, found-length, is-self}
 use Rattle.iox_negotiate_laws.specs.Histories.{Accesses}
 use Rattle.iox_negotiate_laws.proofs.Maps.{on, by_test, set-apart, insert-apart, remove-apart}
 use Rattle.iox_negotiate_laws.proofs.Few.{opens-few, left-few as leave-few-in}
@@ -38,106 +38,20 @@ pub record IsHeld (hash : ServiceHash) (number node : ℕ) (bytes : List ℕ) (c
   pub few : count_in nodes ≤ nodes.max_nodes
 
 module _ (hash : ServiceHash) (number node : ℕ) (bytes : List ℕ) (count : ℕ) where
-  -- nothing changed
-  unchanged : (old new : Contents) → IsHeld hash number node bytes count old → new ≡ old → IsHeld hash number node bytes count new
-  unchanged old new is_open same = rw same is_open
+  -- the node has this many factories
+  abbrev Has : Nodes → Type 0
+  Has nodes = factories_of nodes node ≡ Some count
 
-  -- the segment has other foreign nodes
-  changed : (old new : Contents) (after : Nodes) → IsHeld hash number node bytes count old → new ≡ with_segment hash number (Open after) old
-      → factories_of after node ≡ Some count → count_in after ≤ after.max_nodes → IsHeld hash number node bytes count new
-  changed old new after is_open is in_still few = rw is (record {
-    nodes = after;
-    published = is_open.published;
-    stands = lookup-set (is_at (place_cmp (hash.digest, number))) old.segments (Open after) (rw is_open.stands refl);
-    has = in_still;
-    few = few;
-  })
+  seated-so : (table : Contents) → IsHeld hash number node bytes count table → IsSeated Has hash number bytes table
+  seated-so table h = record { nodes = h.nodes; published = h.published; stands = h.stands; seated = h.has; few = h.few }
 
-  -- a step that doesn't fit
-  idle : (b : Bool) (done old new : Contents) (result : Result (Unit {0}) AllocError) → b ≡ false → DoneOrLacking b done old result new → new ≡ old
-  idle true done old new result unfit h = absurd (differ unfit)
-    where
-      differ : true ≡ false → ⊥
-      differ is = cc
-  idle false done old new (Ok happened) unfit h = h
-  idle false done old new (Err lacking) unfit h = absurd h
-
-  registered : (old new : Contents) (nodes after : Nodes) (by : ℕ) (fits : Bool) (result : Result (Unit {0}) AllocError) → fits ≡ (not (has_foreign by nodes) && nat_lt (count_in nodes) nodes.max_nodes)
-      → RegistersIf fits by nodes result after → factories_of nodes node ≡ Some count → count_in nodes ≤ nodes.max_nodes
-      → factories_of after node ≡ Some count × (count_in after ≤ after.max_nodes)
-  registered old new nodes after by true (Ok done) fits h in_before few =
-      let longer : length (with_foreign by nodes).foreign ≤ length nodes.foreign + 1 = length-insert_key nat_cmp nodes.foreign by in
-      (rw h in_before, rw h (bound (has_foreign by nodes) fits longer))
-    where
-      bound : (b : Bool) → true ≡ (not b && nat_lt (count_in nodes) nodes.max_nodes) → length (with_foreign by nodes).foreign ≤ length nodes.foreign + 1
-          → count_in (with_foreign by nodes) ≤ nodes.max_nodes
-      bound true is longer = absurd (differ is)
-        where
-          differ : true ≡ false → ⊥
-          differ e = cc
-      bound false is longer = grind (arith, is, longer)
-  registered old new nodes after by true (Err lacking) fits h in_before few = (rw h in_before, rw h few)
-  registered old new nodes after by false (Ok done) fits h in_before few = (rw h in_before, rw h few)
-  registered old new nodes after by false (Err lacking) fits h in_before few = absurd h
-
-  register : (old new : Contents) (by : ℕ) (result : Result (Unit {0}) AllocError) (is_open : IsHeld hash number node bytes count old) (after : Segment) → RegistersIn by (Open is_open.nodes) result after
-      → new ≡ with_segment hash number after old → IsHeld hash number node bytes count new
-  register old new by result is_open (Open after) h is =
-      let kept = registered old new is_open.nodes after by (not (has_foreign by is_open.nodes) && nat_lt (count_in is_open.nodes) is_open.nodes.max_nodes) result refl h is_open.has is_open.few in
-      changed old new after is_open is kept.0 kept.1
-  register old new by result is_open (Emptied other) h is = absurd h
-
-  -- after a foreign node left: an own node is in, so the segment isn't emptied
-  gone : (old new : Contents) (by : ℕ) (is_open : IsHeld hash number node bytes count old) (b : Bool) → new ≡ with_segment hash number (foreign_left_if b by is_open.nodes) old
-      → IsHeld hash number node bytes count new
-  gone old new by is_open false is = changed old new is_open.nodes is_open is is_open.has is_open.few
-  gone old new by is_open true is = closed (nat_eq (count_in (without_foreign by is_open.nodes)) 0) refl is
-    where
-      shorter : length (without_foreign by is_open.nodes).foreign ≤ length is_open.nodes.foreign
-      shorter = length-removed (is_at (nat_cmp by)) is_open.nodes.foreign
-
-      some : 1 ≤ length is_open.nodes.own
-      some = found-length (is_at (nat_cmp node)) is_open.nodes.own (rw is_open.has refl)
-
-      closed : (b : Bool) → nat_eq (count_in (without_foreign by is_open.nodes)) 0 ≡ b → new ≡ with_segment hash number (closed_if b (Foreign by) (without_foreign by is_open.nodes)) old
-          → IsHeld hash number node bytes count new
-      closed true none is = absurd (grind (arith, none, some))
-      closed false any is = changed old new (without_foreign by is_open.nodes) is_open is is_open.has (omega (arith, shorter, is_open.few))
+  held-of : (table : Contents) → IsSeated Has hash number bytes table → IsHeld hash number node bytes count table
+  held-of table s = record { nodes = s.nodes; published = s.published; stands = s.stands; has = s.seated; few = s.few }
 
   pub stays : (step : ForeignStep) (old new : Contents) (result : Result (Unit {0}) AllocError) → IsHeld hash number node bytes count old → Acts hash step old result new
       → IsHeld hash number node bytes count new
-  stays (step.Lock by) old new result is_open h =
-      unchanged old new is_open (idle _ (with_lock hash (Foreign by) old) old new result (rw is_open.published refl) h)
-  stays (step.GiveUp by) old new result is_open h = unchanged old new is_open (gives (subst (λ e. Done (is_some (foreign_lock by e)) (without_entry hash old) old result new) is_open.published h))
-    where
-      gives : Done (is_some (foreign_lock by (Some (Described number bytes)))) (without_entry hash old) old result new → new ≡ old
-      gives h = h.1
-  stays (step.Publish by agreed) old new result is_open h = unchanged old new is_open (publishes (subst (λ e. PublishesForeign (foreign_lock by e) hash by agreed old result new) is_open.published h))
-    where
-      publishes : PublishesForeign (foreign_lock by (Some (Described number bytes))) hash by agreed old result new → new ≡ old
-      publishes h = h.1
-  stays (step.Register by) old new result is_open h = registers (subst (λ e. RegistersForeign (published_number e) hash by old result new) is_open.published h)
-    where
-      at : RegistersAt (Some (Open is_open.nodes)) hash number by old result new → IsHeld hash number node bytes count new
-      at h = register old new by result is_open h.0 h.1 h.2
-
-      registers : RegistersForeign (published_number (Some (Described number bytes))) hash by old result new → IsHeld hash number node bytes count new
-      registers h = at (subst (λ e. RegistersAt e hash number by old result new) is_open.stands h)
-  stays (step.Leave by) old new result is_open h = leaves (subst (λ e. new ≡ after_leaving (published_number e) hash by old) is_open.published h.1)
-    where
-      at : new ≡ left_at (Some (Open is_open.nodes)) hash number by old → IsHeld hash number node bytes count new
-      at h = gone old new by is_open (has_foreign by is_open.nodes) h
-
-      leaves : new ≡ after_leaving (published_number (Some (Described number bytes))) hash by old → IsHeld hash number node bytes count new
-      leaves h = at (subst (λ e. new ≡ left_at e hash number by old) is_open.stands h)
-  stays (step.Remove by) old new result is_open h =
-      unchanged old new is_open (removes (subst (λ e. new ≡ after_removal (published_number e) hash by old) is_open.published h.1))
-    where
-      at : (segment : Option Segment) → segment ≡ Some (Open is_open.nodes) → new ≡ cond (is_left_by by segment) (without_segment hash number (without_entry hash old)) old → new ≡ old
-      at segment is h = subst (λ e. new ≡ cond (is_left_by by e) (without_segment hash number (without_entry hash old)) old) is h
-
-      removes : new ≡ after_removal (published_number (Some (Described number bytes))) hash by old → new ≡ old
-      removes h = at (segment_at hash number old) is_open.stands h
+  stays step old new result held h =
+      held-of new (stays-seated Has (λ nodes foreign has. has) (λ nodes has. found-length (is_at (nat_cmp node)) nodes.own (rw has refl)) hash number bytes step old new result (seated-so old held) h)
 
 -- ---- own nodes
 

@@ -1,12 +1,23 @@
 //! Closing, and its three refusals.
 use crate::shared::{Fixed, builder};
+use iox_describe::pattern::Event;
+use iox_negotiate::PortFactory;
 use iox_negotiate_errors::CloseError;
 use iox_negotiate_rounds::{LeaveAnswer, RemoveAnswer};
+use std::alloc::Global;
 use std::test::Fail;
 
-#[test]
-fn a_factory_is_closed_in_its_storage(rt: HostRuntime) -> Result<(), Fail> {
-    for (leave, description, segment, error, accesses) in [
+/// What leaving and the removals are answered, the error that closing comes to, and how many accesses it makes.
+type Row = (
+    LeaveAnswer,
+    RemoveAnswer,
+    RemoveAnswer,
+    Option<CloseError>,
+    u64,
+);
+
+fn rows() -> [Row; 4] {
+    [
         (
             LeaveAnswer::Stays,
             RemoveAnswer::Fault,
@@ -35,31 +46,48 @@ fn a_factory_is_closed_in_its_storage(rt: HostRuntime) -> Result<(), Fail> {
             Some(CloseError::UnableToRemoveSegment),
             3,
         ),
-    ] {
+    ]
+}
+
+/// The factory, handed back by a close in another storage; nothing if it isn't, or if the storage is accessed.
+fn handed_back(factory: PortFactory<Event>, storage: &mut Fixed) -> Option<PortFactory<Event>> {
+    storage.others = 0;
+    storage.id = 2;
+    let refused = factory.close(storage).err()?;
+    storage.id = 1;
+    if refused.error != CloseError::NotThisStorage || storage.others != 0 {
+        return None;
+    }
+    refused.factory
+}
+
+/// Whether closing comes to this error, and spends the factory.
+fn is_closed_so(
+    factory: PortFactory<Event>,
+    storage: &mut Fixed,
+    error: Option<CloseError>,
+) -> bool {
+    match factory.close(storage) {
+        Ok(()) => error.is_none(),
+        Err(refused) => Some(refused.error) == error && refused.factory.is_none(),
+    }
+}
+
+/// Whether a factory is closed as the row says, after it was handed back.
+fn is_so(alloc: Global, storage: &mut Fixed, row: Row) -> Result<bool, Fail> {
+    storage.leave = row.0;
+    storage.description_removed = row.1;
+    storage.segment_removed = row.2;
+    let factory = builder(b"E")?.event().create(alloc, storage)?;
+    let factory = handed_back(factory, storage).ok_or("not handed back")?;
+    Ok(is_closed_so(factory, storage, row.3) && storage.others == row.4)
+}
+
+#[test]
+fn a_factory_is_closed_in_its_storage(rt: HostRuntime) -> Result<(), Fail> {
+    for row in rows() {
         let mut storage = Fixed::new(rt.alloc(), "")?;
-        storage.leave = leave;
-        storage.description_removed = description;
-        storage.segment_removed = segment;
-        let factory = builder(b"E")?
-            .event(rt.alloc())?
-            .create(rt.alloc(), &mut storage)?;
-        storage.others = 0;
-        storage.id = 2;
-        let Err(refused) = factory.close(&mut storage) else {
-            return Err("closed in another storage".into());
-        };
-        assert_eq!(rt; refused.error, CloseError::NotThisStorage);
-        assert_eq!(rt; storage.others, 0);
-        storage.id = 1;
-        let factory = refused.factory.ok_or("not handed back")?;
-        match factory.close(&mut storage) {
-            Ok(()) => assert_eq!(rt; None, error),
-            Err(refused) => {
-                assert_eq!(rt; Some(refused.error), error);
-                assert!(rt; refused.factory.is_none());
-            }
-        }
-        assert_eq!(rt; storage.others, accesses);
+        assert!(rt; is_so(rt.alloc(), &mut storage, row)?, "{row:?}");
     }
     Ok(())
 }

@@ -1,6 +1,7 @@
 //! Conversations of nodes, of others too, over one table.
 use crate::foreign::{Step, act, before_the_second};
 use crate::shared::builder_of;
+use iox_describe::LimitError;
 use iox_describe::pattern::PublishSubscribe;
 use iox_negotiate::ServiceBuilder;
 use iox_negotiate_table::{Stepped, Table};
@@ -32,13 +33,9 @@ type Line = (u64, Call, &'static [Named], &'static str);
 const NONE: Others = (&[], &[]);
 
 // The builder of service `A` for this node, with these settings named.
-fn asked(
-    alloc: Global,
-    node: u64,
-    settings: &[Named],
-) -> Result<ServiceBuilder<PublishSubscribe>, Fail> {
+fn asked(node: u64, settings: &[Named]) -> Result<ServiceBuilder<PublishSubscribe>, LimitError> {
     let mut asked = builder_of(node, b"A")?
-        .publish_subscribe::<u64>(alloc)?
+        .publish_subscribe::<u64>()
         .user_header::<u64>();
     for setting in settings {
         asked = match *setting {
@@ -54,7 +51,7 @@ fn asked(
 
 // What the line is answered.
 fn answered(alloc: Global, line: Line, storage: &mut Stepped) -> Result<String, Fail> {
-    let asked = asked(alloc, line.0, line.2)?;
+    let asked = asked(line.0, line.2)?;
     let refusal = match line.1 {
         Call::Create => match asked.create(alloc, storage) {
             Ok(_) => None,
@@ -82,7 +79,7 @@ fn first_wrong(
 ) -> Result<Option<(String, &'static str)>, Fail> {
     let mut table = Table::new(alloc, 1);
     for (others, line) in talk {
-        act(alloc, &mut table, others.0)?;
+        act(&mut table, others.0)?;
         let mut storage = before_the_second(alloc, table, others.1)?;
         let answer = answered(alloc, *line, &mut storage)?;
         if answer.as_str() != line.3 {
@@ -93,103 +90,105 @@ fn first_wrong(
     Ok(None)
 }
 
+/// Six talks, each over a table of its own.
+const TALKS: [&[(Others, Line)]; 6] = [
+    &[
+        (NONE, (1, Call::Create, &[Named::Subscribers(1)], "ok")),
+        (
+            NONE,
+            (
+                2,
+                Call::Open,
+                &[Named::Subscribers(2)],
+                "PublishSubscribeOpenError::DoesNotSupportRequestedAmountOfSubscribers",
+            ),
+        ),
+    ],
+    &[
+        (NONE, (1, Call::Create, &[Named::Nodes(1)], "ok")),
+        (
+            NONE,
+            (
+                2,
+                Call::Open,
+                &[],
+                "PublishSubscribeOpenError::ExceedsMaxNumberOfNodes",
+            ),
+        ),
+        (NONE, (1, Call::Open, &[], "ok")),
+    ],
+    &[
+        (
+            NONE,
+            (
+                1,
+                Call::Create,
+                &[Named::Overflow(false), Named::Buffer(2), Named::History(3)],
+                "PublishSubscribeCreateError::SubscriberBufferMustBeLargerThanHistorySize",
+            ),
+        ),
+        (
+            NONE,
+            (
+                1,
+                Call::Open,
+                &[],
+                "PublishSubscribeOpenError::DoesNotExist",
+            ),
+        ),
+    ],
+    &[
+        (
+            (&[Step::Lock(1)], &[]),
+            (
+                1,
+                Call::Open,
+                &[],
+                "PublishSubscribeOpenError::HangsInCreation",
+            ),
+        ),
+        (
+            (&[Step::GiveUp(1)], &[Step::Lock(1)]),
+            (
+                1,
+                Call::Create,
+                &[],
+                "PublishSubscribeCreateError::IsBeingCreatedByAnotherInstance",
+            ),
+        ),
+    ],
+    &[
+        (
+            (
+                &[Step::Lock(1), Step::Publish(1, b"A", 3, 20)],
+                &[
+                    Step::Leave(1),
+                    Step::Remove(1),
+                    Step::Lock(1),
+                    Step::Publish(1, b"A", 5, 20),
+                ],
+            ),
+            (1, Call::Open, &[Named::Buffer(3)], "ok"),
+        ),
+        (NONE, (1, Call::Open, &[Named::Buffer(5)], "ok")),
+    ],
+    &[
+        (NONE, (1, Call::Create, &[Named::Buffer(2)], "ok")),
+        (
+            NONE,
+            (
+                2,
+                Call::OpenOrCreate,
+                &[Named::Buffer(3)],
+                "PublishSubscribeOpenOrCreateError::PublishSubscribeOpenError(DoesNotSupportRequestedMinBufferSize)",
+            ),
+        ),
+    ],
+];
+
 #[test]
 fn nodes_talk_of_a_service(rt: HostRuntime) -> Result<(), Fail> {
-    let talks: [&[(Others, Line)]; 6] = [
-        &[
-            (NONE, (1, Call::Create, &[Named::Subscribers(1)], "ok")),
-            (
-                NONE,
-                (
-                    2,
-                    Call::Open,
-                    &[Named::Subscribers(2)],
-                    "PublishSubscribeOpenError::DoesNotSupportRequestedAmountOfSubscribers",
-                ),
-            ),
-        ],
-        &[
-            (NONE, (1, Call::Create, &[Named::Nodes(1)], "ok")),
-            (
-                NONE,
-                (
-                    2,
-                    Call::Open,
-                    &[],
-                    "PublishSubscribeOpenError::ExceedsMaxNumberOfNodes",
-                ),
-            ),
-            (NONE, (1, Call::Open, &[], "ok")),
-        ],
-        &[
-            (
-                NONE,
-                (
-                    1,
-                    Call::Create,
-                    &[Named::Overflow(false), Named::Buffer(2), Named::History(3)],
-                    "PublishSubscribeCreateError::SubscriberBufferMustBeLargerThanHistorySize",
-                ),
-            ),
-            (
-                NONE,
-                (
-                    1,
-                    Call::Open,
-                    &[],
-                    "PublishSubscribeOpenError::DoesNotExist",
-                ),
-            ),
-        ],
-        &[
-            (
-                (&[Step::Lock(1)], &[]),
-                (
-                    1,
-                    Call::Open,
-                    &[],
-                    "PublishSubscribeOpenError::HangsInCreation",
-                ),
-            ),
-            (
-                (&[Step::GiveUp(1)], &[Step::Lock(1)]),
-                (
-                    1,
-                    Call::Create,
-                    &[],
-                    "PublishSubscribeCreateError::IsBeingCreatedByAnotherInstance",
-                ),
-            ),
-        ],
-        &[
-            (
-                (
-                    &[Step::Lock(1), Step::Publish(1, b"A", 3, 20)],
-                    &[
-                        Step::Leave(1),
-                        Step::Remove(1),
-                        Step::Lock(1),
-                        Step::Publish(1, b"A", 5, 20),
-                    ],
-                ),
-                (1, Call::Open, &[Named::Buffer(3)], "ok"),
-            ),
-            (NONE, (1, Call::Open, &[Named::Buffer(5)], "ok")),
-        ],
-        &[
-            (NONE, (1, Call::Create, &[Named::Buffer(2)], "ok")),
-            (
-                NONE,
-                (
-                    2,
-                    Call::OpenOrCreate,
-                    &[Named::Buffer(3)],
-                    "PublishSubscribeOpenOrCreateError::PublishSubscribeOpenError(DoesNotSupportRequestedMinBufferSize)",
-                ),
-            ),
-        ],
-    ];
-    for talk in talks {
+    for talk in TALKS {
         assert_eq!(rt; first_wrong(rt.alloc(), talk)?, None);
     }
     Ok(())

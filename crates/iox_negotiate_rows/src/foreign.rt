@@ -1,7 +1,7 @@
 //! Foreign nodes, and a table on which they act.
 use iox_describe::{
-    AttributeSpecifier, Description, Header, MessageTypeDetails, MessagingPattern, ServiceHash,
-    ServiceName, Settings, TypeVariant, publish_subscribe, service_hash,
+    AttributeSpecifier, Description, Header, LimitError, MessageTypeDetails, MessagingPattern,
+    ServiceHash, ServiceName, Settings, TypeVariant, publish_subscribe, service_hash,
 };
 use iox_negotiate_table::{ForeignStep, StepList, Stepped, Table};
 use std::alloc::Global;
@@ -20,31 +20,30 @@ pub enum Step {
 }
 
 /// The hash of the publish-subscribe service `A`.
-pub(crate) fn hash_of_a() -> Result<ServiceHash, Fail> {
+pub(crate) fn hash_of_a() -> Result<ServiceHash, LimitError> {
     Ok(service_hash(MessagingPattern::PublishSubscribe, &ServiceName::new(b"A")?))
 }
 
 // The description of a service of `u64` with a `u64` user header, at default settings but for buffer and room for nodes.
-fn described(alloc: Global, name: &[u8], buffer: u64, nodes: u64) -> Result<Description, Fail> {
+fn described(name: &[u8], buffer: u64, nodes: u64) -> Result<Description, LimitError> {
     let types = MessageTypeDetails::from::<Header, u64, u64>(TypeVariant::FixedSize);
     let mut config = publish_subscribe::StaticConfig::new(types);
     config.subscriber_max_buffer_size = buffer;
     config.max_nodes = nodes;
-    let attributes = AttributeSpecifier::new(alloc)?;
     Ok(Description::new(
         ServiceName::new(name)?,
         Settings::PublishSubscribe(config),
-        attributes,
+        AttributeSpecifier::new(),
     ))
 }
 
-fn foreign_step(alloc: Global, step: Step) -> Result<ForeignStep, Fail> {
+fn foreign_step(step: Step) -> Result<ForeignStep, LimitError> {
     Ok(match step {
         Step::Lock(node) => ForeignStep::Lock { node },
         Step::GiveUp(node) => ForeignStep::GiveUp { node },
         Step::Publish(node, name, buffer, nodes) => ForeignStep::Publish {
             node,
-            description: described(alloc, name, buffer, nodes)?,
+            description: described(name, buffer, nodes)?,
         },
         Step::Register(node) => ForeignStep::Register { node },
         Step::Leave(node) => ForeignStep::Leave { node },
@@ -53,10 +52,10 @@ fn foreign_step(alloc: Global, step: Step) -> Result<ForeignStep, Fail> {
 }
 
 /// Does these steps.
-pub(crate) fn act(alloc: Global, table: &mut Table, steps: &[Step]) -> Result<(), Fail> {
+pub(crate) fn act(table: &mut Table, steps: &[Step]) -> Result<(), Fail> {
     let hash = hash_of_a()?;
     for step in steps {
-        table.act(&hash, &foreign_step(alloc, *step)?)?;
+        table.act(&hash, &foreign_step(*step)?)?;
     }
     Ok(())
 }
@@ -69,7 +68,7 @@ pub(crate) fn before_the_second(
 ) -> Result<Stepped, Fail> {
     let mut second = Vec::new(alloc);
     for step in steps {
-        second.push(foreign_step(alloc, *step)?)?;
+        second.push(foreign_step(*step)?)?;
     }
     let mut lists = Vec::new(alloc);
     lists.push(StepList::new(Vec::new(alloc)))?;

@@ -1,57 +1,71 @@
 //! The lines that builders publish, and what factories tell of them.
 use crate::shared::{Fixed, LINE, builder};
-use iox_describe::AttributeSpecifier;
-use iox_negotiate::Slice;
+use iox_describe::pattern::PublishSubscribe;
+use iox_describe::{AttributeError, AttributeSpecifier};
+use iox_negotiate::{PortFactory, Slice};
+use std::alloc::Global;
 use std::test::Fail;
+
+/// Whether the factory tells of the service `23` at default settings, number 7, for node 5.
+fn is_factory_of_23(factory: &PortFactory<PublishSubscribe>) -> bool {
+    factory.name().as_str() == "23"
+        && factory.static_config().max_subscribers == 8
+        && factory.attributes().as_slice().is_empty()
+        && factory.number() == 7
+        && factory.node() == 5
+}
 
 #[test]
 fn defaults_are_published(rt: HostRuntime) -> Result<(), Fail> {
     let asked = builder(b"23")?
-        .publish_subscribe::<Slice<u64>>(rt.alloc())?
+        .publish_subscribe::<Slice<u64>>()
         .user_header::<u64>();
     let again = asked.try_clone(rt.alloc())?;
     let mut storage = Fixed::new(rt.alloc(), "")?;
-    let made = asked.create(rt.alloc(), &mut storage)?;
-    assert_eq!(rt; storage.line.as_slice(), LINE.as_bytes());
-    let opened = again.open(rt.alloc(), &mut storage)?;
-    for factory in [&made, &opened] {
-        assert_eq!(rt; factory.name().as_str(), "23");
-        assert_eq!(rt; factory.static_config().max_subscribers, 8);
-        assert_eq!(rt; factory.attributes().as_slice().len(), 0);
-        assert_eq!(rt; (factory.number(), factory.node()), (7, 5));
-    }
+    assert!(rt; is_factory_of_23(&asked.create(rt.alloc(), &mut storage)?));
+    assert!(rt; storage.line.as_slice() == LINE.as_bytes());
+    assert!(rt; is_factory_of_23(&again.open(rt.alloc(), &mut storage)?));
     Ok(())
 }
+
+/// The line of an event service with a deadline, three nodes, and an event for dead notifiers.
+const EVENT: &str =
+    "{\"attributes\":[],\"name\":\"E\",\"pattern\":\"event\",\"service_hash\":\"7151c7f46996d49977f91fc77e07abbc2c588465\",\"settings\":{\"deadline\":7,\"event_id_max_value\":4294967295,\"max_listeners\":16,\"max_nodes\":3,\"max_notifiers\":1,\"notifier_created_event\":null,\"notifier_dead_event\":9,\"notifier_dropped_event\":null},\"version\":1}";
 
 #[test]
 fn an_event_service_is_published(rt: HostRuntime) -> Result<(), Fail> {
     let mut storage = Fixed::new(rt.alloc(), "")?;
     let asked = builder(b"E")?
-        .event(rt.alloc())?
+        .event()
         .deadline(7)
         .max_notifiers(0)
         .max_nodes(3)
         .notifier_dead_event(9);
     asked.open_or_create(rt.alloc(), &mut storage)?;
-    let line =
-        "{\"attributes\":[],\"name\":\"E\",\"pattern\":\"event\",\"service_hash\":\"7151c7f46996d49977f91fc77e07abbc2c588465\",\"settings\":{\"deadline\":7,\"event_id_max_value\":4294967295,\"max_listeners\":16,\"max_nodes\":3,\"max_notifiers\":1,\"notifier_created_event\":null,\"notifier_dead_event\":9,\"notifier_dropped_event\":null},\"version\":1}";
-    assert_eq!(rt; storage.line.as_slice(), line.as_bytes());
+    assert!(rt; storage.line.as_slice() == EVENT.as_bytes());
     Ok(())
+}
+
+/// The line of a request-response service with two attributes.
+const REQUEST_RESPONSE: &str =
+    "{\"attributes\":[[\"k\",\"v\"],[\"k\",\"\"]],\"name\":\"R\",\"pattern\":\"request_response\",\"service_hash\":\"41dc32c132eeadb87457313fbdd46352c02196d1\",\"settings\":{\"enable_fire_and_forget_requests\":true,\"enable_safe_overflow_for_requests\":true,\"enable_safe_overflow_for_responses\":true,\"max_active_requests_per_client\":4,\"max_borrowed_responses_per_pending_response\":2,\"max_clients\":8,\"max_loaned_requests\":2,\"max_nodes\":20,\"max_response_buffer_size\":2,\"max_servers\":2,\"request_types\":{\"header\":{\"alignment\":8,\"name\":\"Header\",\"size\":24,\"variant\":\"FixedSize\"},\"payload\":{\"alignment\":1,\"name\":\"u8\",\"size\":1,\"variant\":\"FixedSize\"},\"user_header\":{\"alignment\":4,\"name\":\"u32\",\"size\":4,\"variant\":\"FixedSize\"}},\"response_types\":{\"header\":{\"alignment\":8,\"name\":\"Header\",\"size\":24,\"variant\":\"FixedSize\"},\"payload\":{\"alignment\":32,\"name\":\"i64\",\"size\":8,\"variant\":\"Dynamic\"},\"user_header\":{\"alignment\":1,\"name\":\"()\",\"size\":0,\"variant\":\"FixedSize\"}}},\"version\":1}";
+
+/// Two attributes of one key.
+fn attributes(alloc: Global) -> Result<AttributeSpecifier, AttributeError> {
+    let mut attributes = AttributeSpecifier::new();
+    attributes.define(alloc, b"k", b"v")?;
+    attributes.define(alloc, b"k", b"")?;
+    Ok(attributes)
 }
 
 #[test]
 fn a_request_response_service_is_published(rt: HostRuntime) -> Result<(), Fail> {
-    let mut attributes = AttributeSpecifier::new(rt.alloc())?;
-    attributes.define(b"k", b"v")?;
-    attributes.define(b"k", b"")?;
     let mut storage = Fixed::new(rt.alloc(), "")?;
     let asked = builder(b"R")?
-        .request_response::<u8, Slice<i64>>(rt.alloc())?
+        .request_response::<u8, Slice<i64>>()
         .request_user_header::<u32>()
         .response_payload_alignment(32);
-    asked.create_with_attributes(rt.alloc(), &attributes, &mut storage)?;
-    let line =
-        "{\"attributes\":[[\"k\",\"v\"],[\"k\",\"\"]],\"name\":\"R\",\"pattern\":\"request_response\",\"service_hash\":\"41dc32c132eeadb87457313fbdd46352c02196d1\",\"settings\":{\"enable_fire_and_forget_requests\":true,\"enable_safe_overflow_for_requests\":true,\"enable_safe_overflow_for_responses\":true,\"max_active_requests_per_client\":4,\"max_borrowed_responses_per_pending_response\":2,\"max_clients\":8,\"max_loaned_requests\":2,\"max_nodes\":20,\"max_response_buffer_size\":2,\"max_servers\":2,\"request_types\":{\"header\":{\"alignment\":8,\"name\":\"Header\",\"size\":24,\"variant\":\"FixedSize\"},\"payload\":{\"alignment\":1,\"name\":\"u8\",\"size\":1,\"variant\":\"FixedSize\"},\"user_header\":{\"alignment\":4,\"name\":\"u32\",\"size\":4,\"variant\":\"FixedSize\"}},\"response_types\":{\"header\":{\"alignment\":8,\"name\":\"Header\",\"size\":24,\"variant\":\"FixedSize\"},\"payload\":{\"alignment\":32,\"name\":\"i64\",\"size\":8,\"variant\":\"Dynamic\"},\"user_header\":{\"alignment\":1,\"name\":\"()\",\"size\":0,\"variant\":\"FixedSize\"}}},\"version\":1}";
-    assert_eq!(rt; storage.line.as_slice(), line.as_bytes());
+    asked.create_with_attributes(rt.alloc(), &attributes(rt.alloc())?, &mut storage)?;
+    assert!(rt; storage.line.as_slice() == REQUEST_RESPONSE.as_bytes());
     Ok(())
 }

@@ -1,58 +1,132 @@
 //! Services of each pattern from their creation to their end, and again.
 use crate::shared::builder;
-use iox_negotiate::{Negotiated, ServiceBuilder};
+use iox_negotiate::{Negotiated, PortFactory, ServiceBuilder};
 use iox_negotiate_errors::{
     EventCreateError, EventOpenError, PublishSubscribeCreateError, PublishSubscribeOpenError,
     RequestResponseCreateError, RequestResponseOpenError,
 };
 use iox_negotiate_table::Table;
-use std::alloc::Global;
-use std::fmt::Debug;
+use std::alloc::{AllocError, Global};
 use std::test::Fail;
 
-// Creates the service that is asked for, opens it, and closes both factories: the numbers of the services met, and what is
-// answered where none stands, where one stands, and after its end.
-fn lived<P: Negotiated>(
+/// Whether `open` is refused so.
+fn is_open_refused<P: Negotiated>(
     alloc: Global,
     asked: &ServiceBuilder<P>,
     table: &mut Table,
-) -> Result<([u64; 2], [Option<P::OpenError>; 2], Option<P::CreateError>), Fail>
+    refusal: P::OpenError,
+) -> Result<bool, AllocError>
 where
-    P::OpenError: Debug,
-    P::CreateError: Debug,
+    P::OpenError: PartialEq,
 {
-    let early = asked.try_clone(alloc)?.open(alloc, table).err();
-    let first = asked.try_clone(alloc)?.create(alloc, table)?;
-    let again = asked.try_clone(alloc)?.create(alloc, table).err();
-    let second = asked.try_clone(alloc)?.open(alloc, table)?;
-    let numbers = [first.number(), second.number()];
-    if first.close(table).is_err() || second.close(table).is_err() {
-        return Err("not closed".into());
+    Ok(asked.try_clone(alloc)?.open(alloc, table).err() == Some(refusal))
+}
+
+/// Whether `create` is refused so.
+fn is_create_refused<P: Negotiated>(
+    alloc: Global,
+    asked: &ServiceBuilder<P>,
+    table: &mut Table,
+    refusal: P::CreateError,
+) -> Result<bool, AllocError>
+where
+    P::CreateError: PartialEq,
+{
+    Ok(asked.try_clone(alloc)?.create(alloc, table).err() == Some(refusal))
+}
+
+/// Whether the factory is of the service of this number, and is closed.
+fn is_closed<P: Negotiated>(factory: PortFactory<P>, table: &mut Table, number: u64) -> bool {
+    factory.number() == number && factory.close(table).is_ok()
+}
+
+/// Whether the service of this factory is opened, and both factories are closed.
+fn is_opened<P: Negotiated>(
+    alloc: Global,
+    asked: &ServiceBuilder<P>,
+    table: &mut Table,
+    first: PortFactory<P>,
+    number: u64,
+) -> Result<bool, AllocError> {
+    match asked.try_clone(alloc)?.open(alloc, table) {
+        Ok(second) => Ok(is_closed(first, table, number) && is_closed(second, table, number)),
+        Err(_) => Ok(false),
     }
-    let late = asked.try_clone(alloc)?.open(alloc, table).err();
-    Ok((numbers, [early, late], again))
+}
+
+/// Whether the service is created under this number, not created again, opened, and closed.
+fn is_created<P: Negotiated>(
+    alloc: Global,
+    asked: &ServiceBuilder<P>,
+    table: &mut Table,
+    number: u64,
+    stands: P::CreateError,
+) -> Result<bool, AllocError>
+where
+    P::CreateError: PartialEq,
+{
+    match asked.try_clone(alloc)?.create(alloc, table) {
+        Ok(first) => Ok(
+            is_create_refused(alloc, asked, table, stands)?
+                && is_opened(alloc, asked, table, first, number)?,
+        ),
+        Err(_) => Ok(false),
+    }
+}
+
+/// Whether the service lives under this number, and stands neither before nor after.
+fn is_lived<P: Negotiated>(
+    alloc: Global,
+    asked: &ServiceBuilder<P>,
+    table: &mut Table,
+    number: u64,
+    (absent, stands): (P::OpenError, P::CreateError),
+) -> Result<bool, AllocError>
+where
+    P::OpenError: PartialEq + Copy,
+    P::CreateError: PartialEq,
+{
+    Ok(
+        is_open_refused(alloc, asked, table, absent)?
+            && is_created(alloc, asked, table, number, stands)?
+            && is_open_refused(alloc, asked, table, absent)?,
+    )
+}
+
+fn is_publish_subscribe_lived(alloc: Global, table: &mut Table, number: u64) -> Result<bool, Fail> {
+    let errors = (
+        PublishSubscribeOpenError::DoesNotExist,
+        PublishSubscribeCreateError::AlreadyExists,
+    );
+    let asked = builder(b"A")?.publish_subscribe::<u64>();
+    Ok(is_lived(alloc, &asked, table, number, errors)?)
+}
+
+fn is_event_lived(alloc: Global, table: &mut Table, number: u64) -> Result<bool, Fail> {
+    let errors = (
+        EventOpenError::DoesNotExist,
+        EventCreateError::AlreadyExists,
+    );
+    let asked = builder(b"A")?.event();
+    Ok(is_lived(alloc, &asked, table, number, errors)?)
+}
+
+fn is_request_response_lived(alloc: Global, table: &mut Table, number: u64) -> Result<bool, Fail> {
+    let errors = (
+        RequestResponseOpenError::DoesNotExist,
+        RequestResponseCreateError::AlreadyExists,
+    );
+    let asked = builder(b"A")?.request_response::<u8, u64>();
+    Ok(is_lived(alloc, &asked, table, number, errors)?)
 }
 
 #[test]
 fn a_service_is_created_closed_and_created_again(rt: HostRuntime) -> Result<(), Fail> {
-    let alloc = rt.alloc();
-    let publish_subscribe = builder(b"A")?.publish_subscribe::<u64>(alloc)?;
-    let event = builder(b"A")?.event(alloc)?;
-    let request_response = builder(b"A")?.request_response::<u8, u64>(alloc)?;
-    let mut table = Table::new(alloc, 1);
-    for first in [1u64, 4] {
-        let absent = Some(PublishSubscribeOpenError::DoesNotExist);
-        let stands = Some(PublishSubscribeCreateError::AlreadyExists);
-        let answers = lived(alloc, &publish_subscribe, &mut table)?;
-        assert_eq!(rt; answers, ([first, first], [absent, absent], stands));
-        let absent = Some(EventOpenError::DoesNotExist);
-        let stands = Some(EventCreateError::AlreadyExists);
-        let answers = lived(alloc, &event, &mut table)?;
-        assert_eq!(rt; answers, ([first + 1, first + 1], [absent, absent], stands));
-        let absent = Some(RequestResponseOpenError::DoesNotExist);
-        let stands = Some(RequestResponseCreateError::AlreadyExists);
-        let answers = lived(alloc, &request_response, &mut table)?;
-        assert_eq!(rt; answers, ([first + 2, first + 2], [absent, absent], stands));
+    let mut table = Table::new(rt.alloc(), 1);
+    for (first, second, third) in [(1u64, 2u64, 3u64), (4, 5, 6)] {
+        assert!(rt; is_publish_subscribe_lived(rt.alloc(), &mut table, first)?);
+        assert!(rt; is_event_lived(rt.alloc(), &mut table, second)?);
+        assert!(rt; is_request_response_lived(rt.alloc(), &mut table, third)?);
     }
     Ok(())
 }

@@ -1,14 +1,13 @@
 //! A storage that gives the same answer to each access of a kind.
 ghost use Rattle.std.specs.Prelude.{◌≡◌};
 
-use iox_describe::{ServiceHash, ServiceName};
+use iox_describe::{LimitError, ServiceHash, ServiceName};
 use iox_negotiate::Builder;
 use iox_negotiate_rounds::{
     LeaveAnswer, LockAnswer, LookAnswer, MakeSegmentAnswer, OpenSegmentAnswer, PublishAnswer,
     RemoveAnswer, Storage, StoredDescription,
 };
-use std::alloc::Global;
-use std::test::Fail;
+use std::alloc::{AllocError, Global};
 
 /// The one line of service `23` over slices of `u64` with a `u64` user header, at default settings.
 pub const LINE: &str =
@@ -30,7 +29,7 @@ pub struct Fixed {
 
 impl Fixed {
     /// A storage in which all goes well. It shows this line; nothing, if it is empty.
-    pub(crate) fn new(alloc: Global, line: &str) -> Result<Self, Fail> {
+    pub(crate) fn new(alloc: Global, line: &str) -> Result<Self, AllocError> {
         let mut bytes = Vec::new(alloc);
         bytes.extend_from_slice(line.as_bytes())?;
         Ok(Fixed {
@@ -49,15 +48,20 @@ impl Fixed {
     fn count(&mut self) {
         self.others = self.others.saturating_add(1);
     }
+
+    /// Whether there were so many looks, and so many other accesses.
+    pub(crate) fn counted(&self, looks: u64, others: u64) -> bool {
+        self.looks == looks && self.others == others
+    }
 }
 
 /// A builder of the service of this name, for node 5.
-pub(crate) fn builder(name: &[u8]) -> Result<Builder, Fail> {
+pub(crate) fn builder(name: &[u8]) -> Result<Builder, LimitError> {
     builder_of(5, name)
 }
 
 /// A builder of the service of this name, for this node.
-pub(crate) fn builder_of(node: u64, name: &[u8]) -> Result<Builder, Fail> {
+pub(crate) fn builder_of(node: u64, name: &[u8]) -> Result<Builder, LimitError> {
     Ok(Builder::new(node, ServiceName::new(name)?))
 }
 

@@ -1,7 +1,7 @@
 //! Each access in each stage, each foreign step where it fits and where it doesn't, sizes and repeated calls.
 use iox_describe::{
-    AttributeSpecifier, Description, Header, MessageTypeDetails, MessagingPattern, ServiceHash,
-    ServiceName, Settings, TypeVariant, publish_subscribe, service_hash,
+    AttributeSpecifier, Description, Header, LimitError, MessageTypeDetails, MessagingPattern,
+    ServiceHash, ServiceName, Settings, TypeVariant, publish_subscribe, service_hash,
 };
 use iox_negotiate_rounds::{
     LeaveAnswer, LockAnswer, LookAnswer, MakeSegmentAnswer, OpenSegmentAnswer, PublishAnswer,
@@ -13,15 +13,14 @@ use std::test::Fail;
 
 const LARGEST: u64 = 16_777_215;
 
-fn hash_of(name: &[u8]) -> Result<ServiceHash, Fail> {
+fn hash_of(name: &[u8]) -> Result<ServiceHash, LimitError> {
     Ok(service_hash(MessagingPattern::PublishSubscribe, &ServiceName::new(name)?))
 }
 
-fn described(alloc: Global, name: &[u8]) -> Result<Description, Fail> {
+fn described(name: &[u8]) -> Result<Description, LimitError> {
     let types = MessageTypeDetails::from::<Header, u64, u64>(TypeVariant::FixedSize);
     let settings = Settings::PublishSubscribe(publish_subscribe::StaticConfig::new(types));
-    let attributes = AttributeSpecifier::new(alloc)?;
-    Ok(Description::new(ServiceName::new(name)?, settings, attributes))
+    Ok(Description::new(ServiceName::new(name)?, settings, AttributeSpecifier::new()))
 }
 
 // What a look shows: the number of the service where one stands.
@@ -51,62 +50,83 @@ fn published(alloc: Global, hash: &ServiceHash) -> Table {
     table
 }
 
+/// Whether the segment is made by who has the lock, for at least one node, and once.
+fn is_made_once(table: &mut Table, hash: &ServiceHash) -> bool {
+    table.lock(hash, 6) == LockAnswer::IsLocked
+        && table.make_segment(hash, 1, 6, 2) == MakeSegmentAnswer::Fault
+        && table.make_segment(hash, 1, 5, 0) == MakeSegmentAnswer::Fault
+        && table.make_segment(hash, 1, 5, LARGEST) == MakeSegmentAnswer::Made
+        && table.make_segment(hash, 1, 5, 2) == MakeSegmentAnswer::Fault
+}
+
+/// Whether what is made is shown once it is published.
+fn is_published_then(table: &mut Table, hash: &ServiceHash) -> bool {
+    shown(table.look(hash)) == ("locked", 0)
+        && table.publish(hash, 1, b"text") == PublishAnswer::Published
+        && shown(table.look(hash)) == ("found", 1)
+        && table.lock(hash, 6) == LockAnswer::Exists
+}
+
 #[test]
 fn a_service_is_made_by_who_has_the_lock(rt: HostRuntime) -> Result<(), Fail> {
     let hash = hash_of(b"a")?;
     let mut table = locked(rt.alloc(), &hash);
-    let fault = MakeSegmentAnswer::Fault;
-    let made = MakeSegmentAnswer::Made;
-    assert_eq!(rt; table.lock(&hash, 6), LockAnswer::IsLocked);
-    assert_eq!(rt;
-        [
-            table.make_segment(&hash, 1, 6, 2),
-            table.make_segment(&hash, 1, 5, 0),
-            table.make_segment(&hash, 1, 5, LARGEST),
-            table.make_segment(&hash, 1, 5, 2)
-        ],
-        [fault, fault, made, fault]
-    );
-    assert_eq!(rt; shown(table.look(&hash)), ("locked", 0));
-    assert_eq!(rt; table.publish(&hash, 1, b"text"), PublishAnswer::Published);
-    assert_eq!(rt; shown(table.look(&hash)), ("found", 1));
-    assert_eq!(rt; table.lock(&hash, 6), LockAnswer::Exists);
+    assert!(rt; is_made_once(&mut table, &hash));
+    assert!(rt; is_published_then(&mut table, &hash));
     Ok(())
+}
+
+/// Whether two nodes come in, one of them twice, a third doesn't, and another life isn't there.
+fn is_entered(table: &mut Table, hash: &ServiceHash) -> bool {
+    table.open_segment(hash, 1, 5) == OpenSegmentAnswer::Registered
+        && table.open_segment(hash, 1, 6) == OpenSegmentAnswer::Registered
+        && table.open_segment(hash, 1, 8) == OpenSegmentAnswer::Full
+        && table.open_segment(hash, 2, 5) == OpenSegmentAnswer::Absent
+}
+
+/// Whether the last factory of the last node empties the segment, and no other.
+fn is_left_last(table: &mut Table, hash: &ServiceHash) -> bool {
+    table.leave(hash, 1, 8) == LeaveAnswer::Stays
+        && table.leave(hash, 1, 6) == LeaveAnswer::Stays
+        && table.leave(hash, 1, 5) == LeaveAnswer::Stays
+        && table.leave(hash, 1, 5) == LeaveAnswer::Emptied
+        && table.open_segment(hash, 1, 5) == OpenSegmentAnswer::Marked
+}
+
+/// Whether the description goes first, another life begins, and then the segment goes.
+fn is_removed_then(table: &mut Table, hash: &ServiceHash) -> bool {
+    table.remove_segment(hash, 1) == RemoveAnswer::Fault
+        && table.remove_description(hash, 1) == RemoveAnswer::Removed
+        && table.lock(hash, 6) == LockAnswer::Taken(2)
+        && table.remove_segment(hash, 1) == RemoveAnswer::Removed
+        && table.remove_segment(hash, 1) == RemoveAnswer::Fault
 }
 
 #[test]
 fn nodes_come_and_go(rt: HostRuntime) -> Result<(), Fail> {
     let hash = hash_of(b"a")?;
     let mut table = published(rt.alloc(), &hash);
-    let entered = OpenSegmentAnswer::Registered;
-    assert_eq!(rt;
-        [
-            table.open_segment(&hash, 1, 5),
-            table.open_segment(&hash, 1, 6),
-            table.open_segment(&hash, 1, 8),
-            table.open_segment(&hash, 2, 5)
-        ],
-        [
-            entered,
-            entered,
-            OpenSegmentAnswer::Full,
-            OpenSegmentAnswer::Absent
-        ]
-    );
-    let stays = LeaveAnswer::Stays;
-    assert_eq!(rt;
-        [
-            table.leave(&hash, 1, 8),
-            table.leave(&hash, 1, 6),
-            table.leave(&hash, 1, 5),
-            table.leave(&hash, 1, 5)
-        ],
-        [stays, stays, stays, LeaveAnswer::Emptied]
-    );
-    assert_eq!(rt; table.open_segment(&hash, 1, 5), OpenSegmentAnswer::Marked);
-    assert_eq!(rt; table.remove_description(&hash, 1), RemoveAnswer::Removed);
-    assert_eq!(rt; table.lock(&hash, 6), LockAnswer::Taken(2));
-    assert_eq!(rt; table.remove_segment(&hash, 1), RemoveAnswer::Removed);
+    assert!(rt; is_entered(&mut table, &hash) && is_left_last(&mut table, &hash));
+    assert!(rt; is_removed_then(&mut table, &hash));
+    Ok(())
+}
+
+/// Does what foreign node 1 does in two lives of a service.
+fn act_through_two_lives(table: &mut Table, hash: &ServiceHash) -> Result<(), Fail> {
+    let first = ForeignStep::Publish {
+        node: 1,
+        description: described(b"a")?,
+    };
+    for step in [
+        &ForeignStep::Lock { node: 1 },
+        &first,
+        &ForeignStep::Leave { node: 1 },
+        &ForeignStep::Remove { node: 1 },
+        &ForeignStep::Lock { node: 1 },
+        &first,
+    ] {
+        table.act(hash, step)?;
+    }
     Ok(())
 }
 
@@ -114,22 +134,9 @@ fn nodes_come_and_go(rt: HostRuntime) -> Result<(), Fail> {
 fn a_later_life_has_another_number(rt: HostRuntime) -> Result<(), Fail> {
     let hash = hash_of(b"a")?;
     let mut table = Table::new(rt.alloc(), 1);
-    table.act(&hash, &ForeignStep::Lock { node: 1 })?;
-    let description = described(rt.alloc(), b"a")?;
-    let first = ForeignStep::Publish {
-        node: 1,
-        description,
-    };
-    table.act(&hash, &first)?;
-    table.act(&hash, &ForeignStep::Leave { node: 1 })?;
-    table.act(&hash, &ForeignStep::Remove { node: 1 })?;
-    table.act(&hash, &ForeignStep::Lock { node: 1 })?;
-    table.act(&hash, &first)?;
-    assert_eq!(rt; table.open_segment(&hash, 1, 5), OpenSegmentAnswer::Absent);
-    assert_eq!(rt; shown(table.look(&hash)), ("found", 2));
-    assert_eq!(rt;
-        table.open_segment(&hash, 2, 5),
-        OpenSegmentAnswer::Registered
-    );
+    act_through_two_lives(&mut table, &hash)?;
+    assert!(rt; table.open_segment(&hash, 1, 5) == OpenSegmentAnswer::Absent);
+    assert!(rt; shown(table.look(&hash)) == ("found", 2));
+    assert!(rt; table.open_segment(&hash, 2, 5) == OpenSegmentAnswer::Registered);
     Ok(())
 }

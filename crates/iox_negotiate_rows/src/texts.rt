@@ -3,21 +3,42 @@ use iox_negotiate_errors::{
     CloseError, EventOpenOrCreateError, PublishSubscribeOpenError,
     PublishSubscribeOpenOrCreateError, RequestResponseCreateError,
 };
+use std::alloc::{AllocError, Global};
+use std::fmt::Display;
 use std::test::Fail;
+
+/// Whether the error is told so.
+fn is_told<E: Display>(alloc: Global, error: &E, text: &str) -> Result<bool, AllocError> {
+    Ok(format!(in alloc; "{error}")?.as_str() == text)
+}
 
 #[test]
 fn errors_display_as_type_and_variant(rt: HostRuntime) -> Result<(), Fail> {
     let unmet = PublishSubscribeOpenError::DoesNotSupportRequestedMinBufferSize;
-    let text = format!(in rt.alloc(); "{}", PublishSubscribeOpenOrCreateError::from(unmet))?;
-    assert_eq!(rt;
-        text.as_str(),
-        "PublishSubscribeOpenOrCreateError::PublishSubscribeOpenError(DoesNotSupportRequestedMinBufferSize)"
+    let either = PublishSubscribeOpenOrCreateError::from(unmet);
+    assert!(rt;
+        is_told(
+            rt.alloc(),
+            &either,
+            "PublishSubscribeOpenOrCreateError::PublishSubscribeOpenError(DoesNotSupportRequestedMinBufferSize)"
+        )?
     );
-    let text = format!(in rt.alloc(); "{}", EventOpenOrCreateError::SystemInFlux)?;
-    assert_eq!(rt; text.as_str(), "EventOpenOrCreateError::SystemInFlux");
-    let text = format!(in rt.alloc(); "{}", RequestResponseCreateError::AlreadyExists)?;
-    assert_eq!(rt; text.as_str(), "RequestResponseCreateError::AlreadyExists");
-    let text = format!(in rt.alloc(); "{}", CloseError::NotThisStorage)?;
-    assert_eq!(rt; text.as_str(), "CloseError::NotThisStorage");
+    let flux = EventOpenOrCreateError::SystemInFlux;
+    assert!(rt; is_told(rt.alloc(), &flux, "EventOpenOrCreateError::SystemInFlux")?);
+    let exists = RequestResponseCreateError::AlreadyExists;
+    assert!(rt;
+        is_told(
+            rt.alloc(),
+            &exists,
+            "RequestResponseCreateError::AlreadyExists"
+        )?
+    );
+    assert!(rt;
+        is_told(
+            rt.alloc(),
+            &CloseError::NotThisStorage,
+            "CloseError::NotThisStorage"
+        )?
+    );
     Ok(())
 }

@@ -3,13 +3,14 @@ ghost use Rattle.std.specs.Prelude.{◌≡◌};
 
 use crate::foreign::hash_of_a;
 use crate::shared::builder;
-use iox_describe::ServiceHash;
+use iox_describe::{LimitError, ServiceHash};
 use iox_negotiate_errors::PublishSubscribeCreateError;
 use iox_negotiate_rounds::{
     LeaveAnswer, LockAnswer, LookAnswer, MakeSegmentAnswer, OpenSegmentAnswer, PublishAnswer,
     RemoveAnswer, Storage,
 };
 use iox_negotiate_table::Table;
+use std::alloc::Global;
 use std::test::Fail;
 
 /// How an access fails.
@@ -104,48 +105,62 @@ impl Storage for Failing {
     }
 }
 
+/// The access that fails, how, the error of the creation, and the number of the next lock.
+type Row = (u64, Failure, PublishSubscribeCreateError, u64);
+
+const MEMORY: PublishSubscribeCreateError = PublishSubscribeCreateError::OutOfMemory;
+
+const INTERNAL: PublishSubscribeCreateError = PublishSubscribeCreateError::InternalFailure;
+
+const CORRUPTED: PublishSubscribeCreateError = PublishSubscribeCreateError::ServiceInCorruptedState;
+
+fn rows() -> [Row; 8] {
+    [
+        (1, Failure::Memory, MEMORY, 1),
+        (2, Failure::Memory, MEMORY, 1),
+        (3, Failure::Memory, MEMORY, 2),
+        (4, Failure::Memory, MEMORY, 2),
+        (1, Failure::Fault, CORRUPTED, 1),
+        (2, Failure::Fault, INTERNAL, 1),
+        (3, Failure::Fault, INTERNAL, 2),
+        (4, Failure::Fault, INTERNAL, 2),
+    ]
+}
+
+/// Whether a creation is refused so, at the access that fails.
+fn is_refused(
+    alloc: Global,
+    storage: &mut Failing,
+    error: PublishSubscribeCreateError,
+) -> Result<bool, LimitError> {
+    let asked = builder(b"A")?.publish_subscribe::<u64>();
+    Ok(asked.create(alloc, storage).err() == Some(error) && storage.left == 0)
+}
+
+/// Whether neither description nor segment is left, and the next lock has this number.
+fn is_nothing_left(table: &mut Table, next: u64) -> Result<bool, LimitError> {
+    let hash = hash_of_a()?;
+    Ok(
+        matches!(table.look(&hash), LookAnswer::Absent)
+            && table.remove_segment(&hash, 1) == RemoveAnswer::Fault
+            && table.lock(&hash, 5) == LockAnswer::Taken(next),
+    )
+}
+
 #[test]
 fn nothing_is_left_of_a_creation_that_failed(rt: HostRuntime) -> Result<(), Fail> {
-    let memory = PublishSubscribeCreateError::OutOfMemory;
-    let internal = PublishSubscribeCreateError::InternalFailure;
-    for (at, failure, error, locks) in [
-        (1, Failure::Memory, memory, 0),
-        (2, Failure::Memory, memory, 0),
-        (3, Failure::Memory, memory, 1),
-        (4, Failure::Memory, memory, 1),
-        (
-            1,
-            Failure::Fault,
-            PublishSubscribeCreateError::ServiceInCorruptedState,
-            0,
-        ),
-        (2, Failure::Fault, internal, 0),
-        (3, Failure::Fault, internal, 1),
-        (4, Failure::Fault, internal, 1),
-    ] {
+    for (at, failure, error, next) in rows() {
         let mut storage = Failing {
             table: Table::new(rt.alloc(), 1),
             left: at,
             failure,
         };
-        let asked = builder(b"A")?.publish_subscribe::<u64>(rt.alloc())?;
-        let refused = asked.create(rt.alloc(), &mut storage).err();
-        assert_eq!(rt; refused, Some(error), "{failure:?} at {at}");
-        assert_eq!(rt; storage.left, 0, "out of memory before access {at}");
-        let hash = hash_of_a()?;
-        let mut table = storage.table;
         assert!(rt;
-            matches!(table.look(&hash), LookAnswer::Absent),
+            is_refused(rt.alloc(), &mut storage, error)?,
             "{failure:?} at {at}"
         );
-        assert_eq!(rt;
-            table.remove_segment(&hash, 1),
-            RemoveAnswer::Fault,
-            "{failure:?} at {at}"
-        );
-        assert_eq!(rt;
-            table.lock(&hash, 5),
-            LockAnswer::Taken(locks + 1),
+        assert!(rt;
+            is_nothing_left(&mut storage.table, next)?,
             "{failure:?} at {at}"
         );
     }

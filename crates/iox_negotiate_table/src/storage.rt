@@ -104,10 +104,12 @@ impl Storage for Table {
     }
 
     fn remove_segment(&mut self, hash: &ServiceHash, number: u64) -> RemoveAnswer {
-        if self.is_published(hash, number) || !self.has_segment(hash, number) {
+        if self.is_published(hash, number) {
             return RemoveAnswer::Fault;
         }
-        let _ = self.segments.remove(&(hash.digest, number));
-        RemoveAnswer::Removed
+        match self.segments.remove(&(hash.digest, number)) {
+            Some(_) => RemoveAnswer::Removed,
+            None => RemoveAnswer::Fault,
+        }
     }
 }

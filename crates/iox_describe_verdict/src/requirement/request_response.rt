@@ -1,5 +1,6 @@
 //! What an opener requires of a request-response service.
-ghost use Rattle.std.specs.Prelude.{◌≡◌, None, IfOk};
+ghost use Rattle.std.specs.Prelude.{◌≡◌, [], None, IsOk, IfOk};
+ghost use Rattle.iox_describe_base.specs.Attributes.{required};
 
 use crate::requirement::{RequiredSetting, asked, first_unmet};
 use iox_describe_base::attribute::AttributeSpecifier;
@@ -120,9 +121,10 @@ impl Requirement {
         }
     }
 
-    /// The same requirement, in memory of its own. Refused only for want of memory.
+    /// The same requirement, in memory of its own. Refused only for want of memory, which one of no attributes takes none of.
     pub fn try_clone(&self, alloc: Global) -> Result<Self, AllocError>
-        ensures { IfOk result (λ requirement. requirement ≡ self.now) }
+        ensures same { IfOk result (λ requirement. requirement ≡ self.now) }
+        ensures empty { self.now.attributes ≡ required [] [] → IsOk result }
     {
         Ok(Requirement {
             request_types: self.request_types,

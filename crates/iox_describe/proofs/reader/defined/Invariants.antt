@@ -1,4 +1,4 @@
-use Rattle.std.proofs.Common.{◌≡◌, List, [], take}
+use Rattle.std.proofs.Common.{◌≡◌, List, take}
 use Rattle.serde_json.specs.View.{view}
 use Rattle.iox_describe_base.specs.declared.attribute.Attribute.{Attribute}
 use Rattle.iox_describe_base.specs.Attributes.{AreAttributes}
@@ -8,5 +8,4 @@ use Rattle.iox_describe.proofs.reader.defined.Given as goal
 -- the attributes so far are defined
 abbrev pub invariant-loop-item : goal.invariant-loop-item
 invariant-loop-item l =
-    (pairs : List Attribute) → AreAttributes pairs → l.fn.attributes ≡ [] → view l.fn.value ≡ attributes_tree pairs
-    → l.attributes ≡ take l.item-index pairs
+    (pairs : List Attribute) → AreAttributes pairs → view l.fn.value ≡ attributes_tree pairs → l.attributes ≡ take l.item-index pairs
