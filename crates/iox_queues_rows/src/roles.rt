@@ -31,16 +31,25 @@ fn both_are_taken_once<Q: SharedQueue>(alloc: Global, queue: Q) -> Result<bool, 
     Ok(producer_is_taken_once(&shared) && consumer_is_taken_once(&shared))
 }
 
+/// Whether they are of the queues that refuse.
+fn are_taken_once(alloc: Global) -> Result<bool, Fail> {
+    let chosen = both_are_taken_once(alloc, IndexQueue::new(alloc, 2)?)?;
+    let fixed = both_are_taken_once(alloc, FixedSizeIndexQueue::<2>::new(alloc)?)?;
+    Ok(chosen && fixed && both_are_taken_once(alloc, Queue::<u128, 2>::new(alloc)?)?)
+}
+
+/// Whether they are of the queues that overflow.
+fn overflowing_are_taken_once(alloc: Global) -> Result<bool, Fail> {
+    let chosen = both_are_taken_once(alloc, SafelyOverflowingIndexQueue::new(alloc, 2)?)?;
+    let fixed = FixedSizeSafelyOverflowingIndexQueue::<2>::new(alloc)?;
+    Ok(chosen && both_are_taken_once(alloc, fixed)?)
+}
+
 #[test]
 fn roles_are_taken_once_at_a_time(rt: HostRuntime) -> Result<(), Fail> {
-    let alloc: Global = rt.alloc();
-    assert!(rt; both_are_taken_once(alloc, IndexQueue::new(alloc, 2)?)?);
-    assert!(rt; both_are_taken_once(alloc, FixedSizeIndexQueue::<2>::new(alloc)?)?);
-    assert!(rt; both_are_taken_once(alloc, SafelyOverflowingIndexQueue::new(alloc, 2)?)?);
-    let queue = FixedSizeSafelyOverflowingIndexQueue::<2>::new(alloc)?;
-    assert!(rt; both_are_taken_once(alloc, queue)?);
-    assert!(rt; both_are_taken_once(alloc, Queue::<u128, 2>::new(alloc)?)?);
-    assert!(rt; producer_is_taken_once(&shared(alloc, UnrestrictedAtomic::new(7u64))?));
+    assert!(rt; are_taken_once(rt.alloc())?);
+    assert!(rt; overflowing_are_taken_once(rt.alloc())?);
+    assert!(rt; producer_is_taken_once(&shared(rt.alloc(), UnrestrictedAtomic::new(7u64))?));
     Ok(())
 }
 
@@ -74,14 +83,23 @@ fn a_shared_queue_keeps_what_waited(rt: HostRuntime) -> Result<(), Fail> {
     Ok(())
 }
 
-#[test]
-fn a_shared_value_is_the_last_one_stored(rt: HostRuntime) -> Result<(), Fail> {
-    let shared = shared(rt.alloc(), UnrestrictedAtomic::new(7u128 << 64))?;
-    assert!(rt; shared.load() == Some(7 << 64));
-    let mut producer = shared.acquire_producer().ok_or("no role")?;
+/// Whether a shared 7 is loaded, and then each value that is stored.
+fn is_last_stored(shared: &Shared<UnrestrictedAtomic<u128>>) -> bool {
+    let first = shared.load() == Some(7 << 64);
+    let Some(mut producer) = shared.acquire_producer() else {
+        return false;
+    };
     for value in 0..5u64 {
         producer.store(u128::from(value) << 64);
-        assert!(rt; shared.load() == Some(u128::from(value) << 64));
+        if shared.load() != Some(u128::from(value) << 64) {
+            return false;
+        }
     }
+    first
+}
+
+#[test]
+fn a_shared_value_is_the_last_one_stored(rt: HostRuntime) -> Result<(), Fail> {
+    assert!(rt; is_last_stored(&shared(rt.alloc(), UnrestrictedAtomic::new(7u128 << 64))?));
     Ok(())
 }
