@@ -282,20 +282,21 @@ fn each_is_made_at_each_size(rt: HostRuntime) -> Result<(), Fail> {
     Ok(())
 }
 
-// Whether queues of each kind are made at this size.
-fn are_fixed_queues<const SIZE: usize>(alloc: Global) -> Result<bool, AllocError> {
+// Whether each is made at this fixed size.
+fn are_fixed<const SIZE: usize>(alloc: Global) -> Result<bool, AllocError> {
     Ok(
         is_fixed_refusing::<SIZE>(alloc)?
             && is_fixed_overflowing::<SIZE>(alloc)?
-            && is_value_queue::<SIZE>(alloc)?,
+            && is_value_queue::<SIZE>(alloc)?
+            && are_fixed_sets::<SIZE>(alloc)?,
     )
 }
 
 #[test]
 fn each_is_made_at_a_fixed_size(rt: HostRuntime) -> Result<(), Fail> {
-    assert!(rt; are_fixed_queues::<0>(rt.alloc())? && are_fixed_queues::<2>(rt.alloc())?);
-    assert!(rt; are_fixed_queues::<7>(rt.alloc())? && are_fixed_queues::<64>(rt.alloc())?);
-    assert!(rt; are_fixed_sets::<3>(rt.alloc())? && are_fixed_sets::<7>(rt.alloc())?);
-    assert!(rt; are_fixed_sets::<64>(rt.alloc())?);
+    assert!(rt; are_fixed::<0>(rt.alloc())? && are_fixed::<1>(rt.alloc())?);
+    assert!(rt; are_fixed::<2>(rt.alloc())? && are_fixed::<3>(rt.alloc())?);
+    assert!(rt; are_fixed::<7>(rt.alloc())? && are_fixed::<64>(rt.alloc())?);
+    assert!(rt; are_fixed::<100_000>(rt.alloc())?);
     Ok(())
 }

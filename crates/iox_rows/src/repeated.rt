@@ -38,6 +38,33 @@ fn a_hundred_of_each(rt: HostRuntime) -> Result<(), Fail> {
     check(&rt, rt.alloc(), "a hundred of each", &script)
 }
 
+/// The lines fill some thirty reads, so a want of memory that comes with their number would show.
+const A_LONG_CONVERSATION: [Part; 2] = [
+    (
+        "node -> ok n1
+create n1 ps A -> ok f1
+publisher f1 -> ok p1
+subscriber f1 -> ok s1
+",
+        1,
+        1,
+    ),
+    (
+        "put p1 # -> ok 1
+receive s1 -> ok m# #
+release m# -> ok
+",
+        1,
+        50_000,
+    ),
+];
+
+#[test]
+fn a_long_conversation_is_answered_to_its_end(rt: HostRuntime) -> Result<(), Fail> {
+    let script = script_of(rt.alloc(), &A_LONG_CONVERSATION)?;
+    check(&rt, rt.alloc(), "a long conversation", &script)
+}
+
 const TWENTY_NODES: [Part; 3] = [
     ("node -> ok n1\ncreate n1 ps A -> ok f1\n", 1, 1),
     ("node -> ok n#\nopen n# ps A -> ok f#\n", 2, 20),
