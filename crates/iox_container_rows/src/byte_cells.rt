@@ -1,7 +1,9 @@
 //! Cells that are copied byte by byte.
 ghost use Rattle.std.specs.Prelude.{◌≡◌, ℕ, [], ◌∷◌, List, slice_index, refl, Some};
 
+use crate::shown::is_shown;
 use iox_byte_cells::{ByteAnswer, ByteMachine, ByteStep, Coded, FixedSizeByteAtomic, MaybeTorn};
+use std::alloc::{AllocError, Global};
 use std::test::Fail;
 
 // A byte that stands twice, so that a torn one is told.
@@ -98,43 +100,44 @@ fn a_torn_value_is_told(rt: HostRuntime) {
     assert!(rt; whole.assume_consistent() == Some(Twice { byte: 2 }));
 }
 
-#[test]
-fn a_load_tells_the_byte_stored_last(rt: HostRuntime) -> Result<(), Fail> {
-    let mut machine = ByteMachine::new([10, 20]);
-    let steps = [
-        ByteStep::Load(1),
-        ByteStep::Store(1, 21),
-        ByteStep::Store(0, 11),
-        ByteStep::Store(1, 22),
-        ByteStep::Load(1),
-        ByteStep::Load(0),
-        ByteStep::Store(2, 30),
-        ByteStep::Load(2),
-    ];
-    let wanted = [
-        ByteAnswer::Loaded(20),
-        ByteAnswer::Stored,
-        ByteAnswer::Stored,
-        ByteAnswer::Stored,
-        ByteAnswer::Loaded(22),
-        ByteAnswer::Loaded(11),
-        ByteAnswer::Skipped,
-        ByteAnswer::Skipped,
-    ];
-    let answers = machine.run(rt.alloc(), &steps)?;
-    assert!(rt; answers.as_slice() == wanted.as_slice());
-    let mut none = ByteMachine::new([]);
-    assert!(rt; none.step(ByteStep::Load(0)) == ByteAnswer::Skipped);
-    Ok(())
+const STEPS: [ByteStep; 8] = [
+    ByteStep::Load(1),
+    ByteStep::Store(1, 21),
+    ByteStep::Store(0, 11),
+    ByteStep::Store(1, 22),
+    ByteStep::Load(1),
+    ByteStep::Load(0),
+    ByteStep::Store(2, 30),
+    ByteStep::Load(2),
+];
+
+const ANSWERS: [ByteAnswer; 8] = [
+    ByteAnswer::Loaded(20),
+    ByteAnswer::Stored,
+    ByteAnswer::Stored,
+    ByteAnswer::Stored,
+    ByteAnswer::Loaded(22),
+    ByteAnswer::Loaded(11),
+    ByteAnswer::Skipped,
+    ByteAnswer::Skipped,
+];
+
+/// Whether the bytes 10 and 20 answer the steps so.
+fn are_answered(alloc: Global) -> Result<bool, AllocError> {
+    Ok(ByteMachine::new([10, 20]).run(alloc, &STEPS)?.as_slice() == ANSWERS.as_slice())
 }
 
 #[test]
-fn steps_and_answers_are_printed(rt: HostRuntime) -> Result<(), Fail> {
-    let step = ByteStep::Store(1, 5);
-    let answers = [ByteAnswer::Loaded(5), ByteAnswer::Skipped];
+fn a_load_tells_the_byte_stored_last(rt: HostRuntime) -> Result<(), Fail> {
+    assert!(rt; are_answered(rt.alloc())?);
+    assert!(rt; ByteMachine::new([]).step(ByteStep::Load(0)) == ByteAnswer::Skipped);
+    assert!(rt; is_shown(rt.alloc(), &ByteStep::Store(1, 5), "Store(1, 5)")?);
     assert!(rt;
-        format!(in rt.alloc(); "{step:?} {answers:?}")?.as_str()
-            == "Store(1, 5) [Loaded(5), Skipped]"
+        is_shown(
+            rt.alloc(),
+            &[ByteAnswer::Loaded(5), ByteAnswer::Skipped],
+            "[Loaded(5), Skipped]"
+        )?
     );
     Ok(())
 }

@@ -1,7 +1,8 @@
 //! Flat maps of both kinds.
+use crate::shown::is_shown;
 use iox_container::CallbackProgression;
 use iox_maps::{FixedSizeFlatMap, FlatMap, FlatMapError};
-use std::alloc::AllocError;
+use std::alloc::{AllocError, Global};
 use std::cell::Cell;
 use std::test::Fail;
 
@@ -61,13 +62,20 @@ fn is_replaced(map: &mut FlatMap<u8, u8>) -> bool {
         && map.insert(5, 50).is_ok()
 }
 
+/// Whether the keys of an empty map of 4 places are listed so, once it was filled.
+fn are_listed(map: &mut FlatMap<u8, u8>) -> bool {
+    is_replaced(map) && listed(map, 0) == 153 && listed(map, 5) == 15 && listed(map, 1) == 1
+}
+
+/// Whether a map lists no key.
+fn lists_none(map: &FlatMap<u8, u8>) -> bool {
+    listed(map, 0) == 0 && map.is_empty()
+}
+
 #[test]
 fn keys_are_listed_by_place_up_to_the_stop(rt: HostRuntime) -> Result<(), Fail> {
-    let mut map = FlatMap::new(rt.alloc(), 4)?;
-    assert!(rt; is_replaced(&mut map));
-    assert!(rt; listed(&map, 0) == 153 && listed(&map, 5) == 15 && listed(&map, 1) == 1);
-    let empty = FlatMap::<u8, u8>::new(rt.alloc(), 0)?;
-    assert!(rt; listed(&empty, 0) == 0 && empty.is_empty());
+    assert!(rt; are_listed(&mut FlatMap::new(rt.alloc(), 4)?));
+    assert!(rt; lists_none(&FlatMap::new(rt.alloc(), 0)?));
     Ok(())
 }
 
@@ -91,20 +99,21 @@ fn gone_over(map: &FixedSizeFlatMap<u8, u16, 3>) -> [(u8, u16); 3] {
     seen
 }
 
-#[test]
-fn pairs_are_gone_over_by_place(rt: HostRuntime) -> Result<(), Fail> {
-    let mut map = FixedSizeFlatMap::<u8, u16, 3>::new(rt.alloc())?;
-    assert!(rt; format!(in rt.alloc(); "{map:?}")?.as_str() == "{}");
-    assert!(rt; is_filled(&mut map) && gone_over(&map) == [(1, 10), (8, 80), (7, 70)]);
-    assert!(rt; map.remove(&8) == Some(80));
-    assert!(rt; format!(in rt.alloc(); "{map:?}")?.as_str() == "{1: 10, 7: 70}");
-    Ok(())
+/// Whether an empty map of 3 places is gone over by place, and prints its pairs.
+fn is_gone_over(alloc: Global, map: &mut FixedSizeFlatMap<u8, u16, 3>) -> Result<bool, AllocError> {
+    let empty = is_shown(alloc, map, "{}")?;
+    let filled = is_filled(map) && gone_over(map) == [(1, 10), (8, 80), (7, 70)];
+    Ok(empty && filled && map.remove(&8) == Some(80) && is_shown(alloc, map, "{1: 10, 7: 70}")?)
+}
+
+/// Whether a map has no pair, and prints none.
+fn is_printed_empty(alloc: Global, map: &FlatMap<u8, u8>) -> Result<bool, AllocError> {
+    Ok(map.iter().next().is_none() && is_shown(alloc, map, "{}")?)
 }
 
 #[test]
-fn an_empty_map_is_printed(rt: HostRuntime) -> Result<(), Fail> {
-    let chosen = FlatMap::<u8, u8>::new(rt.alloc(), 2)?;
-    assert!(rt; chosen.iter().count() == 0);
-    assert!(rt; format!(in rt.alloc(); "{chosen:?}")?.as_str() == "{}");
+fn pairs_are_gone_over_by_place(rt: HostRuntime) -> Result<(), Fail> {
+    assert!(rt; is_gone_over(rt.alloc(), &mut FixedSizeFlatMap::new(rt.alloc())?)?);
+    assert!(rt; is_printed_empty(rt.alloc(), &FlatMap::new(rt.alloc(), 2)?)?);
     Ok(())
 }

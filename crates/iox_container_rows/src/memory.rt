@@ -1,4 +1,5 @@
 //! Ample memory is never wanting, at any capacity and again and again; and no more room is taken than there is.
+use crate::shown::is_shown;
 use iox_byte_cells::{ByteMachine, ByteStep};
 use iox_container::queue::Queue;
 use iox_container::vector::Vector;
@@ -7,6 +8,9 @@ use iox_maps::{FixedSizeFlatMap, FixedSizeSlotMap, FlatMap, SlotMap, SlotMapKey}
 use iox_string::{PolymorphicString, String, as_escaped_string};
 use std::alloc::{AllocError, Global};
 use std::test::Fail;
+
+/// Capacities, the largest of which is no multiple of anything.
+const CAPACITIES: [usize; 6] = [0, 1, 2, 7, 64, 1_000_003];
 
 /// Whether a string of this capacity, with a text of so many bytes, has what it was given, and so has its copy.
 fn is_string(alloc: Global, capacity: usize, len: usize) -> Result<bool, AllocError> {
@@ -29,13 +33,20 @@ fn is_escaped(alloc: Global, count: usize) -> Result<bool, AllocError> {
     Ok(as_escaped_string(alloc, bytes.as_slice())?.len() / 4 == count)
 }
 
+/// Whether strings of this capacity, with texts of none, few and many bytes, and so many escaped bytes are had.
+fn are_strings(alloc: Global, capacity: usize) -> Result<bool, AllocError> {
+    for len in &[0usize, 1, 6, 64] {
+        if !is_string(alloc, capacity, *len)? {
+            return Ok(false);
+        }
+    }
+    is_escaped(alloc, capacity)
+}
+
 #[test]
 fn ample_memory_is_never_wanting_to_strings(rt: HostRuntime) -> Result<(), Fail> {
-    for capacity in [0usize, 1, 2, 7, 64, 4_097, 1_000_003] {
-        for len in [0usize, 1, 6, 64] {
-            assert!(rt; is_string(rt.alloc(), capacity, len)?, "{capacity} {len}");
-        }
-        assert!(rt; is_escaped(rt.alloc(), capacity)?, "{capacity}");
+    for capacity in &[0usize, 1, 2, 7, 64, 4_097, 1_000_003] {
+        assert!(rt; are_strings(rt.alloc(), *capacity)?, "{capacity}");
     }
     for _ in 0..300 {
         assert!(rt; is_string(rt.alloc(), 3, 0)?);
@@ -60,20 +71,25 @@ fn are_chosen_vectors(alloc: Global, capacity: usize) -> Result<bool, AllocError
     Ok(same && numbers.try_clone()? == numbers)
 }
 
+/// Whether vectors of each fixed capacity are.
+fn are_all_vectors(alloc: Global) -> Result<bool, AllocError> {
+    let small = are_vectors::<0>(alloc)? && are_vectors::<1>(alloc)? && are_vectors::<2>(alloc)?;
+    Ok(
+        small
+            && are_vectors::<7>(alloc)?
+            && are_vectors::<64>(alloc)?
+            && are_vectors::<1_000_003>(alloc)?,
+    )
+}
+
 #[test]
 fn ample_memory_is_never_wanting_to_vectors(rt: HostRuntime) -> Result<(), Fail> {
-    let alloc: Global = rt.alloc();
-    assert!(rt; are_vectors::<0>(alloc)?);
-    assert!(rt; are_vectors::<1>(alloc)?);
-    assert!(rt; are_vectors::<2>(alloc)?);
-    assert!(rt; are_vectors::<7>(alloc)?);
-    assert!(rt; are_vectors::<64>(alloc)?);
-    assert!(rt; are_vectors::<1_000_003>(alloc)?);
-    for capacity in [0usize, 1, 2, 7, 64, 1_000_003] {
-        assert!(rt; are_chosen_vectors(alloc, capacity)?, "{capacity}");
+    assert!(rt; are_all_vectors(rt.alloc())?);
+    for capacity in &CAPACITIES {
+        assert!(rt; are_chosen_vectors(rt.alloc(), *capacity)?, "{capacity}");
     }
     for _ in 0..300 {
-        assert!(rt; are_vectors::<3>(alloc)? && are_chosen_vectors(alloc, 3)?);
+        assert!(rt; are_vectors::<3>(rt.alloc())? && are_chosen_vectors(rt.alloc(), 3)?);
     }
     Ok(())
 }
@@ -90,23 +106,27 @@ fn held(alloc: Global, capacity: usize) -> Result<usize, AllocError> {
 /// Whether a queue of this size is made, and prints as empty.
 fn is_queue<const CAPACITY: usize>(alloc: Global) -> Result<bool, AllocError> {
     let queue = FixedSizeQueue::<u8, CAPACITY>::new(alloc)?;
-    Ok(queue.capacity() == CAPACITY && format!(in alloc; "{queue:?}")?.as_str() == "[]")
+    Ok(queue.capacity() == CAPACITY && is_shown(alloc, &queue, "[]")?)
+}
+
+/// Whether queues of each fixed capacity are.
+fn are_all_queues(alloc: Global) -> Result<bool, AllocError> {
+    let small = is_queue::<0>(alloc)? && is_queue::<1>(alloc)? && is_queue::<7>(alloc)?;
+    Ok(small && is_queue::<64>(alloc)? && is_queue::<1_000_003>(alloc)?)
 }
 
 #[test]
 fn ample_memory_is_never_wanting_to_queues(rt: HostRuntime) -> Result<(), Fail> {
-    let alloc: Global = rt.alloc();
-    for capacity in [0usize, 1, 2, 7, 64, 1_000_003] {
-        assert!(rt; held(alloc, capacity)? == capacity.min(70), "{capacity}");
+    for capacity in &CAPACITIES {
+        assert!(rt;
+            held(rt.alloc(), *capacity)? == (*capacity).min(70),
+            "{capacity}"
+        );
     }
     for _ in 0..300 {
-        assert!(rt; held(alloc, 3)? == 3);
+        assert!(rt; held(rt.alloc(), 3)? == 3);
     }
-    assert!(rt; is_queue::<0>(alloc)?);
-    assert!(rt; is_queue::<1>(alloc)?);
-    assert!(rt; is_queue::<7>(alloc)?);
-    assert!(rt; is_queue::<64>(alloc)?);
-    assert!(rt; is_queue::<1_000_003>(alloc)?);
+    assert!(rt; are_all_queues(rt.alloc())?);
     Ok(())
 }
 
@@ -149,29 +169,37 @@ fn are_maps<const CAPACITY: usize>(alloc: Global) -> Result<bool, AllocError> {
     Ok(slots == CAPACITY && pairs == CAPACITY)
 }
 
+/// Whether maps of each fixed capacity are.
+fn are_all_maps(alloc: Global) -> Result<bool, AllocError> {
+    let small = are_maps::<0>(alloc)? && are_maps::<5>(alloc)? && are_maps::<7>(alloc)?;
+    Ok(small && are_maps::<64>(alloc)? && are_maps::<1_000_003>(alloc)?)
+}
+
+/// Capacities, and how many values a slot map takes in its two turns.
+const TAKEN: [(usize, u64); 7] = [
+    (0, 0),
+    (1, 2),
+    (2, 4),
+    (5, 10),
+    (7, 14),
+    (64, 128),
+    (1_000_003, 140),
+];
+
+/// Whether maps of this capacity take so many values, and as many pairs as there is room for.
+fn are_taken(alloc: Global, capacity: usize, count: u64) -> Result<bool, AllocError> {
+    Ok(slots(alloc, capacity)? == count && pairs(alloc, capacity)? == capacity.min(70))
+}
+
 #[test]
 fn ample_memory_is_never_wanting_to_maps(rt: HostRuntime) -> Result<(), Fail> {
-    let alloc: Global = rt.alloc();
-    for (capacity, count) in [
-        (0usize, 0),
-        (1, 2),
-        (2, 4),
-        (5, 10),
-        (7, 14),
-        (64, 128),
-        (1_000_003, 140),
-    ] {
-        assert!(rt; slots(alloc, capacity)? == count, "{capacity}");
-        assert!(rt; pairs(alloc, capacity)? == capacity.min(70), "{capacity}");
+    for row in &TAKEN {
+        assert!(rt; are_taken(rt.alloc(), row.0, row.1)?, "{}", row.0);
     }
     for _ in 0..100 {
-        assert!(rt; slots(alloc, 5)? == 10 && pairs(alloc, 3)? == 3);
+        assert!(rt; slots(rt.alloc(), 5)? == 10 && pairs(rt.alloc(), 3)? == 3);
     }
-    assert!(rt; are_maps::<0>(alloc)?);
-    assert!(rt; are_maps::<5>(alloc)?);
-    assert!(rt; are_maps::<7>(alloc)?);
-    assert!(rt; are_maps::<64>(alloc)?);
-    assert!(rt; are_maps::<1_000_003>(alloc)?);
+    assert!(rt; are_all_maps(rt.alloc())?);
     Ok(())
 }
 
@@ -184,8 +212,8 @@ fn answered(alloc: Global, count: usize) -> Result<usize, AllocError> {
 
 #[test]
 fn ample_memory_is_never_wanting_to_byte_machines(rt: HostRuntime) -> Result<(), Fail> {
-    for count in [0usize, 1, 2, 7, 64, 100_003] {
-        assert!(rt; answered(rt.alloc(), count)? == count, "{count}");
+    for count in &[0usize, 1, 2, 7, 64, 100_003] {
+        assert!(rt; answered(rt.alloc(), *count)? == *count, "{count}");
     }
     for _ in 0..300 {
         assert!(rt; answered(rt.alloc(), 1)? == 1);
@@ -193,13 +221,17 @@ fn ample_memory_is_never_wanting_to_byte_machines(rt: HostRuntime) -> Result<(),
     Ok(())
 }
 
+/// Whether lists of as many items as there are numbers are refused.
+fn are_refused(alloc: Global) -> bool {
+    PolymorphicString::new(alloc, usize::MAX).is_err()
+        && PolymorphicVec::<u64, _>::new(alloc, usize::MAX).is_err()
+        && StaticVec::<u64, { usize::MAX }>::new(alloc).is_err()
+        && Queue::<u64>::new(alloc, usize::MAX).is_err()
+}
+
 #[test]
 fn takes_no_more_room_than_there_is(rt: HostRuntime) {
-    let alloc: Global = rt.alloc();
-    assert!(rt; PolymorphicString::new(alloc, usize::MAX).is_err());
-    assert!(rt; PolymorphicVec::<u64, _>::new(alloc, usize::MAX).is_err());
-    assert!(rt; StaticVec::<u64, { usize::MAX }>::new(alloc).is_err());
-    assert!(rt; Queue::<u64>::new(alloc, usize::MAX).is_err());
-    assert!(rt; SlotMap::<u64>::new(alloc, usize::MAX).is_err());
-    assert!(rt; SlotMap::<u64>::new(alloc, usize::MAX - 1).is_err());
+    assert!(rt; are_refused(rt.alloc()));
+    assert!(rt; SlotMap::<u64>::new(rt.alloc(), usize::MAX).is_err());
+    assert!(rt; SlotMap::<u64>::new(rt.alloc(), usize::MAX - 1).is_err());
 }

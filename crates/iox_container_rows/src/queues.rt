@@ -1,4 +1,5 @@
 //! Queues of fixed capacity.
+use crate::shown::is_shown;
 use iox_container::FixedSizeQueue;
 use iox_container::queue::Queue;
 use std::alloc::{AllocError, Global};
@@ -24,12 +25,14 @@ fn is_refilled(queue: &mut Queue<u16>) -> bool {
     refilled && queue.is_empty() && queue.capacity() == 3
 }
 
+/// Whether an empty queue of 3 does both, and prints its numbers in between.
+fn is_printed(alloc: Global, queue: &mut Queue<u16>) -> Result<bool, AllocError> {
+    Ok(is_overflown(queue) && is_shown(alloc, queue, "[13, 4, 5]")? && is_refilled(queue))
+}
+
 #[test]
 fn goes_round_its_places(rt: HostRuntime) -> Result<(), Fail> {
-    let mut numbers = Queue::<u16>::new(rt.alloc(), 3)?;
-    assert!(rt; is_overflown(&mut numbers));
-    assert!(rt; format!(in rt.alloc(); "{numbers:?}")?.as_str() == "[13, 4, 5]");
-    assert!(rt; is_refilled(&mut numbers));
+    assert!(rt; is_printed(rt.alloc(), &mut Queue::new(rt.alloc(), 3)?)?);
     Ok(())
 }
 
@@ -45,9 +48,12 @@ fn are_compared(words: &mut Queue<&'static str>, others: &mut Queue<&'static str
 
 #[test]
 fn holds_words_as_well(rt: HostRuntime) -> Result<(), Fail> {
-    let mut words = Queue::<&'static str>::new(rt.alloc(), 1)?;
-    let mut others = Queue::<&'static str>::new(rt.alloc(), 2)?;
-    assert!(rt; are_compared(&mut words, &mut others));
+    assert!(rt;
+        are_compared(
+            &mut Queue::new(rt.alloc(), 1)?,
+            &mut Queue::new(rt.alloc(), 2)?
+        )
+    );
     Ok(())
 }
 
@@ -83,9 +89,12 @@ fn are_alike(
 fn a_queue_of_fixed_size_does_the_same(rt: HostRuntime) -> Result<(), Fail> {
     assert!(rt; is_fixed(&mut FixedSizeQueue::new(rt.alloc())?));
     assert!(rt; has_no_place(&mut FixedSizeQueue::new(rt.alloc())?));
-    let mut one = FixedSizeQueue::<&'static str, 3>::new(rt.alloc())?;
-    let mut other = FixedSizeQueue::<&'static str, 3>::new(rt.alloc())?;
-    assert!(rt; are_alike(&mut one, &mut other));
+    assert!(rt;
+        are_alike(
+            &mut FixedSizeQueue::new(rt.alloc())?,
+            &mut FixedSizeQueue::new(rt.alloc())?
+        )
+    );
     Ok(())
 }
 

@@ -6,7 +6,7 @@ ghost use Rattle.iox_container_rows.specs.LetterCase.{lower_case, lower_case_onc
 
 use iox_semantic::{Rules, Semantic, SemanticStringError};
 use iox_string::{StaticString, String};
-use std::alloc::AllocError;
+use std::alloc::{AllocError, Global};
 use std::hash::{DefaultHasher, Hash, Hasher};
 use std::test::Fail;
 
@@ -132,13 +132,14 @@ fn is_cut(name: &mut Semantic<FileName, 8>) -> bool {
     retained && sized && cut && kept && name.as_bytes() == b"o".as_slice()
 }
 
+/// Whether the name `one` does all of this.
+fn is_changed(name: &mut Semantic<FileName, 8>) -> bool {
+    keeps_its_rules(name) && is_grown(name) && is_stripped(name) && is_cut(name)
+}
+
 #[test]
 fn a_name_changes_within_its_rules(rt: HostRuntime) -> Result<(), Fail> {
-    let mut name = Semantic::<FileName, 8>::new(b"one")?;
-    assert!(rt; keeps_its_rules(&mut name));
-    assert!(rt; is_grown(&mut name));
-    assert!(rt; is_stripped(&mut name));
-    assert!(rt; is_cut(&mut name));
+    assert!(rt; is_changed(&mut Semantic::new(b"one")?));
     Ok(())
 }
 
@@ -192,13 +193,18 @@ fn is_copied(name: &Semantic<AnyCase, 8>) -> Result<bool, AllocError> {
     Ok(pushed && same.as_bytes() == b"A\"bc".as_slice() && name.as_bytes() == b"A\"b".as_slice())
 }
 
+/// Whether the name `A"b` prints as its text, and as its literal.
+fn is_printed(alloc: Global, name: &Semantic<AnyCase, 8>) -> Result<bool, AllocError> {
+    Ok(format!(in alloc; "{name} {name:?}")?.as_str() == "A\"b \"A\\\"b\"")
+}
+
 #[test]
 fn a_clone_and_what_is_printed_are_the_text_itself(rt: HostRuntime) -> Result<(), Fail> {
     let name = Semantic::<AnyCase, 8>::new(b"A\"b")?;
     for _ in 0..300 {
         assert!(rt; is_copied(&name)?);
     }
-    assert!(rt; format!(in rt.alloc(); "{name} {name:?}")?.as_str() == "A\"b \"A\\\"b\"");
+    assert!(rt; is_printed(rt.alloc(), &name)?);
     Ok(())
 }
 

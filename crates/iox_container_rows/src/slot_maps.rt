@@ -1,5 +1,7 @@
 //! Slot maps of both kinds.
+use crate::shown::is_shown;
 use iox_maps::{FixedSizeSlotMap, SlotMap, SlotMapKey};
+use std::alloc::{AllocError, Global};
 use std::test::Fail;
 
 /// The key of a place.
@@ -35,13 +37,9 @@ fn has_no_fourth(map: &mut FixedSizeSlotMap<u8, 3>) -> bool {
         && map.capacity() == 3
 }
 
-#[test]
-fn freed_keys_come_back_last_freed_first(rt: HostRuntime) -> Result<(), Fail> {
-    let mut map = FixedSizeSlotMap::<u8, 3>::new(rt.alloc())?;
-    assert!(rt; is_filled(&mut map));
-    assert!(rt; is_refilled(&mut map));
-    assert!(rt; has_no_fourth(&mut map));
-    Ok(())
+/// Whether an empty map of 3 places does all of this.
+fn comes_back(map: &mut FixedSizeSlotMap<u8, 3>) -> bool {
+    is_filled(map) && is_refilled(map) && has_no_fourth(map)
 }
 
 /// Whether an empty map of 4 places takes a value at a key, and the next ones at the lowest keys that are free.
@@ -64,12 +62,15 @@ fn is_changed(map: &mut SlotMap<u32>) -> bool {
     map.get_mut(at(4)).is_none() && map.contains(at(3)) && !map.contains(at(4))
 }
 
+/// Whether an empty map of 4 places is written, changed and printed so.
+fn is_printed(alloc: Global, map: &mut SlotMap<u32>) -> Result<bool, AllocError> {
+    let changed = is_written(map) && is_changed(map);
+    Ok(changed && is_shown(alloc, map, "{0: 1, 1: 43, 2: 8, 3: 4}")?)
+}
+
 #[test]
 fn a_key_is_written_and_changed_in_its_place(rt: HostRuntime) -> Result<(), Fail> {
-    let mut map = SlotMap::new(rt.alloc(), 4)?;
-    assert!(rt; is_written(&mut map));
-    assert!(rt; is_changed(&mut map));
-    assert!(rt; format!(in rt.alloc(); "{map:?}")?.as_str() == "{0: 1, 1: 43, 2: 8, 3: 4}");
+    assert!(rt; is_printed(rt.alloc(), &mut SlotMap::new(rt.alloc(), 4)?)?);
     Ok(())
 }
 
@@ -94,9 +95,10 @@ fn has_one_place(one: &mut FixedSizeSlotMap<u8, 1>) -> bool {
 }
 
 #[test]
-fn capacities_of_none_and_one(rt: HostRuntime) -> Result<(), Fail> {
+fn freed_keys_come_back_last_freed_first(rt: HostRuntime) -> Result<(), Fail> {
     assert!(rt; has_no_place(&mut FixedSizeSlotMap::new(rt.alloc())?));
     assert!(rt; has_one_place(&mut FixedSizeSlotMap::new(rt.alloc())?));
+    assert!(rt; comes_back(&mut FixedSizeSlotMap::new(rt.alloc())?));
     Ok(())
 }
 
@@ -111,22 +113,23 @@ fn gone_over(map: &FixedSizeSlotMap<u8, 4>) -> [(usize, u8); 2] {
     seen
 }
 
-#[test]
-fn values_are_gone_over_by_key(rt: HostRuntime) -> Result<(), Fail> {
-    let mut map = FixedSizeSlotMap::<u8, 4>::new(rt.alloc())?;
-    assert!(rt; format!(in rt.alloc(); "{map:?}")?.as_str() == "{}");
-    assert!(rt; map.insert_at(at(2), 7) && map.insert_at(at(0), 9));
-    assert!(rt; gone_over(&map) == [(0, 9), (2, 7)]);
-    assert!(rt; format!(in rt.alloc(); "{map:?}")?.as_str() == "{0: 9, 2: 7}");
-    Ok(())
+/// Whether an empty map of 4 places is gone over by key, and prints its values.
+fn is_gone_over(alloc: Global, map: &mut FixedSizeSlotMap<u8, 4>) -> Result<bool, AllocError> {
+    let empty = is_shown(alloc, map, "{}")?;
+    let filled = map.insert_at(at(2), 7) && map.insert_at(at(0), 9);
+    let in_order = gone_over(map) == [(0, 9), (2, 7)];
+    Ok(empty && filled && in_order && is_shown(alloc, map, "{0: 9, 2: 7}")?)
+}
+
+/// Whether a map has no value, and prints none.
+fn is_printed_empty(alloc: Global, map: &SlotMap<&str>) -> Result<bool, AllocError> {
+    Ok(map.into_iter().next().is_none() && is_shown(alloc, map, "{}")?)
 }
 
 #[test]
-fn an_empty_map_and_a_key_are_printed(rt: HostRuntime) -> Result<(), Fail> {
-    let key = at(3);
-    assert!(rt; format!(in rt.alloc(); "{key:?}")?.as_str() == "SlotMapKey { value: 3 }");
-    let chosen = SlotMap::<&str>::new(rt.alloc(), 2)?;
-    assert!(rt; (&chosen).into_iter().count() == 0);
-    assert!(rt; format!(in rt.alloc(); "{chosen:?}")?.as_str() == "{}");
+fn values_are_gone_over_by_key(rt: HostRuntime) -> Result<(), Fail> {
+    assert!(rt; is_gone_over(rt.alloc(), &mut FixedSizeSlotMap::new(rt.alloc())?)?);
+    assert!(rt; is_printed_empty(rt.alloc(), &SlotMap::new(rt.alloc(), 2)?)?);
+    assert!(rt; is_shown(rt.alloc(), &at(3), "SlotMapKey { value: 3 }")?);
     Ok(())
 }

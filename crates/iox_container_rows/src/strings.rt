@@ -44,17 +44,9 @@ fn is_spliced<S: String>(text: &mut S) -> bool {
     filled && text.as_str() == "Axyzc"
 }
 
-#[test]
-fn both_strings_meet_the_trait(rt: HostRuntime) -> Result<(), Fail> {
-    let mut inline = StaticString::<5>::new();
-    assert!(rt; is_turned_round(&mut inline));
-    assert!(rt; is_filled_up(&mut inline));
-    assert!(rt; is_spliced(&mut inline));
-    let mut heap = PolymorphicString::new(rt.alloc(), 5)?;
-    assert!(rt; is_turned_round(&mut heap));
-    assert!(rt; is_filled_up(&mut heap));
-    assert!(rt; is_spliced(&mut heap));
-    Ok(())
+/// Whether an empty string of 5 bytes does all of this.
+fn is_edited_at_its_ends<S: String>(text: &mut S) -> bool {
+    is_turned_round(text) && is_filled_up(text) && is_spliced(text)
 }
 
 /// Whether an empty string of 20 bytes becomes `hello world`, and its parts are found.
@@ -92,12 +84,17 @@ fn is_cut<S: String>(text: &mut S) -> bool {
     grown && retained && removed && truncated && text.is_empty()
 }
 
+/// Whether an empty string of 20 bytes does all of this.
+fn is_edited_in_place<S: String>(text: &mut S) -> bool {
+    is_greeting(text) && is_stripped(text) && is_cut(text)
+}
+
 #[test]
-fn both_strings_are_edited_in_place(rt: HostRuntime) -> Result<(), Fail> {
-    let mut inline = StaticString::<20>::new();
-    assert!(rt; is_greeting(&mut inline) && is_stripped(&mut inline) && is_cut(&mut inline));
-    let mut heap = PolymorphicString::new(rt.alloc(), 20)?;
-    assert!(rt; is_greeting(&mut heap) && is_stripped(&mut heap) && is_cut(&mut heap));
+fn both_strings_meet_the_trait(rt: HostRuntime) -> Result<(), Fail> {
+    assert!(rt; is_edited_at_its_ends(&mut StaticString::<5>::new()));
+    assert!(rt; is_edited_at_its_ends(&mut PolymorphicString::new(rt.alloc(), 5)?));
+    assert!(rt; is_edited_in_place(&mut StaticString::<20>::new()));
+    assert!(rt; is_edited_in_place(&mut PolymorphicString::new(rt.alloc(), 20)?));
     Ok(())
 }
 
@@ -177,8 +174,7 @@ fn is_escaped(alloc: Global, bytes: &[u8], text: &str) -> Result<bool, AllocErro
 #[test]
 fn prints_its_text_and_its_literal(rt: HostRuntime) -> Result<(), Fail> {
     assert!(rt; is_printed(rt.alloc(), &mut StaticString::<9>::new())?);
-    let mut heap = PolymorphicString::new(rt.alloc(), 9)?;
-    assert!(rt; is_printed(rt.alloc(), &mut heap)?);
+    assert!(rt; is_printed(rt.alloc(), &mut PolymorphicString::new(rt.alloc(), 9)?)?);
     assert!(rt; is_escaped(rt.alloc(), &[10, 34, 97], "\\n\\\"a")?);
     assert!(rt; is_escaped(rt.alloc(), &[0, 127, 200, 92], "\\x00\\x7f\\xc8\\\\")?);
     Ok(())

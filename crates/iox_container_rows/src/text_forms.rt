@@ -5,6 +5,7 @@ use serde::{Deserialize, DeserializeOwned, Serialize};
 use serde_json::{Error, Value};
 use std::alloc::Global;
 use std::fmt::Debug;
+use std::process::Abort;
 use std::test::Fail;
 
 /// What was read, as its literal and as it is written again, or why it was refused.
@@ -54,77 +55,67 @@ fn is_read<'de, T: Deserialize<'de> + DeserializeOwned + Serialize + Debug>(
     Ok(is_so(tree.as_str(), answer))
 }
 
-#[test]
-fn strings_go_through_their_text_form(rt: HostRuntime) -> Result<(), Fail> {
-    for (json, answer) in [
-        ("\"\"", "\"\" \"\""),
-        ("\"n\"", "\"n\" \"n\""),
-        ("\"name\"", "\"name\" \"name\""),
-        ("\"names\"", "text longer than capacity"),
-        ("\"\\u0000\"", "text byte outside 1..=127"),
-        ("\"\u{e9}\"", "text byte outside 1..=127"),
-        ("17", "refused"),
-    ] {
-        assert!(rt;
-            is_read::<StaticString<4>>(rt.alloc(), json, answer)?,
-            "{json}"
-        );
+/// Holds each row: JSON, and how it is answered.
+fn check<'de, T: Deserialize<'de> + DeserializeOwned + Serialize + Debug>(
+    rt: &impl Abort,
+    alloc: Global,
+    rows: &[(&'de str, &str)],
+) -> Result<(), Fail> {
+    for row in rows {
+        assert!(rt; is_read::<T>(alloc, row.0, row.1)?, "{}", row.0);
     }
     Ok(())
 }
 
-#[test]
-fn vectors_go_through_their_list_form(rt: HostRuntime) -> Result<(), Fail> {
-    for (json, answer) in [
-        ("[]", "[] []"),
-        ("[7]", "[7] [7]"),
-        ("[7, 8]", "[7, 8] [7,8]"),
-        ("[7, 8, 9]", "[7, 8, 9] [7,8,9]"),
-        ("[7, 8, 9, 1]", "list longer than capacity"),
-        ("7", "refused"),
-        ("null", "refused"),
-        ("{}", "refused"),
-        ("[300]", "refused"),
-        ("[7, 300]", "refused"),
-        ("[\"7\"]", "refused"),
-        ("[7, 8", "refused"),
-        ("[7] 8", "refused"),
-    ] {
-        assert!(rt;
-            is_read::<StaticVec<u8, 3>>(rt.alloc(), json, answer)?,
-            "{json}"
-        );
-    }
-    assert!(rt; is_read::<StaticVec<u8, 0>>(rt.alloc(), "[]", "[] []")?);
-    assert!(rt; is_read::<StaticVec<u8, 0>>(rt.alloc(), "[7]", "list longer than capacity")?);
-    Ok(())
-}
+const STRINGS: [(&str, &str); 7] = [
+    ("\"\"", "\"\" \"\""),
+    ("\"n\"", "\"n\" \"n\""),
+    ("\"name\"", "\"name\" \"name\""),
+    ("\"names\"", "text longer than capacity"),
+    ("\"\\u0000\"", "text byte outside 1..=127"),
+    ("\"\u{e9}\"", "text byte outside 1..=127"),
+    ("17", "refused"),
+];
+
+const LISTS_OF_THREE: [(&str, &str); 13] = [
+    ("[]", "[] []"),
+    ("[7]", "[7] [7]"),
+    ("[7, 8]", "[7, 8] [7,8]"),
+    ("[7, 8, 9]", "[7, 8, 9] [7,8,9]"),
+    ("[7, 8, 9, 1]", "list longer than capacity"),
+    ("7", "refused"),
+    ("null", "refused"),
+    ("{}", "refused"),
+    ("[300]", "refused"),
+    ("[7, 300]", "refused"),
+    ("[\"7\"]", "refused"),
+    ("[7, 8", "refused"),
+    ("[7] 8", "refused"),
+];
+
+const LISTS_OF_NONE: [(&str, &str); 2] = [("[]", "[] []"), ("[7]", "list longer than capacity")];
+
+const OPTIONS: [(&str, &str); 8] = [
+    ("null", "None null"),
+    ("7", "Some(7) 7"),
+    ("\"x\"", "refused"),
+    ("300", "refused"),
+    ("[]", "refused"),
+    ("nul", "refused"),
+    ("7 7", "refused"),
+    ("", "refused"),
+];
+
+const LISTS_OF_STRINGS: [(&str, &str); 2] = [
+    ("[\"name\"]", "[\"name\"] [\"name\"]"),
+    ("[\"names\"]", "text longer than capacity"),
+];
 
 #[test]
-fn options_and_lists_of_strings_go_through_their_text_form(rt: HostRuntime) -> Result<(), Fail> {
-    for (json, answer) in [
-        ("null", "None null"),
-        ("7", "Some(7) 7"),
-        ("\"x\"", "refused"),
-        ("300", "refused"),
-        ("[]", "refused"),
-        ("nul", "refused"),
-        ("7 7", "refused"),
-        ("", "refused"),
-    ] {
-        assert!(rt;
-            is_read::<RelocatableOption<u8>>(rt.alloc(), json, answer)?,
-            "{json}"
-        );
-    }
-    for (json, answer) in [
-        ("[\"name\"]", "[\"name\"] [\"name\"]"),
-        ("[\"names\"]", "text longer than capacity"),
-    ] {
-        assert!(rt;
-            is_read::<StaticVec<StaticString<4>, 2>>(rt.alloc(), json, answer)?,
-            "{json}"
-        );
-    }
-    Ok(())
+fn strings_vectors_and_options_go_through_their_text_forms(rt: HostRuntime) -> Result<(), Fail> {
+    check::<StaticString<4>>(&rt, rt.alloc(), &STRINGS)?;
+    check::<StaticVec<u8, 3>>(&rt, rt.alloc(), &LISTS_OF_THREE)?;
+    check::<StaticVec<u8, 0>>(&rt, rt.alloc(), &LISTS_OF_NONE)?;
+    check::<RelocatableOption<u8>>(&rt, rt.alloc(), &OPTIONS)?;
+    check::<StaticVec<StaticString<4>, 2>>(&rt, rt.alloc(), &LISTS_OF_STRINGS)
 }

@@ -1,9 +1,11 @@
 //! Vectors of both kinds.
+use crate::shown::is_shown;
 use iox_container::vector::Vector;
 use iox_container::{PolymorphicVec, StaticVec, VectorModificationError};
 use iox_string::{StaticString, String};
 use std::alloc::{AllocError, Global};
 use std::cell::RefCell;
+use std::fmt::Debug;
 use std::test::Fail;
 
 const LONG: VectorModificationError = VectorModificationError::InsertWouldExceedCapacity;
@@ -24,14 +26,20 @@ fn is_filled<V: Vector<u8>>(vec: &mut V) -> bool {
         && vec.push(7).is_ok()
 }
 
+/// Whether an empty vector of 2 places is filled and printed so.
+fn is_printed<V: Vector<u8> + Debug>(alloc: Global, vec: &mut V) -> Result<bool, AllocError> {
+    Ok(is_filled(vec) && is_shown(alloc, vec, "[5, 7]")?)
+}
+
 #[test]
 fn both_vectors_meet_the_trait(rt: HostRuntime) -> Result<(), Fail> {
-    let mut fixed = StaticVec::<u8, 2>::new(rt.alloc())?;
-    assert!(rt; is_filled(&mut fixed));
-    assert!(rt; format!(in rt.alloc(); "{fixed:?}")?.as_str() == "[5, 7]");
-    let mut chosen = PolymorphicVec::new(rt.alloc(), 2)?;
-    assert!(rt; is_filled(&mut chosen));
-    assert!(rt; format!(in rt.alloc(); "{chosen:?}")?.as_str() == "[5, 7]");
+    assert!(rt; is_printed(rt.alloc(), &mut StaticVec::<u8, 2>::new(rt.alloc())?)?);
+    assert!(rt;
+        is_printed(
+            rt.alloc(),
+            &mut PolymorphicVec::<u8, _>::new(rt.alloc(), 2)?
+        )?
+    );
     Ok(())
 }
 
@@ -63,12 +71,15 @@ fn is_cut<V: Vector<u8>>(vec: &mut V) -> bool {
     removed && reversed && truncated && vec.is_empty()
 }
 
+/// Whether an empty vector of 6 places does both.
+fn is_resized<V: Vector<u8>>(vec: &mut V) -> bool {
+    is_grown(vec) && is_cut(vec)
+}
+
 #[test]
 fn grows_and_shrinks(rt: HostRuntime) -> Result<(), Fail> {
-    let mut fixed = StaticVec::<u8, 6>::new(rt.alloc())?;
-    assert!(rt; is_grown(&mut fixed) && is_cut(&mut fixed));
-    let mut chosen = PolymorphicVec::new(rt.alloc(), 6)?;
-    assert!(rt; is_grown(&mut chosen) && is_cut(&mut chosen));
+    assert!(rt; is_resized(&mut StaticVec::<u8, 6>::new(rt.alloc())?));
+    assert!(rt; is_resized(&mut PolymorphicVec::<u8, _>::new(rt.alloc(), 6)?));
     Ok(())
 }
 
@@ -132,23 +143,24 @@ fn calls_to_have(alloc: Global, len: usize, new_len: usize) -> Result<u64, Alloc
 
 #[test]
 fn makes_no_item_that_it_does_not_take(rt: HostRuntime) -> Result<(), Fail> {
-    for (len, new_len, calls) in [(1usize, 4usize, 3), (4, 4, 0), (3, 1, 0), (1, 5, 0)] {
+    for row in &[(1usize, 4usize, 3u64), (4, 4, 0), (3, 1, 0), (1, 5, 0)] {
         assert!(rt;
-            calls_to_have(rt.alloc(), len, new_len)? == calls,
-            "{len} {new_len}"
+            calls_to_have(rt.alloc(), row.0, row.1)? == row.2,
+            "{row:?}"
         );
     }
     assert!(rt; is_made(rt.alloc())?);
     Ok(())
 }
 
-/// The items of a vector of 3, gone over by reference.
-fn sum_by_place(vec: &StaticVec<u8, 3>) -> u64 {
+/// Whether an empty vector of 3 places is gone over by reference, in order.
+fn is_gone_over(vec: &mut StaticVec<u8, 3>) -> bool {
+    let filled = vec.extend_from_slice(&[3, 1, 2]).is_ok();
     let mut sum = 0u64;
-    for item in vec {
+    for item in &*vec {
         sum = (sum % 1000) * 10 + u64::from(*item);
     }
-    sum
+    filled && sum == 312
 }
 
 /// The same of a vector whose capacity was chosen.
@@ -162,10 +174,8 @@ fn sum_of_chosen(vec: &PolymorphicVec<u8, Global>) -> u64 {
 
 #[test]
 fn is_gone_over_in_order(rt: HostRuntime) -> Result<(), Fail> {
-    let mut vec = StaticVec::<u8, 3>::new(rt.alloc())?;
-    assert!(rt; vec.extend_from_slice(&[3, 1, 2]).is_ok() && sum_by_place(&vec) == 312);
-    let chosen = PolymorphicVec::from_fn(rt.alloc(), 2, &mut |_i| 7u8)?;
-    assert!(rt; sum_of_chosen(&chosen) == 77);
+    assert!(rt; is_gone_over(&mut StaticVec::new(rt.alloc())?));
+    assert!(rt; sum_of_chosen(&PolymorphicVec::from_fn(rt.alloc(), 2, &mut |_i| 7u8)?) == 77);
     Ok(())
 }
 

@@ -79,55 +79,114 @@ fn leave(uses: &mut SlotUses, index: usize) -> bool {
     true
 }
 
+// Whether a connection of one place lets its oldest message go for the third, once the first was received.
+fn lets_its_oldest_go(alloc: Global, uses: &mut SlotUses) -> Result<bool, AllocError> {
+    let index = join(uses, alloc, 1)?;
+    let first = publish(uses, index);
+    let received = first.is_some() && receive(uses, index) == first;
+    let second = publish(uses, index);
+    let third = publish(uses, index);
+    let sent = second.is_some() && third.is_some() && second != third;
+    Ok(received && sent && receive(uses, index) == third && third != first)
+}
+
 #[test]
 fn a_full_mailbox_lets_its_oldest_go(rt: HostRuntime) -> Result<(), Fail> {
     let mut uses = SlotUses::new(rt.alloc(), true, 5, 2, 0, 1, 2)?;
-    let index = join(&mut uses, rt.alloc(), 1)?;
-    let first = publish(&mut uses, index);
-    assert!(rt; first.is_some() && receive(&mut uses, index) == first);
-    let second = publish(&mut uses, index);
-    let third = publish(&mut uses, index);
-    assert!(rt; second.is_some() && third.is_some() && second != third);
-    assert!(rt; receive(&mut uses, index) == third && third != first);
+    assert!(rt; lets_its_oldest_go(rt.alloc(), &mut uses)?);
     Ok(())
+}
+
+// Whether so many sends, of which none is delivered to the ended connection, get other slots than the one held.
+fn are_other_slots(uses: &mut SlotUses, index: usize, held: usize) -> bool {
+    for _ in 0..3 {
+        let slot = lend(uses).unwrap_or(held);
+        if slot == held || send(uses, slot, index) {
+            return false;
+        }
+    }
+    true
+}
+
+// Whether two slots are lent, and a third one only once the sample that is held was released, which happens once.
+fn is_lent_once_released(uses: &mut SlotUses, index: usize, held: usize) -> bool {
+    lend(uses).is_some()
+        && lend(uses).is_some()
+        && lend(uses).is_none()
+        && release(uses, index, held)
+        && !release(uses, index, held)
+        && lend(uses) == Some(held)
+}
+
+// Whether the sample that a connection of one place holds outlives it.
+fn outlives(alloc: Global, uses: &mut SlotUses) -> Result<bool, AllocError> {
+    let index = join(uses, alloc, 1)?;
+    let sent = publish(uses, index);
+    let held = receive(uses, index).unwrap_or(usize::MAX);
+    let left = sent == Some(held) && leave(uses, index);
+    Ok(left && are_other_slots(uses, index, held) && is_lent_once_released(uses, index, held))
 }
 
 #[test]
 fn a_sample_outlives_its_subscriber(rt: HostRuntime) -> Result<(), Fail> {
     let mut uses = SlotUses::new(rt.alloc(), true, 3, 3, 0, 1, 1)?;
-    let index = join(&mut uses, rt.alloc(), 1)?;
-    let sent = publish(&mut uses, index);
-    let held = receive(&mut uses, index).unwrap_or(usize::MAX);
-    assert!(rt; sent == Some(held) && leave(&mut uses, index));
-    for _ in 0..3 {
-        let slot = lend(&mut uses).unwrap_or(held);
-        assert!(rt; slot != held && !send(&mut uses, slot, index));
-    }
-    let two = (lend(&mut uses), lend(&mut uses));
-    assert!(rt; two.0.is_some() && two.1.is_some() && lend(&mut uses).is_none());
-    assert!(rt; release(&mut uses, index, held) && !release(&mut uses, index, held));
-    assert!(rt; lend(&mut uses) == Some(held));
+    assert!(rt; outlives(rt.alloc(), &mut uses)?);
     Ok(())
+}
+
+// Sends three messages to no connection; their slots, or none if one was delivered.
+fn three_sent(uses: &mut SlotUses) -> Option<[usize; 3]> {
+    let mut sent = [0; 3];
+    for place in 0..3 {
+        let slot = lend(uses).unwrap_or(usize::MAX);
+        if send(uses, slot, 0) {
+            return None;
+        }
+        sent[place] = slot;
+    }
+    Some(sent)
+}
+
+// Whether a hundred connections of two places come and go, each at index 0.
+fn come_and_go(alloc: Global, uses: &mut SlotUses) -> Result<bool, AllocError> {
+    for _ in 0..100 {
+        let index = join(uses, alloc, 2)?;
+        if index != 0 || !leave(uses, index) {
+            return Ok(false);
+        }
+    }
+    Ok(true)
+}
+
+// Whether a new connection of two places gets the newest two of three messages, oldest first, once it is welcomed.
+fn gets_the_newest(
+    alloc: Global,
+    uses: &mut SlotUses,
+    sent: [usize; 3],
+) -> Result<bool, AllocError> {
+    let index = join(uses, alloc, 2)?;
+    if !matches!(uses.stage(index), Stage::Live) || uses.waiting(index) != 0 {
+        return Ok(false);
+    }
+    uses.welcome(index);
+    Ok(
+        receive(uses, index) == Some(sent[1])
+            && receive(uses, index) == Some(sent[2])
+            && receive(uses, index).is_none(),
+    )
+}
+
+// Whether it does after those that came and went.
+fn is_welcomed(alloc: Global, uses: &mut SlotUses) -> Result<bool, AllocError> {
+    match three_sent(uses) {
+        Some(sent) => Ok(come_and_go(alloc, uses)? && gets_the_newest(alloc, uses, sent)?),
+        None => Ok(false),
+    }
 }
 
 #[test]
 fn a_new_connection_gets_the_newest_of_the_history(rt: HostRuntime) -> Result<(), Fail> {
     let mut uses = SlotUses::new(rt.alloc(), false, 9, 1, 3, 2, 2)?;
-    let mut sent = [0; 3];
-    for place in 0..3 {
-        let slot = lend(&mut uses).unwrap_or(usize::MAX);
-        assert!(rt; !send(&mut uses, slot, 0));
-        sent[place] = slot;
-    }
-    for _ in 0..100 {
-        let index = join(&mut uses, rt.alloc(), 2)?;
-        assert!(rt; index == 0 && leave(&mut uses, index));
-    }
-    let index = join(&mut uses, rt.alloc(), 2)?;
-    assert!(rt; matches!(uses.stage(index), Stage::Live) && uses.waiting(index) == 0);
-    uses.welcome(index);
-    assert!(rt; receive(&mut uses, index) == Some(sent[1]));
-    assert!(rt; receive(&mut uses, index) == Some(sent[2]));
-    assert!(rt; receive(&mut uses, index).is_none());
+    assert!(rt; is_welcomed(rt.alloc(), &mut uses)?);
     Ok(())
 }

@@ -9,14 +9,29 @@ use iox_domain_values::{
     PreallocatedSamplesOverride, PublisherCreateError, ReceiveError, SendError,
     SubscriberCreateError, ZeroCopyCreationError,
 };
-use std::alloc::Global;
+use serde_json::Error;
+use std::alloc::{AllocError, Global};
 use std::fmt::Display;
 use std::test::Fail;
 
 // Whether the error displays so.
-fn displays<E: Display>(alloc: Global, error: &E, text: &str) -> Result<bool, Fail> {
-    let shown = format!(in alloc; "{}", error)?;
-    Ok(shown.as_str() == text)
+fn displays<E: Display>(alloc: Global, error: &E, text: &str) -> Result<bool, AllocError> {
+    Ok(format!(in alloc; "{error}")?.as_str() == text)
+}
+
+// Whether the error displays as this name between these texts.
+fn displays_in<E: Display>(
+    alloc: Global,
+    error: &E,
+    start: &str,
+    name: &str,
+    end: &str,
+) -> Result<bool, AllocError> {
+    displays(
+        alloc,
+        error,
+        format!(in alloc; "{start}{name}{end}")?.as_str(),
+    )
 }
 
 // Each failure of a connection with its variant's name.
@@ -43,77 +58,125 @@ const FAILURES: [(ConnectionFailure, &str); 4] = [
     ),
 ];
 
+// Whether the failure displays by this name, alone and inside those that it is made into.
+fn displays_at_any_depth(
+    alloc: Global,
+    failure: ConnectionFailure,
+    name: &str,
+) -> Result<bool, AllocError> {
+    let send = SendError::from(failure);
+    let receive = ReceiveError::from(failure);
+    Ok(
+        displays_in(alloc, &failure, "ConnectionFailure::", name, "")?
+            && displays_in(alloc, &send, "SendError::ConnectionError(", name, ")")?
+            && displays_in(
+                alloc,
+                &receive,
+                "ReceiveError::ConnectionFailure(",
+                name,
+                ")",
+            )?,
+    )
+}
+
 #[test]
 fn failures_of_connections_display_at_any_depth(rt: HostRuntime) -> Result<(), Fail> {
-    let alloc = rt.alloc();
-    for (failure, name) in FAILURES.iter() {
-        let text = format!(in alloc; "ConnectionFailure::{name}")?;
-        assert!(rt; displays(alloc, failure, text.as_str())?);
-        let text = format!(in alloc; "SendError::ConnectionError({name})")?;
-        assert!(rt; displays(alloc, &SendError::from(*failure), text.as_str())?);
-        let text = format!(in alloc; "ReceiveError::ConnectionFailure({name})")?;
-        assert!(rt; displays(alloc, &ReceiveError::from(*failure), text.as_str())?);
+    for row in &FAILURES {
+        assert!(rt;
+            displays_at_any_depth(rt.alloc(), row.0, row.1)?,
+            "{}",
+            row.1
+        );
     }
     Ok(())
+}
+
+// Each refused loan with its variant's name.
+const LOANS: [(LoanError, &str); 4] = [
+    (LoanError::OutOfMemory, "OutOfMemory"),
+    (LoanError::ExceedsMaxLoans, "ExceedsMaxLoans"),
+    (LoanError::ExceedsMaxLoanSize, "ExceedsMaxLoanSize"),
+    (LoanError::InternalFailure, "InternalFailure"),
+];
+
+// Whether the refused loan displays by this name, alone and as a failed send.
+fn displays_as_loan(alloc: Global, error: LoanError, name: &str) -> Result<bool, AllocError> {
+    let send = SendError::from(error);
+    Ok(
+        displays_in(alloc, &error, "LoanError::", name, "")?
+            && displays_in(alloc, &send, "SendError::LoanError(", name, ")")?,
+    )
+}
+
+const NOT_DELIVERED: SendError = SendError::UnableToDeliver;
+
+const TOO_MANY: ReceiveError = ReceiveError::ExceedsMaxBorrows;
+
+// Whether one variant of each error of a call displays so.
+fn errors_of_calls_display(alloc: Global) -> Result<bool, AllocError> {
+    let error = ZeroCopyCreationError::IncompatibleBufferSize;
+    Ok(
+        displays(
+            alloc,
+            &error,
+            "ZeroCopyCreationError::IncompatibleBufferSize",
+        )? && displays(alloc, &NOT_DELIVERED, "SendError::UnableToDeliver")?
+            && displays(alloc, &TOO_MANY, "ReceiveError::ExceedsMaxBorrows")?,
+    )
+}
+
+// Whether one variant of each error of a creation displays so.
+fn errors_of_creations_display(alloc: Global) -> Result<bool, AllocError> {
+    let publisher = PublisherCreateError::UnableToCreateDataSegment;
+    let subscriber = SubscriberCreateError::OutOfMemory;
+    Ok(
+        displays(
+            alloc,
+            &publisher,
+            "PublisherCreateError::UnableToCreateDataSegment",
+        )? && displays(alloc, &subscriber, "SubscriberCreateError::OutOfMemory")?
+            && displays(alloc, &DomainError::OutOfMemory, "DomainError::OutOfMemory")?,
+    )
 }
 
 #[test]
 fn other_errors_display_as_type_and_variant(rt: HostRuntime) -> Result<(), Fail> {
-    let alloc = rt.alloc();
-    let loans = [
-        (LoanError::OutOfMemory, "OutOfMemory"),
-        (LoanError::ExceedsMaxLoans, "ExceedsMaxLoans"),
-        (LoanError::ExceedsMaxLoanSize, "ExceedsMaxLoanSize"),
-        (LoanError::InternalFailure, "InternalFailure"),
-    ];
-    for (error, name) in loans.iter() {
-        let text = format!(in alloc; "LoanError::{name}")?;
-        assert!(rt; displays(alloc, error, text.as_str())?);
-        let text = format!(in alloc; "SendError::LoanError({name})")?;
-        assert!(rt; displays(alloc, &SendError::from(*error), text.as_str())?);
+    for row in &LOANS {
+        assert!(rt; displays_as_loan(rt.alloc(), row.0, row.1)?, "{}", row.1);
     }
-    let error = ZeroCopyCreationError::IncompatibleBufferSize;
-    assert!(rt;
-        displays(
-            alloc,
-            &error,
-            "ZeroCopyCreationError::IncompatibleBufferSize"
-        )?
-    );
-    let error = SendError::UnableToDeliver;
-    assert!(rt; displays(alloc, &error, "SendError::UnableToDeliver")?);
-    let error = ReceiveError::ExceedsMaxBorrows;
-    assert!(rt; displays(alloc, &error, "ReceiveError::ExceedsMaxBorrows")?);
-    let error = PublisherCreateError::UnableToCreateDataSegment;
-    assert!(rt;
-        displays(
-            alloc,
-            &error,
-            "PublisherCreateError::UnableToCreateDataSegment"
-        )?
-    );
-    let error = SubscriberCreateError::OutOfMemory;
-    assert!(rt; displays(alloc, &error, "SubscriberCreateError::OutOfMemory")?);
-    assert!(rt; displays(alloc, &DomainError::OutOfMemory, "DomainError::OutOfMemory")?);
+    assert!(rt; errors_of_calls_display(rt.alloc())?);
+    assert!(rt; errors_of_creations_display(rt.alloc())?);
     Ok(())
 }
 
+// Whether a strategy is written so, and read back.
+fn goes_through(
+    alloc: Global,
+    strategy: BackpressureStrategy,
+    json: &'static str,
+) -> Result<bool, Error> {
+    let written = serde_json::to_string(alloc, &strategy)?.as_str() == json;
+    Ok(written && serde_json::from_str::<BackpressureStrategy>(alloc, json)? == strategy)
+}
+
+const NONE_OF_THEM: [&str; 5] = ["\"discardData\"", "\"Discard\"", "\"\"", "1", "null"];
+
 #[test]
 fn strategies_go_through_their_names(rt: HostRuntime) -> Result<(), Fail> {
-    let alloc = rt.alloc();
-    let rows = [
-        (
-            BackpressureStrategy::RetryUntilDelivered,
-            "\"RetryUntilDelivered\"",
-        ),
-        (BackpressureStrategy::DiscardData, "\"DiscardData\""),
-    ];
-    for (strategy, json) in rows.iter() {
-        assert_eq!(rt; serde_json::to_string(alloc, strategy)?.as_str(), *json);
-        assert!(rt; serde_json::from_str::<BackpressureStrategy>(alloc, *json)? == *strategy);
-    }
-    for json in ["\"discardData\"", "\"Discard\"", "\"\"", "1", "null"].iter() {
-        assert!(rt; serde_json::from_str::<BackpressureStrategy>(alloc, *json).is_err());
+    let retries = BackpressureStrategy::RetryUntilDelivered;
+    assert!(rt; goes_through(rt.alloc(), retries, "\"RetryUntilDelivered\"")?);
+    assert!(rt;
+        goes_through(
+            rt.alloc(),
+            BackpressureStrategy::DiscardData,
+            "\"DiscardData\""
+        )?
+    );
+    for json in &NONE_OF_THEM {
+        assert!(rt;
+            serde_json::from_str::<BackpressureStrategy>(rt.alloc(), *json).is_err(),
+            "{json}"
+        );
     }
     Ok(())
 }
@@ -170,43 +233,54 @@ impl PreallocatedSamplesFn for Counting {
     }
 }
 
+const BACKPRESSURE: BackpressureInfo = BackpressureInfo {
+    service_id: 1,
+    sender_port_id: 2,
+    receiver_port_id: 3,
+    retries: 0,
+    elapsed_time: 0,
+};
+
+const DEGRADATION: DegradationInfo = DegradationInfo {
+    service_id: 1,
+    sender_port_id: 2,
+    receiver_port_id: 0,
+};
+
+// Whether a new object is asked once a call, and told how often it was.
+fn is_asked_once(handler: &mut BackpressureHandler) -> bool {
+    let mut info = BACKPRESSURE;
+    let first = handler.call(&info) == BackpressureAction::Retry;
+    info.retries = 1;
+    first
+        && handler.call(&info) == BackpressureAction::Retry
+        && handler.call(&info) == BackpressureAction::DiscardDataAndFail
+}
+
 #[test]
 fn objects_are_asked_once_a_call(rt: HostRuntime) -> Result<(), Fail> {
-    let mut info = BackpressureInfo {
-        service_id: 1,
-        sender_port_id: 2,
-        receiver_port_id: 3,
-        retries: 0,
-        elapsed_time: 0,
-    };
-    let mut handler = BackpressureHandler::boxed(Box::new(rt.alloc(), Counting { calls: 0 })?);
-    assert_eq!(rt; handler.call(&info), BackpressureAction::Retry);
-    info.retries = 1;
-    assert_eq!(rt; handler.call(&info), BackpressureAction::Retry);
-    assert_eq!(rt; handler.call(&info), BackpressureAction::DiscardDataAndFail);
+    let object = Box::new(rt.alloc(), Counting { calls: 0 })?;
+    assert!(rt; is_asked_once(&mut BackpressureHandler::boxed(object)));
     Ok(())
+}
+
+// Whether a new object is told of the connection.
+fn is_told_of_it(handler: &mut DegradationHandler) -> bool {
+    let cause = DegradationCause::FailedToEstablishConnection;
+    handler.call(cause, &DEGRADATION) == DegradationAction::Ignore
+        && handler.call(cause, &DEGRADATION) == DegradationAction::DegradeAndFail
+}
+
+// Whether a new object is told of the places.
+fn is_told_of_places(places: &mut PreallocatedSamplesOverride) -> bool {
+    places.number_of_places(10) == 5 && places.number_of_places(10) == 10
 }
 
 #[test]
 fn objects_are_told_of_connections_and_places(rt: HostRuntime) -> Result<(), Fail> {
-    let info = DegradationInfo {
-        service_id: 1,
-        sender_port_id: 2,
-        receiver_port_id: 0,
-    };
-    let cause = DegradationCause::FailedToEstablishConnection;
-    let mut handler = DegradationHandler::boxed(Box::new(rt.alloc(), Counting { calls: 0 })?);
-    assert_eq!(rt; handler.call(cause, &info), DegradationAction::Ignore);
-    assert_eq!(rt;
-        handler.call(cause, &info),
-        DegradationAction::DegradeAndFail
-    );
-
-    let mut places = PreallocatedSamplesOverride::boxed(Box::new(
-        rt.alloc(),
-        Counting { calls: 0 },
-    )?);
-    assert_eq!(rt; places.number_of_places(10), 5);
-    assert_eq!(rt; places.number_of_places(10), 10);
+    let object = Box::new(rt.alloc(), Counting { calls: 0 })?;
+    assert!(rt; is_told_of_it(&mut DegradationHandler::boxed(object)));
+    let object = Box::new(rt.alloc(), Counting { calls: 0 })?;
+    assert!(rt; is_told_of_places(&mut PreallocatedSamplesOverride::boxed(object)));
     Ok(())
 }

@@ -4,7 +4,7 @@ use iox_index::{
     Container, ContainerAddFailure, ContainerHandle, ContainerRemoveError, ContainerState,
     FixedSizeContainer, OwnerId, ReleaseMode, ReleaseState,
 };
-use std::alloc::Global;
+use std::alloc::{AllocError, Global};
 use std::test::Fail;
 
 const NOT_OWNED: ContainerRemoveError = ContainerRemoveError::ContainerHandleNotOwnedByContainer;
@@ -47,15 +47,24 @@ fn is_followed(
     before && gone && second && changed && after && same
 }
 
+/// Whether a copy follows an empty container of two places, whose first member is then gone, though its index is in use.
+fn follows(
+    alloc: Global,
+    container: &mut Container<u64>,
+    owner: OwnerId,
+) -> Result<bool, AllocError> {
+    let Some(first) = added(container, 10, owner) else {
+        return Ok(false);
+    };
+    let mut copy = container.get_state(alloc)?;
+    let followed = is_followed(container, &mut copy, first, owner);
+    Ok(followed && removed(container, first, ReleaseMode::Default) == Some(Err(NOT_OWNED)))
+}
+
 #[test]
 fn a_copy_follows_members_that_come_and_go(rt: HostRuntime) -> Result<(), Fail> {
     let owner = OwnerId::new(313)?;
-    let mut container = Container::<u64>::new(rt.alloc(), 5, 2)?;
-    let first = added(&mut container, 10, owner).ok_or("not added")?;
-    let mut copy = container.get_state(rt.alloc())?;
-    assert!(rt; is_followed(&mut container, &mut copy, first, owner));
-    // The first member is gone, though its index is in use.
-    assert!(rt; removed(&mut container, first, ReleaseMode::Default) == Some(Err(NOT_OWNED)));
+    assert!(rt; follows(rt.alloc(), &mut Container::new(rt.alloc(), 5, 2)?, owner)?);
     Ok(())
 }
 
@@ -67,17 +76,27 @@ fn is_locked(container: &mut Container<u64>, owner: OwnerId) -> bool {
         && container.add(1, owner).err() == Some(ContainerAddFailure::IsLocked)
 }
 
+/// Whether the handle of a member is none of another container, and its own locks with it.
+fn is_of_one_container(
+    container: &mut Container<u64>,
+    other: &mut Container<u64>,
+    owner: OwnerId,
+) -> bool {
+    let Some(handle) = added(container, 10, owner) else {
+        return false;
+    };
+    added(other, 10, owner).is_some()
+        && removed(other, handle, ReleaseMode::Default) == Some(Err(NOT_OWNED))
+        && removed(container, handle, ReleaseMode::LockIfLastIndex)
+            == Some(Ok(ReleaseState::Locked))
+        && is_locked(container, owner)
+}
+
 #[test]
 fn a_handle_is_of_one_container(rt: HostRuntime) -> Result<(), Fail> {
     let owner = OwnerId::new(313)?;
-    let mut container = Container::<u64>::new(rt.alloc(), 5, 2)?;
-    let handle = added(&mut container, 10, owner).ok_or("not added")?;
     let mut other = Container::<u64>::new(rt.alloc(), 6, 2)?;
-    assert!(rt; added(&mut other, 10, owner).is_some());
-    assert!(rt; removed(&mut other, handle, ReleaseMode::Default) == Some(Err(NOT_OWNED)));
-    let last = removed(&mut container, handle, ReleaseMode::LockIfLastIndex);
-    assert!(rt; last == Some(Ok(ReleaseState::Locked)));
-    assert!(rt; is_locked(&mut container, owner));
+    assert!(rt; is_of_one_container(&mut Container::new(rt.alloc(), 5, 2)?, &mut other, owner));
     Ok(())
 }
 
@@ -118,17 +137,32 @@ fn stopped(copy: &ContainerState<u64>) -> u64 {
     calls
 }
 
+/// Whether an empty container of three places has members of both owners.
+fn is_filled(container: &mut Container<u64>, owner: OwnerId, other: OwnerId) -> bool {
+    added(container, 10, owner).is_some()
+        && added(container, 20, other).is_some()
+        && added(container, 40, owner).is_some()
+}
+
+/// Whether those of one owner are found, and one of them is recovered, as a copy then tells.
+fn are_found(
+    alloc: Global,
+    container: &mut Container<u64>,
+    owner: OwnerId,
+) -> Result<bool, AllocError> {
+    let found = found(container, owner) == 10 ^ 40;
+    let recovered = is_recovered(container, owner, 40) && container.len() == 2;
+    let copy = container.get_state(alloc)?;
+    Ok(found && recovered && indices(&copy) == 3 && stopped(&copy) == 1)
+}
+
 #[test]
 fn members_of_an_owner_are_found_and_recovered(rt: HostRuntime) -> Result<(), Fail> {
     let owner = OwnerId::new(1)?;
+    let other = OwnerId::new(2)?;
     let mut container = Container::<u64>::new(rt.alloc(), 5, 3)?;
-    for (value, owner) in [(10, owner), (20, OwnerId::new(2)?), (40, owner)] {
-        assert!(rt; added(&mut container, value, owner).is_some());
-    }
-    assert!(rt; found(&container, owner) == 10 ^ 40);
-    assert!(rt; is_recovered(&mut container, owner, 40) && container.len() == 2);
-    let copy = container.get_state(rt.alloc())?;
-    assert!(rt; indices(&copy) == 3 && stopped(&copy) == 1);
+    assert!(rt; is_filled(&mut container, owner, other));
+    assert!(rt; are_found(rt.alloc(), &mut container, owner)?);
     Ok(())
 }
 
@@ -147,6 +181,15 @@ fn are_looked_up(container: &FixedSizeContainer<u64, 3>, owner: OwnerId) -> bool
         && container.get(3).is_none()
 }
 
+/// Whether an empty container takes them, and looks them up.
+fn are_added(container: &mut FixedSizeContainer<u64, 3>, owner: OwnerId, other: OwnerId) -> bool {
+    container.first_of(owner) == None
+        && is_added(container, 10, other)
+        && is_added(container, 20, owner)
+        && is_added(container, 30, owner)
+        && are_looked_up(container, owner)
+}
+
 /// Whether a container of one place takes one member, and no second.
 fn is_of_one(one: &mut FixedSizeContainer<bool, 1>, owner: OwnerId) -> bool {
     one.has_room()
@@ -159,13 +202,7 @@ fn is_of_one(one: &mut FixedSizeContainer<bool, 1>, owner: OwnerId) -> bool {
 fn members_are_looked_up(rt: HostRuntime) -> Result<(), Fail> {
     let owner = OwnerId::new(1)?;
     let other = OwnerId::new(2)?;
-    let alloc: Global = rt.alloc();
-    let mut container = FixedSizeContainer::<u64, 3>::new(alloc, 5)?;
-    assert!(rt; container.first_of(owner) == None);
-    assert!(rt; is_added(&mut container, 10, other));
-    assert!(rt; is_added(&mut container, 20, owner));
-    assert!(rt; is_added(&mut container, 30, owner));
-    assert!(rt; are_looked_up(&container, owner));
-    assert!(rt; is_of_one(&mut FixedSizeContainer::new(alloc, 1)?, owner));
+    assert!(rt; are_added(&mut FixedSizeContainer::new(rt.alloc(), 5)?, owner, other));
+    assert!(rt; is_of_one(&mut FixedSizeContainer::new(rt.alloc(), 1)?, owner));
     Ok(())
 }

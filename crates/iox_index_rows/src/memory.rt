@@ -23,19 +23,27 @@ fn is_container(alloc: Global, capacity: usize, owner: OwnerId) -> Result<bool, 
     Ok(made && added && copy.get(0).is_some() == (0 < capacity))
 }
 
+/// Whether each is made at this capacity.
+fn is_each(alloc: Global, capacity: usize, owner: OwnerId) -> Result<bool, AllocError> {
+    Ok(are_sets(alloc, capacity)? && is_container(alloc, capacity, owner)?)
+}
+
+/// Whether those of fixed size are made.
+fn are_fixed(alloc: Global) -> bool {
+    FixedSizeUniqueIndexSet::<64>::new_with_reduced_capacity(alloc, 7).is_ok()
+        && StaticRobustUniqueIndexSet::<64>::new_with_reduced_capacity(alloc, 7).is_ok()
+        && FixedSizeContainer::<u64, 64>::new(alloc, 1).is_ok()
+}
+
 #[test]
 fn memory_is_wanting_only_where_it_is(rt: HostRuntime) -> Result<(), Fail> {
-    let alloc: Global = rt.alloc();
     let owner = OwnerId::new(1)?;
-    for capacity in [0usize, 1, 2, 7, 64, 65_536] {
+    for capacity in &[0usize, 1, 2, 7, 64, 65_536] {
         for _again in 0..3 {
-            assert!(rt; are_sets(alloc, capacity)?, "{capacity}");
-            assert!(rt; is_container(alloc, capacity, owner)?, "{capacity}");
+            assert!(rt; is_each(rt.alloc(), *capacity, owner)?, "{capacity}");
         }
     }
-    assert!(rt; FixedSizeUniqueIndexSet::<64>::new_with_reduced_capacity(alloc, 7).is_ok());
-    assert!(rt; StaticRobustUniqueIndexSet::<64>::new_with_reduced_capacity(alloc, 7).is_ok());
-    assert!(rt; FixedSizeContainer::<u64, 64>::new(alloc, 1).is_ok());
+    assert!(rt; are_fixed(rt.alloc()));
     Ok(())
 }
 

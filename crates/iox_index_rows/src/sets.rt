@@ -101,16 +101,22 @@ fn owner_of(number: u64) -> Result<u64, OwnerIdNewError> {
     Ok(OwnerId::new(number)?.value())
 }
 
+const RESERVED: Result<u64, OwnerIdNewError> = Err(OwnerIdNewError::ValueReserved);
+
+/// Numbers, and those of the owners that they make.
+const OWNERS: [(u64, Option<u64>); 4] = [
+    (0, None),
+    (1 << 63, None),
+    (313, Some(313)),
+    ((1 << 63) - 1, Some((1 << 63) - 1)),
+];
+
 #[test]
 fn an_owner_is_no_reserved_number(rt: HostRuntime) {
-    for (number, answer) in [
-        (0, Err(OwnerIdNewError::ValueReserved)),
-        (1 << 63, Err(OwnerIdNewError::ValueReserved)),
-        (313, Ok(313)),
-        ((1 << 63) - 1, Ok((1 << 63) - 1)),
-    ] {
-        assert!(rt; owner_of(number) == answer, "{number}");
+    for row in &OWNERS {
+        assert!(rt; owner_of(row.0).ok() == row.1, "{}", row.0);
     }
+    assert!(rt; owner_of(0) == RESERVED && owner_of(1 << 63) == RESERVED);
     let head = HeadDetails {
         head: 12345,
         aba: 6789,
@@ -119,12 +125,16 @@ fn an_owner_is_no_reserved_number(rt: HostRuntime) {
     assert!(rt; HeadDetails::from(head.value()) == head);
 }
 
+/// Whether a set of two indices hands out its first.
+fn is_of_two(set: &mut FixedSizeUniqueIndexSet<2>) -> bool {
+    set.capacity() == 2 && set.acquire_raw_index() == Ok(0)
+}
+
 #[test]
 fn small_capacities(rt: HostRuntime) -> Result<(), Fail> {
-    let mut none = FixedSizeUniqueIndexSet::<0>::new(rt.alloc())?;
-    assert!(rt; none.acquire_raw_index() == Err(NONE_LEFT));
-    let mut full = FixedSizeUniqueIndexSet::<2>::new_with_reduced_capacity(rt.alloc(), 2)?;
-    assert!(rt; full.capacity() == 2 && full.acquire_raw_index() == Ok(0));
+    let none = FixedSizeUniqueIndexSet::<0>::new(rt.alloc())?.acquire_raw_index();
+    assert!(rt; none == Err(NONE_LEFT));
+    assert!(rt; is_of_two(&mut FixedSizeUniqueIndexSet::new_with_reduced_capacity(rt.alloc(), 2)?));
     let reduced = StaticRobustUniqueIndexSet::<2>::new_with_reduced_capacity(rt.alloc(), 0)?;
     assert!(rt; reduced.capacity() == 0);
     Ok(())

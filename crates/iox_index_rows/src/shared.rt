@@ -3,6 +3,7 @@ use iox_index::{ReleaseMode, SharedIndexSet, UniqueIndexSet, UniqueIndexSetAcqui
 use std::alloc::Global;
 use std::test::Fail;
 use std::thread;
+use std::thread::Threads;
 
 const NONE_LEFT: UniqueIndexSetAcquireFailure = UniqueIndexSetAcquireFailure::OutOfIndices;
 
@@ -25,11 +26,16 @@ fn takes_turns(set: &SharedIndexSet) -> bool {
     true
 }
 
+/// Whether two threads give back what they take.
+fn all_come_back(rt: &impl Threads, set: &SharedIndexSet) -> bool {
+    let (here, there) = thread::join(rt, || takes_turns(set), || takes_turns(set));
+    here && there && set.borrowed_indices() == 0
+}
+
 #[test]
 fn guards_in_two_threads_give_all_back(rt: HostRuntime) -> Result<(), Fail> {
-    let set = shared(rt.alloc(), UniqueIndexSet::new(rt.alloc(), 2)?)?;
-    let (here, there) = thread::join(&rt, || takes_turns(&set), || takes_turns(&set));
-    assert!(rt; here && there && set.borrowed_indices() == 0);
+    let set = UniqueIndexSet::new(rt.alloc(), 2)?;
+    assert!(rt; all_come_back(&rt, &shared(rt.alloc(), set)?));
     Ok(())
 }
 
@@ -87,14 +93,28 @@ fn counts_its_changes(set: &SharedIndexSet) -> Result<bool, Fail> {
     Ok(before && acquired && refused && is_at(set, 1, 2) && set.head().head == 1)
 }
 
+fn shared_with_held(alloc: Global, capacity: usize, held: usize) -> Result<SharedIndexSet, Fail> {
+    shared(alloc, with_held(alloc, capacity, held)?)
+}
+
+/// A set of one index, whose release locked it.
+fn shared_and_locked(alloc: Global) -> Result<SharedIndexSet, Fail> {
+    shared(
+        alloc,
+        released(with_held(alloc, 1, 1)?, ReleaseMode::LockIfLastIndex),
+    )
+}
+
+/// Whether a set that is locked says so.
+fn refuses_as_locked(set: &SharedIndexSet) -> bool {
+    set.is_locked() && next(set) == Err(UniqueIndexSetAcquireFailure::IsLocked)
+}
+
 #[test]
 fn a_shared_set_gives_each_answer(rt: HostRuntime) -> Result<(), Fail> {
-    let alloc: Global = rt.alloc();
-    assert!(rt; counts_its_changes(&shared(alloc, with_held(alloc, 2, 1)?)?)?);
-    let locked = released(with_held(alloc, 1, 1)?, ReleaseMode::LockIfLastIndex);
-    let locked = shared(alloc, locked)?;
-    assert!(rt; locked.is_locked() && next(&locked) == Err(UniqueIndexSetAcquireFailure::IsLocked));
-    assert!(rt; next(&shared(alloc, with_held(alloc, 0, 0)?)?) == Err(NONE_LEFT));
+    assert!(rt; counts_its_changes(&shared_with_held(rt.alloc(), 2, 1)?)?);
+    assert!(rt; refuses_as_locked(&shared_and_locked(rt.alloc())?));
+    assert!(rt; next(&shared_with_held(rt.alloc(), 0, 0)?) == Err(NONE_LEFT));
     Ok(())
 }
 
@@ -109,10 +129,14 @@ fn comes_back(alloc: Global) -> Result<bool, Fail> {
     }
 }
 
+/// Whether a set has all indices that a head has room for.
+fn is_largest(set: &SharedIndexSet) -> bool {
+    next(set) == Ok(0) && set.capacity() == MOST
+}
+
 #[test]
 fn a_set_that_a_head_has_no_room_for_is_not_shared(rt: HostRuntime) -> Result<(), Fail> {
     assert!(rt; comes_back(rt.alloc())?);
-    let largest = shared(rt.alloc(), UniqueIndexSet::new(rt.alloc(), MOST)?)?;
-    assert!(rt; next(&largest) == Ok(0) && largest.capacity() == MOST);
+    assert!(rt; is_largest(&shared(rt.alloc(), UniqueIndexSet::new(rt.alloc(), MOST)?)?));
     Ok(())
 }

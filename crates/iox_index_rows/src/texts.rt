@@ -6,42 +6,53 @@ use std::alloc::{AllocError, Global};
 use std::fmt::Display;
 use std::test::Fail;
 
-/// Whether the error is told so.
-fn is_told<E: Display + Drop>(alloc: Global, error: E, text: &str) -> Result<bool, AllocError> {
-    Ok(format!(in alloc; "{error}")?.as_str() == text)
+const OF_SETS: [(UniqueIndexSetAcquireFailure, &str); 2] = [
+    (
+        UniqueIndexSetAcquireFailure::OutOfIndices,
+        "UniqueIndexSetAcquireFailure::OutOfIndices",
+    ),
+    (
+        UniqueIndexSetAcquireFailure::IsLocked,
+        "UniqueIndexSetAcquireFailure::IsLocked",
+    ),
+];
+
+const OF_ADDING: [(ContainerAddFailure, &str); 2] = [
+    (
+        ContainerAddFailure::OutOfSpace,
+        "ContainerAddFailure::OutOfSpace",
+    ),
+    (
+        ContainerAddFailure::IsLocked,
+        "ContainerAddFailure::IsLocked",
+    ),
+];
+
+const OF_REMOVING: [(ContainerRemoveError, &str); 1] = [(
+    ContainerRemoveError::ContainerHandleNotOwnedByContainer,
+    "ContainerRemoveError::ContainerHandleNotOwnedByContainer",
+)];
+
+const OF_OWNERS: [(OwnerIdNewError, &str); 1] = [(
+    OwnerIdNewError::ValueReserved,
+    "OwnerIdNewError::ValueReserved",
+)];
+
+/// Whether each error is told so.
+fn are_told<E: Display>(alloc: Global, rows: &[(E, &str)]) -> Result<bool, AllocError> {
+    for row in rows {
+        if format!(in alloc; "{}", row.0)?.as_str() != row.1 {
+            return Ok(false);
+        }
+    }
+    Ok(true)
 }
 
 #[test]
 fn each_error_names_its_type_and_its_variant(rt: HostRuntime) -> Result<(), Fail> {
-    let alloc: Global = rt.alloc();
-    for (error, text) in [
-        (
-            UniqueIndexSetAcquireFailure::OutOfIndices,
-            "UniqueIndexSetAcquireFailure::OutOfIndices",
-        ),
-        (
-            UniqueIndexSetAcquireFailure::IsLocked,
-            "UniqueIndexSetAcquireFailure::IsLocked",
-        ),
-    ] {
-        assert!(rt; is_told(alloc, error, text)?, "{text}");
-    }
-    for (error, text) in [
-        (
-            ContainerAddFailure::OutOfSpace,
-            "ContainerAddFailure::OutOfSpace",
-        ),
-        (
-            ContainerAddFailure::IsLocked,
-            "ContainerAddFailure::IsLocked",
-        ),
-    ] {
-        assert!(rt; is_told(alloc, error, text)?, "{text}");
-    }
-    let not_owned = ContainerRemoveError::ContainerHandleNotOwnedByContainer;
-    let text = "ContainerRemoveError::ContainerHandleNotOwnedByContainer";
-    assert!(rt; is_told(alloc, not_owned, text)?);
-    let reserved = OwnerIdNewError::ValueReserved;
-    assert!(rt; is_told(alloc, reserved, "OwnerIdNewError::ValueReserved")?);
+    assert!(rt; are_told(rt.alloc(), &OF_SETS)?);
+    assert!(rt; are_told(rt.alloc(), &OF_ADDING)?);
+    assert!(rt; are_told(rt.alloc(), &OF_REMOVING)?);
+    assert!(rt; are_told(rt.alloc(), &OF_OWNERS)?);
     Ok(())
 }

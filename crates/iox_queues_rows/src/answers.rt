@@ -30,14 +30,15 @@ fn is_filled_and_emptied<Q: Refuses>(
 }
 
 /// The same three times, so that its positions go round.
-fn refuses<Q: Refuses>(alloc: Global, queue: Q, room: u64) -> Result<bool, Fail> {
-    let shared = shared(alloc, queue)?;
-    let (mut producer, mut consumer) = ends(&shared)?;
+fn refuses<Q: Refuses>(shared: &Shared<Q>, room: u64) -> bool {
+    let Some((mut producer, mut consumer)) = ends(shared) else {
+        return false;
+    };
     let mut good = shared.capacity() == room;
     for _ in 0..3 {
         good = is_filled_and_emptied(&mut producer, &mut consumer, room) && good;
     }
-    Ok(good)
+    good
 }
 
 /// Whether a queue with room for so many numbers hands the oldest out for each beyond it, and gives the rest back.
@@ -64,46 +65,56 @@ fn is_overfilled<Q: Overflows>(
     Q::take_next(consumer) == None
 }
 
-fn overflows<Q: Overflows>(alloc: Global, queue: Q, room: u64) -> Result<bool, Fail> {
-    let shared = shared(alloc, queue)?;
-    let (mut producer, mut consumer) = ends(&shared)?;
-    Ok(shared.capacity() == room && is_overfilled(&mut producer, &mut consumer, room))
+fn overflows<Q: Overflows>(shared: &Shared<Q>, room: u64) -> bool {
+    let Some((mut producer, mut consumer)) = ends(shared) else {
+        return false;
+    };
+    shared.capacity() == room && is_overfilled(&mut producer, &mut consumer, room)
+}
+
+/// Whether queues whose capacity is chosen give each answer.
+fn are_answered(alloc: Global, capacity: usize) -> Result<bool, Fail> {
+    let room = capacity as u64;
+    let refuses = refuses(&shared(alloc, IndexQueue::new(alloc, capacity)?)?, room);
+    let queue = SafelyOverflowingIndexQueue::new(alloc, capacity)?;
+    Ok(refuses && overflows(&shared(alloc, queue)?, room))
+}
+
+/// The same of queues that refuse, of two places.
+fn are_answered_at_two(alloc: Global) -> Result<bool, Fail> {
+    let numbers = refuses(&shared(alloc, FixedSizeIndexQueue::<2>::new(alloc)?)?, 2);
+    Ok(numbers && refuses(&shared(alloc, Queue::<u128, 2>::new(alloc)?)?, 2))
 }
 
 #[test]
 fn queues_of_each_capacity_give_each_answer(rt: HostRuntime) -> Result<(), Fail> {
-    let alloc: Global = rt.alloc();
-    for capacity in [0usize, 1, 2, 7, 64, 4096] {
-        let room = capacity as u64;
-        assert!(rt;
-            refuses(alloc, IndexQueue::new(alloc, capacity)?, room)?,
-            "{capacity}"
-        );
-        let queue = SafelyOverflowingIndexQueue::new(alloc, capacity)?;
-        assert!(rt; overflows(alloc, queue, room)?, "{capacity}");
+    for capacity in &[0usize, 1, 2, 7, 64, 4096] {
+        assert!(rt; are_answered(rt.alloc(), *capacity)?, "{capacity}");
     }
-    assert!(rt; refuses(alloc, FixedSizeIndexQueue::<2>::new(alloc)?, 2)?);
-    assert!(rt; refuses(alloc, Queue::<u128, 2>::new(alloc)?, 2)?);
-    let queue = FixedSizeSafelyOverflowingIndexQueue::<2>::new(alloc)?;
-    assert!(rt; overflows(alloc, queue, 2)?);
+    assert!(rt; are_answered_at_two(rt.alloc())?);
+    let queue = FixedSizeSafelyOverflowingIndexQueue::<2>::new(rt.alloc())?;
+    assert!(rt; overflows(&shared(rt.alloc(), queue)?, 2));
     Ok(())
 }
 
 /// Whether a queue of two values without words takes two and gives two.
-fn is_counted(shared: &Shared<Queue<(), 2>>) -> Result<bool, Fail> {
-    let (mut producer, mut consumer) = ends(shared)?;
+fn is_counted(shared: &Shared<Queue<(), 2>>) -> bool {
+    let Some((mut producer, mut consumer)) = ends(shared) else {
+        return false;
+    };
     let pushed = producer.push(&()) && producer.push(&()) && !producer.push(&());
     let popped = consumer.pop().is_some() && consumer.pop().is_some() && consumer.pop().is_none();
-    Ok(pushed && popped && shared.capacity() == 2)
+    pushed && popped && shared.capacity() == 2
+}
+
+/// Whether a value without words is loaded.
+fn is_loaded(shared: &Shared<UnrestrictedAtomic<()>>) -> bool {
+    shared.load().is_some()
 }
 
 #[test]
 fn values_without_words_are_counted(rt: HostRuntime) -> Result<(), Fail> {
-    assert!(rt; is_counted(&shared(rt.alloc(), Queue::<(), 2>::new(rt.alloc())?)?)?);
-    assert!(rt;
-        shared(rt.alloc(), UnrestrictedAtomic::new(()))?
-            .load()
-            .is_some()
-    );
+    assert!(rt; is_counted(&shared(rt.alloc(), Queue::new(rt.alloc())?)?));
+    assert!(rt; is_loaded(&shared(rt.alloc(), UnrestrictedAtomic::new(()))?));
     Ok(())
 }

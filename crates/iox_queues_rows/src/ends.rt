@@ -87,12 +87,9 @@ pub(crate) fn shared<Q: Share>(alloc: Global, queue: Q) -> Result<Shared<Q>, Fai
     queue.share(alloc).map_err(|_| Fail::from("no memory"))
 }
 
-/// Both ends of a shared queue.
+/// Both ends of a shared queue, where neither is held.
 pub(crate) fn ends<Q: SharedQueue>(
     shared: &Shared<Q>,
-) -> Result<(Producer<'_, Q>, Consumer<'_, Q>), Fail> {
-    match (shared.acquire_producer(), shared.acquire_consumer()) {
-        (Some(producer), Some(consumer)) => Ok((producer, consumer)),
-        _ => Err(Fail::from("no role")),
-    }
+) -> Option<(Producer<'_, Q>, Consumer<'_, Q>)> {
+    Some((shared.acquire_producer()?, shared.acquire_consumer()?))
 }

@@ -1,4 +1,4 @@
-//! Two schedules of the overflowing ring of capacity 1, where 1 waits, and a ring that is too large.
+//! Two schedules of the overflowing ring of capacity 1, where 1 waits; and a ring that no memory holds, which is refused.
 use iox_queues::{
     Call, Move, Party, PopAnswer, PopCall, PushAnswer, PushCall, RingMachine, Stepped,
 };
@@ -24,42 +24,51 @@ fn go_on(machine: &mut RingMachine, party: Party, times: usize) -> bool {
 }
 
 // Whether there was one push, which was answered so.
-fn is_pushed(pushes: &[PushCall], answer: PushAnswer) -> bool {
+pub(crate) fn is_pushed(pushes: &[PushCall], answer: PushAnswer) -> bool {
     pushes.len() == 1 && pushes[0].answer == answer
 }
 
 // Whether the pops gave this number, or first another.
-fn are_popped(pops: &[PopCall], first: Option<u64>, last: u64) -> bool {
+pub(crate) fn are_popped(pops: &[PopCall], first: Option<u64>, last: u64) -> bool {
     let mut answers = pops.iter().map(|pop| pop.answer);
     let before = first.is_none() || answers.next() == Some(PopAnswer::Got(first));
     before && answers.next() == Some(PopAnswer::Got(Some(last))) && answers.next() == None
 }
 
+// Whether the ring goes on by whole calls of pop between the steps of a push.
+fn pops_before_the_push_looks(machine: &mut RingMachine) -> bool {
+    begin(machine, Call::Push(2))
+        && go_on(machine, Party::Producer, 4)
+        && begin(machine, Call::Pop)
+        && go_on(machine, Party::Consumer, 5)
+        && go_on(machine, Party::Producer, 3)
+        && begin(machine, Call::Pop)
+        && go_on(machine, Party::Consumer, 5)
+        && are_popped(machine.pops(), Some(1), 2)
+        && is_pushed(machine.pushes(), PushAnswer::Kept)
+}
+
 #[test]
 fn a_pop_takes_the_oldest_before_the_push_looks(rt: HostRuntime) -> Result<(), Fail> {
-    let mut machine = RingMachine::overflowing(rt.alloc(), 1, &[1])?;
-    assert!(rt; begin(&mut machine, Call::Push(2)) && go_on(&mut machine, Party::Producer, 4));
-    assert!(rt; begin(&mut machine, Call::Pop) && go_on(&mut machine, Party::Consumer, 5));
-    assert!(rt; go_on(&mut machine, Party::Producer, 3));
-    assert!(rt; begin(&mut machine, Call::Pop) && go_on(&mut machine, Party::Consumer, 5));
-    assert!(rt; are_popped(machine.pops(), Some(1), 2));
-    assert!(rt; is_pushed(machine.pushes(), PushAnswer::Kept));
+    assert!(rt; pops_before_the_push_looks(&mut RingMachine::overflowing(rt.alloc(), 1, &[1])?));
     Ok(())
+}
+
+// Whether the ring goes on by a whole push between the steps of a pop.
+fn pushes_before_the_pop_exchanges(machine: &mut RingMachine) -> bool {
+    begin(machine, Call::Pop)
+        && go_on(machine, Party::Consumer, 3)
+        && begin(machine, Call::Push(2))
+        && go_on(machine, Party::Producer, 7)
+        && go_on(machine, Party::Consumer, 4)
+        && is_pushed(machine.pushes(), PushAnswer::LeftOut(1))
+        && are_popped(machine.pops(), None, 2)
 }
 
 #[test]
 fn a_push_takes_the_oldest_before_the_pop_exchanges(rt: HostRuntime) -> Result<(), Fail> {
     let mut machine = RingMachine::overflowing(rt.alloc(), 1, &[1])?;
-    assert!(rt; begin(&mut machine, Call::Pop) && go_on(&mut machine, Party::Consumer, 3));
-    assert!(rt; begin(&mut machine, Call::Push(2)) && go_on(&mut machine, Party::Producer, 7));
-    assert!(rt; go_on(&mut machine, Party::Consumer, 4));
-    assert!(rt; is_pushed(machine.pushes(), PushAnswer::LeftOut(1)));
-    assert!(rt; are_popped(machine.pops(), None, 2));
-    Ok(())
-}
-
-#[test]
-fn a_ring_that_no_memory_holds_is_refused(rt: HostRuntime) -> Result<(), Fail> {
+    assert!(rt; pushes_before_the_pop_exchanges(&mut machine));
     assert!(rt; RingMachine::overflowing(rt.alloc(), 1 << 62, &[]).is_err());
     Ok(())
 }

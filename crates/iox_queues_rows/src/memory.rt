@@ -2,75 +2,99 @@
 //!
 //! With ample memory this passes too. `bench/queues/fail-allocations.sh` runs it once for each request,
 //! and has that one refused.
+use crate::ends::Numbers;
+use crate::known::{are_popped, is_pushed};
 use iox_queues::{
     BitSet, Call, CountingBitSet, FixedSizeBitSet, FixedSizeCountingBitSet, FixedSizeIndexQueue,
-    FixedSizeSafelyOverflowingIndexQueue, IndexQueue, Move, Party, PopAnswer, PushAnswer, Queue,
-    RingMachine, SafelyOverflowingIndexQueue, Share, Stepped, UnrestrictedAtomic, sets,
+    FixedSizeSafelyOverflowingIndexQueue, IndexQueue, Move, Party, PushAnswer, Queue, RingMachine,
+    SafelyOverflowingIndexQueue, Share, Shared, Stepped, UnrestrictedAtomic, sets,
 };
 use std::alloc::{AllocError, Global};
-use std::process::Abort;
 use std::test::Fail;
 
-// A refused `share` hands the queue back as it was.
-fn queues_come_back(rt: &impl Abort, alloc: Global) {
-    if let Ok(mut queue) = IndexQueue::new(alloc, 2) {
-        queue.push(7);
-        match queue.share(alloc) {
-            Ok(shared) => match shared.acquire_consumer() {
-                Some(mut consumer) => assert_eq!(rt; consumer.pop(), Some(7)),
-                None => assert!(rt; false),
-            },
-            Err(back) => {
-                let mut queue = back;
-                assert_eq!(rt; queue.pop(), Some(7));
-            }
+// A plain queue that a number is taken out of.
+trait Popped: Numbers {
+    fn popped(&mut self) -> Option<u64>;
+}
+
+impl Popped for IndexQueue {
+    fn popped(&mut self) -> Option<u64> {
+        self.pop()
+    }
+}
+
+impl Popped for SafelyOverflowingIndexQueue {
+    fn popped(&mut self) -> Option<u64> {
+        self.pop()
+    }
+}
+
+impl Popped for Queue<u128, 2> {
+    fn popped(&mut self) -> Option<u64> {
+        u64::try_from(self.pop()? >> 40).ok()
+    }
+}
+
+// Whether 7 waits in a shared queue.
+fn waits<Q: Numbers>(shared: &Shared<Q>) -> bool {
+    match shared.acquire_consumer() {
+        Some(mut consumer) => Q::take_next(&mut consumer) == Some(7),
+        None => false,
+    }
+}
+
+// Whether a queue in which 7 waits keeps it: a refused `share` hands the queue back as it was.
+fn comes_back<Q: Popped + Drop>(alloc: Global, queue: Q) -> bool {
+    match queue.share(alloc) {
+        Ok(shared) => waits(&shared),
+        Err(back) => {
+            let mut queue = back;
+            queue.popped() == Some(7)
         }
     }
-    if let Ok(mut queue) = SafelyOverflowingIndexQueue::new(alloc, 2) {
-        queue.push(7);
-        match queue.share(alloc) {
-            Ok(shared) => match shared.acquire_consumer() {
-                Some(mut consumer) => assert_eq!(rt; consumer.pop(), Some(7)),
-                None => assert!(rt; false),
-            },
-            Err(back) => {
-                let mut queue = back;
-                assert_eq!(rt; queue.pop(), Some(7));
-            }
-        }
-    }
-    if let Ok(mut queue) = Queue::<u128, 2>::new(alloc) {
-        queue.push(&7);
-        match queue.share(alloc) {
-            Ok(shared) => match shared.acquire_consumer() {
-                Some(mut consumer) => assert_eq!(rt; consumer.pop(), Some(7)),
-                None => assert!(rt; false),
-            },
-            Err(back) => {
-                let mut queue = back;
-                assert_eq!(rt; queue.pop(), Some(7));
-            }
-        }
-    }
+}
+
+fn a_refusing_queue_comes_back(alloc: Global) -> bool {
+    let Ok(mut queue) = IndexQueue::new(alloc, 2) else {
+        return true;
+    };
+    queue.push(7) && comes_back(alloc, queue)
+}
+
+fn an_overflowing_queue_comes_back(alloc: Global) -> bool {
+    let Ok(mut queue) = SafelyOverflowingIndexQueue::new(alloc, 2) else {
+        return true;
+    };
+    queue.push(7) == None && comes_back(alloc, queue)
+}
+
+fn a_queue_of_values_comes_back(alloc: Global) -> bool {
+    let Ok(mut queue) = Queue::<u128, 2>::new(alloc) else {
+        return true;
+    };
+    queue.push(&(7 << 40)) && comes_back(alloc, queue)
+}
+
+fn a_value_comes_back(alloc: Global) -> bool {
     match UnrestrictedAtomic::new(7u64).share(alloc) {
-        Ok(shared) => assert_eq!(rt; shared.load(), Some(7)),
-        Err(value) => assert_eq!(rt; value.load(), 7),
+        Ok(shared) => shared.load() == Some(7),
+        Err(value) => value.load() == 7,
     }
 }
 
 // Plain sets, once they are made, take no memory.
-fn sets_take_none(rt: &impl Abort, alloc: Global) {
-    if let Ok(mut bits) = BitSet::new(alloc, 3) {
-        if 2 < bits.capacity() {
-            assert!(rt; bits.set(2));
-        }
-        assert_eq!(rt; bits.reset_next(), Some(2));
-    }
-    if let Ok(mut counts) = CountingBitSet::new(alloc, 3) {
-        if 2 < counts.capacity() {
-            assert!(rt; counts.set(2));
-        }
-    }
+fn bits_take_none(alloc: Global) -> bool {
+    let Ok(mut bits) = BitSet::new(alloc, 3) else {
+        return true;
+    };
+    2 < bits.capacity() && bits.set(2) && bits.reset_next() == Some(2)
+}
+
+fn counts_take_none(alloc: Global) -> bool {
+    let Ok(mut counts) = CountingBitSet::new(alloc, 3) else {
+        return true;
+    };
+    2 < counts.capacity() && counts.set(2)
 }
 
 const PUSH_THEN_POP: [Move; 14] = [
@@ -90,57 +114,42 @@ const PUSH_THEN_POP: [Move; 14] = [
     Move::GoOn(Party::Consumer),
 ];
 
-// A step without memory changes nothing, and goes when it is asked again.
-fn overflowing_goes_again(rt: &impl Abort, alloc: Global) {
-    let Ok(mut machine) = RingMachine::overflowing(alloc, 1, &[1]) else {
-        return;
-    };
-    for step in PUSH_THEN_POP {
-        if 1000 <= machine.moments() {
-            return;
-        }
-        let events = machine.events().len();
-        let order = machine.order().len();
-        if machine.step(step) == Stepped::NoMemory {
-            assert_eq!(rt; machine.events().len(), events);
-            assert_eq!(rt; machine.order().len(), order);
-            if machine.moments() < 1000 {
-                assert!(rt; machine.step(step) != Stepped::NoMemory);
-            }
-        }
+// Whether a step is made; one without memory changes nothing, and goes when it is asked again.
+fn is_made(machine: &mut RingMachine, step: Move) -> bool {
+    if 1000 <= machine.moments() {
+        return false;
     }
-    let pushes = machine.pushes();
-    assert_eq!(rt; pushes.len(), 1);
-    assert_eq!(rt; pushes[0].answer, PushAnswer::LeftOut(1));
-    let pops = machine.pops();
-    assert_eq!(rt; pops.len(), 1);
-    assert_eq!(rt; pops[0].answer, PopAnswer::Got(Some(2)));
+    let events = machine.events().len();
+    let order = machine.order().len();
+    if machine.step(step) != Stepped::NoMemory {
+        return true;
+    }
+    let same = machine.events().len() == events && machine.order().len() == order;
+    same && machine.moments() < 1000 && machine.step(step) != Stepped::NoMemory
 }
 
-fn refusing_goes_again(rt: &impl Abort, alloc: Global) {
-    let Ok(mut machine) = RingMachine::refusing(alloc, 1, &[1]) else {
-        return;
-    };
-    for step in PUSH_THEN_POP {
-        if 1000 <= machine.moments() {
-            return;
-        }
-        let events = machine.events().len();
-        let order = machine.order().len();
-        if machine.step(step) == Stepped::NoMemory {
-            assert_eq!(rt; machine.events().len(), events);
-            assert_eq!(rt; machine.order().len(), order);
-            if machine.moments() < 1000 {
-                assert!(rt; machine.step(step) != Stepped::NoMemory);
-            }
+// Whether a push and a pop are made, and answered so.
+fn goes_again(machine: &mut RingMachine, pushed: PushAnswer, popped: u64) -> bool {
+    for step in &PUSH_THEN_POP {
+        if !is_made(machine, *step) {
+            return false;
         }
     }
-    let pushes = machine.pushes();
-    assert_eq!(rt; pushes.len(), 1);
-    assert_eq!(rt; pushes[0].answer, PushAnswer::Refused);
-    let pops = machine.pops();
-    assert_eq!(rt; pops.len(), 1);
-    assert_eq!(rt; pops[0].answer, PopAnswer::Got(Some(1)));
+    is_pushed(machine.pushes(), pushed) && are_popped(machine.pops(), None, popped)
+}
+
+fn an_overflowing_ring_goes_again(alloc: Global) -> bool {
+    match RingMachine::overflowing(alloc, 1, &[1]) {
+        Ok(mut machine) => goes_again(&mut machine, PushAnswer::LeftOut(1), 2),
+        Err(_) => true,
+    }
+}
+
+fn a_refusing_ring_goes_again(alloc: Global) -> bool {
+    match RingMachine::refusing(alloc, 1, &[1]) {
+        Ok(mut machine) => goes_again(&mut machine, PushAnswer::Refused, 1),
+        Err(_) => true,
+    }
 }
 
 const SET_THEN_RESET: [sets::Move; 10] = [
@@ -156,40 +165,57 @@ const SET_THEN_RESET: [sets::Move; 10] = [
     sets::Move::GoOn(0),
 ];
 
-fn a_set_goes_again(rt: &impl Abort, alloc: Global) {
-    let Ok(mut machine) = sets::SetMachine::new(alloc, 1, 2, 1) else {
-        return;
-    };
-    for step in SET_THEN_RESET {
-        let events = machine.events().len();
-        let finished = machine.finished().len();
-        if machine.step(step) == Stepped::NoMemory {
-            assert_eq!(rt; machine.events().len(), events);
-            assert_eq!(rt; machine.finished().len(), finished);
-            assert!(rt; machine.step(step) != Stepped::NoMemory);
+// The same of the step of a set.
+fn is_made_in_set(machine: &mut sets::SetMachine, step: sets::Move) -> bool {
+    let events = machine.events().len();
+    let finished = machine.finished().len();
+    if machine.step(step) != Stepped::NoMemory {
+        return true;
+    }
+    let same = machine.events().len() == events && machine.finished().len() == finished;
+    same && machine.step(step) != Stepped::NoMemory
+}
+
+// Whether a set and a reset of all are made, and answered so.
+fn is_set_and_reset(machine: &mut sets::SetMachine) -> bool {
+    for step in &SET_THEN_RESET {
+        if !is_made_in_set(machine, *step) {
+            return false;
         }
     }
-    let finished = machine.finished();
-    assert_eq!(rt; finished.len(), 2);
-    assert_eq!(rt; finished[0].answer, sets::Answer::Added(true));
-    assert_eq!(rt; finished[1].answer, sets::Answer::Swept);
+    let mut answers = machine.finished().iter().map(|call| call.answer);
+    answers.next() == Some(sets::Answer::Added(true))
+        && answers.next() == Some(sets::Answer::Swept)
+        && answers.next() == None
+}
+
+fn a_set_goes_again(alloc: Global) -> bool {
+    match sets::SetMachine::new(alloc, 1, 2, 1) {
+        Ok(mut machine) => is_set_and_reset(&mut machine),
+        Err(_) => true,
+    }
 }
 
 #[test]
 fn a_refused_request_changes_nothing(rt: HostRuntime) {
-    queues_come_back(&rt, rt.alloc());
-    sets_take_none(&rt, rt.alloc());
-    overflowing_goes_again(&rt, rt.alloc());
-    refusing_goes_again(&rt, rt.alloc());
-    a_set_goes_again(&rt, rt.alloc());
+    assert!(rt; a_refusing_queue_comes_back(rt.alloc()));
+    assert!(rt; an_overflowing_queue_comes_back(rt.alloc()));
+    assert!(rt; a_queue_of_values_comes_back(rt.alloc()) && a_value_comes_back(rt.alloc()));
+    assert!(rt; bits_take_none(rt.alloc()) && counts_take_none(rt.alloc()));
+    assert!(rt; an_overflowing_ring_goes_again(rt.alloc()));
+    assert!(rt; a_refusing_ring_goes_again(rt.alloc()));
+    assert!(rt; a_set_goes_again(rt.alloc()));
 }
 
-// Whether plain queues of so many places are made, and the first of them is shared.
-fn are_queues(alloc: Global, size: usize) -> Result<bool, AllocError> {
-    let refusing = IndexQueue::new(alloc, size)?;
-    let overflowing = SafelyOverflowingIndexQueue::new(alloc, size)?;
-    let made = refusing.capacity() == size && overflowing.capacity() == size;
-    Ok(made && refusing.share(alloc).is_ok() && overflowing.share(alloc).is_ok())
+// Whether a queue of so many places is made, and shared.
+fn is_refusing(alloc: Global, size: usize) -> Result<bool, AllocError> {
+    let queue = IndexQueue::new(alloc, size)?;
+    Ok(queue.capacity() == size && queue.share(alloc).is_ok())
+}
+
+fn is_overflowing(alloc: Global, size: usize) -> Result<bool, AllocError> {
+    let queue = SafelyOverflowingIndexQueue::new(alloc, size)?;
+    Ok(queue.capacity() == size && queue.share(alloc).is_ok())
 }
 
 // Whether sets of so many places are made.
@@ -215,12 +241,15 @@ fn are_rings(alloc: Global) -> Result<bool, AllocError> {
     Ok(overflowing == 0 && RingMachine::refusing(alloc, 1, &[1])?.moments() == 0)
 }
 
-// Whether queues whose size is fixed are made, and shared.
-fn are_fixed_queues<const SIZE: usize>(alloc: Global) -> Result<bool, AllocError> {
-    let refusing = FixedSizeIndexQueue::<SIZE>::new(alloc)?;
-    let overflowing = FixedSizeSafelyOverflowingIndexQueue::<SIZE>::new(alloc)?;
-    let made = refusing.capacity() == SIZE && overflowing.capacity() == SIZE;
-    Ok(made && refusing.share(alloc).is_ok() && overflowing.share(alloc).is_ok())
+// Whether a queue whose size is fixed is made, and shared.
+fn is_fixed_refusing<const SIZE: usize>(alloc: Global) -> Result<bool, AllocError> {
+    let queue = FixedSizeIndexQueue::<SIZE>::new(alloc)?;
+    Ok(queue.capacity() == SIZE && queue.share(alloc).is_ok())
+}
+
+fn is_fixed_overflowing<const SIZE: usize>(alloc: Global) -> Result<bool, AllocError> {
+    let queue = FixedSizeSafelyOverflowingIndexQueue::<SIZE>::new(alloc)?;
+    Ok(queue.capacity() == SIZE && queue.share(alloc).is_ok())
 }
 
 // Whether a queue of values of fixed size is made, and shared.
@@ -235,29 +264,39 @@ fn are_fixed_sets<const SIZE: usize>(alloc: Global) -> Result<bool, AllocError> 
     Ok(bits == SIZE && FixedSizeCountingBitSet::<SIZE>::new(alloc)?.capacity() == SIZE)
 }
 
+// Whether each is made at this size.
+fn is_each(alloc: Global, size: usize) -> Result<bool, AllocError> {
+    let queues = is_refusing(alloc, size)? && is_overflowing(alloc, size)?;
+    Ok(queues && are_sets(alloc, size)? && are_machines(alloc, size)?)
+}
+
 #[test]
 fn each_is_made_at_each_size(rt: HostRuntime) -> Result<(), Fail> {
-    let alloc: Global = rt.alloc();
-    for size in [0usize, 1, 2, 3, 7, 64, 100_000] {
+    for size in &[0usize, 1, 2, 3, 7, 64, 100_000] {
         for _ in 0..3 {
-            assert!(rt;
-                are_queues(alloc, size)? && are_sets(alloc, size)?,
-                "{size}"
-            );
-            assert!(rt; are_machines(alloc, size)?, "{size}");
+            assert!(rt; is_each(rt.alloc(), *size)?, "{size}");
         }
     }
-    assert!(rt; are_rings(alloc)? && UnrestrictedAtomic::new(7u64).share(alloc).is_ok());
+    assert!(rt; are_rings(rt.alloc())?);
+    assert!(rt; UnrestrictedAtomic::new(7u64).share(rt.alloc()).is_ok());
     Ok(())
+}
+
+// Whether each is made at this fixed size.
+fn are_fixed<const SIZE: usize>(alloc: Global) -> Result<bool, AllocError> {
+    Ok(
+        is_fixed_refusing::<SIZE>(alloc)?
+            && is_fixed_overflowing::<SIZE>(alloc)?
+            && is_value_queue::<SIZE>(alloc)?
+            && are_fixed_sets::<SIZE>(alloc)?,
+    )
 }
 
 #[test]
 fn each_is_made_at_a_fixed_size(rt: HostRuntime) -> Result<(), Fail> {
-    let alloc: Global = rt.alloc();
-    assert!(rt; are_fixed_queues::<0>(alloc)? && is_value_queue::<0>(alloc)?);
-    assert!(rt; are_fixed_queues::<2>(alloc)? && is_value_queue::<2>(alloc)?);
-    assert!(rt; are_fixed_queues::<7>(alloc)? && are_fixed_sets::<7>(alloc)?);
-    assert!(rt; are_fixed_queues::<64>(alloc)? && is_value_queue::<64>(alloc)?);
-    assert!(rt; are_fixed_sets::<3>(alloc)? && are_fixed_sets::<64>(alloc)?);
+    assert!(rt; are_fixed::<0>(rt.alloc())? && are_fixed::<1>(rt.alloc())?);
+    assert!(rt; are_fixed::<2>(rt.alloc())? && are_fixed::<3>(rt.alloc())?);
+    assert!(rt; are_fixed::<7>(rt.alloc())? && are_fixed::<64>(rt.alloc())?);
+    assert!(rt; are_fixed::<100_000>(rt.alloc())?);
     Ok(())
 }

@@ -129,61 +129,69 @@ fn first_numbers(alloc: Global, count: u64) -> Result<Vec<u64>, AllocError> {
     Ok(numbers)
 }
 
-fn overflowing_is_as_the_list(
+// A ring in which these numbers wait, or no memory.
+fn ring(
     alloc: Global,
-    moves: &[Move],
+    overflows: bool,
     capacity: u64,
-    waiting: Vec<u64>,
-) -> Result<bool, AllocError> {
-    if capacity == 0 || 9 <= capacity || capacity < waiting.len() as u64 || 1000 <= moves.len() {
-        return Ok(false);
+    waiting: &[u64],
+) -> Result<RingMachine, AllocError> {
+    if capacity == 0 || 9 <= capacity || capacity < waiting.len() as u64 {
+        return Err(AllocError);
     }
-    let mut machine = RingMachine::overflowing(alloc, capacity, waiting.as_slice())?;
-    machine.run(moves);
-    let mut plain = Plain {
-        overflows: true,
-        capacity: capacity as usize,
-        waiting,
-    };
-    let recorded = Recorded {
-        order: machine.order(),
-        pushes: machine.pushes(),
-        pops: machine.pops(),
-    };
-    Ok(
-        recorded.pushes.len() == 1
-            && recorded.pops.len() as u64 == capacity + 2
-            && is_as_the_list(&mut plain, &recorded)?
-            && plain.waiting.is_empty(),
-    )
+    if overflows {
+        RingMachine::overflowing(alloc, capacity, waiting)
+    } else {
+        RingMachine::refusing(alloc, capacity, waiting)
+    }
 }
 
-fn refusing_is_as_the_list(
-    alloc: Global,
-    moves: &[Move],
-    capacity: u64,
-    waiting: Vec<u64>,
-) -> Result<bool, AllocError> {
-    if 9 <= capacity || capacity < waiting.len() as u64 || 1000 <= moves.len() {
-        return Ok(false);
-    }
-    let mut machine = RingMachine::refusing(alloc, capacity, waiting.as_slice())?;
-    machine.run(moves);
-    let mut plain = Plain {
-        overflows: false,
-        capacity: capacity as usize,
-        waiting,
-    };
+// Whether there was one push, and each answer is the plain list's, which is empty at the end.
+fn ends_as_the_list(machine: &RingMachine, plain: &mut Plain) -> Result<bool, AllocError> {
     let recorded = Recorded {
         order: machine.order(),
         pushes: machine.pushes(),
         pops: machine.pops(),
     };
+    let whole = recorded.pushes.len() == 1
+        && recorded.pops.len() == plain.capacity.saturating_add(2);
+    Ok(whole && is_as_the_list(plain, &recorded)? && plain.waiting.is_empty())
+}
+
+// Whether a ring of either kind makes the moves as the list does, where so many numbers wait.
+fn acts_as_the_list(
+    alloc: Global,
+    overflows: bool,
+    moves: &[Move],
+    capacity: u64,
+    count: u64,
+) -> Result<bool, AllocError> {
+    let waiting = first_numbers(alloc, count)?;
+    let mut machine = ring(alloc, overflows, capacity, waiting.as_slice())?;
+    if 1000 <= machine.moments() || 1000 <= moves.len() {
+        return Ok(false);
+    }
+    machine.run(moves);
+    let mut plain = Plain {
+        overflows,
+        capacity: capacity as usize,
+        waiting,
+    };
+    ends_as_the_list(&machine, &mut plain)
+}
+
+// Whether both kinds do in the schedule that `mask` names.
+fn both_act_as_the_list(
+    alloc: Global,
+    mask: u32,
+    call: Call,
+    capacity: u64,
+    count: u64,
+) -> Result<bool, AllocError> {
+    let moves = schedule(alloc, mask, call, capacity)?;
     Ok(
-        recorded.pushes.len() == 1
-            && recorded.pops.len() as u64 == capacity + 2
-            && is_as_the_list(&mut plain, &recorded)?
-            && plain.waiting.is_empty(),
+        acts_as_the_list(alloc, true, moves.as_slice(), capacity, count)?
+            && acts_as_the_list(alloc, false, moves.as_slice(), capacity, count)?,
     )
 }
 
@@ -197,21 +205,13 @@ fn every_schedule(
 ) -> Result<u32, AllocError> {
     let mut schedules = 0u32;
     for mask in 0..1u32 << 16 {
-        if mask.count_ones() != STEPS {
-            continue;
+        if mask.count_ones() == STEPS {
+            assert!(rt;
+                both_act_as_the_list(alloc, mask, call, capacity, count)?,
+                "turns {mask}"
+            );
+            schedules = schedules.saturating_add(1);
         }
-        let moves = schedule(alloc, mask, call, capacity)?;
-        let waiting = first_numbers(alloc, count)?;
-        assert!(rt;
-            overflowing_is_as_the_list(alloc, moves.as_slice(), capacity, waiting)?,
-            "overflowing, turns {mask}"
-        );
-        let waiting = first_numbers(alloc, count)?;
-        assert!(rt;
-            refusing_is_as_the_list(alloc, moves.as_slice(), capacity, waiting)?,
-            "refusing, turns {mask}"
-        );
-        schedules = schedules.saturating_add(1);
     }
     Ok(schedules)
 }
@@ -220,10 +220,9 @@ fn every_schedule(
 fn both_rings_act_as_the_list_in_every_schedule(rt: HostRuntime) -> Result<(), Fail> {
     for capacity in 1..3u64 {
         for count in 0..=capacity {
-            for call in [Call::Pop, Call::Look] {
-                let schedules = every_schedule(&rt, rt.alloc(), call, capacity, count)?;
-                // The ways to choose 8 turns of 16.
-                assert_eq!(rt; schedules, 12_870);
+            // The ways to choose 8 turns of 16.
+            for call in &[Call::Pop, Call::Look] {
+                assert!(rt; every_schedule(&rt, rt.alloc(), *call, capacity, count)? == 12_870);
             }
         }
     }

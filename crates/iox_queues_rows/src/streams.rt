@@ -43,22 +43,20 @@ fn pop_all<Q: Numbers>(consumer: &mut Consumer<'_, Q>) -> bool {
 }
 
 // Whether all went in and came out.
-fn all_come_out<Q: Refuses + Send>(
-    rt: &impl Threads,
-    alloc: Global,
-    queue: Q,
-) -> Result<bool, Fail> {
-    let shared = shared(alloc, queue)?;
-    let (mut producer, mut consumer) = ends(&shared)?;
+fn all_come_out<Q: Refuses + Send>(rt: &impl Threads, shared: &Shared<Q>) -> bool {
+    let Some((mut producer, mut consumer)) = ends(shared) else {
+        return false;
+    };
     let (pushed, popped) = thread::join(rt, || push_all(&mut producer), || pop_all(&mut consumer));
-    Ok(pushed && popped)
+    pushed && popped
 }
 
 #[test]
 fn numbers_come_out_of_a_queue_in_order(rt: HostRuntime) -> Result<(), Fail> {
-    assert!(&rt; all_come_out(&rt, rt.alloc(), IndexQueue::new(rt.alloc(), 64)?)?);
-    assert!(&rt; all_come_out(&rt, rt.alloc(), FixedSizeIndexQueue::<64>::new(rt.alloc())?)?);
-    assert!(&rt; all_come_out(&rt, rt.alloc(), Queue::<u128, 64>::new(rt.alloc())?)?);
+    let alloc: Global = rt.alloc();
+    assert!(&rt; all_come_out(&rt, &shared(alloc, IndexQueue::new(alloc, 64)?)?));
+    assert!(&rt; all_come_out(&rt, &shared(alloc, FixedSizeIndexQueue::<64>::new(alloc)?)?));
+    assert!(&rt; all_come_out(&rt, &shared(alloc, Queue::<u128, 64>::new(alloc)?)?));
     Ok(())
 }
 
@@ -123,32 +121,25 @@ fn pop_until_last<Q: Numbers>(consumer: &mut Consumer<'_, Q>) -> Rising {
 }
 
 // Whether each number came out at one of both ends.
-fn none_is_lost<Q: Overflows + Send>(
-    rt: &impl Threads,
-    alloc: Global,
-    queue: Q,
-) -> Result<bool, Fail> {
-    let shared = shared(alloc, queue)?;
-    let (mut producer, mut consumer) = ends(&shared)?;
+fn none_is_lost<Q: Overflows + Send>(rt: &impl Threads, shared: &Shared<Q>) -> bool {
+    let Some((mut producer, mut consumer)) = ends(shared) else {
+        return false;
+    };
     let (left, got) = thread::join(
         rt,
         || push_over(&mut producer),
         || pop_until_last(&mut consumer),
     );
-    Ok(got.is_all_with(&left))
+    got.is_all_with(&left)
 }
 
 #[test]
 fn an_overflowing_queue_loses_no_number(rt: HostRuntime) -> Result<(), Fail> {
-    assert!(&rt;
-        none_is_lost(
-            &rt,
-            rt.alloc(),
-            SafelyOverflowingIndexQueue::new(rt.alloc(), 8)?
-        )?
-    );
-    let fixed = FixedSizeSafelyOverflowingIndexQueue::<8>::new(rt.alloc())?;
-    assert!(&rt; none_is_lost(&rt, rt.alloc(), fixed)?);
+    let alloc: Global = rt.alloc();
+    let chosen = SafelyOverflowingIndexQueue::new(alloc, 8)?;
+    assert!(&rt; none_is_lost(&rt, &shared(alloc, chosen)?));
+    let fixed = FixedSizeSafelyOverflowingIndexQueue::<8>::new(alloc)?;
+    assert!(&rt; none_is_lost(&rt, &shared(alloc, fixed)?));
     Ok(())
 }
 
@@ -182,11 +173,23 @@ fn load_all(shared: &Shared<UnrestrictedAtomic<u128>>) -> bool {
     false
 }
 
+// Whether all were stored, and each load was whole.
+fn is_loaded_whole(rt: &impl Threads, shared: &Shared<UnrestrictedAtomic<u128>>) -> bool {
+    match shared.acquire_producer() {
+        Some(mut producer) => {
+            let (stored, loaded) = thread::join(
+                rt,
+                || store_all(&mut producer),
+                || load_all(shared),
+            );
+            stored && loaded
+        }
+        None => false,
+    }
+}
+
 #[test]
 fn a_shared_value_is_loaded_whole(rt: HostRuntime) -> Result<(), Fail> {
-    let shared = shared(rt.alloc(), UnrestrictedAtomic::new(0u128))?;
-    let mut producer = shared.acquire_producer().ok_or("no role")?;
-    let (stored, loaded) = thread::join(&rt, || store_all(&mut producer), || load_all(&shared));
-    assert!(&rt; stored && loaded);
+    assert!(&rt; is_loaded_whole(&rt, &shared(rt.alloc(), UnrestrictedAtomic::new(0))?));
     Ok(())
 }

@@ -79,7 +79,6 @@ fn was_asked(memory: &Script, asked: &[Access]) -> bool {
 fn a_lost_turn_goes_on_from_the_position_found(rt: HostRuntime) -> Result<(), Fail> {
     // Positions 0 and 5, the cell of 0; the exchange finds 3; the cell of 3; the exchange is won.
     let mut memory = answering(rt.alloc(), &[0, 5, 70, 3, 73, 3])?;
-    assert!(&rt; overflowing_pop(&mut memory) == Some(73));
     let asked = [
         Access::Load(Word::Read),
         Access::Load(Word::Write),
@@ -88,7 +87,7 @@ fn a_lost_turn_goes_on_from_the_position_found(rt: HostRuntime) -> Result<(), Fa
         Access::Load(Word::Cell(3)),
         Access::Exchange(Word::Read, 3, 4),
     ];
-    assert!(&rt; was_asked(&memory, &asked));
+    assert!(&rt; overflowing_pop(&mut memory) == Some(73) && was_asked(&memory, &asked));
     Ok(())
 }
 
@@ -103,28 +102,40 @@ fn a_push_whose_exchange_is_lost_hands_nothing_out(rt: HostRuntime) -> Result<()
         Access::Load(Word::Cell(0)),
         Access::Exchange(Word::Read, 0, 1),
     ];
-    for (found, answer) in [(1, PushAnswer::Kept), (0, PushAnswer::LeftOut(70))] {
-        let mut memory = answering(rt.alloc(), &[2, 0, 0, 0, 70, found])?;
-        assert!(&rt; overflowing_push(&mut memory) == Some(answer));
-        assert!(&rt; was_asked(&memory, &asked));
+    for row in &[(1, PushAnswer::Kept), (0, PushAnswer::LeftOut(70))] {
+        let mut memory = answering(rt.alloc(), &[2, 0, 0, 0, 70, row.0])?;
+        assert!(&rt; overflowing_push(&mut memory) == Some(row.1) && was_asked(&memory, &asked));
     }
     Ok(())
 }
 
+/// What memory answers a push of a refusing ring of 2, how the push is answered, and how often it asks.
+const PUSHES: [([u64; 4], PushAnswer, usize); 2] = [
+    ([2, 0, 0, 0], PushAnswer::Refused, 2),
+    ([2, 1, 0, 0], PushAnswer::Kept, 4),
+];
+
+fn is_push(memory: &mut Script, answer: PushAnswer, count: usize) -> bool {
+    refusing_push(memory) == Some(answer) && memory.asked.len() == count
+}
+
+/// The same of a pop.
+const POPS: [([u64; 4], Option<u64>, usize); 2] = [
+    ([4, 4, 0, 0], None, 2),
+    ([4, 5, 70, 0], Some(70), 4),
+];
+
+fn is_pop(memory: &mut Script, got: Option<u64>, count: usize) -> bool {
+    refusing_pop(memory) == got && memory.asked.len() == count
+}
+
 #[test]
 fn a_ring_that_refuses_asks_for_what_it_needs(rt: HostRuntime) -> Result<(), Fail> {
-    for (answers, answer, count) in [
-        ([2, 0, 0, 0], PushAnswer::Refused, 2usize),
-        ([2, 1, 0, 0], PushAnswer::Kept, 4),
-    ] {
-        let mut memory = answering(rt.alloc(), &answers)?;
-        assert!(&rt; refusing_push(&mut memory) == Some(answer));
-        assert!(&rt; memory.asked.len() == count);
+    for row in &PUSHES {
+        assert!(&rt; is_push(&mut answering(rt.alloc(), &row.0)?, row.1, row.2));
     }
-    for (answers, got, count) in [([4, 4, 0, 0], None, 2usize), ([4, 5, 70, 0], Some(70), 4)] {
-        let mut memory = answering(rt.alloc(), &answers)?;
-        assert!(&rt; refusing_pop(&mut memory) == got);
-        assert!(&rt; memory.asked.len() == count);
+    for row in &POPS {
+        assert!(&rt; is_pop(&mut answering(rt.alloc(), &row.0)?, row.1, row.2));
     }
     Ok(())
 }

@@ -1,6 +1,5 @@
 //! Whole scripts with their replies. Each speaks to a new hub, with ample memory.
 use crate::talk::{answer, check};
-use std::fmt::Write;
 use std::test::Fail;
 
 const SCRIPTS: [(&str, &str); 15] = [
@@ -229,35 +228,12 @@ receive s1 -> ok m1 2
 
 #[test]
 fn scripts_are_answered(rt: HostRuntime) -> Result<(), Fail> {
-    for (title, script) in SCRIPTS {
-        check(&rt, rt.alloc(), title, script)?;
+    for row in &SCRIPTS {
+        check(&rt, rt.alloc(), row.0, row.1)?;
     }
+    assert!(rt;
+        answer(rt.alloc(), b"")?.is_empty(),
+        "no input has no answer"
+    );
     Ok(())
-}
-
-#[test]
-fn no_input_has_no_answer(rt: HostRuntime) -> Result<(), Fail> {
-    assert!(rt; answer(rt.alloc(), b"")?.is_empty());
-    Ok(())
-}
-
-#[test]
-fn a_twenty_first_node_is_kept_out(rt: HostRuntime) -> Result<(), Fail> {
-    let mut script = String::new(rt.alloc());
-    for node in 1..=21u64 {
-        writeln!(script, "node -> ok n{node}")?;
-    }
-    writeln!(script, "create n1 ps A -> ok f1")?;
-    for node in 2..=20u64 {
-        writeln!(script, "open n{node} ps A -> ok f{node}")?;
-    }
-    script.push_str(
-        "open n21 ps A -> err PublishSubscribeOpenError::ExceedsMaxNumberOfNodes
-open n20 ps A -> ok f21
-open n1 ps A -> ok f22
-open n21 ps A -> err PublishSubscribeOpenError::ExceedsMaxNumberOfNodes
-create n21 ps B -> ok f23
-",
-    )?;
-    check(&rt, rt.alloc(), "twenty-one nodes", &script)
 }

@@ -1,5 +1,8 @@
 //! Single lines: the reply to each that spells a command, and each way to spell none.
 use crate::talk::{answer, check};
+use iox_script::ServeError;
+use std::alloc::{AllocError, Global};
+use std::process::Abort;
 use std::test::Fail;
 
 /// Lines of commands that differ in one byte or so from those that are faulty.
@@ -180,80 +183,100 @@ fn each_command_is_answered(rt: HostRuntime) -> Result<(), Fail> {
     check(&rt, rt.alloc(), "each command", SPELT)
 }
 
-#[test]
-fn other_lines_are_faulty(rt: HostRuntime) -> Result<(), Fail> {
-    for lines in [FAULTY.as_slice(), NOT_YET.as_slice()] {
-        for line in lines {
-            let mut input = Vec::from_slice(rt.alloc(), b"node\n")?;
-            input.extend_from_slice(line)?;
-            input.extend_from_slice(b"\nnode\n")?;
-            let answer = answer(rt.alloc(), &input)?;
-            let wanted = b"ok n1\nerr faulty line\nok n2\n".as_slice();
-            assert_eq!(rt; answer.as_slice(), wanted, "{line:?}");
-        }
+/// Whether `serve` answers the input so.
+fn is_answered(alloc: Global, input: &[u8], wanted: &[u8]) -> Result<bool, ServeError> {
+    Ok(answer(alloc, input)?.as_slice() == wanted)
+}
+
+/// Whether a line between two good ones is told as faulty.
+fn is_faulty(alloc: Global, line: &[u8]) -> Result<bool, Fail> {
+    let mut input = Vec::from_slice(alloc, b"node\n")?;
+    input.extend_from_slice(line)?;
+    input.extend_from_slice(b"\nnode\n")?;
+    Ok(is_answered(alloc, &input, b"ok n1\nerr faulty line\nok n2\n")?)
+}
+
+/// Holds each line.
+fn are_faulty(rt: &impl Abort, alloc: Global, lines: &[&[u8]]) -> Result<(), Fail> {
+    for line in lines {
+        assert!(rt; is_faulty(alloc, line)?, "{line:?}");
     }
     Ok(())
+}
+
+#[test]
+fn other_lines_are_faulty(rt: HostRuntime) -> Result<(), Fail> {
+    are_faulty(&rt, rt.alloc(), &FAULTY)?;
+    are_faulty(&rt, rt.alloc(), &NOT_YET)
+}
+
+const FAULTY_REPLY: &[u8] = b"ok n1\nerr faulty line\n";
+
+const TOO_LONG: &[u8] = b"ok n1\nerr line too long\n";
+
+/// What stands before some letters `x` in the second line, how many letters, and the answer to both.
+const LENGTHS: [(&[u8], usize, &[u8]); 9] = [
+    (b"create n1 ps ", 255, b"ok n1\nok f1\n"),
+    (b"create n1 ps ", 256, FAULTY_REPLY),
+    (b"", 1024, FAULTY_REPLY),
+    (b"", 1025, TOO_LONG),
+    (b"", 1026, TOO_LONG),
+    (b"", 65535, TOO_LONG),
+    (b"", 65536, TOO_LONG),
+    (b"", 65537, TOO_LONG),
+    (b"", 200000, TOO_LONG),
+];
+
+/// A line `node`, then one that starts so and has so many letters `x`, and what ends it.
+fn lines_of(
+    alloc: Global,
+    start: &[u8],
+    letters: usize,
+    end: &[u8],
+) -> Result<Vec<u8>, AllocError> {
+    let mut lines = Vec::from_slice(alloc, b"node\n")?;
+    lines.extend_from_slice(start)?;
+    lines.resize(lines.len().saturating_add(letters), b'x')?;
+    lines.extend_from_slice(end)?;
+    Ok(lines)
+}
+
+/// Whether the second line is answered so, with and without an end.
+fn has_length(alloc: Global, start: &[u8], letters: usize, wanted: &[u8]) -> Result<bool, Fail> {
+    let open = is_answered(alloc, &lines_of(alloc, start, letters, b"")?, wanted)?;
+    Ok(open && is_answered(alloc, &lines_of(alloc, start, letters, b"\n")?, wanted)?)
 }
 
 #[test]
 fn lengths_have_limits(rt: HostRuntime) -> Result<(), Fail> {
-    let faulty = b"err faulty line\n".as_slice();
-    let too_long = b"err line too long\n".as_slice();
-    let made = b"ok f1\n".as_slice();
-    // What stands before some letters `x`, how many letters, and the answer.
-    let lengths: [(&[u8], usize, &[u8]); 9] = [
-        (b"create n1 ps ", 255, made),
-        (b"create n1 ps ", 256, faulty),
-        (b"", 1024, faulty),
-        (b"", 1025, too_long),
-        (b"", 1026, too_long),
-        (b"", 65535, too_long),
-        (b"", 65536, too_long),
-        (b"", 65537, too_long),
-        (b"", 200000, too_long),
-    ];
-    for (start, letters, reply) in lengths {
-        for end in [b"".as_slice(), b"\n".as_slice()] {
-            let mut input = Vec::from_slice(rt.alloc(), b"node\n")?;
-            input.extend_from_slice(start)?;
-            input.extend_from_slice(&vec![in rt.alloc(); b'x'; letters]?)?;
-            input.extend_from_slice(end)?;
-            let mut wanted = Vec::from_slice(rt.alloc(), b"ok n1\n")?;
-            wanted.extend_from_slice(reply)?;
-            let answer = answer(rt.alloc(), &input)?;
-            assert_eq!(rt;
-                answer.as_slice(),
-                wanted.as_slice(),
-                "{letters} letters, end {end:?}"
-            );
-        }
+    for row in &LENGTHS {
+        assert!(rt;
+            has_length(rt.alloc(), row.0, row.1, row.2)?,
+            "{} letters",
+            row.1
+        );
     }
+    // What follows a line that is too long is read as ever.
+    let input = lines_of(rt.alloc(), b" ", 1025, b"\nnode\n")?;
+    assert!(rt; is_answered(rt.alloc(), &input, b"ok n1\nerr line too long\nok n2\n")?);
     Ok(())
 }
 
+const ENDS: [(&[u8], &[u8]); 8] = [
+    (b"node", b"ok n1\n"),
+    (b"node\n", b"ok n1\n"),
+    (b"node\n\n", b"ok n1\nerr faulty line\n"),
+    (b"\n", b"err faulty line\n"),
+    (b"\nnode", b"err faulty line\nok n1\n"),
+    (b"node\nnode", b"ok n1\nok n2\n"),
+    (b"node\nno", b"ok n1\nerr faulty line\n"),
+    (b"node\r\nnode\n", b"err faulty line\nok n1\n"),
+];
+
 #[test]
 fn lines_end_at_newlines(rt: HostRuntime) -> Result<(), Fail> {
-    let inputs: [(&[u8], &[u8]); 8] = [
-        (b"node", b"ok n1\n"),
-        (b"node\n", b"ok n1\n"),
-        (b"node\n\n", b"ok n1\nerr faulty line\n"),
-        (b"\n", b"err faulty line\n"),
-        (b"\nnode", b"err faulty line\nok n1\n"),
-        (b"node\nnode", b"ok n1\nok n2\n"),
-        (b"node\nno", b"ok n1\nerr faulty line\n"),
-        (b"node\r\nnode\n", b"err faulty line\nok n1\n"),
-    ];
-    for (input, wanted) in inputs {
-        assert_eq!(rt; answer(rt.alloc(), input)?.as_slice(), wanted, "{input:?}");
+    for row in &ENDS {
+        assert!(rt; is_answered(rt.alloc(), row.0, row.1)?, "{:?}", row.0);
     }
-    // What follows a line that is too long is read as ever.
-    let mut input = vec![in rt.alloc(); b' '; 1025]?;
-    input.extend_from_slice(b"\nnode\n")?;
-    let wanted = b"err line too long\nok n1\n".as_slice();
-    assert_eq!(rt;
-        answer(rt.alloc(), &input)?.as_slice(),
-        wanted,
-        "after a long line"
-    );
     Ok(())
 }

@@ -1,20 +1,31 @@
 //! Readers and writers that give or take little at a time, or fail.
-use crate::talk::{CONFIG, answer, both_sides};
+use crate::talk::CONFIG;
 use iox_script::{Input, Output, READ_CALLS, ServeError, serve};
 use std::alloc::Global;
 use std::io;
 use std::io::ErrorKind;
 use std::test::Fail;
 
-const SCRIPT: &str = "node -> ok n1
-create n1 ps A -> ok f1
-nod -> err faulty line
-subscriber f1 -> ok s1
-publisher f1 -> ok p1
-put p1 42 -> ok 1
-receive s1 -> ok m1 42
-release m1 -> ok
-receive s1 -> none
+const LINES: &[u8] = b"node
+create n1 ps A
+nod
+subscriber f1
+publisher f1
+put p1 42
+receive s1
+release m1
+receive s1
+";
+
+const REPLIES: &[u8] = b"ok n1
+ok f1
+err faulty line
+ok s1
+ok p1
+ok 1
+ok m1 42
+ok
+none
 ";
 
 /// Gives its bytes by pieces: the first of one size, the others of another. After so many calls each fails.
@@ -94,24 +105,25 @@ impl io::Write for Sips {
     }
 }
 
+/// Whether the lines are answered, where the first piece of them is of one size and the others of another.
+fn is_served_in_pieces(alloc: Global, first: usize, others: usize) -> Result<bool, ServeError> {
+    let mut input = Input::new(Pieces {
+        rest: LINES,
+        first,
+        others,
+        good_calls: usize::MAX,
+    });
+    let mut output = Output::new(Vec::new(alloc));
+    serve(alloc, CONFIG, &mut input, &mut output)?;
+    Ok(output.writer().as_slice() == REPLIES)
+}
+
 #[test]
 fn pieces_make_no_difference(rt: HostRuntime) -> Result<(), Fail> {
-    let (lines, replies) = both_sides(rt.alloc(), SCRIPT)?;
-    let bytes = lines.as_bytes();
-    let all = bytes.len();
-    for first in 1..all {
-        for others in [1, all] {
-            let mut input = Input::new(Pieces {
-                rest: bytes,
-                first,
-                others,
-                good_calls: usize::MAX,
-            });
-            let mut output = Output::new(Vec::new(rt.alloc()));
-            serve(rt.alloc(), CONFIG, &mut input, &mut output)?;
-            assert_eq!(rt;
-                output.writer().as_slice(),
-                replies.as_bytes(),
+    for first in 1..LINES.len() {
+        for others in &[1, LINES.len()] {
+            assert!(rt;
+                is_served_in_pieces(rt.alloc(), first, *others)?,
                 "cut at {first}"
             );
         }
@@ -119,99 +131,110 @@ fn pieces_make_no_difference(rt: HostRuntime) -> Result<(), Fail> {
     Ok(())
 }
 
-#[test]
-fn a_failed_read_ends_the_conversation(rt: HostRuntime) -> Result<(), Fail> {
-    let (lines, replies) = both_sides(rt.alloc(), SCRIPT)?;
-    let bytes = lines.as_bytes();
-    // One byte a call: after so many calls that succeed, the replies are those to the lines that are whole.
-    for good_calls in 0..=bytes.len() {
-        let mut input = Input::new(Pieces {
-            rest: bytes,
-            first: 1,
-            others: 1,
-            good_calls,
-        });
-        let mut output = Output::new(Vec::new(rt.alloc()));
-        let result = serve(rt.alloc(), CONFIG, &mut input, &mut output);
-        assert_eq!(rt; result, Err(ServeError::ReadFault), "call {good_calls}");
-        assert!(rt; input.has_failed());
-        let written = output.writer().as_slice();
-        assert!(rt;
-            replies.as_bytes().starts_with(written),
-            "call {good_calls}"
-        );
-        let whole = bytes
-            .iter()
-            .take(good_calls)
-            .filter(|byte| **byte == b'\n')
-            .count();
-        let answered = written.iter().filter(|byte| **byte == b'\n').count();
-        assert_eq!(rt; answered, whole, "call {good_calls}");
-    }
-    Ok(())
+/// How many lines end among the first bytes.
+fn lines_in(bytes: &[u8], among: usize) -> usize {
+    bytes
+        .iter()
+        .take(among)
+        .filter(|byte| **byte == b'\n')
+        .count()
+}
+
+/// Whether just the lines are answered that are whole after so many calls that read one byte, of which the next fails.
+fn ends_at_a_failed_read(alloc: Global, good_calls: usize) -> bool {
+    let mut input = Input::new(Pieces {
+        rest: LINES,
+        first: 1,
+        others: 1,
+        good_calls,
+    });
+    let mut output = Output::new(Vec::new(alloc));
+    let result = serve(alloc, CONFIG, &mut input, &mut output);
+    let written = output.writer().as_slice();
+    result == Err(ServeError::ReadFault)
+        && input.has_failed()
+        && REPLIES.starts_with(written)
+        && lines_in(written, written.len()) == lines_in(LINES, good_calls)
 }
 
 #[test]
-fn an_endless_reader_is_left(rt: HostRuntime) -> Result<(), Fail> {
-    // A byte, and how long the answer to so many of it is: a line without an end has none.
-    for (byte, length) in [(b'x', 0), (b'\n', 16 << 20)] {
-        let mut input = Input::new(Endless { byte });
-        let mut output = Output::new(Vec::new(rt.alloc()));
-        let result = serve(rt.alloc(), CONFIG, &mut input, &mut output);
-        assert_eq!(rt; result, Err(ServeError::ReadFault), "byte {byte}");
-        assert_eq!(rt; input.calls(), READ_CALLS, "byte {byte}");
-        assert!(rt; !input.has_failed());
-        assert_eq!(rt; output.writer().len(), length, "byte {byte}");
+fn a_failed_read_ends_the_conversation(rt: HostRuntime) {
+    for good_calls in 0..=LINES.len() {
+        assert!(rt;
+            ends_at_a_failed_read(rt.alloc(), good_calls),
+            "call {good_calls}"
+        );
     }
-    Ok(())
+}
+
+/// Whether a reader of this byte without end is left after the most calls, with an answer of this length.
+fn is_left(alloc: Global, byte: u8, length: usize) -> bool {
+    let mut input = Input::new(Endless { byte });
+    let mut output = Output::new(Vec::new(alloc));
+    let result = serve(alloc, CONFIG, &mut input, &mut output);
+    result == Err(ServeError::ReadFault)
+        && input.calls() == READ_CALLS
+        && !input.has_failed()
+        && output.writer().len() == length
+}
+
+#[test]
+fn an_endless_reader_is_left(rt: HostRuntime) {
+    // A line without an end has no answer.
+    assert!(rt; is_left(rt.alloc(), b'x', 0));
+    assert!(rt; is_left(rt.alloc(), b'\n', 16 << 20));
+}
+
+/// Whether a writer that takes so many bytes a call, and no more calls than these, gets all replies.
+fn is_written(alloc: Global, most: usize, good_calls: usize) -> Result<bool, ServeError> {
+    let mut input = Input::new(LINES);
+    let mut output = Output::new(Sips::new(alloc, most, good_calls));
+    serve(alloc, CONFIG, &mut input, &mut output)?;
+    Ok(output.writer().taken.as_slice() == REPLIES && !output.has_failed())
 }
 
 #[test]
 fn a_writer_may_take_one_byte_a_call_or_all_in_one(rt: HostRuntime) -> Result<(), Fail> {
-    let (lines, replies) = both_sides(rt.alloc(), SCRIPT)?;
-    // The second fails at a second call: the replies to one read are written together.
-    for (most, good_calls) in [(1, usize::MAX), (usize::MAX, 1)] {
-        let mut input = Input::new(lines.as_bytes());
-        let mut output = Output::new(Sips::new(rt.alloc(), most, good_calls));
-        serve(rt.alloc(), CONFIG, &mut input, &mut output)?;
-        assert_eq!(rt;
-            output.writer().taken.as_slice(),
-            replies.as_bytes(),
-            "{most} bytes a call"
-        );
-        assert!(rt; !output.has_failed());
-    }
+    assert!(rt; is_written(rt.alloc(), 1, usize::MAX)?);
+    // It fails at a second call: the replies to one read are written together.
+    assert!(rt; is_written(rt.alloc(), usize::MAX, 1)?);
     Ok(())
 }
 
+/// Whether the conversation ends at a failed write, where a writer takes so many bytes a call and no more calls than
+/// these, once it took the first replies up to this length.
+fn ends_at_a_failed_write(alloc: Global, most: usize, good_calls: usize, length: usize) -> bool {
+    let mut input = Input::new(LINES);
+    let mut output = Output::new(Sips::new(alloc, most, good_calls));
+    let result = serve(alloc, CONFIG, &mut input, &mut output);
+    let taken = output.writer().taken.as_slice();
+    result == Err(ServeError::WriteFault)
+        && output.has_failed()
+        && taken.len() == length
+        && REPLIES.starts_with(taken)
+}
+
+/// Whether nothing to write fails.
+fn is_ended_without_a_write(alloc: Global) -> Result<bool, ServeError> {
+    let mut input = Input::new(b"".as_slice());
+    let mut output = Output::new(Sips::new(alloc, 0, 0));
+    serve(alloc, CONFIG, &mut input, &mut output)?;
+    Ok(!output.has_failed())
+}
+
 #[test]
-fn a_failed_write_ends_the_conversation(rt: HostRuntime) -> Result<(), Fail> {
-    let (lines, replies) = both_sides(rt.alloc(), SCRIPT)?;
-    for good_calls in 0..replies.len() {
-        let mut input = Input::new(lines.as_bytes());
-        let mut output = Output::new(Sips::new(rt.alloc(), 1, good_calls));
-        let result = serve(rt.alloc(), CONFIG, &mut input, &mut output);
-        assert_eq!(rt; result, Err(ServeError::WriteFault), "call {good_calls}");
-        assert!(rt; output.has_failed());
-        let taken = output.writer().taken.as_slice();
-        assert_eq!(rt; taken.len(), good_calls);
-        assert!(rt; replies.as_bytes().starts_with(taken), "call {good_calls}");
+fn a_failed_write_ends_the_conversation(rt: HostRuntime) {
+    for count in 0..REPLIES.len() {
+        assert!(rt;
+            ends_at_a_failed_write(rt.alloc(), 1, count, count),
+            "call {count}"
+        );
     }
-    Ok(())
 }
 
 #[test]
 fn a_writer_that_takes_nothing_ends_the_conversation(rt: HostRuntime) -> Result<(), Fail> {
-    let mut input = Input::new(b"node\n".as_slice());
-    let mut output = Output::new(Sips::new(rt.alloc(), 0, usize::MAX));
-    let result = serve(rt.alloc(), CONFIG, &mut input, &mut output);
-    assert_eq!(rt; result, Err(ServeError::WriteFault));
-    assert!(rt; output.has_failed());
-    assert!(rt; output.writer().taken.is_empty());
-    // Where nothing is to be written, nothing fails.
-    let mut input = Input::new(b"".as_slice());
-    let mut output = Output::new(Sips::new(rt.alloc(), 0, 0));
-    serve(rt.alloc(), CONFIG, &mut input, &mut output)?;
-    assert!(rt; !output.has_failed());
+    assert!(rt; ends_at_a_failed_write(rt.alloc(), 0, usize::MAX, 0));
+    assert!(rt; is_ended_without_a_write(rt.alloc())?);
     Ok(())
 }

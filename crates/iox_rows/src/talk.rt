@@ -2,6 +2,7 @@
 use iox_hub::HubConfig;
 use iox_script::{Input, Output, ServeError, serve};
 use std::alloc::{AllocError, Global};
+use std::fmt::Write;
 use std::process::Abort;
 use std::test::Fail;
 
@@ -35,8 +36,37 @@ pub(crate) fn both_sides(alloc: Global, script: &str) -> Result<(String, String)
 
 /// Holds a script's replies against those of `serve`.
 pub(crate) fn check(rt: &impl Abort, alloc: Global, title: &str, script: &str) -> Result<(), Fail> {
+    assert!(rt; is_answered_so(alloc, script)?, "{title}");
+    Ok(())
+}
+
+/// Whether `serve` replies as the script says.
+fn is_answered_so(alloc: Global, script: &str) -> Result<bool, Fail> {
     let (lines, replies) = both_sides(alloc, script)?;
-    let answer = answer(alloc, lines.as_bytes())?;
-    assert_eq!(rt; str::from_utf8(&answer)?, replies.as_str(), "{title}");
+    Ok(answer(alloc, lines.as_bytes())?.as_slice() == replies.as_bytes())
+}
+
+/// Text of a script, and the first and the last number that it is written for, once each, in place of `#`.
+pub(crate) type Part = (&'static str, u64, u64);
+
+/// A script of these parts.
+pub(crate) fn script_of(alloc: Global, parts: &[Part]) -> Result<String, Fail> {
+    let mut script = String::new(alloc);
+    for part in parts {
+        append(&mut script, *part)?;
+    }
+    Ok(script)
+}
+
+fn append(script: &mut String, part: Part) -> Result<(), Fail> {
+    for number in part.1..=part.2 {
+        for letter in part.0.chars() {
+            if letter == '#' {
+                write!(script, "{number}")?;
+            } else {
+                script.push(letter)?;
+            }
+        }
+    }
     Ok(())
 }
