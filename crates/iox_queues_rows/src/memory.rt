@@ -251,13 +251,20 @@ fn each_is_made_at_each_size(rt: HostRuntime) -> Result<(), Fail> {
     Ok(())
 }
 
+// Whether each kind of a fixed size is made.
+fn are_fixed<const SIZE: usize>(alloc: Global) -> Result<bool, AllocError> {
+    Ok(
+        are_fixed_queues::<SIZE>(alloc)?
+            && is_value_queue::<SIZE>(alloc)?
+            && are_fixed_sets::<SIZE>(alloc)?,
+    )
+}
+
 #[test]
 fn each_is_made_at_a_fixed_size(rt: HostRuntime) -> Result<(), Fail> {
     let alloc: Global = rt.alloc();
-    assert!(rt; are_fixed_queues::<0>(alloc)? && is_value_queue::<0>(alloc)?);
-    assert!(rt; are_fixed_queues::<2>(alloc)? && is_value_queue::<2>(alloc)?);
-    assert!(rt; are_fixed_queues::<7>(alloc)? && are_fixed_sets::<7>(alloc)?);
-    assert!(rt; are_fixed_queues::<64>(alloc)? && is_value_queue::<64>(alloc)?);
-    assert!(rt; are_fixed_sets::<3>(alloc)? && are_fixed_sets::<64>(alloc)?);
+    assert!(rt; are_fixed::<0>(alloc)? && are_fixed::<1>(alloc)?);
+    assert!(rt; are_fixed::<2>(alloc)? && are_fixed::<7>(alloc)?);
+    assert!(rt; are_fixed::<64>(alloc)? && are_fixed::<100_000>(alloc)?);
     Ok(())
 }
