@@ -29,6 +29,22 @@ fn a_hundred_of_each(rt: HostRuntime) -> Result<(), Fail> {
     check(&rt, rt.alloc(), "a hundred of each", &script)
 }
 
+// The lines fill some thirty reads, so a want of memory that comes with their number would show.
+#[test]
+fn a_long_conversation_is_answered_to_its_end(rt: HostRuntime) -> Result<(), Fail> {
+    let mut script = String::new(rt.alloc());
+    writeln!(script, "node -> ok n1")?;
+    writeln!(script, "create n1 ps A -> ok f1")?;
+    writeln!(script, "publisher f1 -> ok p1")?;
+    writeln!(script, "subscriber f1 -> ok s1")?;
+    for n in 1..=50_000u32 {
+        writeln!(script, "put p1 {n} -> ok 1")?;
+        writeln!(script, "receive s1 -> ok m{n} {n}")?;
+        writeln!(script, "release m{n} -> ok")?;
+    }
+    check(&rt, rt.alloc(), "a long conversation", &script)
+}
+
 #[test]
 fn as_many_nodes_open_a_service_as_it_allows(rt: HostRuntime) -> Result<(), Fail> {
     let mut script = String::new(rt.alloc());
