@@ -8,7 +8,7 @@ use std::marker::{Model, PhantomData};
 ///
 /// Contracts see it as the list of its bytes.
 ///
-/// Ported from `iceoryx2_bb_lock_free::FixedSizeByteAtomic`.
+/// Ported from `FixedSizeByteAtomic` of the crate `iceoryx2_bb_container`.
 #[derive(Drop)]
 pub struct FixedSizeByteAtomic<T, const SIZE: usize> {
     bytes: [u8; SIZE],

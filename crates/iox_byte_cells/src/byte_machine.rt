@@ -32,7 +32,7 @@ pub enum ByteAnswer {
 ///
 /// Contracts see it as the list of its bytes.
 ///
-/// New in this port: it stands for the steps of `iceoryx2_bb_lock_free::FixedSizeByteAtomic` in several threads.
+/// New in this port: it stands for the steps of `FixedSizeByteAtomic` of the crate `iceoryx2_bb_container` in several threads.
 #[derive(Drop)]
 pub struct ByteMachine<const SIZE: usize> {
     bytes: [u8; SIZE],

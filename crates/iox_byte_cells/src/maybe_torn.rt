@@ -8,7 +8,7 @@ use std::marker::{Model, PhantomData};
 ///
 /// Contracts see it as the list of its bytes.
 ///
-/// Ported from `iceoryx2_bb_lock_free::MaybeTorn`.
+/// Ported from `MaybeTorn` of the crate `iceoryx2_bb_container`.
 #[derive(Drop)]
 pub struct MaybeTorn<T, const SIZE: usize> {
     bytes: [u8; SIZE],

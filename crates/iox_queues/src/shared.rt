@@ -4,13 +4,14 @@
 //! is safe and returns. What the values are that other threads stored is not claimed.
 //!
 //! - [`words`]: the shared words.
-//! - [`calls`]: a push or a pop as one run of its party value.
+//! - [`calls`]: a push, a pop, a store or a load as one run of its party value.
 //! - [`index`]: the queues of numbers.
 //! - [`value`]: the queue of any copied value.
-//! - [`atomic`]: the single value.
+//! - [`atomic`]: the single value; [`single`]: its store and load, one access at a time.
 pub mod atomic;
 pub(crate) mod calls;
 pub mod index;
+pub(crate) mod single;
 pub mod value;
 pub mod words;
 

@@ -1,5 +1,6 @@
 -- Sets of the numbers below a capacity, and a count for each of them.
-use Rattle.std.specs.Prelude.{ℕ, zero, suc, ◌+◌, ◌<◌, ◌≤◌, ◌≡◌, Bool, true, false, if◌then◌else◌, List, ◌∷◌, [], length, slice_index_or}
+use Rattle.std.specs.Prelude.{ℕ, zero, suc, ◌+◌, ◌<◌, ◌≤◌, ◌≡◌, ◌↔◌, Bool, true, false, if◌then◌else◌, List, ◌∷◌, [], length, slice_index_or, Contains}
+use Rattle.std.specs.List.{AllPairs}
 use Rattle.iox_queues_base.specs.declared.bits.BitState.{BitState}
 
 -- `bits` has a place for each number below the capacity; `next` is where the search for the next
@@ -17,6 +18,11 @@ members_from from (is_set ∷ bits) =
 -- the members, rising
 abbrev pub members : List Bool → List ℕ
 members bits = members_from 0 bits
+
+-- the numbers are the places that are set, each once, rising
+pub record ListsMembers (bits : List Bool) (numbers : List ℕ) : Type 0 where
+  pub exact : (i : ℕ) → Contains numbers i ↔ (slice_index_or bits i false ≡ true)
+  pub rising : AllPairs (λ i j. i < j) numbers
 
 -- no place from `from` up to `to` is set
 abbrev pub AreClear : List Bool → ℕ → ℕ → Type 0
@@ -38,3 +44,8 @@ counted_from from (suc n ∷ counts) = record { bit = from; count = suc n } ∷ 
 -- the counts above 0 with their places, rising
 abbrev pub counted : List ℕ → List BitState
 counted counts = counted_from 0 counts
+
+-- the states are the counts above 0 with their places, each place once, rising
+pub record ListsCounts (counts : List ℕ) (states : List BitState) : Type 0 where
+  pub exact : (i n : ℕ) → Contains states (record { bit = i; count = n }) ↔ ((0 < n) × (slice_index_or counts i 0 ≡ n))
+  pub rising : AllPairs (λ s t. s.bit < t.bit) states

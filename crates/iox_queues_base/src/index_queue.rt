@@ -1,7 +1,7 @@
 //! Queues of numbers that refuse a push when they are full.
 //!
 //! Ported from `IndexQueue` and `FixedSizeIndexQueue` of iceoryx2.
-ghost use Rattle.std.specs.Prelude.{◌≡◌, ◌<◌, ◌≤◌, ◌==◌, [], length, drop, nat_lt, nat_le, slice_get, IfOk};
+ghost use Rattle.std.specs.Prelude.{◌≡◌, ◌<◌, ◌≤◌, ◌==◌, ◌++◌, ◌∷◌, [], length, drop, nat_lt, nat_le, slice_get, if◌then◌else◌, IfOk};
 ghost use Rattle.iox_queues_base.specs.Waiting.{Bounded, put};
 
 use std::alloc::{AllocError, Global};
@@ -42,6 +42,7 @@ impl IndexQueue {
     pub fn push(&mut self, value: u64) -> bool
         ensures answer { result ≡ nat_lt (length self.old.waiting) self.old.capacity }
         ensures after { self.new ≡ record self.old { waiting = put self.old.capacity self.old.waiting value } }
+        ensures told { self.new.waiting ≡ self.old.waiting ++ (if result then value ∷ [] else []) }
     {
         if self.waiting.len() < self.capacity {
             self.waiting.push_back_reserved(value);
@@ -117,6 +118,7 @@ impl<const CAPACITY: usize> FixedSizeIndexQueue<CAPACITY> {
     pub fn push(&mut self, value: u64) -> bool
         ensures answer { result ≡ nat_lt (length self.old) CAPACITY }
         ensures after { self.new ≡ put CAPACITY self.old value }
+        ensures told { self.new ≡ self.old ++ (if result then value ∷ [] else []) }
     {
         self.queue.push(value)
     }

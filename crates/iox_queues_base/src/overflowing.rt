@@ -1,7 +1,7 @@
 //! Queues of numbers that hand the oldest out when they are full.
 //!
 //! Ported from `SafelyOverflowingIndexQueue` and `FixedSizeSafelyOverflowingIndexQueue` of iceoryx2.
-ghost use Rattle.std.specs.Prelude.{◌≡◌, ◌<◌, ◌≤◌, ◌==◌, [], length, drop, nat_lt, nat_le, slice_get, IfOk};
+ghost use Rattle.std.specs.Prelude.{◌≡◌, ◌<◌, ◌≤◌, ◌==◌, ◌++◌, ◌∷◌, [], option_to_list, length, drop, nat_lt, nat_le, slice_get, IfOk, IfSome};
 ghost use Rattle.iox_queues_base.specs.Waiting.{Bounded, put_over, left_out};
 
 use std::alloc::{AllocError, Global};
@@ -42,6 +42,8 @@ impl SafelyOverflowingIndexQueue {
     /// hands the new one back.
     pub fn push(&mut self, value: u64) -> Option<u64>
         ensures answer { result ≡ left_out self.old.capacity self.old.waiting value }
+        ensures none_lost { option_to_list result ++ self.new.waiting ≡ self.old.waiting ++ value ∷ [] }
+        ensures full { IfSome result (λ oldest. self.old.capacity ≤ length self.old.waiting) }
         ensures after { self.new ≡ record self.old { waiting = put_over self.old.capacity self.old.waiting value } }
     {
         if self.waiting.len() < self.capacity {
@@ -121,6 +123,8 @@ impl<const CAPACITY: usize> FixedSizeSafelyOverflowingIndexQueue<CAPACITY> {
     /// hands the new one back.
     pub fn push(&mut self, value: u64) -> Option<u64>
         ensures answer { result ≡ left_out CAPACITY self.old value }
+        ensures none_lost { option_to_list result ++ self.new ≡ self.old ++ value ∷ [] }
+        ensures full { IfSome result (λ oldest. CAPACITY ≤ length self.old) }
         ensures after { self.new ≡ put_over CAPACITY self.old value }
     {
         self.queue.push(value)

@@ -1,7 +1,7 @@
 //! The queue of any copied value.
 //!
 //! Ported from `Queue` of iceoryx2's lock-free structures.
-ghost use Rattle.std.specs.Prelude.{◌≡◌, ◌<◌, ◌≤◌, ◌==◌, [], length, drop, nat_lt, nat_le, slice_get, IfOk};
+ghost use Rattle.std.specs.Prelude.{◌≡◌, ◌<◌, ◌≤◌, ◌==◌, ◌++◌, ◌∷◌, [], length, drop, nat_lt, nat_le, slice_get, if◌then◌else◌, IfOk};
 ghost use Rattle.iox_queues_base.specs.Waiting.{put};
 
 use crate::words::Words;
@@ -40,6 +40,7 @@ impl<T: Words, const CAPACITY: usize> Queue<T, CAPACITY> {
     pub fn push(&mut self, value: &T) -> bool
         ensures answer { result ≡ nat_lt (length self.old) CAPACITY }
         ensures after { self.new ≡ put CAPACITY self.old value.now }
+        ensures told { self.new ≡ self.old ++ (if result then value.now ∷ [] else []) }
     {
         if self.waiting.len() < CAPACITY {
             self.waiting.push_back_reserved(*value);

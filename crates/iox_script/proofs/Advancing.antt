@@ -1,12 +1,13 @@
 -- How a conversation goes on.
-use Rattle.std.proofs.Common.{◌≡◌, ℕ, ◌+◌, ◌<◌, ◌≤◌, ◌==◌, true, false, List, [], ◌∷◌, Option, IfSome, Result, Ok, Err, OnOk, ◌++◌, nat_lt, length, refl, sym, ap, arith, append_assoc, length-append}
+use Rattle.std.proofs.Common.{◌≡◌, ℕ, ◌+◌, ◌<◌, ◌≤◌, ◌==◌, true, false, List, [], ◌∷◌, Option, IfSome, Result, Ok, Err, OnOk, ◌++◌, nat_lt, length, refl, sym, ap, inl, arith, append_assoc, length-append}
 use Rattle.std.proofs.lemmas.List.{append-nil}
-use Rattle.std.specs.Io.KnownBytes.{Appends}
+use Rattle.std.specs.Io.KnownBytes.{Appends, Consumes}
 use Rattle.std.proofs.KnownBytes.{Consumes-whole}
 use Rattle.iox_hub.specs.Machine.{HubState, at_start, total}
 use Rattle.iox_hub.specs.declared.hub.HubConfig.{HubConfig}
 use Rattle.iox_script.specs.Lines.{heard}
-use Rattle.iox_script.specs.Conversation.{AnswersLine, Served, SessionState, Advances, Ends, IsConversation, Converses}
+use Rattle.iox_script.specs.Conversation.{AnswersLine, Served, SessionState, Advances, Ends, IsConversation, Converses, BreaksOff}
+use Rattle.iox_script.specs.declared.error.ServeError.{ServeError}
 use Rattle.iox_script.proofs.LineLemmas.{is_unbroken, heard-whole, heard-last, heard-full}
 
 -- what answers some lines and then what answers more answers all of them
@@ -100,6 +101,25 @@ Converses-conversation config left leaves held holds all =
     Consumes-whole left leaves all.bytes (λ bytes. (text : List ℕ) × Appends held holds text × IsConversation config bytes text)
     all.consumed all.all
     (all.text ++ all.last, all.written, IsConversation-ended config all.mid all.bytes all.text all.last all.advances all.ends)
+
+-- a conversation broke off where all that was read is answered
+pub BreaksOff-answered : (error : ServeError) (old mid : SessionState) (left leaves held holds : Option (List ℕ)) (bytes text : List ℕ)
+    → Consumes left leaves bytes → Appends held holds text → Advances old bytes text mid → is_unbroken mid.line ≡ true
+    → BreaksOff error old left leaves held holds
+BreaksOff-answered error old mid left leaves held holds bytes text consumed written advances whole = record {
+  bytes = bytes;
+  text = text;
+  piece = [];
+  part = [];
+  mid = mid;
+  consumed = rw (append-nil bytes) consumed;
+  written = rw (append-nil text) written;
+  advances = advances;
+  whole = whole;
+  short = omega arith;
+  read = λ _. refl;
+  begun = inl refl;
+}
 
 -- what holds on success holds of what follows from it
 pub OnOk-follows : {A E P Q : Type 0} (result : Result A E) → (P → Q) → OnOk result P → OnOk result Q

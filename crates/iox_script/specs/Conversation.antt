@@ -1,11 +1,14 @@
 -- What is written for what is read.
-use Rattle.std.specs.Prelude.{◌≡◌, ℕ, ◌+◌, ◌≤◌, Bool, true, false, List, [], ◌∷◌, ◌++◌, Option, None, Some, codes, length, nat_lt}
+use Rattle.std.specs.Prelude.{◌≡◌, ◌⊎◌, ℕ, ◌+◌, ◌≤◌, ◌==◌, Bool, true, false, not, List, [], ◌∷◌, ◌++◌, Option, None, Some, codes, length, nat_lt}
+use Rattle.std.specs.List.{list_all}
 use Rattle.std.specs.Io.KnownBytes.{Consumes, Appends, IsAtEnd}
 use Rattle.iox_hub.specs.Machine.{HubState, Step, at_start, total}
 use Rattle.iox_hub.specs.declared.hub.HubConfig.{HubConfig}
 use Rattle.iox_hub.specs.declared.command.Command.{Command}
 use Rattle.iox_hub.specs.declared.command.Reply.{Reply}
 use Rattle.iox_script.specs.CommandText.{command_of}
+use Rattle.iox_script.specs.declared.error.ServeError.{ServeError}
+use Rattle.iox_script.specs.declared.error.ServeError.TheVariants.{ReadFault, WriteFault}
 use Rattle.iox_script.specs.ReplyText.{reply_text}
 use Rattle.iox_script.specs.Lines.{heard}
 
@@ -57,3 +60,23 @@ pub record Converses (old : SessionState) (left leaves held holds : Option (List
   pub written : Appends held holds (text ++ last)
   pub advances : Advances old bytes text mid
   pub ends : Ends mid [] last
+
+-- these bytes are a beginning of what answers the lines that are whole by a last piece, or at the end of the input the last line
+abbrev pub AreBegun : SessionState → List ℕ → List ℕ → Type 0
+AreBegun old piece part = (rest : List ℕ) × (((new : SessionState) × Advances old piece (part ++ rest) new) ⊎ ((piece ≡ []) × Ends old [] (part ++ rest)))
+
+-- A conversation from here that broke off. All that was read before a last piece is answered. After a read fault there is no such piece,
+-- after a write fault a beginning of what answers it is written, and where memory was wanting nothing of it.
+pub record BreaksOff (error : ServeError) (old : SessionState) (left leaves held holds : Option (List ℕ)) : Type 0 where
+  pub bytes : List ℕ
+  pub text : List ℕ
+  pub piece : List ℕ
+  pub part : List ℕ
+  pub mid : SessionState
+  pub consumed : Consumes left leaves (bytes ++ piece)
+  pub written : Appends held holds (text ++ part)
+  pub advances : Advances old bytes text mid
+  pub whole : list_all (λ b. not (b == 10)) mid.line ≡ true
+  pub short : length piece ≤ 65536
+  pub read : error ≡ ReadFault → piece ≡ []
+  pub begun : (part ≡ []) ⊎ ((error ≡ WriteFault) × AreBegun mid piece part)

@@ -1,8 +1,9 @@
 //! Bytes in, bytes out.
-ghost use Rattle.std.specs.Prelude.{◌≡◌, ℕ, List, [], ◌⊎◌, ◌+◌, ◌<◌, ◌^◌, true, OnOk, IfSome, length};
+ghost use Rattle.std.specs.Prelude.{◌≡◌, ◌==◌, ℕ, List, [], ◌⊎◌, ◌+◌, ◌<◌, ◌^◌, true, not, OnOk, IfErr, IfSome, length};
+ghost use Rattle.std.specs.List.{list_all};
 ghost use Rattle.std.specs.Io.KnownBytes.{Appends};
-ghost use Rattle.iox_hub.specs.Machine.{total};
-ghost use Rattle.iox_script.specs.Conversation.{IsConversation, Converses};
+ghost use Rattle.iox_hub.specs.Machine.{at_start, total};
+ghost use Rattle.iox_script.specs.Conversation.{BreaksOff, IsConversation, Converses};
 
 use crate::error::ServeError;
 use crate::input::Input;
@@ -24,6 +25,9 @@ const PIECE: usize = 65536;
 /// A line that spells a command is answered by the reply to it, another line by `err faulty line`, and a line of more
 /// than 1,024 bytes by `err line too long`. A last line without a newline counts if it isn't empty. The lines of one
 /// read are answered before the next read, and their replies are written together.
+///
+/// After an error the replies to all that was read before the last read are written. After `ReadFault` so are those to all
+/// that was read, after `WriteFault` a beginning of those to the last read, and after `OutOfMemory` none of those.
 pub fn serve<R: Read, W: Write>(
     alloc: Global,
     config: HubConfig,
@@ -35,6 +39,8 @@ pub fn serve<R: Read, W: Write>(
     ensures conversation { OnOk result (IfSome (R.remaining input.old.reader) (λ bytes.
         (text : List ℕ) × Appends (W.contents output.old.writer) (W.contents output.new.writer) text
         × IsConversation config bytes text)) }
+    ensures broken { IfErr result (λ error. BreaksOff error (record { hub = at_start config 0; line = [] })
+        (R.remaining input.old.reader) (R.remaining input.new.reader) (W.contents output.old.writer) (W.contents output.new.writer)) }
     ensures ended { OnOk result (input.new.ended ≡ true) }
     ensures read_fault { result ≡ Err ServeError.ReadFault → (input.new.failed ≡ true) ⊎ (input.new.calls ≡ input.old.calls + 2 ^ 20) }
     ensures write_fault { result ≡ Err ServeError.WriteFault → output.new.failed ≡ true }
@@ -60,8 +66,11 @@ fn converse<R: Read, W: Write>(
     requires empty { out.old.items ≡ [] }
     requires piece { length piece.old ≡ PIECE }
     requires fresh { total session.old.hub ≡ 0 }
+    requires whole { list_all (λ b. not (b == 10)) session.old.line ≡ true }
     requires calls { input.old.calls + 2 ^ 20 < 2 ^ 64 }
     ensures conversation { OnOk result (Converses session.old (R.remaining input.old.reader) (R.remaining input.new.reader)
+        (W.contents output.old.writer) (W.contents output.new.writer)) }
+    ensures broken { IfErr result (λ error. BreaksOff error session.old (R.remaining input.old.reader) (R.remaining input.new.reader)
         (W.contents output.old.writer) (W.contents output.new.writer)) }
     ensures ended { OnOk result (input.new.ended ≡ true) }
     ensures read_fault { result ≡ Err ServeError.ReadFault → (input.new.failed ≡ true) ⊎ (input.new.calls ≡ input.old.calls + 2 ^ 20) }

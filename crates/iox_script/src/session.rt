@@ -1,5 +1,6 @@
 //! A conversation under way: the hub, and what was heard of the line that isn't whole yet.
-ghost use Rattle.std.specs.Prelude.{◌≡◌, ℕ, List, ◌+◌, ◌++◌, ◌∷◌, [], ◌≤◌, length, nat_lt, OnOk, IfOk};
+ghost use Rattle.std.specs.Prelude.{◌≡◌, ◌==◌, ℕ, List, ◌+◌, ◌++◌, ◌∷◌, [], ◌≤◌, true, not, length, nat_lt, OnOk, IfOk};
+ghost use Rattle.std.specs.List.{list_all};
 ghost use Rattle.iox_hub.specs.Machine.{at_start, total, HasRoom};
 ghost use Rattle.iox_hub.specs.declared.hub.HubConfig.{HubConfig};
 ghost use Rattle.iox_script.specs.Conversation.{SessionState, AnswersLine, Advances, Ends};
@@ -52,7 +53,8 @@ impl Session {
         out: &mut Vec<u8>,
     ) -> Result<(), AllocError>
         requires { HasRoom self.old.hub 1 }
-        ensures { OnOk result ((text : List ℕ) × (out.new.items ≡ out.old.items ++ text) × Advances self.old (byte ∷ []) text self.new) }
+        ensures whole { list_all (λ b. not (b == 10)) self.new.line ≡ true }
+        ensures answers { OnOk result ((text : List ℕ) × (out.new.items ≡ out.old.items ++ text) × Advances self.old (byte ∷ []) text self.new) }
     {
         if byte != b'\n' {
             if self.line.len() <= LINE_LIMIT {
@@ -73,8 +75,10 @@ impl Session {
         out: &mut Vec<u8>,
     ) -> Result<(), AllocError>
         requires { HasRoom self.old.hub (length bytes.now) }
-        ensures { OnOk result ((text : List ℕ) × (out.new.items ≡ out.old.items ++ text) × Advances self.old bytes.now text self.new) }
+        ensures whole { list_all (λ b. not (b == 10)) self.new.line ≡ true }
+        ensures answers { OnOk result ((text : List ℕ) × (out.new.items ≡ out.old.items ++ text) × Advances self.old bytes.now text self.new) }
     {
+        let _ = &self.line;
         for &byte in bytes {
             self.take_byte(alloc, byte, out)?;
         }

@@ -5,10 +5,10 @@
 //! Ported from `UnrestrictedAtomic` of iceoryx2.
 ghost use Rattle.std.specs.Prelude.{◌≡◌, Some, None, true, nat_le, if◌then◌else◌};
 
-use super::words::{fill, width_of};
-use super::{LOST_TURNS, Producer, Shareable, Shared};
+use super::calls::{load_single, store_single};
+use super::words::{Values, fill, width_of};
+use super::{Producer, Shareable, Shared};
 use iox_queues_base::{UnrestrictedAtomic, Words};
-use iox_queues_steps::{Access, Word};
 use std::sync::atomic::AtomicU64;
 
 impl<T: Words> Shareable for UnrestrictedAtomic<T> {
@@ -43,25 +43,25 @@ impl<T: Words> Shareable for UnrestrictedAtomic<T> {
 impl<T: Words> Producer<'_, UnrestrictedAtomic<T>> {
     /// Puts the value in the place of the one before.
     pub fn store(&mut self, value: T) {
-        let write = self.words.apply(Access::Load(Word::Write));
-        self.words.store_value(write, &value);
-        self.words
-            .apply(Access::Store(Word::Write, write.saturating_add(1)));
+        let mut cells = Values {
+            words: self.words,
+            value: Some(value),
+        };
+        store_single(&mut cells);
     }
 }
 
 impl<T: Words> Shared<UnrestrictedAtomic<T>> {
     /// The value stored last; None after 2^20 turns in each of which a store ended.
     pub fn load(&self) -> Option<T> {
-        let mut write = self.words.apply(Access::Load(Word::Write));
-        for _ in 0..LOST_TURNS {
-            let value = self.words.load_value(write.saturating_sub(1));
-            let found = self.words.apply(Access::Load(Word::Write));
-            if found == write {
-                return value;
-            }
-            write = found;
+        let mut cells = Values {
+            words: &self.words,
+            value: None,
+        };
+        if load_single(&mut cells) {
+            cells.value
+        } else {
+            None
         }
-        None
     }
 }

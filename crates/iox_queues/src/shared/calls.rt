@@ -1,6 +1,6 @@
 //! Pushes and pops on shared words, each one run of its party value: it makes the accesses that the
 //! value asks for, in that order, and no other.
-ghost use Rattle.std.specs.Prelude.{◌≡◌, ◌+◌, ◌^◌, ◌<◌, ℕ, List, length, false, Some};
+ghost use Rattle.std.specs.Prelude.{◌≡◌, ◌+◌, ◌^◌, ◌<◌, ℕ, List, length, true, false, Some};
 ghost use Rattle.iox_queues_steps.specs.Runs.{Runs};
 ghost use Rattle.iox_queues_overflowing.specs.Overflowing as overflowing;
 ghost use Rattle.iox_queues_refusing.specs.Refusing as refusing;
@@ -9,12 +9,16 @@ ghost use Rattle.iox_queues_overflowing.specs.declared.pop.Pop.TheVariants as ov
 ghost use Rattle.iox_queues_refusing.specs.declared.push.Push.TheVariants as refusing_push;
 ghost use Rattle.iox_queues_refusing.specs.declared.pop.Pop.TheVariants as refusing_pop;
 ghost use Rattle.iox_queues.specs.Calls.{is_kept, left_by, popped, taken};
+ghost use Rattle.iox_queues.specs.Single.{EndsUnmoved, load_is_over, load_next, load_take, store_next, store_take, store_is_over};
+ghost use Rattle.iox_queues.specs.declared.shared.single.Storing.TheVariants as storing;
+ghost use Rattle.iox_queues.specs.declared.shared.single.Loading.TheVariants as loading;
 
 use super::LOST_TURNS;
+use super::single::{Loading, Storing};
 use iox_queues_overflowing::{Pop as OverflowingPop, Push as OverflowingPush};
 use iox_queues_refusing::{Pop as RefusingPop, Push as RefusingPush};
 use iox_queues_steps::end::run;
-use iox_queues_steps::{Memory, PushAnswer};
+use iox_queues_steps::{End, Memory, PushAnswer};
 
 /// Puts the number behind the rest, where at most `limit` may wait; false if so many wait. At most
 /// four accesses.
@@ -72,4 +76,22 @@ pub(crate) fn pop_overflowing<M: Memory>(memory: &mut M) -> Option<u64>
         OverflowingPop::Popped { got } => got,
         _ => None,
     }
+}
+
+/// Stores the value that the memory holds: three accesses.
+#[inline(always)]
+pub(crate) fn store_single<M: Memory>(memory: &mut M)
+    ensures { (given : List ℕ) × Runs M.answers store_next store_take store_is_over given memory.old storing.Begun memory.new storing.Stored }
+{
+    run(Storing::Begun, memory, 3);
+}
+
+/// Loads the value into the memory; false after 2^20 turns in each of which the position moved: a load of the position, then
+/// two loads a turn.
+#[inline(always)]
+pub(crate) fn load_single<M: Memory>(memory: &mut M) -> bool
+    ensures { (given : List ℕ) × (end : _) × Runs M.answers load_next load_take load_is_over given memory.old loading.Begun memory.new end
+        × (load_is_over end ≡ false → length given ≡ 2 ^ 21 + 1) × (result ≡ load_is_over end) × (result ≡ true → EndsUnmoved given) }
+{
+    run(Loading::Begun, memory, 2 * LOST_TURNS + 1).is_over()
 }

@@ -1,6 +1,6 @@
 ghost use Rattle.std.specs.Prelude.{◌≡◌, ◌+◌, ◌-◌, ◌<◌, ◌≤◌, ◌^◌, ℕ, length, replicate, nat_lt, slice_index, slice_set, if◌then◌else◌, IfOk};
 ghost use Rattle.std.specs.List.{FoldsTo};
-ghost use Rattle.iox_queues_base.specs.Bits.{counted};
+ghost use Rattle.iox_queues_base.specs.Bits.{ListsCounts, counted};
 
 use super::BitState;
 use std::alloc::{AllocError, Global};
@@ -46,9 +46,11 @@ impl CountingBitSet {
     }
 
     /// Takes all counts out, and calls `callback` with each count above 0, by rising number.
-    pub fn reset_all<F: FnMut(BitState)>(&mut self, callback: F)
-        requires { F.IsAlwaysCallable callback }
-        ensures calls { (last : F) × FoldsTo (λ p x q. F.step p x tt q) callback (counted self.old) last }
+    pub fn reset_all<F: FnMut(BitState)>(&mut self, callback: &mut F)
+        requires { F.IsAlwaysCallable callback.old }
+        ensures called { FoldsTo (λ p x q. F.step p x tt q) callback.old (counted self.old) callback.new }
+        ensures each_once { ListsCounts self.old (counted self.old) }
+        ensures callable { F.IsAlwaysCallable callback.new }
         ensures after { self.new ≡ replicate (length self.old) 0 }
     {
         call_counted(callback, self.counts.as_slice());
@@ -71,9 +73,10 @@ impl CountingBitSet {
 }
 
 // Calls `callback` with each count above 0, by rising place.
-fn call_counted<F: FnMut(BitState)>(mut callback: F, counts: &[u64])
-    requires { F.IsAlwaysCallable callback }
-    ensures { (last : F) × FoldsTo (λ p x q. F.step p x tt q) callback (counted counts.now) last }
+fn call_counted<F: FnMut(BitState)>(callback: &mut F, counts: &[u64])
+    requires { F.IsAlwaysCallable callback.old }
+    ensures called { FoldsTo (λ p x q. F.step p x tt q) callback.old (counted counts.now) callback.new }
+    ensures callable { F.IsAlwaysCallable callback.new }
 {
     let mut rest = counts;
     let mut at = 0usize;
@@ -122,9 +125,11 @@ impl<const CAPACITY: usize> FixedSizeCountingBitSet<CAPACITY> {
     }
 
     /// Takes all counts out, and calls `callback` with each count above 0, by rising number.
-    pub fn reset_all<F: FnMut(BitState)>(&mut self, callback: F)
-        requires { F.IsAlwaysCallable callback }
-        ensures calls { (last : F) × FoldsTo (λ p x q. F.step p x tt q) callback (counted self.old) last }
+    pub fn reset_all<F: FnMut(BitState)>(&mut self, callback: &mut F)
+        requires { F.IsAlwaysCallable callback.old }
+        ensures called { FoldsTo (λ p x q. F.step p x tt q) callback.old (counted self.old) callback.new }
+        ensures each_once { ListsCounts self.old (counted self.old) }
+        ensures callable { F.IsAlwaysCallable callback.new }
         ensures after { self.new ≡ replicate CAPACITY 0 }
     {
         self.set.reset_all(callback);

@@ -1,6 +1,6 @@
 ghost use Rattle.std.specs.Prelude.{◌≡◌, ◌+◌, ◌-◌, ◌<◌, ◌≤◌, ◌^◌, ℕ, true, false, not, length, replicate, set, slice_index_or, slice_set, IfOk, MatchOption, IfSome, IfNone};
 ghost use Rattle.std.specs.List.{FoldsTo};
-ghost use Rattle.iox_queues_base.specs.Bits.{BitList, IsNext, AreClear, members};
+ghost use Rattle.iox_queues_base.specs.Bits.{BitList, IsNext, AreClear, ListsMembers, members};
 
 use std::alloc::{AllocError, Global};
 use std::marker::Model;
@@ -59,9 +59,11 @@ impl BitSet {
     }
 
     /// Takes all members out, and calls `callback` with each of them, rising.
-    pub fn reset_all<F: FnMut(usize)>(&mut self, callback: F)
-        requires { F.IsAlwaysCallable callback }
-        ensures calls { (last : F) × FoldsTo (λ p x q. F.step p x tt q) callback (members self.old.bits) last }
+    pub fn reset_all<F: FnMut(usize)>(&mut self, callback: &mut F)
+        requires { F.IsAlwaysCallable callback.old }
+        ensures called { FoldsTo (λ p x q. F.step p x tt q) callback.old (members self.old.bits) callback.new }
+        ensures each_once { ListsMembers self.old.bits (members self.old.bits) }
+        ensures callable { F.IsAlwaysCallable callback.new }
         ensures after { self.new ≡ record self.old { bits = replicate (length self.old.bits) false } }
     {
         call_members(callback, self.bits.as_slice());
@@ -104,9 +106,10 @@ fn next_set(bits: &[bool], from: usize) -> Option<usize>
 }
 
 // Calls `callback` with each set place, rising.
-fn call_members<F: FnMut(usize)>(mut callback: F, bits: &[bool])
-    requires { F.IsAlwaysCallable callback }
-    ensures { (last : F) × FoldsTo (λ p x q. F.step p x tt q) callback (members bits.now) last }
+fn call_members<F: FnMut(usize)>(callback: &mut F, bits: &[bool])
+    requires { F.IsAlwaysCallable callback.old }
+    ensures called { FoldsTo (λ p x q. F.step p x tt q) callback.old (members bits.now) callback.new }
+    ensures callable { F.IsAlwaysCallable callback.new }
 {
     let mut rest = bits;
     let mut at = 0usize;
@@ -169,9 +172,11 @@ impl<const CAPACITY: usize> FixedSizeBitSet<CAPACITY> {
     }
 
     /// Takes all members out, and calls `callback` with each of them, rising.
-    pub fn reset_all<F: FnMut(usize)>(&mut self, callback: F)
-        requires { F.IsAlwaysCallable callback }
-        ensures calls { (last : F) × FoldsTo (λ p x q. F.step p x tt q) callback (members self.old.bits) last }
+    pub fn reset_all<F: FnMut(usize)>(&mut self, callback: &mut F)
+        requires { F.IsAlwaysCallable callback.old }
+        ensures called { FoldsTo (λ p x q. F.step p x tt q) callback.old (members self.old.bits) callback.new }
+        ensures each_once { ListsMembers self.old.bits (members self.old.bits) }
+        ensures callable { F.IsAlwaysCallable callback.new }
         ensures after { self.new ≡ record self.old { bits = replicate CAPACITY false } }
     {
         self.set.reset_all(callback);

@@ -1,4 +1,5 @@
-use Rattle.std.proofs.Common.{◌≡◌, ◌+◌, ◌*◌, ◌≤◌, List, [], ℕ, length}
+use Rattle.std.proofs.Common.{◌≡◌, ◌==◌, true, not, ◌+◌, ◌*◌, ◌≤◌, List, [], ℕ, length}
+use Rattle.std.specs.List.{list_all}
 use Rattle.std.specs.Io.KnownBytes.{Consumes, Appends}
 use Rattle.iox_script.specs.Conversation.{Advances}
 use Rattle.iox_script.proofs.conversation.converse.Given as goal
@@ -10,6 +11,7 @@ invariant-loop-turn g l = record {
   consumed : Consumes (g.R.Read.remaining l.initial.input.reader) (g.R.Read.remaining l.input.reader) bytes;
   written : Appends (g.W.Write.contents l.initial.output.writer) (g.W.Write.contents l.output.writer) text;
   advances : Advances l.initial.session bytes text l.session;
+  whole : list_all (λ b. not (b == 10)) l.session.line ≡ true;
   empty : l.out.items ≡ [];
   few : length bytes ≤ l.turn * 65536;
   calls : l.input.calls ≡ l.initial.input.calls + l.turn;

@@ -1,6 +1,16 @@
-use Rattle.iox_script.proofs.Advancing.{Converses-conversation, OnOk-follows}
+use Rattle.std.proofs.Common.{[], refl}
+use Rattle.std.proofs.KnownBytes.{Consumes-nil, Appends-nil}
+use Rattle.iox_script.proofs.Advancing.{Advances-none, BreaksOff-answered, Converses-conversation, OnOk-follows}
+use Rattle.iox_script.specs.declared.error.ServeError.TheVariants.{OutOfMemory}
 use Rattle.iox_script.proofs.conversation.serve.Goals as goal
 
 pub returns-clause-conversation : goal.returns-clause-conversation
 returns-clause-conversation g c =
     OnOk-follows c.converse.result (Converses-conversation c.args.config _ _ _ _) (rw c.in-Ok.ensures at c.converse.ensures.conversation)
+
+pub returns-in_default-clause-broken : goal.returns-in_default-clause-broken
+returns-in_default-clause-broken g c =
+    BreaksOff-answered OutOfMemory _ _ _ _ _ _ [] [] (Consumes-nil _) (Appends-nil _) (Advances-none _) refl
+
+pub returns-clause-broken : goal.returns-clause-broken
+returns-clause-broken g c = rw c.in-Ok.ensures at c.converse.ensures.broken

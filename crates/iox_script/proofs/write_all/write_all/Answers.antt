@@ -1,5 +1,5 @@
-use Rattle.std.proofs.Common.{◌≡◌, ◌∙◌, ◌||◌, Bool, true, false, refl, arith, length-drop}
-use Rattle.std.proofs.KnownBytes.{Appends-trans}
+use Rattle.std.proofs.Common.{◌≡◌, ◌∙◌, ◌||◌, Bool, true, false, refl, sym, arith, take, drop, length-drop, take-append-drop}
+use Rattle.std.proofs.KnownBytes.{Appends-kept, Appends-trans}
 use Rattle.std.proofs.Math.Seq.{take-add}
 use Rattle.iox_script.proofs.WordLemmas.{take-rest}
 use Rattle.iox_script.proofs.write_all.write_all.Goals as goal
@@ -17,3 +17,11 @@ loop-start-preserved g c =
           (Appends-trans _ _ _ _ _ c.loop-start.invariant.written bytes);
       failed = c.in-Some.ensures.failed ∙ or-false _ ∙ c.loop-start.invariant.failed;
     }
+
+pub returns-in_default-clause-begun : goal.returns-in_default-clause-begun
+returns-in_default-clause-begun g c = (
+  take c.loop-start.start c.args.bytes.now,
+  drop c.loop-start.start c.args.bytes.now,
+  sym (take-append-drop c.loop-start.start c.args.bytes.now),
+  Appends-kept _ _ _ _ c.loop-start.invariant.written c.in_default.ensures.kept,
+)

@@ -4,18 +4,18 @@ use Rattle.std.proofs.lemmas.List.{append-nil}
 use Rattle.iox_script.proofs.Advancing.{Advances-pushed, Advances-ignored, Advances-answered}
 use Rattle.iox_script.proofs.session.Session.take_byte.Goals as goal
 
-pub returns-then-len-le-LINE_LIMIT : goal.returns-then-len-le-LINE_LIMIT
-returns-then-len-le-LINE_LIMIT c =
+pub returns-then-len-le-LINE_LIMIT-clause-answers : goal.returns-then-len-le-LINE_LIMIT-clause-answers
+returns-then-len-le-LINE_LIMIT-clause-answers c =
     rw (← c.self.view_is, c.push_reserved.ensures.items) ([], sym (append-nil c.args.out.now.items), Advances-pushed _ _)
 
-pub returns-else-len-le-LINE_LIMIT : goal.returns-else-len-le-LINE_LIMIT
-returns-else-len-le-LINE_LIMIT c =
+pub returns-else-len-le-LINE_LIMIT-clause-answers : goal.returns-else-len-le-LINE_LIMIT-clause-answers
+returns-else-len-le-LINE_LIMIT-clause-answers c =
     let other : (c.args.byte == 10) ≡ false = grind (arith, common_steps) in
     let full : length c.self.inside.line.items ≡ 1025 = omega (arith, c.self.inside.line.ok.0, c.self.invariant.1, c.len.ensures) in
     rw (← c.self.view_is) ([], sym (append-nil c.args.out.now.items), Advances-ignored _ _ c.self.invariant.0 full other)
 
-pub returns : goal.returns
-returns c =
+pub returns-clause-answers : goal.returns-clause-answers
+returns-clause-answers c =
     let answers = c.in_ok-answer_line.ensures.answers in
     let short : length c.self.inside.line.items ≤ 1025 = omega (arith, c.self.inside.line.ok.0, c.self.invariant.1) in
     rw (← c.self.view_is, c.clear.ensures.items, c.if-byte-ne10.false) (

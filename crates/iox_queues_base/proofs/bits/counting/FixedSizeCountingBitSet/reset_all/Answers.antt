@@ -1,4 +1,4 @@
 use Rattle.iox_queues_base.proofs.bits.counting.FixedSizeCountingBitSet.reset_all.Goals as goal
 
-pub returns-clause-calls : goal.returns-clause-calls
-returns-clause-calls g c = rw (← c.self.view_is) c.reset_all.ensures.calls
+pub returns-clause-called : goal.returns-clause-called
+returns-clause-called g c = rw (← c.self.view_is) c.reset_all.ensures.called
