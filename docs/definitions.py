@@ -1,0 +1,239 @@
+#!/usr/bin/env python3
+"""Compares docs/DEFINITIONS.md with the definitions that the clauses of public functions reach.
+
+Usage: docs/definitions.py          says what the page lacks, and what it names that isn't reached or isn't there
+       docs/definitions.py --rows   prints a row for each definition that the page lacks, from its comment
+
+The clauses are those of `requires` and `ensures`, and the ghost members of traits and of their implementations. Views,
+invariants and functions that aren't public count only for what the page may name beyond that. A clause reaches what it names by
+its `ghost use` lines, and a definition what it names by its `use` lines. Both are read as text: a name counts as used wherever
+it occurs. The status is 1 where the page differs.
+"""
+
+import re
+import sys
+from pathlib import Path
+
+DOCS = Path(__file__).resolve().parent
+CRATES = DOCS.parent / "crates"
+PAGE = DOCS / "DEFINITIONS.md"
+NAME = r"[^\s:(){}\[\],;.`]+"
+USE = re.compile(rf"^\s*(?:pub |ghost )*use (Rattle(?:\.{NAME})+?)(?:\.\{{([^}}]*)\}})?(?: as ({NAME}))?;?$", re.M)
+DEFINITION = re.compile(rf"^ *(?:abbrev pub|unfoldable pub|pub record|pub data|@mutual) ({NAME})", re.M)
+# Definitions that name each other are indented below this line.
+MUTUAL = re.compile(r"^abbrev mutual\n((?:(?:  .*)?\n)*)", re.M)
+VISIBLE = r"(?:pub(?:\(crate\))? )?"
+# What ties a type to its model: no caller's clause names it.
+OF_MODELS = {"view", "invariant"}
+
+
+def without_comments(text, mark):
+    return re.sub(rf"(?m)(^|\s){mark}(\s.*)?$", "", text)
+
+
+def names_of(text):
+    """Returns the names in a text, each alone and with what stands behind its dot."""
+    found = set()
+    for word in re.findall(rf"{NAME}(?:\.{NAME})*", text):
+        parts = word.split(".")
+        found.add(parts[0])
+        found.update(zip(parts, parts[1:]))
+    return found
+
+
+class Uses:
+    """What the `use` lines of a file bring in: definitions by their names, and modules of definitions by theirs."""
+
+    def __init__(self, text):
+        self.names, self.modules = {}, {}
+        for path, names, alias in USE.findall(text):
+            module = re.fullmatch(r"Rattle\.(iox\w*)\.specs\.(\w+)", path)
+            if not module or module[2] == "declared":
+                continue
+            if alias or not names:
+                self.modules[alias or module[2]] = module.groups()
+            for it in names.split(","):
+                there, _, here = it.strip().partition(" as ")
+                self.names[here or there] = (*module.groups(), there)
+
+    def reached(self, text, own=()):
+        """Returns the definitions that a text names, where the file's own ones are these."""
+        found = set()
+        for it in names_of(text):
+            if isinstance(it, tuple):
+                if it[0] in self.modules:
+                    found.add((*self.modules[it[0]], it[1]))
+            elif it in self.names:
+                found.add(self.names[it])
+            elif it in own:
+                found.add(own[it])
+        return found
+
+
+def definitions():
+    """Returns each definition, (crate, file, name), with its comment and the definitions that it names; in their order."""
+    found = {}
+    for file in sorted(CRATES.glob("*/specs/*.antt")):
+        text, crate = file.read_text(), file.parent.parent.name
+        text = MUTUAL.sub(lambda it: "\n".join(re.sub(r"^  pub (?=\S+ :)", "@mutual ", line) for line in it[1].split("\n")), text)
+        starts = list(DEFINITION.finditer(text))
+        own = {it[1]: (crate, file.stem, it[1]) for it in starts}
+        uses = Uses(text)
+        for it, behind in zip(starts, [*(it.start() for it in starts[1:]), len(text)]):
+            above = re.search(r"((?:^ *--.*\n)*)\Z", text[: it.start()], re.M)[1]
+            comment = " ".join(line.lstrip("- ") for line in above.splitlines())
+            body = without_comments(text[it.start() : behind], "--")
+            found[own[it[1]]] = (comment, uses.reached(body, own) - {own[it[1]]})
+    # A name that a file brings in and hands on stands for the definition itself.
+    for file in CRATES.glob("*/specs/*.antt"):
+        for path, names, _ in re.findall(rf"^pub use (Rattle(?:\.{NAME})+?)\.\{{([^}}]*)\}}()$", file.read_text(), re.M):
+            for here, target in Uses(f"use {path}.{{{names}}}").names.items():
+                found.setdefault((file.parent.parent.name, file.stem, here), ("", {target}))
+    return found
+
+
+# ---- clauses
+
+
+def balanced(text, at):
+    """Returns what stands in the braces that open at a place."""
+    depth = 0
+    for end in range(at, len(text)):
+        depth += {"{": 1, "}": -1}.get(text[end], 0)
+        if not depth:
+            return text[at + 1 : end]
+    return text[at + 1 :]
+
+
+def sources(crate):
+    """Returns the text of each module of a crate, by its path."""
+    src = CRATES / crate / "src"
+    return {str(it.relative_to(src).with_suffix("")): it.read_text() for it in src.rglob("*.rt")}
+
+
+def exported(texts):
+    """Returns what the `pub use` lines of a crate name, and which of its modules are public."""
+    lines = [it for text in texts.values() for it in re.findall(r"^pub use ([^;]*);", text, re.M)]
+    public, asked = set(), ["lib"]
+    while asked:
+        module = asked.pop()
+        public.add(module)
+        inner = re.findall(r"^pub mod (\w+)", texts.get(module, ""), re.M)
+        asked += inner if module == "lib" else [f"{module}/{it}" for it in inner]
+    return {it for line in lines for it in re.findall(r"\w+", line)}, public
+
+
+def items(text):
+    """Gives each item at the margin of a file: its trait and its type, where it has them, else its name; its head and its text."""
+    for item in re.split(r"(?m)^(?=(?:pub |pub\(crate\) |unsafe )*(?:impl|trait|fn|struct|enum|mod)\b)", text):
+        head = item.split("{", 1)[0]
+        # Without type arguments, as far as they go into each other.
+        plain = re.sub(r"<[^<>]*(?:<[^<>]*(?:<[^<>]*>)?[^<>]*>)?[^<>]*>", "", head)
+        found = re.match(rf"{VISIBLE}(?:impl|trait|fn|struct|enum)\s+(?:(\w+)\s+for\s+&?(?:'\w+ )?)?(\w+)", plain)
+        if found:
+            yield *found.groups(), head, item
+
+
+def clauses(crate, all_of_them):
+    """Gives each clause that a caller of the crate reads, or all clauses, views and invariants, with what its file brings in."""
+    texts = sources(crate)
+    names, public = exported(texts)
+    private = {it for text in texts.values() for it in re.findall(r"^(?:pub\(crate\) )?(?:trait|struct|enum) (\w+)", text, re.M)}
+    for module, text in texts.items():
+        uses, text = Uses(text), without_comments(text, "//+!?")
+        made_here = set(re.findall(r"\b(?:struct|enum|trait|fn) (\w+)", text))
+        for trait, owner, head, item in items(text):
+            is_public = module in public or owner in names or owner not in made_here
+            is_public = is_public and head.startswith(("pub ", "impl")) and not {owner, trait} & private
+            if not is_public and not all_of_them:
+                continue
+            for part in re.split(rf"(?m)^(?=\s*{VISIBLE}(?:final |const )*fn\b)", item):
+                is_private = re.match(r"\s*(?:pub\(crate\) |final |const )*fn\b", part)
+                if is_private and not trait and not head.startswith("pub trait") and not all_of_them:
+                    continue
+                for it in re.finditer(r"\b(?:requires|ensures)\b\*?(?:\s+\w+)?\s*\{", part):
+                    yield uses, balanced(part, it.end() - 1)
+            for it in re.finditer(r"(?m)^ {4}ghost (\w+)\s*[:=]\s*\{", item):
+                if all_of_them or it[1] not in OF_MODELS:
+                    yield uses, balanced(item, it.end() - 1)
+
+
+def reached(known, all_of_them=False):
+    """Returns the definitions that the public clauses of all crates reach, or all that are written there."""
+    crates = [it.name for it in CRATES.iterdir() if not it.name.endswith("_rows")]
+    asked = {it for crate in crates for uses, text in clauses(crate, all_of_them) for it in uses.reached(text)}
+    found = set()
+    while asked:
+        it = asked.pop()
+        if it in known and it not in found:
+            found.add(it)
+            asked |= known[it][1]
+    return found
+
+
+# ---- the page
+
+
+def files_of(cell, crate):
+    """Returns the spec files that the last cell of a row names, and the crate that it names last."""
+    found = set()
+    for path in re.findall(r"`([^`]*)`", cell):
+        folder, _, name = path.rpartition("/")
+        if path.endswith("/specs"):
+            folder, name = path, ""
+        if folder:
+            crate = folder.split("/")[0]
+        found |= {(crate, it.stem) for it in (CRATES / crate / "specs").glob(name or "*.antt")}
+    if "one file" in cell or "fixed-size ones" in cell:
+        found |= {(crate, it.stem) for it in (CRATES / crate / "specs").glob("*.antt")}
+    return found, crate
+
+
+def listed(known):
+    """Returns the definitions that the page lists, and a line for each name on it that no file has."""
+    found, strange, crate = set(), [], ""
+    order = list(known)
+    for number, line in enumerate(PAGE.read_text().splitlines(), 1):
+        head = re.match(r"## .*\(`crates/(\w+)/specs`\)", line)
+        crate = head[1] if head else crate
+        cells = [it.strip() for it in line.split(" | ")]
+        if not line.startswith("|") or len(cells) != 3 or cells[0] in ("| Definition", "|---|---|---|"):
+            continue
+        files, crate = files_of(cells[2], crate)
+        for first, last in re.findall(r"`([^`]+)`(?: \.\. `([^`]+)`)?", cells[0]):
+            here = [it for it in order if it[:2] in files and it[2] == first]
+            if not here or last and not any(it[:2] in files and it[2] == last for it in order):
+                strange.append(f"line {number}: there is no {first if not here else last} in {cells[2].rstrip(' |')}")
+            for it in here:
+                found.add(it)
+                ends = [other for other in order if other[:2] == it[:2] and other[2] == last]
+                if ends:
+                    found.update(order[order.index(it) : order.index(ends[0]) + 1])
+    return found, strange
+
+
+def main(words):
+    if words not in ([], ["--rows"]):
+        sys.exit(__doc__)
+    known = definitions()
+    wanted = reached(known)
+    allowed = wanted | reached(known, all_of_them=True)
+    on_page, strange = listed(known)
+    missing = [it for it in known if it in wanted - on_page]
+    extra = [it for it in known if it in on_page - allowed]
+    if words:
+        for it in missing:
+            print(f"| `{it[2]}` | {known[it][0]} | `{it[0]}/specs/{it[1]}.antt` |")
+        return 0
+    for it in missing:
+        print(f"missing: {it[2]} of {it[0]}/specs/{it[1]}.antt")
+    for it in extra:
+        print(f"not reached: {it[2]} of {it[0]}/specs/{it[1]}.antt")
+    for it in strange:
+        print(it)
+    print(f"{len(wanted)} definitions reached, {len(missing)} of them not listed; {len(extra)} listed and not reached, {len(strange)} unknown")
+    return 1 if missing or extra or strange else 0
+
+
+if __name__ == "__main__":
+    sys.exit(main(sys.argv[1:]))
