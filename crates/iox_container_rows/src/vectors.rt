@@ -197,14 +197,14 @@ fn are_noted(notes: &RefCell<[u8; 3]>, numbers: [u8; 3]) -> bool {
     notes.try_borrow().is_ok_and(|notes| *notes == numbers)
 }
 
-/// Whether the last of three items was noted once the vector is cut to two, which are then let go.
+/// Whether the last two of three items were noted, the last first, once the vector is cut to one, which is then let go.
 fn notes_the_last(alloc: Global, notes: &RefCell<[u8; 3]>) -> Result<bool, AllocError> {
     let mut vec = StaticVec::<Noted<'_>, 3>::new(alloc)?;
     for number in 1..4 {
         let _ = vec.push(Noted(number, notes));
     }
-    vec.truncate(2);
-    Ok(are_noted(notes, [0, 0, 3]))
+    vec.truncate(1);
+    Ok(are_noted(notes, [0, 3, 2]))
 }
 
 #[test]

@@ -9,3 +9,5 @@ pub mod Loaning
 pub mod Writing
 pub mod Reading
 pub mod Opening
+pub mod Fullness
+pub mod Holding

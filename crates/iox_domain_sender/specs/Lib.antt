@@ -2,3 +2,4 @@ pub mod Rows
 pub mod Payloads
 pub mod Messages
 pub mod Sending
+pub mod Laws

@@ -4,9 +4,11 @@
 //! - [`payloads`]: the values of the slots of all segments.
 //! - [`slot_header`]: what is told of a message beside its values.
 //! - [`sender_config`]: how a publisher is made.
+//! - [`laws`]: what the steps of a publisher come to, in other words.
 //! - [`sender`]: all of one publisher together.
 #![tactic(auto)]
 
+pub mod laws;
 pub mod payloads;
 pub mod rows;
 pub mod sender;
