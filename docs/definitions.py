@@ -189,8 +189,15 @@ def files_of(cell, crate):
     return found, crate
 
 
+def last_word(name):
+    return re.search(r"([A-Z]|(?<![A-Za-z0-9]))[a-z0-9]*$", name)[0]
+
+
 def listed(known):
-    """Returns the definitions that the page lists, and a line for each name on it that no file has."""
+    """Returns the definitions that the page lists, and a line for each name on it that no file has.
+
+    From one name `..` to another stand for those between them in the file with the same last word.
+    """
     found, strange, crate = set(), [], ""
     order = list(known)
     for number, line in enumerate(PAGE.read_text().splitlines(), 1):
@@ -207,8 +214,9 @@ def listed(known):
             for it in here:
                 found.add(it)
                 ends = [other for other in order if other[:2] == it[:2] and other[2] == last]
-                if ends:
-                    found.update(order[order.index(it) : order.index(ends[0]) + 1])
+                for other in order[order.index(it) : order.index(ends[0]) + 1] if ends else []:
+                    if last_word(other[2]) == last_word(last):
+                        found.add(other)
     return found, strange
 
 
