@@ -23,7 +23,7 @@ FullExactlyIf = (first size : ℕ) (slots : List ℕ)
 abbrev pub IsHeld : {L X : Type 0} → ℕ → ℕ → X → Uses L X → Type 0
 IsHeld index at message uses = slice_get (connection_at index uses).borrowed at ≡ Some message
 
--- Whatever the publisher does and whoever leaves, a message that a subscriber holds stays as it is, at its place.
+-- A message that a subscriber holds stays as it is, at its place, through these steps.
 pub record HeldStays (L X : Type 0) : Type 0 where
   pub loan : (index at : ℕ) (message : X) (one : L) (uses : Uses L X) → IsHeld index at message uses → IsHeld index at message (loaned one uses)
   pub drop : (index at : ℕ) (message : X) (place : ℕ) (uses : Uses L X) → IsHeld index at message uses → IsHeld index at message (dropped place uses)

@@ -7,8 +7,8 @@ pub fn full_exactly_if()
     ensures { FullExactlyIf }
 {}
 
-/// A message that a subscriber holds stays as it is, whatever the publisher does and whoever leaves, until that subscriber gives
-/// it back.
+/// A message that a subscriber holds stays as it is through loans, sends, new segments and deliveries, and when any connection
+/// ends, that subscriber's own too.
 pub fn held_stays<L, X>()
     ensures { HeldStays L X }
 {}
