@@ -4,3 +4,4 @@ pub mod Answers
 pub mod Ports
 pub mod Updating
 pub mod Sending
+pub mod Leaving

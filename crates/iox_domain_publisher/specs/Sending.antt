@@ -1,8 +1,13 @@
 -- How a message is sent to the connections of a publisher.
-use Rattle.std.specs.Prelude.{zero, suc, ℕ, ◌-◌, ◌≡◌, ◌&&◌, is_some, nat_lt, Bool, true, false, length, get_or, Option, None, Some, Result, Ok, Err, if◌then◌else◌}
-use Rattle.iox_domain_slots.specs.Uses.{accepts, offered, finished}
-use Rattle.iox_domain_sender.specs.Messages.{Message}
-use Rattle.iox_domain_sender.specs.Sending.{with_uses}
+use Rattle.std.specs.Prelude.{zero, suc, ℕ, ◌-◌, ◌≡◌, ◌==◌, ◌&&◌, ◌||◌, not, is_some, nat_lt, slice_get, List, Bool, true, false, length, get_or, Option, None, Some, Result, Ok, Err, if◌then◌else◌}
+use Rattle.std.specs.List.{position}
+use Rattle.iox_domain_slots.specs.Uses.{accepts, offered, begun, dropped, finished}
+use Rattle.iox_domain_sender.specs.Messages.{Message, Loan, sent_as}
+use Rattle.iox_domain_sender.specs.Sending.{with_uses, is_written_at}
+use Rattle.iox_index_base.specs.declared.container.Member.{Member}
+use Rattle.iox_domain_values.specs.declared.connection_failure.ConnectionFailure.{ConnectionFailure}
+use Rattle.iox_domain_values.specs.declared.degradation.DegradationAction.{DegradationAction}
+use Rattle.iox_domain_values.specs.declared.degradation.DegradationInfo.{DegradationInfo}
 use Rattle.iox_domain_values.specs.declared.backpressure.BackpressureInfo.{BackpressureInfo}
 use Rattle.iox_domain_values.specs.declared.backpressure.BackpressureDecision.{BackpressureDecision}
 use Rattle.iox_domain_values.specs.declared.backpressure.BackpressureDecision.TheVariants as decided
@@ -13,8 +18,10 @@ use Rattle.iox_domain_publisher.specs.declared.meeting.Sent.TheVariants as sent
 use Rattle.iox_domain_publisher.specs.declared.meeting.Meeting.{Meeting}
 use Rattle.iox_domain_publisher.specs.declared.meeting.Meeting.TheVariants as meeting
 use Rattle.iox_domain_publisher.specs.Places.{unheard}
-use Rattle.iox_domain_publisher.specs.Progress.{ProgressState, passed, counted, failing}
+use Rattle.iox_domain_publisher.specs.Progress.{ProgressState, start, passed, counted, failing}
+use Rattle.iox_domain_publisher.specs.Updating.{Updates}
 use Rattle.iox_domain_publisher.specs.declared.publisher_port.PublisherPort.{PublisherPort}
+use Rattle.iox_domain_publisher.specs.declared.subscriber_entry.SubscriberEntry.{SubscriberEntry}
 use Rattle.iox_domain_publisher.specs.Ports.{connection_of, is_live, with_connection_of}
 
 -- whether the message that is being sent may be put there: one is, and the connection goes on
@@ -116,3 +123,46 @@ abbrev pub Finishes : {T U : Type 0} → (BackpressureInfo → BackpressureDecis
 Finishes {T} {U} may old answer new =
     (arrived : Bool) × (gone : PublisherPort T U) × (Delivers may (length old.ties - old.progress.place) old arrived gone)
     × (answer ≡ sent_answer arrived gone.progress) × (new ≡ concluded arrived gone)
+
+-- the loan at this place of the list, if it may be sent: it is written, and nothing is being sent
+abbrev pub ready_at : {T U : Type 0} → Option ℕ → PublisherPort T U → Option ℕ
+ready_at None port = None
+ready_at (Some at) port = if is_some port.sender.uses.sending || not (is_written_at at port.sender.uses) then None else Some at
+
+-- the place in the list of loans of the one in this slot, if it may be sent
+abbrev pub ready_loan : {T U : Type 0} → ℕ → PublisherPort T U → Option ℕ
+ready_loan slot port = ready_at (position (λ loan. loan.slot == slot) port.sender.uses.loans) port
+
+-- the send of a loan begins
+abbrev pub begun_by : {T U : Type 0} → ℕ → Option (Loan T U) → PublisherPort T U → PublisherPort T U
+begun_by at None port = port
+begun_by at (Some loan) port = record port { progress = start; sender = with_uses (begun at (sent_as loan) port.sender.uses) port.sender }
+
+-- the send of the loan at this place of the list begins
+abbrev pub begun_at : {T U : Type 0} → ℕ → PublisherPort T U → PublisherPort T U
+begun_at at port = begun_by at (slice_get port.sender.uses.loans at) port
+
+-- the loan at this place of the list is given up
+abbrev pub dropped_at : {T U : Type 0} → ℕ → PublisherPort T U → PublisherPort T U
+dropped_at at port = record port { sender = with_uses (dropped at port.sender.uses) port.sender }
+
+-- A send after its update: a failure gives the loan up, else the message goes to the connections.
+abbrev pub SendsAfter : {T U : Type 0} → (BackpressureInfo → BackpressureDecision → Type 0) → ℕ → Result (Unit {0}) ConnectionFailure → PublisherPort T U → Option (Result Sent SendError) → PublisherPort T U → Type 0
+SendsAfter may at (Err failure) updated answer new = (answer ≡ Some (Err (sending.ConnectionError failure))) × (new ≡ dropped_at at updated)
+SendsAfter may at (Ok done) updated answer new =
+    (finished : Result Sent SendError) × (Finishes may (begun_at at updated) finished new) × (answer ≡ Some finished)
+
+-- A send by a publisher that stands, and by one that left: that one gives the loan up.
+abbrev pub SendsIf : {T U : Type 0} → Bool → (DegradationInfo → DegradationAction → Type 0) → (BackpressureInfo → BackpressureDecision → Type 0) → List (Option (Member SubscriberEntry)) → ℕ → ℕ
+    → PublisherPort T U → Option (Result Sent SendError) → PublisherPort T U → Type 0
+SendsIf false may_degrade may listed changes at old answer new =
+    (answer ≡ Some (Err sending.ConnectionBrokenSinceSenderNoLongerExists)) × (new ≡ dropped_at at old)
+SendsIf {T} {U} true may_degrade may listed changes at old answer new =
+    (outcome : Result (Unit {0}) ConnectionFailure) × (updated : PublisherPort T U) × (Updates may_degrade listed changes old outcome updated)
+    × (SendsAfter may at outcome updated answer new)
+
+-- A send of the loan at this place of the list; without one nothing happens.
+abbrev pub Sends : {T U : Type 0} → (DegradationInfo → DegradationAction → Type 0) → (BackpressureInfo → BackpressureDecision → Type 0) → List (Option (Member SubscriberEntry)) → ℕ → Option ℕ
+    → PublisherPort T U → Option (Result Sent SendError) → PublisherPort T U → Type 0
+Sends may_degrade may listed changes None old answer new = (answer ≡ None) × (new ≡ old)
+Sends may_degrade may listed changes (Some at) old answer new = SendsIf old.stands may_degrade may listed changes at old answer new

@@ -8,12 +8,14 @@
 //! - [`handlers`]: who is asked at a full mailbox and where a connection failed.
 //! - [`publisher_port`]: a publisher.
 //! - [`connecting`]: its connections are made and ended.
+//! - [`leaving`]: it comes and leaves.
 //! - [`updating`]: it follows the list of subscribers.
 //! - [`sending`]: it sends.
 #![tactic(auto)]
 
 pub mod connecting;
 pub mod handlers;
+pub mod leaving;
 pub mod meeting;
 pub mod places;
 pub mod progress;

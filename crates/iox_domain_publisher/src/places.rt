@@ -1,6 +1,6 @@
 //! Values at places, as they are first needed.
 ghost use Rattle.std.specs.Prelude.{◌≡◌, length, take, set, get_or, None, [], OnErr, IfOk};
-ghost use Rattle.iox_domain_publisher.specs.Places.{reached, leads_to, left, unheard};
+ghost use Rattle.iox_domain_publisher.specs.Places.{reached, leads_to, left, unheard, is_attached};
 ghost use Rattle.std.specs.List.{position};
 
 use crate::meeting::Meeting;
@@ -103,6 +103,16 @@ impl Places<Reader> {
                 attached: false,
             }),
         );
+    }
+
+    /// Whether somebody reads at a place.
+    pub fn is_attached(&self, place: usize) -> bool
+        ensures { result ≡ is_attached (get_or self.now place None) }
+    {
+        match self.get(place) {
+            Some(reader) => reader.attached,
+            None => false,
+        }
     }
 
     /// What comes of a full mailbox at a place: who reads there is asked about.

@@ -1,18 +1,24 @@
 //! A publisher sends.
-ghost use Rattle.std.specs.Prelude.{◌≡◌, ◌≢◌, ℕ, ◌+◌, ◌-◌, ◌<◌, ◌≤◌, ◌^◌, Ok, length, get_or, is_some, true, None, Some};
+ghost use Rattle.std.specs.Prelude.{◌≡◌, ◌≢◌, ℕ, ◌+◌, ◌-◌, ◌<◌, ◌≤◌, ◌^◌, Ok, length, get_or, is_some, true, None, Some, IfSome, IsSome};
 ghost use Rattle.iox_domain_values.specs.Relations.{AllowSame};
+ghost use Rattle.iox_domain_values.specs.DegradationAnswers.{Allowed};
+ghost use Rattle.iox_domain_values.specs.declared.degradation.DegradationCause.TheVariants as cause;
 ghost use Rattle.iox_domain_sender.specs.Sending.{is_written_at};
 ghost use Rattle.iox_domain_publisher.specs.Answers.{MayDecide};
 ghost use Rattle.iox_domain_publisher.specs.declared.meeting.Meeting.TheVariants as meeting;
 ghost use Rattle.iox_domain_publisher.specs.Progress.{passed, counted, failing, tried_again};
-ghost use Rattle.iox_domain_publisher.specs.Sending.{meeting_of, meeting_at, put_at, met, with_progress, info_of, goes_on_by, decided_by, sent_answer, concluded, Steps, Delivers, Finishes};
+ghost use Rattle.iox_domain_publisher.specs.Sending.{meeting_of, meeting_at, put_at, met, with_progress, info_of, goes_on_by, decided_by, sent_answer, concluded, ready_loan, begun_at, dropped_at, Sends, Steps, Delivers, Finishes};
 
 use crate::handlers::Handlers;
 use crate::meeting::{Meeting, Sent};
 use crate::progress::Progress;
 use crate::publisher_port::PublisherPort;
+use crate::subscriber_entry::SubscriberEntry;
 use iox_domain_values::backpressure_handler::BackpressureFn;
+use iox_domain_values::degradation_handler::DegradationFn;
 use iox_domain_values::{BackpressureDecision, BackpressureInfo, SendError};
+use iox_index_base::Member;
+use std::alloc::Global;
 
 impl<T: Copy, U: Copy> PublisherPort<T, U> {
     // Puts the message that is being sent into the mailbox that the next place is tied to.
@@ -83,6 +89,7 @@ impl<T: Copy, U: Copy> PublisherPort<T, U> {
     fn step(&mut self, handlers: &mut Handlers) -> bool
         ensures step { Steps (MayDecide (λ object. (⟦<dyn BackpressureFn as BackpressureFn>⟧ object.vtable).allows object.value) handlers.old.strategy handlers.old.backpressure) (meeting_at self.old.progress.place self.old) (met self.old.progress.place self.old) result self.new }
         ensures same { AllowSame (MayDecide (λ object. (⟦<dyn BackpressureFn as BackpressureFn>⟧ object.vtable).allows object.value) handlers.new.strategy handlers.new.backpressure) (MayDecide (λ object. (⟦<dyn BackpressureFn as BackpressureFn>⟧ object.vtable).allows object.value) handlers.old.strategy handlers.old.backpressure) }
+        ensures others { handlers.new.degradation ≡ handlers.old.degradation }
     {
         match self.meet() {
             Meeting::Over => false,
@@ -106,6 +113,7 @@ impl<T: Copy, U: Copy> PublisherPort<T, U> {
     fn go_on(&mut self, handlers: &mut Handlers) -> bool
         ensures delivers { Delivers (MayDecide (λ object. (⟦<dyn BackpressureFn as BackpressureFn>⟧ object.vtable).allows object.value) handlers.old.strategy handlers.old.backpressure) (length self.old.ties - self.old.progress.place) self.old result self.new }
         ensures same { AllowSame (MayDecide (λ object. (⟦<dyn BackpressureFn as BackpressureFn>⟧ object.vtable).allows object.value) handlers.new.strategy handlers.new.backpressure) (MayDecide (λ object. (⟦<dyn BackpressureFn as BackpressureFn>⟧ object.vtable).allows object.value) handlers.old.strategy handlers.old.backpressure) }
+        ensures others { handlers.new.degradation ≡ handlers.old.degradation }
     {
         for _place in self.progress.place()..self.ties.len() {
             if !self.step(handlers) {
@@ -135,6 +143,7 @@ impl<T: Copy, U: Copy> PublisherPort<T, U> {
     fn deliver(&mut self, handlers: &mut Handlers) -> Result<Sent, SendError>
         ensures sends { Finishes (MayDecide (λ object. (⟦<dyn BackpressureFn as BackpressureFn>⟧ object.vtable).allows object.value) handlers.old.strategy handlers.old.backpressure) self.old result self.new }
         ensures same { AllowSame (MayDecide (λ object. (⟦<dyn BackpressureFn as BackpressureFn>⟧ object.vtable).allows object.value) handlers.new.strategy handlers.new.backpressure) (MayDecide (λ object. (⟦<dyn BackpressureFn as BackpressureFn>⟧ object.vtable).allows object.value) handlers.old.strategy handlers.old.backpressure) }
+        ensures others { handlers.new.degradation ≡ handlers.old.degradation }
     {
         let arrived = self.go_on(handlers);
         self.conclude(arrived)
@@ -146,6 +155,7 @@ impl<T: Copy, U: Copy> PublisherPort<T, U> {
     pub fn retry(&mut self, elapsed: u64, handlers: &mut Handlers) -> Result<Sent, SendError>
         ensures sends { Finishes (MayDecide (λ object. (⟦<dyn BackpressureFn as BackpressureFn>⟧ object.vtable).allows object.value) handlers.old.strategy handlers.old.backpressure) (with_progress (tried_again elapsed self.old.progress) self.old) result self.new }
         ensures same { AllowSame (MayDecide (λ object. (⟦<dyn BackpressureFn as BackpressureFn>⟧ object.vtable).allows object.value) handlers.new.strategy handlers.new.backpressure) (MayDecide (λ object. (⟦<dyn BackpressureFn as BackpressureFn>⟧ object.vtable).allows object.value) handlers.old.strategy handlers.old.backpressure) }
+        ensures others { handlers.new.degradation ≡ handlers.old.degradation }
     {
         self.try_again(elapsed);
         self.deliver(handlers)
@@ -165,5 +175,72 @@ impl<T: Copy, U: Copy> PublisherPort<T, U> {
     {
         self.sender.finish_send();
         self.progress.delivered()
+    }
+
+    // The place in the list of loans of the one in this slot, if it may be sent: it is written, and nothing is being sent.
+    fn ready(&self, slot: usize) -> Option<usize>
+        ensures ready { result ≡ ready_loan slot self.now }
+        ensures loan { IfSome result (λ at. at < length self.now.sender.uses.loans) }
+        ensures alone { IsSome result → self.now.sender.uses.sending ≡ None }
+        ensures written { IfSome result (λ at. is_written_at at self.now.sender.uses ≡ true) }
+    {
+        let at = self.sender.place_of_loan(slot)?;
+        if self.sender.is_sending() || !self.sender.is_written(at) {
+            return None;
+        }
+        Some(at)
+    }
+
+    // Begins the send of the written loan at this place of the list of loans.
+    fn begin(&mut self, at: usize)
+        requires loan { at < length self.old.sender.uses.loans }
+        requires alone { self.old.sender.uses.sending ≡ None }
+        requires written { is_written_at at self.old.sender.uses ≡ true }
+        ensures { self.new ≡ begun_at at self.old }
+    {
+        let _slot = self.sender.begin_send(at);
+        self.progress = Progress::start();
+    }
+
+    // Gives up the loan at this place of the list of loans.
+    fn drop_loan(&mut self, at: usize)
+        requires { at < length self.old.sender.uses.loans }
+        ensures { self.new ≡ dropped_at at self.old }
+    {
+        self.sender.drop_loan(at);
+    }
+
+    /// Sends the written loan in this slot: it is a loan no longer, and the newest of the history; each connection that goes on takes
+    /// it, in the order of the list of subscribers, which is followed first. With safe overflow a full mailbox lets its oldest go;
+    /// without it the handlers decide, and the send may wait. None, and nothing happens, where no written loan stands there or
+    /// another send waits.
+    ///
+    /// Refused with `ConnectionBrokenSinceSenderNoLongerExists` if the publisher left, with `ConnectionError` where the list isn't
+    /// followed; then the loan is given up, and nothing is sent. `UnableToDeliver` where a handler said so; what was delivered stays.
+    ///
+    /// Ported from `iceoryx2::port::publisher::Publisher::send`.
+    pub fn send(
+        &mut self,
+        alloc: Global,
+        slot: usize,
+        listed: &[Option<Member<SubscriberEntry>>],
+        changes: u64,
+        handlers: &mut Handlers,
+    ) -> Option<Result<Sent, SendError>>
+        ensures sends { Sends (Allowed (λ object. (⟦<dyn DegradationFn as DegradationFn>⟧ object.vtable).allows object.value) handlers.old.degradation cause.FailedToEstablishConnection) (MayDecide (λ object. (⟦<dyn BackpressureFn as BackpressureFn>⟧ object.vtable).allows object.value) handlers.old.strategy handlers.old.backpressure) listed.now changes (ready_loan slot self.old) self.old result self.new }
+        ensures same { AllowSame (MayDecide (λ object. (⟦<dyn BackpressureFn as BackpressureFn>⟧ object.vtable).allows object.value) handlers.new.strategy handlers.new.backpressure) (MayDecide (λ object. (⟦<dyn BackpressureFn as BackpressureFn>⟧ object.vtable).allows object.value) handlers.old.strategy handlers.old.backpressure) }
+        ensures same_degradation { AllowSame (Allowed (λ object. (⟦<dyn DegradationFn as DegradationFn>⟧ object.vtable).allows object.value) handlers.new.degradation cause.FailedToEstablishConnection) (Allowed (λ object. (⟦<dyn DegradationFn as DegradationFn>⟧ object.vtable).allows object.value) handlers.old.degradation cause.FailedToEstablishConnection) }
+    {
+        let at = self.ready(slot)?;
+        if !self.stands {
+            self.drop_loan(at);
+            return Some(Err(SendError::ConnectionBrokenSinceSenderNoLongerExists));
+        }
+        if let Err(failure) = self.update(alloc, listed, changes, &mut handlers.degradation) {
+            self.drop_loan(at);
+            return Some(Err(SendError::ConnectionError(failure)));
+        }
+        self.begin(at);
+        Some(self.deliver(handlers))
     }
 }

@@ -1,0 +1,37 @@
+-- A send by its parts.
+use Rattle.std.proofs.Common.{◌≡◌, ℕ, Bool, true, List, Result, Ok, Err, Option, Some, refl}
+use Rattle.iox_domain_values.specs.declared.backpressure.BackpressureInfo.{BackpressureInfo}
+use Rattle.iox_domain_values.specs.declared.backpressure.BackpressureDecision.{BackpressureDecision}
+use Rattle.iox_domain_values.specs.declared.connection_failure.ConnectionFailure.{ConnectionFailure}
+use Rattle.iox_domain_values.specs.declared.degradation.DegradationAction.{DegradationAction}
+use Rattle.iox_domain_values.specs.declared.degradation.DegradationInfo.{DegradationInfo}
+use Rattle.iox_domain_values.specs.declared.port_error.SendError.{SendError}
+use Rattle.iox_domain_values.specs.declared.port_error.SendError.TheVariants as sending
+use Rattle.iox_index_base.specs.declared.container.Member.{Member}
+use Rattle.iox_domain_publisher.specs.declared.meeting.Sent.{Sent}
+use Rattle.iox_domain_publisher.specs.declared.publisher_port.PublisherPort.{PublisherPort}
+use Rattle.iox_domain_publisher.specs.declared.subscriber_entry.SubscriberEntry.{SubscriberEntry}
+use Rattle.iox_domain_publisher.specs.Updating.{Updates}
+use Rattle.iox_domain_publisher.specs.Sending.{Sends, SendsIf, Finishes, begun_at, dropped_at}
+
+-- a send by a publisher of which is known whether it stands
+if_stands : {T U : Type 0} (stands : Bool) (may_degrade : DegradationInfo → DegradationAction → Type 0) (may : BackpressureInfo → BackpressureDecision → Type 0) (listed : List (Option (Member SubscriberEntry))) (changes at : ℕ)
+    (old : PublisherPort T U) (answer : Option (Result Sent SendError)) (new : PublisherPort T U) → stands ≡ true
+    → SendsIf true may_degrade may listed changes at old answer new → SendsIf stands may_degrade may listed changes at old answer new
+if_stands stands may_degrade may listed changes at old answer new is sends = rw is sends
+
+-- its update failed
+pub sends_refused : {T U : Type 0} (may_degrade : DegradationInfo → DegradationAction → Type 0) (may : BackpressureInfo → BackpressureDecision → Type 0) (listed : List (Option (Member SubscriberEntry))) (changes : ℕ)
+    (ready : Option ℕ) (at : ℕ) (old updated new : PublisherPort T U) (outcome : Result (Unit {0}) ConnectionFailure) (failure : ConnectionFailure)
+    → ready ≡ Some at → old.stands ≡ true → Updates may_degrade listed changes old outcome updated → outcome ≡ Err failure → new ≡ dropped_at at updated
+    → Sends may_degrade may listed changes ready old (Some (Err (sending.ConnectionError failure))) new
+sends_refused may_degrade may listed changes ready at old updated new outcome failure is_ready stands updates is_err is_new =
+    rw is_ready (if_stands old.stands may_degrade may listed changes at old _ new stands (outcome, updated, updates, rw is_err (refl, is_new)))
+
+-- it was sent
+pub sends_sent : {T U : Type 0} (may_degrade : DegradationInfo → DegradationAction → Type 0) (may : BackpressureInfo → BackpressureDecision → Type 0) (listed : List (Option (Member SubscriberEntry))) (changes : ℕ)
+    (ready : Option ℕ) (at : ℕ) (old updated begun new : PublisherPort T U) (outcome : Result (Unit {0}) ConnectionFailure) (done : Unit {0}) (answer : Result Sent SendError)
+    → ready ≡ Some at → old.stands ≡ true → Updates may_degrade listed changes old outcome updated → outcome ≡ Ok done → begun ≡ begun_at at updated → Finishes may begun answer new
+    → Sends may_degrade may listed changes ready old (Some answer) new
+sends_sent may_degrade may listed changes ready at old updated begun new outcome done answer is_ready stands updates is_ok is_begun finishes =
+    rw is_ready (if_stands old.stands may_degrade may listed changes at old _ new stands (outcome, updated, updates, rw is_ok (answer, rw is_begun at finishes, refl)))

@@ -1,0 +1,60 @@
+//! A publisher comes and leaves.
+ghost use Rattle.std.specs.Prelude.{◌≡◌, ◌<◌, ◌^◌, IfOk, true, [], length};
+ghost use Rattle.iox_domain_publisher.specs.Leaving.{new_port, parted_at, departed};
+
+use crate::places::Places;
+use crate::progress::Progress;
+use crate::publisher_port::PublisherPort;
+use iox_domain_sender::{Sender, SenderConfig};
+use std::alloc::{AllocError, Global};
+
+impl<T: Copy, U: Copy> PublisherPort<T, U> {
+    /// A publisher of this number in a service, that is connected to nobody yet. It fails only where memory is wanting.
+    pub fn new(
+        alloc: Global,
+        service: u64,
+        number: u64,
+        config: SenderConfig,
+        blank: T,
+        user_header: U,
+    ) -> Result<PublisherPort<T, U>, AllocError>
+        requires loans { config.most_loans < 2 ^ 32 }
+        requires history { config.history < 2 ^ 32 }
+        requires waiting { config.most_waiting < 2 ^ 32 }
+        requires borrowed { config.most_borrowed < 2 ^ 32 }
+        requires segments { 0 < config.most_segments }
+        ensures { IfOk result (λ port. port ≡ new_port service number config user_header) }
+    {
+        Ok(PublisherPort {
+            service,
+            number,
+            stands: true,
+            seen: 0,
+            ties: Places::new(alloc),
+            readers: Places::new(alloc),
+            progress: Progress::start(),
+            sender: Sender::new(alloc, config, blank, user_header)?,
+        })
+    }
+
+    // Ends the connection of this index if it goes on and nobody reads there.
+    fn part(&mut self, index: usize)
+        ensures { self.new ≡ parted_at index self.old }
+    {
+        if !self.readers.is_attached(index) {
+            self.end(index);
+        }
+    }
+
+    /// Leaves: the publisher sends no more. Connections where nobody reads end; the others stay until their subscribers find out.
+    ///
+    /// Ported from dropping an `iceoryx2::port::publisher::Publisher`.
+    pub fn leave(&mut self)
+        ensures { self.new ≡ departed self.old }
+    {
+        self.stands = false;
+        for index in 0..self.sender.indices() {
+            self.part(index);
+        }
+    }
+}
