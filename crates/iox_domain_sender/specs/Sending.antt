@@ -70,6 +70,10 @@ has_loan slot uses = list_any (λ loan. eqb slot loan.slot) uses.loans
 abbrev pub has_place : {T U : Type 0} → ℕ → ℕ → Uses (Loan T U) (Message T U) → Bool
 has_place slot place uses = list_any (λ loan. eqb slot loan.slot && nat_lt place (length loan.values)) uses.loans
 
+-- one of the loans stands in this slot, and has so many values
+abbrev pub has_length : {T U : Type 0} → ℕ → ℕ → Uses (Loan T U) (Message T U) → Bool
+has_length slot count uses = list_any (λ loan. eqb slot loan.slot && eqb count (length loan.values)) uses.loans
+
 -- whether a loan is written; no loan isn't
 abbrev pub is_written_loan : {T U : Type 0} → Option (Loan T U) → Bool
 is_written_loan None = false

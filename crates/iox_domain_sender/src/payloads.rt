@@ -68,16 +68,15 @@ impl<T: Copy> Payloads<T> {
         segment.set_length(row, count);
     }
 
-    /// Gives a slot of the last segment this value so many times.
-    pub fn fill(&mut self, slot: usize, count: usize, value: T)
+    /// Puts these values into a slot, in the place of as many that stand there.
+    pub fn copy(&mut self, slot: usize, values: &[T])
         requires slot { slot < length self.old.payloads }
-        requires last { length self.old.payloads ≤ slot + self.old.size }
-        requires room { count ≤ self.old.room }
-        ensures { self.new ≡ with_payload slot (replicate count value) self.old }
+        requires length { length values.now ≡ length (payload_at slot self.old) }
+        ensures { self.new ≡ with_payload slot values.now self.old }
     {
         let row = slot % self.size;
         let segment = &mut self.segments[slot / self.size];
-        segment.fill(row, count, value);
+        segment.copy(row, values);
     }
 
     /// Puts a value at a place of a slot.
@@ -122,5 +121,17 @@ impl<T: Copy> Payloads<T> {
         ensures { result ≡ self.now.most_segments - self.now.segments }
     {
         self.most_segments.saturating_sub(self.segments.len())
+    }
+}
+
+impl Payloads<bool> {
+    /// Puts this mark at each place of a slot.
+    pub fn fill(&mut self, slot: usize, mark: bool)
+        requires { slot < length self.old.payloads }
+        ensures { self.new ≡ with_payload slot (replicate (length (payload_at slot self.old)) mark) self.old }
+    {
+        let row = slot % self.size;
+        let segment = &mut self.segments[slot / self.size];
+        segment.fill(row, mark);
     }
 }

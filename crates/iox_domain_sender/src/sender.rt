@@ -3,8 +3,8 @@ ghost use Rattle.std.specs.Prelude.{◌≡◌, ℕ, ◌+◌, ◌<◌, ◌≤◌,
 ghost use Rattle.iox_domain_slots.specs.declared.stage.Stage.TheVariants as stage;
 ghost use Rattle.iox_domain_slots.specs.Uses.{Uses, nobody, placed, connected, is_there, worst_case, accepts, offered, taken, given_back, ended, welcomed, dropped, begun, finished, connection_at, with_connection};
 ghost use Rattle.std.specs.List.{list_all};
-ghost use Rattle.iox_domain_sender.specs.Messages.{Message, Loan, write_value, write_user_header, sent_as};
-ghost use Rattle.iox_domain_sender.specs.Sending.{SenderState, LoanMade, with_uses, change_loan, has_loan, has_place, is_written_at, opened_for};
+ghost use Rattle.iox_domain_sender.specs.Messages.{Message, Loan, write_value, write_all, write_user_header, sent_as};
+ghost use Rattle.iox_domain_sender.specs.Sending.{SenderState, LoanMade, with_uses, change_loan, has_loan, has_place, has_length, is_written_at, opened_for};
 
 use crate::payloads::Payloads;
 use crate::rows::Rows;
@@ -107,7 +107,8 @@ impl<T: Copy, U: Copy> Sender<T, U> {
     {
         let slot = self.uses.loan()?;
         self.values.set_length(slot, values);
-        self.written.fill(slot, values, false);
+        self.written.set_length(slot, values);
+        self.written.fill(slot, false);
         self.headers[slot] = SlotHeader {
             elements,
             user_header: self.blank.user_header,
@@ -122,6 +123,15 @@ impl<T: Copy, U: Copy> Sender<T, U> {
     {
         self.values.write(slot, place, value);
         self.written.write(slot, place, true);
+    }
+
+    /// Writes all values of the loan in this slot at once.
+    pub fn write_from_slice(&mut self, slot: usize, values: &[T])
+        requires { has_length slot (length values.now) self.old.uses ≡ true }
+        ensures { self.new ≡ with_uses (change_loan slot (write_all values.now) self.old.uses) self.old }
+    {
+        self.values.copy(slot, values);
+        self.written.fill(slot, true);
     }
 
     /// Writes the user header of the loan in this slot.
@@ -155,6 +165,16 @@ impl<T: Copy, U: Copy> Sender<T, U> {
             return false;
         }
         place < self.values.values(slot).len()
+    }
+
+    /// Whether a loan of so many values stands in this slot: the condition of writing all of them at once.
+    pub fn has_length(&self, slot: usize, count: usize) -> bool
+        ensures { result ≡ has_length slot count self.now.uses }
+    {
+        if !self.has_loan(slot) {
+            return false;
+        }
+        count == self.values.values(slot).len()
     }
 
     /// The value at a place of the loan in this slot, if it is written.
