@@ -1,6 +1,6 @@
 -- Rows that stand in one list.
 use Rattle.std.proofs.Common.{arith, ◌≡◌, ◌+◌, ◌*◌, ◌<◌, ◌≤◌, ◌∷◌, [], ◌++◌, ℕ, zero, suc, Bool, true, false, nat_lt, List, Vec, length, get_or, set, take, drop, replicate, refl, sym, ap, ◌∙◌}
-use Rattle.std.proofs.lemmas.List.{get_or-set_same, get_or_past, length-append, length-set, length-take-le, length-drop, drop-set-lt, drop-set-add, take_at, take-set-le, with_items_is}
+use Rattle.std.proofs.lemmas.List.{get_or-drop, get_or-take, get_or-set_same, get_or_past, length-append, length-set, length-take-le, length-drop, drop-set-lt, drop-set-add, take_at, take-set-le, with_items_is}
 use Rattle.std.proofs.Math.Nat.{suc-mul}
 use Rattle.std.proofs.Math.Seq.{take-set-lt}
 use Rattle.std.proofs.lemmas.Slice.{drop-append-drop}
@@ -232,3 +232,14 @@ copy_rest state room lengths values row xs new is full fits below long made =
 
     same : length new ≡ values.len
     same = ap length made ∙ put_length (row * room) xs values.items inside ∙ sym values.ok.0
+
+-- the value at a place of a row
+pub value_in_row : {T : Type 0} (state : RowsState T) (room : ℕ) (lengths : List ℕ) (values : List T) (row place : ℕ) (value : T)
+    → (record { room = room; rows = rows_in room lengths values }) ≡ state → length values ≡ length lengths * room → AllWithin room lengths
+    → place < length (row_at row state) → value ≡ get_or values (row * room + place) value → value ≡ get_or (row_at row state) place value
+value_in_row state room lengths values row place value is full fits inside there =
+    let at = place_within state room lengths values row place is full fits inside in
+    there
+    ∙ sym (get_or-drop (row * room) values place value)
+    ∙ sym (get_or-take (get_or lengths row 0) (drop (row * room) values) place value at.1)
+    ∙ ap (λ xs. get_or xs place value) (sym (row_seen state room lengths values row is at.0))

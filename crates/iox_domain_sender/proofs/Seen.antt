@@ -16,8 +16,8 @@ use Rattle.std.proofs.Math.Dec.{eqb}
 use Rattle.std.proofs.lemmas.Bool.Decides.{eqb_tells}
 use Rattle.iox_domain_slots.proofs.Counts.{times_cons, one_same}
 use Rattle.iox_domain_slots.proofs.Publishing.{in_use_times}
-use Rattle.iox_domain_sender.specs.Sending.{SenderState, Store, IsSender, has_loan, has_place, has_length, seen_sender, sender_of, with_uses, uses_by, connection_by, loan_in, message_in}
-use Rattle.iox_domain_sender.proofs.Writing.{lent_at, test_at, same_of, masked_length}
+use Rattle.iox_domain_sender.specs.Sending.{SenderState, Store, IsSender, has_loan, has_place, has_value, has_length, seen_sender, sender_of, with_uses, uses_by, connection_by, loan_in, message_in}
+use Rattle.iox_domain_sender.proofs.Writing.{lent_at, test_at, same_of, marked, masked_length}
 use Rattle.iox_domain_sender.proofs.Segments.{with_segment}
 use Rattle.iox_domain_sender.proofs.Naming.{connection_at_by, with_connection_by, offered_by, placed_by}
 
@@ -112,6 +112,12 @@ pub place_lent : {T U : Type 0} (store : Store T U) (old : Uses ℕ ℕ) (state 
 place_lent store old state slot place is there =
     let it = test_at store slot (λ loan. nat_lt place (length loan.values)) old.loans (ap (λ s. has_place slot place s.uses) is ∙ there) in
     (it.0, grind (arith, it.1))
+
+pub value_lent : {T U : Type 0} (store : Store T U) (old : Uses ℕ ℕ) (state : SenderState T U) (slot place : ℕ) → seen_sender store old ≡ state → IsSender store old
+    → has_value slot place state.uses ≡ true → (0 < times slot old.loans) × (get_or (payload_at slot store.written) place false ≡ true)
+value_lent store old state slot place is sender there =
+    let it = test_at store slot (λ loan. is_some (get_or loan.values place None)) old.loans (ap (λ s. has_value slot place s.uses) is ∙ there) in
+    (it.0, sym (marked (payload_at slot store.written) (payload_at slot store.values) place (sender.marks slot)) ∙ it.1)
 
 pub length_lent : {T U : Type 0} (store : Store T U) (old : Uses ℕ ℕ) (state : SenderState T U) (slot count : ℕ) → seen_sender store old ≡ state → IsSender store old
     → has_length slot count state.uses ≡ true → (0 < times slot old.loans) × (count ≡ length (payload_at slot store.values))

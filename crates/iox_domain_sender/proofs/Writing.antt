@@ -1,11 +1,11 @@
 -- A loan is written in its slot.
-use Rattle.std.proofs.Common.{rules, arith, ◌≡◌, ◌≢◌, ◌+◌, ◌<◌, ◌∷◌, [], ◌&&◌, ◌||◌, ◌⊎◌, inl, inr, ℕ, zero, suc, Bool, true, false, cond, nat_lt, if◌then◌else◌, List, length, get_or, set, map, replicate, Option, None, Some, refl, sym, subst, ap, ◌∙◌}
+use Rattle.std.proofs.Common.{rules, arith, ◌≡◌, ◌≢◌, ◌+◌, ◌<◌, ◌∷◌, [], ◌&&◌, ◌||◌, ◌⊎◌, inl, inr, ℕ, zero, suc, Bool, true, false, cond, nat_lt, if◌then◌else◌, List, length, get_or, set, map, replicate, is_some, Option, None, Some, refl, sym, subst, ap, ◌∙◌}
 use Rattle.std.specs.Option.{option_to_list}
 use Rattle.std.specs.List.{list_any}
 use Rattle.std.proofs.Math.Logic.{⊎_elim}
 use Rattle.std.proofs.Math.Dec.{eqb}
 use Rattle.std.proofs.lemmas.Bool.Decides.{eqb_tells}
-use Rattle.std.proofs.lemmas.List.{get_or-set_same, get_or-set_other, length-set}
+use Rattle.std.proofs.lemmas.List.{get_or-set_same, get_or-set_other, set-get_or, length-set}
 use Rattle.iox_domain_slots.specs.Uses.{Uses, held}
 use Rattle.iox_domain_slots.specs.Counting.{times}
 use Rattle.iox_domain_slots.proofs.Counts.{times_cons}
@@ -221,3 +221,31 @@ values_kept old new uses slot values marks is below values_are marks_are headers
     there : (k : ℕ) → k ≢ slot → length (payload_at k new.written) ≡ length (payload_at k new.values)
     there k apart = ap length (other_payload old.written new.written slot k marks marks_are apart) ∙ is.marks k
         ∙ sym (ap length (other_payload old.values new.values slot k values values_are apart))
+
+-- a value is written exactly where its mark is set
+pub marked : {T : Type 0} (marks : List Bool) (values : List T) (place : ℕ) → length marks ≡ length values
+    → is_some (get_or (masked marks values) place None) ≡ get_or marks place false
+marked [] values place same = refl
+marked (mark ∷ marks) [] place same = absurd (omega (arith, same))
+marked (true ∷ marks) (value ∷ values) zero same = refl
+marked (false ∷ marks) (value ∷ values) zero same = refl
+marked (mark ∷ marks) (value ∷ values) (suc place) same = marked marks values place (omega (arith, same))
+
+pub marked_within : (marks : List Bool) (place : ℕ) → get_or marks place false ≡ true → place < length marks
+marked_within [] place on = search (rules, on)
+marked_within (mark ∷ marks) zero on = omega arith
+marked_within (mark ∷ marks) (suc place) on = omega (arith, marked_within marks place on)
+
+-- a written value is written again in a slot
+pub value_changed : {T U : Type 0} (old new : Store T U) (slot place : ℕ) (value : T) → length (payload_at slot old.written) ≡ length (payload_at slot old.values)
+    → slot < length old.values.payloads → slot < length old.written.payloads → get_or (payload_at slot old.written) place false ≡ true
+    → new.values ≡ with_payload slot (set (payload_at slot old.values) place value) old.values
+    → new.written ≡ old.written → new.headers ≡ old.headers → new.blank ≡ old.blank → ChangedAt old slot (write_value place value) new
+value_changed old new slot place value marks below here on values written headers blank =
+    value_written old new slot place value marks below here values (written ∙ sym (ap (λ ms. with_payload slot ms old.written) still ∙ again)) headers blank
+  where
+    still : set (payload_at slot old.written) place true ≡ payload_at slot old.written
+    still = ap (set (payload_at slot old.written) place) (sym on) ∙ set-get_or (payload_at slot old.written) place false
+
+    again : with_payload slot (payload_at slot old.written) old.written ≡ old.written
+    again = ap (λ payloads. record old.written { payloads = payloads }) (set-get_or old.written.payloads slot [])

@@ -1,5 +1,6 @@
 //! The values that stand in the slots of a publisher.
 ghost use Rattle.std.specs.Prelude.{◌≡◌, ◌+◌, ◌-◌, ◌*◌, ◌/◌, ◌%◌, ◌<◌, ◌≤◌, ◌++◌, length, get_or, set, replicate, [], IfOk};
+ghost use Rattle.std.specs.Borrow.{sem};
 ghost use Rattle.iox_domain_sender.specs.Payloads.{PayloadsState, payload_at, with_payload};
 
 use crate::rows::Rows;
@@ -35,6 +36,8 @@ impl<T> Model for Payloads<T> {
 }
 
 impl<T: Copy> Payloads<T> {
+    ghost use Rattle.iox_domain_sender.specs.PayloadsLends.{LendsInSlot};
+
     /// No slots, to come in at most so many segments of this size. It fails only where memory is wanting.
     pub fn new(alloc: Global, size: usize, most_segments: usize) -> Result<Payloads<T>, AllocError>
         ensures { IfOk result (λ made. made ≡ record { size = size; segments = 0; most_segments = most_segments; room = 0; payloads = [] }) }
@@ -87,6 +90,16 @@ impl<T: Copy> Payloads<T> {
         let row = slot % self.size;
         let segment = &mut self.segments[slot / self.size];
         segment.write(row, place, value);
+    }
+
+    /// The value at a place of a slot, to be changed there.
+    pub fn value_mut(&mut self, slot: usize, place: usize) -> &mut T
+        requires { place < length (payload_at slot self.old) }
+        ensures* writes_back { sem 𝓛 (LendsInSlot T.row self.entry slot place result) }
+        ensures value { result.now ≡ get_or (payload_at slot self.old) place result.now }
+    {
+        let row = slot % self.size;
+        self.segments[slot / self.size].value_mut(row, place)
     }
 
     /// The values of a slot.

@@ -1,5 +1,6 @@
 //! Rows of values in one block of memory.
 ghost use Rattle.std.specs.Prelude.{◌≡◌, ◌+◌, ◌*◌, ◌^◌, ◌<◌, ◌≤◌, ◌++◌, length, get_or, set, take, drop, replicate, [], IfOk};
+ghost use Rattle.std.specs.Borrow.{sem};
 ghost use Rattle.iox_domain_sender.specs.Rows.{RowsState, row_at, with_row};
 
 use std::alloc::{AllocError, Global};
@@ -27,6 +28,8 @@ impl<T> Model for Rows<T> {
 }
 
 impl<T: Copy> Rows<T> {
+    ghost use Rattle.iox_domain_sender.specs.RowsLends.{LendsInRow};
+
     /// Rows without a value, with this room each. It fails only where memory is wanting.
     pub fn new(alloc: Global, rows: usize, room: usize, blank: T) -> Result<Rows<T>, AllocError>
         ensures { IfOk result (λ made. made ≡ record { room = room; rows = replicate rows [] }) }
@@ -75,6 +78,16 @@ impl<T: Copy> Rows<T> {
     {
         let at = row * self.room + place;
         self.values[at] = value;
+    }
+
+    /// The value at a place of a row, to be changed there.
+    pub fn value_mut(&mut self, row: usize, place: usize) -> &mut T
+        requires { place < length (row_at row self.old) }
+        ensures* writes_back { sem 𝓛 (LendsInRow T.row self.entry row place result) }
+        ensures value { result.now ≡ get_or (row_at row self.old) place result.now }
+    {
+        let at = row * self.room + place;
+        &mut self.values[at]
     }
 
     /// The values of a row.
