@@ -23,9 +23,11 @@ value_mut-requires g c =
 pub returns : goal.returns
 returns g c =
     let it = found c.args.self.now c.self.inside.size c.self.inside.most_segments c.self.inside.segments.items c.args.slot c.index_mut.result.now c.self.view_is c.self.invariant.0 (slot_within c.args.self.now.payloads c.args.slot c.args.place c.requires) c.index_mut.ensures.value in (
-      (refl, λ value. it.changed (set (payload_at c.args.slot c.args.self.now) c.args.place value)
-          (with_row (c.args.slot % c.self.inside.size) (set (row_at (c.args.slot % c.self.inside.size) c.index_mut.result.now) c.args.place value) c.index_mut.result.now)
-          (ap (λ values. with_row (c.args.slot % c.self.inside.size) (set values c.args.place value) c.index_mut.result.now) it.holds)
+      (
+        refl,
+        λ value. it.changed (set (payload_at c.args.slot c.args.self.now) c.args.place value)
+            (with_row (c.args.slot % c.self.inside.size) (set (row_at (c.args.slot % c.self.inside.size) c.index_mut.result.now) c.args.place value) c.index_mut.result.now)
+            (ap (λ values. with_row (c.args.slot % c.self.inside.size) (set values c.args.place value) c.index_mut.result.now) it.holds),
       ),
       record { writes_back = tt; value = c.value_mut.ensures.value ∙ ap (λ values. get_or values c.args.place c.value_mut.result.now) it.holds },
     )

@@ -1,7 +1,7 @@
 use Rattle.std.proofs.Common.{rules, arith, ◌≡◌, ◌∙◌, ◌≤◌, ◌*◌, length, get_or, ap, sym, take, drop, ◌++◌, ◌+◌, replicate}
 use Rattle.std.proofs.lemmas.List.{length-replicate}
 use Rattle.std.proofs.lemmas.Grind.{get_or_default_zero}
-use Rattle.iox_domain_sender.specs.Rows.{row_at, with_row}
+use Rattle.iox_domain_sender.specs.Rows.{with_row}
 use Rattle.iox_domain_sender.proofs.RowsIn.{row_within, there_is, seen_length, put_is, copy_rest}
 use Rattle.iox_domain_sender.proofs.rows.Rows+bool.fill.Goals as goal
 

@@ -1,4 +1,4 @@
-use Rattle.std.proofs.Common.{rules, arith, ◌≡◌, ◌∙◌, ◌≤◌, ◌*◌, length, get_or, ap, take, drop, ◌++◌, ◌+◌, refl}
+use Rattle.std.proofs.Common.{rules, arith, ◌∙◌, ◌≤◌, ◌*◌, length, get_or, ap, take, drop, ◌++◌, ◌+◌, refl}
 use Rattle.iox_domain_sender.proofs.RowsIn.{row_within, there_is, seen_length, put_is, copy_rest}
 use Rattle.iox_domain_sender.proofs.rows.Rows.copy.Goals as goal
 
