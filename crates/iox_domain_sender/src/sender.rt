@@ -387,6 +387,14 @@ impl<T: Copy, U: Copy> Sender<T, U> {
         self.uses.place_of_loan(slot)
     }
 
+    /// How many indices the connections have: one more than the last that ever stood.
+    pub fn indices(&self) -> usize
+        ensures value { result ≡ length self.now.uses.connections }
+        ensures few { result ≤ 2 ^ 29 }
+    {
+        self.uses.indices()
+    }
+
     /// How many loans are out.
     pub fn loans(&self) -> usize
         ensures { result ≡ length self.now.uses.loans }

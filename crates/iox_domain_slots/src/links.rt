@@ -228,6 +228,7 @@ impl Links {
     /// How many indices there are, with a connection or without; so few that all uses of a slot can be counted.
     pub fn len(&self) -> usize
         ensures value { result ≡ length self.now.links }
+        ensures most { result ≤ 2 ^ 29 }
         ensures countable { (k : ℕ) → times k (all_slots self.now.links) ≤ 2 ^ 62 }
         ensures few { length (held (map seen self.now.links)) ≤ how_many (map seen self.now.links) * (self.now.most_waiting + self.now.most_borrowed) }
     {

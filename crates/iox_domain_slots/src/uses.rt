@@ -257,6 +257,14 @@ impl SlotUses {
         self.links.place_of_borrowed(index, slot)
     }
 
+    /// How many indices the connections have: one more than the last that ever stood.
+    pub fn indices(&self) -> usize
+        ensures value { result ≡ length self.now.connections }
+        ensures few { result ≤ 2 ^ 29 }
+    {
+        self.links.len()
+    }
+
     /// How many loans are out.
     pub fn loans(&self) -> usize
         ensures { result ≡ length self.now.loans }

@@ -1,0 +1,6 @@
+pub mod Places
+pub mod Progress
+pub mod Answers
+pub mod Ports
+pub mod Updating
+pub mod Sending

@@ -1,0 +1,32 @@
+//! One publisher with its connections: who they lead to, how they are made and ended, and how a message is sent to all of them.
+//!
+//! - [`places`]: values at places, as they are first needed.
+//! - [`meeting`]: what comes of a message at a place, and of a send.
+//! - [`reader`]: who a connection leads to.
+//! - [`subscriber_entry`]: what the list of subscribers tells of one.
+//! - [`progress`]: how far a send is.
+//! - [`handlers`]: who is asked at a full mailbox and where a connection failed.
+//! - [`publisher_port`]: a publisher.
+//! - [`connecting`]: its connections are made and ended.
+//! - [`updating`]: it follows the list of subscribers.
+//! - [`sending`]: it sends.
+#![tactic(auto)]
+
+pub mod connecting;
+pub mod handlers;
+pub mod meeting;
+pub mod places;
+pub mod progress;
+pub mod publisher_port;
+pub mod reader;
+pub mod sending;
+pub mod subscriber_entry;
+pub mod updating;
+
+pub use handlers::Handlers;
+pub use meeting::{Meeting, Sent};
+pub use places::Places;
+pub use progress::Progress;
+pub use publisher_port::PublisherPort;
+pub use reader::Reader;
+pub use subscriber_entry::SubscriberEntry;

@@ -1,0 +1,28 @@
+//! A publisher.
+use crate::places::Places;
+use crate::progress::Progress;
+use crate::reader::Reader;
+use iox_domain_sender::Sender;
+
+/// A publisher with its messages and connections.
+///
+/// Ported from `iceoryx2::port::publisher::Publisher`.
+#[derive(Drop)]
+pub struct PublisherPort<T, U> {
+    /// The number of its service.
+    pub service: u64,
+    /// Its own number.
+    pub number: u64,
+    /// Whether it is on the list of publishers: it didn't leave.
+    pub stands: bool,
+    /// How often the list of subscribers had changed when it was last followed.
+    pub seen: u64,
+    /// For each place of the list of subscribers the index of the connection that messages go to.
+    pub ties: Places<usize>,
+    /// For each index of a connection who it leads to; none where it ended.
+    pub readers: Places<Reader>,
+    /// How far the send is that is under way, if one is.
+    pub progress: Progress,
+    /// Its messages, and what its connections hold.
+    pub sender: Sender<T, U>,
+}

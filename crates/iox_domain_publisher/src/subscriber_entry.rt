@@ -1,0 +1,10 @@
+//! What the list of subscribers tells of one.
+
+/// What the list of subscribers tells of one.
+#[derive(Clone, Copy, Debug, PartialEq, Eq)]
+pub struct SubscriberEntry {
+    /// The number of its port.
+    pub subscriber: u64,
+    /// How many messages may wait for it.
+    pub buffer_size: usize,
+}

@@ -1,0 +1,190 @@
+//! A publisher follows the list of subscribers.
+ghost use Rattle.std.specs.Prelude.{◌≡◌, ℕ, ◌+◌, ◌<◌, ◌≤◌, ◌^◌, Ok, length, get_or, None, Some};
+ghost use Rattle.iox_domain_values.specs.DegradationAnswers.{Allowed};
+ghost use Rattle.iox_domain_values.specs.Relations.{AllowSame};
+ghost use Rattle.iox_domain_values.specs.declared.degradation.DegradationCause.TheVariants as cause;
+ghost use Rattle.iox_domain_publisher.specs.Places.{leads_to};
+ghost use Rattle.iox_domain_publisher.specs.Ports.{with_connections};
+ghost use Rattle.iox_domain_publisher.specs.Updating.{is_tie_to, untied, Ties, Follows, first_failure, update_answer, told_of, Updates, FollowsAll, Asks, OnlyConnections};
+
+use crate::publisher_port::PublisherPort;
+use crate::reader::Reader;
+use crate::subscriber_entry::SubscriberEntry;
+use iox_domain_values::degradation_handler::DegradationFn;
+use iox_domain_values::{
+    ConnectionFailure, DegradationAction, DegradationCause, DegradationHandler, DegradationInfo,
+    ZeroCopyCreationError,
+};
+use iox_index_base::Member;
+use std::alloc::{AllocError, Global};
+
+impl<T: Copy, U: Copy> PublisherPort<T, U> {
+    // Whether a place is tied to a connection that leads to this subscriber.
+    fn is_tied_to(&self, place: usize, subscriber: u64) -> bool
+        ensures { result ≡ is_tie_to subscriber (get_or self.now.ties place None) self.now }
+    {
+        match self.ties.get(place) {
+            Some(index) => Reader::leads_to(self.readers.get(index), subscriber),
+            None => false,
+        }
+    }
+
+    // Lets go of the connection that a place is tied to.
+    fn untie(&mut self, place: usize)
+        ensures untied { self.new ≡ untied place self.old }
+        ensures same { OnlyConnections self.old self.new }
+    {
+        let Some(index) = self.ties.get(place) else {
+            return;
+        };
+        self.ties.put(place, None);
+        self.end(index);
+    }
+
+    // Ties a place to the connection of its subscriber.
+    fn tie(&mut self, alloc: Global, place: usize, entry: SubscriberEntry) -> Result<(), AllocError>
+        requires { place + 1 < 2 ^ 64 }
+        ensures ties { Ties place entry self.old result self.new }
+        ensures same { OnlyConnections self.old self.new }
+    {
+        let before = self.ties.len();
+        let most = self.sender.most_waiting();
+        self.ties.reach(place + 1)?;
+        match self.join(alloc, entry.subscriber, entry.buffer_size.min(most)) {
+            Ok(index) => {
+                self.ties.put(place, Some(index));
+                self.welcome(index);
+                Ok(())
+            }
+            Err(error) => {
+                self.ties.cut(before);
+                Err(error)
+            }
+        }
+    }
+
+    // Follows a place of the list.
+    fn follow(
+        &mut self,
+        alloc: Global,
+        place: usize,
+        listed: Option<Member<SubscriberEntry>>,
+    ) -> Result<(), AllocError>
+        requires { place + 1 < 2 ^ 64 }
+        ensures follows { Follows place listed self.old result self.new }
+        ensures same { OnlyConnections self.old self.new }
+    {
+        let Some(member) = listed else {
+            self.untie(place);
+            return Ok(());
+        };
+        if self.is_tied_to(place, member.value.subscriber) {
+            return Ok(());
+        }
+        self.untie(place);
+        self.tie(alloc, place, member.value)
+    }
+
+    // What a handler is told of a connection that failed.
+    fn told(&self, entry: SubscriberEntry) -> DegradationInfo
+        ensures { result ≡ told_of entry self.now }
+    {
+        DegradationInfo {
+            service_id: self.service,
+            sender_port_id: self.number,
+            receiver_port_id: entry.subscriber,
+        }
+    }
+
+    // Asks the handler where a connection failed; answers the failure that was found so far.
+    fn ask(
+        &self,
+        listed: &Option<Member<SubscriberEntry>>,
+        is_made: bool,
+        found: Option<ConnectionFailure>,
+        handler: &mut DegradationHandler,
+    ) -> Option<ConnectionFailure>
+        ensures asks { Asks (Allowed (λ object. (⟦<dyn DegradationFn as DegradationFn>⟧ object.vtable).allows object.value) handler.old cause.FailedToEstablishConnection) listed.now self.now found is_made result }
+        ensures same { AllowSame (Allowed (λ object. (⟦<dyn DegradationFn as DegradationFn>⟧ object.vtable).allows object.value) handler.new cause.FailedToEstablishConnection) (Allowed (λ object. (⟦<dyn DegradationFn as DegradationFn>⟧ object.vtable).allows object.value) handler.old cause.FailedToEstablishConnection) }
+    {
+        let Some(member) = listed else {
+            return found;
+        };
+        if is_made {
+            return found;
+        }
+        let info = self.told(member.value);
+        let action = handler.call(DegradationCause::FailedToEstablishConnection, &info);
+        first_failure(
+            found,
+            ConnectionFailure::FailedToEstablishConnection(ZeroCopyCreationError::OutOfMemory),
+            action,
+        )
+    }
+
+    // Follows each place of the list.
+    fn follow_all(
+        &mut self,
+        alloc: Global,
+        listed: &[Option<Member<SubscriberEntry>>],
+        handler: &mut DegradationHandler,
+    ) -> Result<(), ConnectionFailure>
+        ensures follows { FollowsAll (Allowed (λ object. (⟦<dyn DegradationFn as DegradationFn>⟧ object.vtable).allows object.value) handler.old cause.FailedToEstablishConnection) 0 listed.now None self.old result self.new }
+        ensures same { AllowSame (Allowed (λ object. (⟦<dyn DegradationFn as DegradationFn>⟧ object.vtable).allows object.value) handler.new cause.FailedToEstablishConnection) (Allowed (λ object. (⟦<dyn DegradationFn as DegradationFn>⟧ object.vtable).allows object.value) handler.old cause.FailedToEstablishConnection) }
+        ensures only { OnlyConnections self.old self.new }
+    {
+        let mut found = None;
+        for place in 0..listed.len() {
+            let outcome = self.follow(alloc, place, listed[place]);
+            found = self.ask(&listed[place], outcome.is_ok(), found, handler);
+        }
+        answer_of(found)
+    }
+
+    /// Follows the list of subscribers, if it changed since it was last followed: the connections of those that left end, and those
+    /// that came are connected, and get what they may of the history. Where a connection isn't made the handler is asked; the answer is
+    /// the first failure that it degrades and fails, after all places were tried. A connection fails only where memory is wanting.
+    ///
+    /// Ported from `iceoryx2::port::publisher::Publisher::update_connections`.
+    pub fn update(
+        &mut self,
+        alloc: Global,
+        listed: &[Option<Member<SubscriberEntry>>],
+        changes: u64,
+        handler: &mut DegradationHandler,
+    ) -> Result<(), ConnectionFailure>
+        ensures updates { Updates (Allowed (λ object. (⟦<dyn DegradationFn as DegradationFn>⟧ object.vtable).allows object.value) handler.old cause.FailedToEstablishConnection) listed.now changes self.old result self.new }
+        ensures same { AllowSame (Allowed (λ object. (⟦<dyn DegradationFn as DegradationFn>⟧ object.vtable).allows object.value) handler.new cause.FailedToEstablishConnection) (Allowed (λ object. (⟦<dyn DegradationFn as DegradationFn>⟧ object.vtable).allows object.value) handler.old cause.FailedToEstablishConnection) }
+        ensures only { OnlyConnections self.old self.new }
+    {
+        if self.seen == changes {
+            return Ok(());
+        }
+        self.seen = changes;
+        self.follow_all(alloc, listed, handler)
+    }
+}
+
+// The failure that is answered in the end, after one more.
+fn first_failure(
+    found: Option<ConnectionFailure>,
+    failure: ConnectionFailure,
+    action: DegradationAction,
+) -> Option<ConnectionFailure>
+    ensures { result ≡ first_failure found failure action }
+{
+    match action {
+        DegradationAction::Ignore | DegradationAction::Warn => found,
+        DegradationAction::DegradeAndFail => Some(found.unwrap_or(failure)),
+    }
+}
+
+// What an update answers.
+fn answer_of(found: Option<ConnectionFailure>) -> Result<(), ConnectionFailure>
+    ensures { result ≡ update_answer found }
+{
+    match found {
+        Some(failure) => Err(failure),
+        None => Ok(()),
+    }
+}
