@@ -343,7 +343,8 @@ impl<T: Copy, U: Copy> Sender<T, U> {
 
     /// How far the connection is; vacant where there is none.
     pub fn stage(&self, index: usize) -> Stage
-        ensures { result ≡ (connection_at index self.now.uses).stage }
+        ensures stage { result ≡ (connection_at index self.now.uses).stage }
+        ensures vacant { result ≡ stage.Vacant → connection_at index self.now.uses ≡ nobody }
     {
         self.uses.stage(index)
     }
