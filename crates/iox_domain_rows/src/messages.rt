@@ -44,6 +44,24 @@ fn write(sender: &mut Sender<u64, u8>, slot: usize, place: usize, value: u64) ->
     sender.has_place(slot, place) && sender.value(slot, place) == Some(&value)
 }
 
+// Writes all values of a loan at once where it has as many.
+fn write_all(sender: &mut Sender<u64, u8>, slot: usize, values: &[u64]) -> bool {
+    if !sender.has_length(slot, values.len()) {
+        return false;
+    }
+    sender.write_from_slice(slot, values);
+    true
+}
+
+// Changes a value of a loan in its place where it is written.
+fn change(sender: &mut Sender<u64, u8>, slot: usize, place: usize, value: u64) -> bool {
+    if !sender.has_value(slot, place) {
+        return false;
+    }
+    *sender.value_mut(slot, place) = value;
+    true
+}
+
 // Whether all values of a loan are written.
 fn is_whole(sender: &Sender<u64, u8>, slot: usize) -> bool {
     let at = sender.place_of_loan(slot).unwrap_or(usize::MAX);
@@ -108,6 +126,40 @@ fn a_message_is_read_as_it_was_sent(rt: HostRuntime) -> Result<(), Fail> {
     Ok(())
 }
 
+// Whether a loan of three values is written at once, by as many, and is changed only where it is written.
+fn is_written_at_once(sender: &mut Sender<u64, u8>, slot: usize) -> bool {
+    let early = change(sender, slot, 0, 1) || write_all(sender, slot, &[1, 2]);
+    let whole = write_all(sender, slot, &[4, 5, 6]) && is_whole(sender, slot);
+    let changed = change(sender, slot, 1, 9) && !change(sender, slot, 3, 9);
+    !early && whole && changed && is_whole(sender, slot)
+}
+
+#[test]
+fn a_message_is_written_at_once(rt: HostRuntime) -> Result<(), Fail> {
+    let mut sender = publisher(rt.alloc(), 4, 3)?;
+    let index = join(&mut sender, rt.alloc())?;
+    let slot = lend(&mut sender, 3);
+    assert!(rt; is_written_at_once(&mut sender, slot) && send(&mut sender, slot, index));
+    let held = receive(&mut sender, index);
+    assert!(rt; held == slot && reads(&sender, held, &[4, 9, 6], 7));
+    assert!(rt; !write_all(&mut sender, held, &[1, 2, 3]) && !change(&mut sender, held, 0, 1));
+    Ok(())
+}
+
+#[test]
+fn a_page_is_written_at_once(rt: HostRuntime) -> Result<(), Fail> {
+    let mut sender = publisher(rt.alloc(), 2, 512)?;
+    let index = join(&mut sender, rt.alloc())?;
+    let other = lend(&mut sender, 512);
+    let slot = lend(&mut sender, 512);
+    assert!(rt;
+        write_all(&mut sender, other, &[3; 512]) && write_all(&mut sender, slot, &[7; 512])
+    );
+    assert!(rt; send(&mut sender, slot, index) && receive(&mut sender, index) == slot);
+    assert!(rt; reads(&sender, slot, &[7; 512], 7) && sender.has_place(other, 511));
+    Ok(())
+}
+
 #[test]
 fn a_user_header_is_its_loans_own(rt: HostRuntime) -> Result<(), Fail> {
     let mut sender = publisher(rt.alloc(), 3, 1)?;
@@ -125,6 +177,15 @@ fn a_user_header_is_its_loans_own(rt: HostRuntime) -> Result<(), Fail> {
     Ok(())
 }
 
+// Whether the last segment that there may be is opened, with this room.
+fn is_opened(sender: &mut Sender<u64, u8>, alloc: Global, room: usize) -> Result<bool, AllocError> {
+    if sender.segments_left() != 1 {
+        return Ok(false);
+    }
+    sender.open_segment(alloc, room, 0)?;
+    Ok(sender.room() == room && sender.segments_left() == 0)
+}
+
 #[test]
 fn a_segment_is_opened_for_longer_loans(rt: HostRuntime) -> Result<(), Fail> {
     let mut sender = publisher(rt.alloc(), 3, 1)?;
@@ -132,11 +193,10 @@ fn a_segment_is_opened_for_longer_loans(rt: HostRuntime) -> Result<(), Fail> {
     let first = lend(&mut sender, 1);
     assert!(rt; write(&mut sender, first, 0, 5) && send(&mut sender, first, index));
     let held = receive(&mut sender, index);
+    let early = lend(&mut sender, 1);
     assert!(rt; lend(&mut sender, 3) == usize::MAX && sender.segments_left() == 1);
-    if sender.segments_left() > 0 {
-        sender.open_segment(rt.alloc(), 3, 0)?;
-    }
-    assert!(rt; sender.room() == 3 && sender.segments_left() == 0);
+    assert!(rt; is_opened(&mut sender, rt.alloc(), 3)?);
+    assert!(rt; write_all(&mut sender, early, &[6]) && is_whole(&sender, early));
     for number in 10..16 {
         assert!(rt; publish(&mut sender, index, number) && reads(&sender, held, &[5], 7));
     }
@@ -149,7 +209,9 @@ fn ample_memory_is_never_wanting_to_publishers(rt: HostRuntime) -> Result<(), Fa
         for room in [0, 1, 2, 7, 64] {
             let mut sender = publisher(rt.alloc(), slots, room)?;
             let index = join(&mut sender, rt.alloc())?;
-            assert!(rt; index == 0 && sender.room() == room && sender.has_slot(slots) == false);
+            assert!(rt; index == 0 && sender.room() == room && !sender.has_slot(slots));
+            assert!(rt; is_opened(&mut sender, rt.alloc(), 2 * room)?);
+            assert!(rt; sender.has_slot(slots) == (slots > 0) && !sender.has_slot(2 * slots));
         }
     }
     Ok(())

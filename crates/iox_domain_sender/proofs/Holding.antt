@@ -1,8 +1,11 @@
 -- What a subscriber holds stays.
-use Rattle.std.proofs.Common.{rules, ◌≡◌, ◌∷◌, [], ◌++◌, ℕ, zero, suc, List, get_or, set, take, slice_get, Some}
+use Rattle.std.proofs.Common.{rules, ◌≡◌, ◌≢◌, ◌∷◌, [], ◌++◌, ℕ, zero, suc, Bool, true, false, ◌==◌, List, length, map, get_or, set, take, slice_get, is_some, Some, refl, sym, ap, ◌∙◌}
+use Rattle.std.proofs.lemmas.List.{get_or-set_other}
+use Rattle.std.specs.List.{list_all}
 use Rattle.iox_domain_slots.specs.declared.stage.Stage.TheVariants as stage
-use Rattle.iox_domain_slots.specs.Uses.{Connection, nobody, connection_at, offered, taken, ended, settled, welcomed}
-use Rattle.iox_domain_sender.specs.Laws.{HeldStays}
+use Rattle.iox_domain_slots.specs.Uses.{Connection, nobody, placed, connected, connection_at, offered, taken, given_back, ended, settled, welcomed}
+use Rattle.iox_domain_sender.specs.Messages.{written_of}
+use Rattle.iox_domain_sender.specs.Laws.{HeldStays, WholeIsSent}
 
 still_there : {X : Type 0} (connections : List (Connection X)) (index at other : ℕ) (new : Connection X) (message : X)
     → slice_get (get_or connections index nobody).borrowed at ≡ Some message
@@ -23,13 +26,47 @@ at_end : {X : Type 0} (limit : ℕ) (borrowed : List X) (at : ℕ) (x : X) → s
 at_end limit [] at x there = search (rules, there)
 at_end limit (b ∷ borrowed) at x there = there
 
-pub held_stays : {L X : Type 0} → HeldStays L X
+-- at another index
+elsewhere : {X : Type 0} (connections : List (Connection X)) (index at other : ℕ) (new : Connection X) (message : X) → other ≢ index
+    → slice_get (get_or connections index nobody).borrowed at ≡ Some message
+    → slice_get (get_or (set connections other new) index nobody).borrowed at ≡ Some message
+elsewhere connections index at other new message apart held =
+    ap (λ connection. slice_get connection.borrowed at) (get_or-set_other connections other index new nobody (λ same. apart (sym same))) ∙ held
+
+-- where nobody was nothing was held
+vacant : {X : Type 0} (connections : List (Connection X)) (index at other : ℕ) (new : Connection X) (message : X) → get_or connections other nobody ≡ nobody
+    → slice_get (get_or connections index nobody).borrowed at ≡ Some message
+    → slice_get (get_or (set connections other new) index nobody).borrowed at ≡ Some message
+vacant connections index at other new message nobody_is held = still_there connections index at other new message held
+    (λ there. let wrong = sym (ap (λ connection. slice_get connection.borrowed at) nobody_is) ∙ there in search (rules, wrong))
+
+-- behind the others
+joined : {X : Type 0} (connections : List (Connection X)) (index at : ℕ) (new : Connection X) (message : X)
+    → slice_get (get_or connections index nobody).borrowed at ≡ Some message
+    → slice_get (get_or (connections ++ new ∷ []) index nobody).borrowed at ≡ Some message
+joined [] index at new message held = search (rules, held)
+joined (c ∷ rest) zero at new message held = held
+joined (c ∷ rest) (suc index) at new message held = joined rest index at new message held
+
+come : {X : Type 0} (connections : List (Connection X)) (index at other limit : ℕ) (message : X) → get_or connections other nobody ≡ nobody
+    → slice_get (get_or connections index nobody).borrowed at ≡ Some message
+    → slice_get (get_or (placed other (connected limit) connections) index nobody).borrowed at ≡ Some message
+come connections index at other limit message nobody_is held = by (other == length connections) refl
+  where
+    by : (last : Bool) → (other == length connections) ≡ last → slice_get (get_or (placed other (connected limit) connections) index nobody).borrowed at ≡ Some message
+    by true is = rw is (joined connections index at (connected limit) message held)
+    by false is = rw is (vacant connections index at other (connected limit) message nobody_is held)
+
+pub held_stays : {T U : Type 0} → HeldStays T U
 held_stays = record {
   loan = λ index at message one uses held. held;
+  write = λ index at message slot change uses held. held;
   drop = λ index at message place uses held. held;
   begin = λ index at message place sent uses held. held;
   finish = λ index at message uses held. held;
   segment = λ index at message uses held. held;
+  connect = λ index at message other limit uses nobody_is held. come uses.connections index at other limit message nobody_is held;
+  give_back = λ index at message other place uses apart held. elsewhere uses.connections index at other (given_back place (connection_at other uses)) message apart held;
   offer = λ index at message other overflows sent uses held. still_there uses.connections index at other (offered overflows sent (connection_at other uses)) message held (λ there. there);
   take = λ index at message other uses held. still_there uses.connections index at other (taken (connection_at other uses)) message held
       (λ there. behind (connection_at other uses).borrowed (take 1 (connection_at other uses).waiting) at message there);
@@ -37,3 +74,14 @@ held_stays = record {
       (λ there. at_end (connection_at other uses).limit (connection_at other uses).borrowed at message there);
   welcome = λ index at message other history uses held. still_there uses.connections index at other (welcomed history (connection_at other uses)) message held (λ there. there);
 }
+
+all_whole : {T : Type 0} (values : List T) → list_all is_some (map Some values) ≡ true
+all_whole [] = refl
+all_whole (value ∷ values) = all_whole values
+
+all_sent : {T : Type 0} (values : List T) → written_of (map Some values) ≡ values
+all_sent [] = refl
+all_sent (value ∷ values) = ap (λ rest. value ∷ rest) (all_sent values)
+
+pub whole_is_sent : {T U : Type 0} → WholeIsSent T U
+whole_is_sent = record { whole = λ values loan. all_whole values; values = λ values loan. all_sent values }

@@ -1,6 +1,5 @@
 pub mod RowsIn
 pub mod Segments
-pub mod Filling
 pub mod Naming
 pub mod Kept
 pub mod Seen

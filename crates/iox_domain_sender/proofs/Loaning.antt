@@ -1,5 +1,5 @@
 -- A loan is made in a slot in which nothing in use stands.
-use Rattle.std.proofs.Common.{arith, ◌≡◌, ◌≢◌, ◌+◌, ◌<◌, ◌∷◌, [], ℕ, zero, suc, false, List, length, get_or, set, replicate, Option, None, Some, refl, sym, subst, ap, ◌∙◌}
+use Rattle.std.proofs.Common.{arith, ◌≡◌, ◌≢◌, ◌+◌, ◌<◌, ◌∷◌, [], ℕ, zero, suc, Bool, false, List, length, get_or, set, replicate, Option, None, Some, refl, sym, subst, ap, ◌∙◌}
 use Rattle.std.proofs.Math.Logic.{⊎_elim}
 use Rattle.std.proofs.Math.Dec.{eqb}
 use Rattle.std.proofs.lemmas.Bool.Decides.{eqb_tells}
@@ -30,6 +30,21 @@ unwritten : {T : Type 0} (values : List T) (count : ℕ) → length values ≡ c
 unwritten values zero long = refl
 unwritten [] (suc count) long = absurd (omega (arith, long))
 unwritten (value ∷ values) (suc count) long = ap (λ rest. None ∷ rest) (unwritten values count (omega (arith, long)))
+
+set_twice : {X : Type 0} (xs : List X) (index : ℕ) (a b : X) → set (set xs index a) index b ≡ set xs index b
+set_twice [] index a b = refl
+set_twice (x ∷ xs) zero a b = refl
+set_twice (x ∷ xs) (suc index) a b = ap (λ ys. x ∷ ys) (set_twice xs index a b)
+
+-- marks of which there are so many are all the same then
+pub marks_are : (old between new : PayloadsState Bool) (slot count : ℕ) (mark : Bool) → length (payload_at slot between) ≡ count
+    → between ≡ with_payload slot (payload_at slot between) old → new ≡ with_payload slot (replicate (length (payload_at slot between)) mark) between
+    → new ≡ with_payload slot (replicate count mark) old
+marks_are old between new slot count mark long length_is filled =
+    filled
+    ∙ ap (λ n. with_payload slot (replicate n mark) between) long
+    ∙ ap (with_payload slot (replicate count mark)) length_is
+    ∙ ap (λ payloads. record old { payloads = payloads }) (set_twice old.payloads slot (payload_at slot between) (replicate count mark))
 
 -- what stands in the slots once a loan is made in one
 pub record LoanPut {T U : Type 0} (old : Store T U) (slot count elements : ℕ) (new : Store T U) : Type 0 where

@@ -1,8 +1,10 @@
 -- Rows that stand in one list.
-use Rattle.std.proofs.Common.{arith, ◌≡◌, ◌+◌, ◌*◌, ◌<◌, ◌≤◌, ◌∷◌, [], ℕ, zero, suc, Bool, true, false, nat_lt, List, length, get_or, set, take, drop, replicate, refl, sym, ap, ◌∙◌}
-use Rattle.std.proofs.lemmas.List.{get_or-set_same, get_or_past, length-set, length-take-le, length-drop, drop-set-lt, drop-set-add, take-set-le}
+use Rattle.std.proofs.Common.{arith, ◌≡◌, ◌+◌, ◌*◌, ◌<◌, ◌≤◌, ◌∷◌, [], ◌++◌, ℕ, zero, suc, Bool, true, false, nat_lt, List, Vec, length, get_or, set, take, drop, replicate, refl, sym, ap, ◌∙◌}
+use Rattle.std.proofs.lemmas.List.{get_or-drop, get_or-take, get_or-set_same, get_or_past, length-append, length-set, length-take-le, length-drop, drop-set-lt, drop-set-add, take_at, take-set-le, with_items_is}
 use Rattle.std.proofs.Math.Nat.{suc-mul}
 use Rattle.std.proofs.Math.Seq.{take-set-lt}
+use Rattle.std.proofs.lemmas.Slice.{drop-append-drop}
+use Rattle.std.specs.Vec.{with_items}
 use Rattle.std.proofs.Math.Seq.{drop-nil}
 use Rattle.iox_domain_sender.specs.Rows.{RowsState, row_at, with_row, rows_in, AllWithin}
 
@@ -148,3 +150,96 @@ write_rest state room lengths values row place value is full fits inside =
     let at = place_within state room lengths values row place is full fits inside in
     ap (λ rows. record { room = room; rows = rows }) (written room lengths values row place value at.0 fits at.1)
     ∙ ap (λ s. with_row row (set (row_at row s) place value) s) is
+
+-- values in the place of as many, from a place on
+abbrev pub put_at : {T : Type 0} → ℕ → List T → List T → List T
+put_at start xs values = take start values ++ (xs ++ drop (length xs) (drop start values))
+
+pub put_is : {T : Type 0} (start count : ℕ) (xs values new : List T) → length xs ≡ count → new ≡ take start values ++ (xs ++ drop (start + count) values) → new ≡ put_at start xs values
+put_is start count xs values new long is =
+    is
+    ∙ ap (λ n. take start values ++ (xs ++ drop (start + n) values)) (sym long)
+    ∙ ap (λ rest. take start values ++ (xs ++ rest)) (sym (drop_more start (length xs) values))
+
+take_put : {T : Type 0} (count start : ℕ) (xs values : List T) → count ≤ start → start ≤ length values → take count (put_at start xs values) ≡ take count values
+take_put zero start xs values few long = refl
+take_put (suc count) zero xs values few long = absurd (omega (arith, few))
+take_put (suc count) (suc start) xs [] few long = absurd (omega (arith, long))
+take_put (suc count) (suc start) xs (v ∷ values) few long = ap (λ rest. v ∷ rest) (take_put count start xs values (omega (arith, few)) (omega (arith, long)))
+
+drop_put : {T : Type 0} (room start : ℕ) (xs values : List T) → room ≤ length values → drop room (put_at (room + start) xs values) ≡ put_at start xs (drop room values)
+drop_put zero start xs values long =
+    let same : 0 + start ≡ start = omega arith in
+    ap (λ k. put_at k xs values) same
+drop_put (suc room) start xs [] long = absurd (omega (arith, long))
+drop_put (suc room) start xs (v ∷ values) long =
+    let more : suc room + start ≡ suc (room + start) = omega arith in
+    ap (λ k. drop (suc room) (put_at k xs (v ∷ values))) more ∙ drop_put room start xs values (omega (arith, long))
+
+-- values are put into a row
+pub copied : {T : Type 0} (room : ℕ) (lengths : List ℕ) (values : List T) (row : ℕ) (xs : List T) → row < length lengths → AllWithin room lengths
+    → length values ≡ length lengths * room → length xs ≡ get_or lengths row 0
+    → rows_in room lengths (put_at (row * room) xs values) ≡ set (rows_in room lengths values) row xs
+copied room [] values row xs below fits full long = absurd (omega (arith, below))
+copied room (count ∷ lengths) values zero xs below fits full long =
+    ap (λ k. rows_in room (count ∷ lengths) (put_at k xs values)) (sym (none room))
+    ∙ ap (λ first. first ∷ rows_in room lengths (drop room (xs ++ drop (length xs) values))) (take_at xs (drop (length xs) values) count long)
+    ∙ ap (λ rest. xs ∷ rows_in room lengths rest) (drop-append-drop (length xs) values xs room (omega (arith, long, fits zero)) refl)
+copied room (count ∷ lengths) values (suc row) xs below fits full long =
+    ap (λ k. rows_in room (count ∷ lengths) (put_at k xs values)) (one_more row room)
+    ∙ ap (λ first. first ∷ rows_in room lengths (drop room (put_at (room + row * room) xs values)))
+    (take_put count (room + row * room) xs values (omega (arith, fits zero)) start)
+    ∙ ap (λ rest. take count values ∷ rows_in room lengths rest) (drop_put room (row * room) xs values (omega (arith, start)))
+    ∙ ap (λ rest. take count values ∷ rest) (copied room lengths (drop room values) row xs (omega (arith, below)) (λ k. fits (suc k)) shorter long)
+  where
+    start : room + row * room ≤ length values
+    start = omega (arith, full, row_within (suc row) (suc (length lengths)) room 0 below (omega arith), one_more row room)
+
+    shorter : length (drop room values) ≡ length lengths * room
+    shorter = omega (arith, full, length-drop room values, one_more (length lengths) room)
+
+-- how many values stand in a row that is seen
+pub seen_length : {T : Type 0} (state : RowsState T) (room : ℕ) (lengths : List ℕ) (values : List T) (row : ℕ)
+    → (record { room = room; rows = rows_in room lengths values }) ≡ state → length values ≡ length lengths * room → AllWithin room lengths → row < length lengths
+    → length (row_at row state) ≡ get_or lengths row 0
+seen_length state room lengths values row is full fits below =
+    ap length (row_seen state room lengths values row is below)
+    ∙ row_length values (row * room) (get_or lengths row 0) (omega (arith, full, row_within row (length lengths) room (get_or lengths row 0) below (fits row)))
+
+put_length : {T : Type 0} (start : ℕ) (xs values : List T) → start + length xs ≤ length values → length (put_at start xs values) ≡ length values
+put_length start xs values fits = omega (
+  arith,
+  fits,
+  length-append (take start values) (xs ++ drop (length xs) (drop start values)),
+  length-append xs (drop (length xs) (drop start values)),
+  length-take-le start values (omega (arith, fits)),
+  length-drop start values,
+  length-drop (length xs) (drop start values),
+)
+
+-- after values were put into a row
+pub copy_rest : {T Z : Type 0} (state : RowsState T) (room : ℕ) (lengths : List ℕ) (values : Vec T Z) (row : ℕ) (xs new : List T)
+    → (record { room = room; rows = rows_in room lengths values.items }) ≡ state → length values.items ≡ length lengths * room → AllWithin room lengths → row < length lengths
+    → length xs ≡ get_or lengths row 0 → new ≡ put_at (row * room) xs values.items
+    → (record { room = room; rows = rows_in room lengths (with_items values new).items }) ≡ with_row row xs state
+copy_rest state room lengths values row xs new is full fits below long made =
+    ap (λ vs. record { room = room; rows = rows_in room lengths vs }) (with_items_is values new same ∙ made)
+    ∙ ap (λ rows. record { room = room; rows = rows }) (copied room lengths values.items row xs below fits full long)
+    ∙ ap (with_row row xs) is
+  where
+    inside : row * room + length xs ≤ length values.items
+    inside = omega (arith, full, long, row_within row (length lengths) room (get_or lengths row 0) below (fits row))
+
+    same : length new ≡ values.len
+    same = ap length made ∙ put_length (row * room) xs values.items inside ∙ sym values.ok.0
+
+-- the value at a place of a row
+pub value_in_row : {T : Type 0} (state : RowsState T) (room : ℕ) (lengths : List ℕ) (values : List T) (row place : ℕ) (value : T)
+    → (record { room = room; rows = rows_in room lengths values }) ≡ state → length values ≡ length lengths * room → AllWithin room lengths
+    → place < length (row_at row state) → value ≡ get_or values (row * room + place) value → value ≡ get_or (row_at row state) place value
+value_in_row state room lengths values row place value is full fits inside there =
+    let at = place_within state room lengths values row place is full fits inside in
+    there
+    ∙ sym (get_or-drop (row * room) values place value)
+    ∙ sym (get_or-take (get_or lengths row 0) (drop (row * room) values) place value at.1)
+    ∙ ap (λ xs. get_or xs place value) (sym (row_seen state room lengths values row is at.0))

@@ -16,8 +16,8 @@ use Rattle.std.proofs.Math.Dec.{eqb}
 use Rattle.std.proofs.lemmas.Bool.Decides.{eqb_tells}
 use Rattle.iox_domain_slots.proofs.Counts.{times_cons, one_same}
 use Rattle.iox_domain_slots.proofs.Publishing.{in_use_times}
-use Rattle.iox_domain_sender.specs.Sending.{SenderState, Store, IsSender, has_loan, has_place, seen_sender, sender_of, with_uses, uses_by, connection_by, loan_in, message_in}
-use Rattle.iox_domain_sender.proofs.Writing.{lent_at, place_at}
+use Rattle.iox_domain_sender.specs.Sending.{SenderState, Store, IsSender, has_loan, has_place, has_value, has_length, seen_sender, sender_of, with_uses, uses_by, connection_by, loan_in, message_in}
+use Rattle.iox_domain_sender.proofs.Writing.{lent_at, test_at, same_of, marked, masked_length}
 use Rattle.iox_domain_sender.proofs.Segments.{with_segment}
 use Rattle.iox_domain_sender.proofs.Naming.{connection_at_by, with_connection_by, offered_by, placed_by}
 
@@ -109,7 +109,21 @@ loan_below store old state slot is sender there = lent_slot store old slot sende
 
 pub place_lent : {T U : Type 0} (store : Store T U) (old : Uses ℕ ℕ) (state : SenderState T U) (slot place : ℕ) → seen_sender store old ≡ state
     → has_place slot place state.uses ≡ true → (0 < times slot old.loans) × (place < length (loan_in store slot).values)
-place_lent store old state slot place is there = place_at store slot place old.loans (ap (λ s. has_place slot place s.uses) is ∙ there)
+place_lent store old state slot place is there =
+    let it = test_at store slot (λ loan. nat_lt place (length loan.values)) old.loans (ap (λ s. has_place slot place s.uses) is ∙ there) in
+    (it.0, grind (arith, it.1))
+
+pub value_lent : {T U : Type 0} (store : Store T U) (old : Uses ℕ ℕ) (state : SenderState T U) (slot place : ℕ) → seen_sender store old ≡ state → IsSender store old
+    → has_value slot place state.uses ≡ true → (0 < times slot old.loans) × (get_or (payload_at slot store.written) place false ≡ true)
+value_lent store old state slot place is sender there =
+    let it = test_at store slot (λ loan. is_some (get_or loan.values place None)) old.loans (ap (λ s. has_value slot place s.uses) is ∙ there) in
+    (it.0, sym (marked (payload_at slot store.written) (payload_at slot store.values) place (sender.marks slot)) ∙ it.1)
+
+pub length_lent : {T U : Type 0} (store : Store T U) (old : Uses ℕ ℕ) (state : SenderState T U) (slot count : ℕ) → seen_sender store old ≡ state → IsSender store old
+    → has_length slot count state.uses ≡ true → (0 < times slot old.loans) × (count ≡ length (payload_at slot store.values))
+length_lent store old state slot count is sender there =
+    let it = test_at store slot (λ loan. eqb count (length loan.values)) old.loans (ap (λ s. has_length slot count s.uses) is ∙ there) in
+    (it.0, same_of count (length (loan_in store slot).values) it.1 ∙ masked_length (payload_at slot store.written) (payload_at slot store.values) (sender.marks slot))
 
 pub loan_lent : {T U : Type 0} (store : Store T U) (old : Uses ℕ ℕ) (state : SenderState T U) (slot : ℕ) → seen_sender store old ≡ state
     → has_loan slot state.uses ≡ true → 0 < times slot old.loans
@@ -209,45 +223,46 @@ pub lent_is : {T U : Type 0} (store : Store T U) (old : Uses ℕ ℕ) (state : S
     → is_some (position (λ other. other == slot) old.loans) ≡ has_loan slot state.uses
 lent_is store old state slot is = some_first slot old.loans ∙ any_first slot old.loans ∙ sym (any_named store slot old.loans) ∙ ap (λ s. has_loan slot s.uses) is
 
--- a place of a loan is one of the loan in its slot
-places_are : {T U : Type 0} (store : Store T U) (slot place : ℕ) (xs : List ℕ)
-    → list_any (λ loan. eqb slot loan.slot && nat_lt place (length loan.values)) (map (loan_in store) xs)
-    ≡ (list_any (λ loan. eqb slot loan.slot) (map (loan_in store) xs) && nat_lt place (length (loan_in store slot).values))
-places_are store slot place [] = refl
-places_are store slot place (x ∷ xs) = ⊎_elim
-    (λ same. rw same.0 (rw (sym same.1) (here (nat_lt place (length (loan_in store slot).values)) refl (places_are store slot place xs))))
-    (λ other. rw other.0 (places_are store slot place xs))
+-- a loan in a slot passes a test if the one that stands there does
+tests_are : {T U : Type 0} (store : Store T U) (slot : ℕ) (test : Loan T U → Bool) (xs : List ℕ)
+    → list_any (λ loan. eqb slot loan.slot && test loan) (map (loan_in store) xs)
+    ≡ (list_any (λ loan. eqb slot loan.slot) (map (loan_in store) xs) && test (loan_in store slot))
+tests_are store slot test [] = refl
+tests_are store slot test (x ∷ xs) = ⊎_elim
+    (λ same. rw same.0 (rw (sym same.1) (here (test (loan_in store slot)) refl (tests_are store slot test xs))))
+    (λ other. rw other.0 (tests_are store slot test xs))
     (eqb_tells slot x)
   where
     none : (b : Bool) → (b && false) ≡ false
     none true = refl
     none false = refl
 
-    here : (b : Bool) → nat_lt place (length (loan_in store slot).values) ≡ b
-        → list_any (λ loan. eqb slot loan.slot && nat_lt place (length loan.values)) (map (loan_in store) xs)
-        ≡ (list_any (λ loan. eqb slot loan.slot) (map (loan_in store) xs) && nat_lt place (length (loan_in store slot).values))
-        → (nat_lt place (length (loan_in store slot).values) || list_any (λ loan. eqb slot loan.slot && nat_lt place (length loan.values)) (map (loan_in store) xs))
-        ≡ nat_lt place (length (loan_in store slot).values)
+    here : (b : Bool) → test (loan_in store slot) ≡ b
+        → list_any (λ loan. eqb slot loan.slot && test loan) (map (loan_in store) xs)
+        ≡ (list_any (λ loan. eqb slot loan.slot) (map (loan_in store) xs) && test (loan_in store slot))
+        → (test (loan_in store slot) || list_any (λ loan. eqb slot loan.slot && test loan) (map (loan_in store) xs))
+        ≡ test (loan_in store slot)
     here true is rest = rw is refl
     here false is rest = rw rest (rw is (none (list_any (λ loan. eqb slot loan.slot) (map (loan_in store) xs))))
 
-pub place_is : {T U : Type 0} (store : Store T U) (old : Uses ℕ ℕ) (state : SenderState T U) (slot place : ℕ) → seen_sender store old ≡ state
-    → has_place slot place state.uses ≡ (has_loan slot state.uses && nat_lt place (length (loan_in store slot).values))
-place_is store old state slot place is =
-    ap (λ s. has_place slot place s.uses) (sym is) ∙ places_are store slot place old.loans
-    ∙ ap (λ s. has_loan slot s.uses && nat_lt place (length (loan_in store slot).values)) is
+pub test_is : {T U : Type 0} (store : Store T U) (old : Uses ℕ ℕ) (state : SenderState T U) (slot : ℕ) (test : Loan T U → Bool) → seen_sender store old ≡ state
+    → list_any (λ loan. eqb slot loan.slot && test loan) state.uses.loans ≡ (has_loan slot state.uses && test (loan_in store slot))
+test_is store old state slot test is =
+    ap (λ s. list_any (λ loan. eqb slot loan.slot && test loan) s.uses.loans) (sym is) ∙ tests_are store slot test old.loans
+    ∙ ap (λ s. has_loan slot s.uses && test (loan_in store slot)) is
 
-no_loan : {T U : Type 0} (slot place : ℕ) (loans : List (Loan T U)) → list_any (λ loan. eqb slot loan.slot) loans ≡ false
-    → false ≡ list_any (λ loan. eqb slot loan.slot && nat_lt place (length loan.values)) loans
-no_loan slot place [] none = refl
-no_loan slot place (loan ∷ loans) none = at (eqb slot loan.slot) refl none (λ rest. no_loan slot place loans rest)
+-- without a loan in a slot there is none that passes a test
+no_loan : {T U : Type 0} (slot : ℕ) (test : Loan T U → Bool) (loans : List (Loan T U)) → list_any (λ loan. eqb slot loan.slot) loans ≡ false
+    → false ≡ list_any (λ loan. eqb slot loan.slot && test loan) loans
+no_loan slot test [] none = refl
+no_loan slot test (loan ∷ loans) none = at (eqb slot loan.slot) refl none (λ rest. no_loan slot test loans rest)
   where
     at : (b : Bool) → eqb slot loan.slot ≡ b → (eqb slot loan.slot || list_any (λ l. eqb slot l.slot) loans) ≡ false
-        → (list_any (λ l. eqb slot l.slot) loans ≡ false → false ≡ list_any (λ l. eqb slot l.slot && nat_lt place (length l.values)) loans)
-        → false ≡ ((eqb slot loan.slot && nat_lt place (length loan.values)) || list_any (λ l. eqb slot l.slot && nat_lt place (length l.values)) loans)
+        → (list_any (λ l. eqb slot l.slot) loans ≡ false → false ≡ list_any (λ l. eqb slot l.slot && test l) loans)
+        → false ≡ ((eqb slot loan.slot && test loan) || list_any (λ l. eqb slot l.slot && test l) loans)
     at true is none rest = let wrong = ap (λ b. b || list_any (λ l. eqb slot l.slot) loans) (sym is) ∙ none in search (rules, wrong)
     at false is none rest = rw is (rest (ap (λ b. b || list_any (λ l. eqb slot l.slot) loans) (sym is) ∙ none))
 
--- without a loan in a slot there is no place of one
-pub no_place : {T U : Type 0} (slot place : ℕ) (state : SenderState T U) → has_loan slot state.uses ≡ false → false ≡ has_place slot place state.uses
-no_place slot place state none = no_loan slot place state.uses.loans none
+pub no_test : {T U : Type 0} (slot : ℕ) (test : Loan T U → Bool) (state : SenderState T U) → has_loan slot state.uses ≡ false
+    → false ≡ list_any (λ loan. eqb slot loan.slot && test loan) state.uses.loans
+no_test slot test state none = no_loan slot test state.uses.loans none

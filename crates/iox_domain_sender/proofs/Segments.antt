@@ -4,7 +4,7 @@ use Rattle.std.proofs.Math.Nat.{div-add-mod, mod-lt, mul_comm, mul-le-mul_right}
 use Rattle.std.proofs.Math.Seq.{get_or-append_seam}
 use Rattle.std.proofs.Math.Logic.{⊎_elim}
 use Rattle.std.proofs.lemmas.Bool.Decides.{eqb_tells}
-use Rattle.std.proofs.lemmas.List.{get_or_append_left, get_or-append-add, get_or-set_same, get_or-set_other, get_or_past, length-set, set-append_left, set-append_right}
+use Rattle.std.proofs.lemmas.List.{get_or_default, get_or_append_left, get_or-append-add, get_or-set_same, get_or-set_other, get_or_past, length-set, set-append_left, set-append_right}
 use Rattle.iox_domain_sender.specs.Rows.{RowsState, row_at, with_row}
 use Rattle.iox_domain_sender.specs.Payloads.{PayloadsState, payload_at, with_payload, all_rows, no_rows, last_segment, AllOfSize}
 use Rattle.iox_domain_sender.proofs.RowsIn.{one_more}
@@ -192,3 +192,30 @@ slot_within payloads slot place inside = at (nat_lt slot (length payloads)) refl
     at false there =
         let past : length payloads ≤ slot = grind (arith, there) in
         absurd (omega (arith, inside, ap length (get_or_past payloads slot [] past)))
+
+-- the segment of a slot, as a call is handed it: where the slot stands in it, and what comes of other values there
+pub record Found {T : Type 0} (state : PayloadsState T) (size most : ℕ) (segments : List (RowsState T)) (slot : ℕ) (segment : RowsState T) : Type 0 where
+  pub row : slot % size < length segment.rows
+  pub last : length state.payloads ≤ slot + state.size → segment.room ≡ state.room
+  pub holds : row_at (slot % size) segment ≡ payload_at slot state
+  pub changed : (values : List T) (new : RowsState T) → new ≡ with_row (slot % size) values segment
+      → seen_of size most (set segments (slot / size) new) ≡ with_payload slot values state
+
+pub found : {T : Type 0} (state : PayloadsState T) (size most : ℕ) (segments : List (RowsState T)) (slot : ℕ) (segment : RowsState T) → seen_of size most segments ≡ state
+    → AllOfSize size segments → slot < length state.payloads → segment ≡ get_or segments (slot / size) segment → Found state size most segments slot segment
+found state size most segments slot segment is all below same = record {
+  row = omega (arith, place.row_is, all (slot / size) place.segment_is, ap (λ s. length s.rows) it);
+  last = λ behind.
+      ap (λ s. s.room) it
+      ∙ ap (λ index. (get_or segments index no_rows).room)
+      (in_last size segments slot (slot / size) (slot % size) all place (omega (arith, behind, ap (λ s. length s.payloads) is, ap (λ s. s.size) is)))
+      ∙ ap (λ s. s.room) is;
+  holds = ap (row_at (slot % size)) it ∙ sym (seen_row state size most segments slot is all place);
+  changed = λ values new made. seen_changed state size most segments slot values new is all place (made ∙ ap (with_row (slot % size) values) it);
+}
+  where
+    place : Placed size segments slot (slot / size) (slot % size)
+    place = seen_placed state size most segments slot is all below
+
+    it : segment ≡ get_or segments (slot / size) no_rows
+    it = same ∙ get_or_default segments (slot / size) segment no_rows place.segment_is

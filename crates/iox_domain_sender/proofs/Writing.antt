@@ -1,17 +1,17 @@
 -- A loan is written in its slot.
-use Rattle.std.proofs.Common.{rules, arith, ◌≡◌, ◌≢◌, ◌+◌, ◌<◌, ◌∷◌, [], ◌&&◌, ◌||◌, ◌⊎◌, inl, inr, ℕ, zero, suc, Bool, true, false, cond, nat_lt, if◌then◌else◌, List, length, get_or, set, map, Option, None, Some, refl, sym, subst, ap, ◌∙◌}
+use Rattle.std.proofs.Common.{rules, arith, ◌≡◌, ◌≢◌, ◌+◌, ◌<◌, ◌∷◌, [], ◌&&◌, ◌||◌, ◌⊎◌, inl, inr, ℕ, zero, suc, Bool, true, false, cond, if◌then◌else◌, List, length, get_or, set, map, replicate, is_some, Option, None, Some, refl, sym, ap, ◌∙◌}
 use Rattle.std.specs.Option.{option_to_list}
 use Rattle.std.specs.List.{list_any}
 use Rattle.std.proofs.Math.Logic.{⊎_elim}
 use Rattle.std.proofs.Math.Dec.{eqb}
 use Rattle.std.proofs.lemmas.Bool.Decides.{eqb_tells}
-use Rattle.std.proofs.lemmas.List.{get_or-set_same, get_or-set_other}
+use Rattle.std.proofs.lemmas.List.{get_or-set_same, get_or-set_other, set-get_or, length-set}
 use Rattle.iox_domain_slots.specs.Uses.{Uses, held}
 use Rattle.iox_domain_slots.specs.Counting.{times}
 use Rattle.iox_domain_slots.proofs.Counts.{times_cons}
 use Rattle.iox_domain_slots.proofs.Publishing.{in_use_times}
 use Rattle.iox_domain_sender.specs.Payloads.{payload_at, with_payload}
-use Rattle.iox_domain_sender.specs.Messages.{Message, Loan, write_value, write_user_header}
+use Rattle.iox_domain_sender.specs.Messages.{Message, Loan, write_value, write_all, write_user_header}
 use Rattle.iox_domain_sender.specs.Sending.{SenderState, Store, IsSender, seen_sender, sender_of, with_uses, uses_by, change_loan, loan_in, message_in, masked}
 use Rattle.iox_domain_sender.specs.declared.slot_header.SlotHeader.{SlotHeader}
 use Rattle.iox_domain_sender.proofs.Agreeing.{messages_agree, other_uses}
@@ -26,7 +26,7 @@ both true true is = (refl, refl)
 both true false is = search (rules, is)
 both false b is = search (rules, is)
 
-same_of : (slot x : ℕ) → eqb slot x ≡ true → slot ≡ x
+pub same_of : (slot x : ℕ) → eqb slot x ≡ true → slot ≡ x
 same_of slot x is = ⊎_elim (λ same. same.1) (λ other. search (rules, is)) (eqb_tells slot x)
 
 -- a loan that is seen in a slot is one that stands there
@@ -37,19 +37,19 @@ lent_at store slot (x ∷ xs) is = ⊎_elim
     (λ later. omega (arith, times_cons slot x xs, lent_at store slot xs later))
     (either (eqb slot x) (list_any (λ loan. eqb slot loan.slot) (map (loan_in store) xs)) is)
 
-pub place_at : {T U : Type 0} (store : Store T U) (slot place : ℕ) (xs : List ℕ)
-    → list_any (λ loan. eqb slot loan.slot && nat_lt place (length loan.values)) (map (loan_in store) xs) ≡ true
-    → (0 < times slot xs) × (place < length (loan_in store slot).values)
-place_at store slot place [] is = search (rules, is)
-place_at store slot place (x ∷ xs) is = ⊎_elim
+-- a loan that is seen in a slot and passes a test is the one that stands there
+pub test_at : {T U : Type 0} (store : Store T U) (slot : ℕ) (test : Loan T U → Bool) (xs : List ℕ)
+    → list_any (λ loan. eqb slot loan.slot && test loan) (map (loan_in store) xs) ≡ true
+    → (0 < times slot xs) × (test (loan_in store slot) ≡ true)
+test_at store slot test [] is = search (rules, is)
+test_at store slot test (x ∷ xs) is = ⊎_elim
     (λ here.
-    let it = both (eqb slot x) (nat_lt place (length (loan_in store x).values)) here in
-    let less : place < length (loan_in store x).values = grind (arith, it.1) in (
+    let it = both (eqb slot x) (test (loan_in store x)) here in (
       omega (arith, times_cons slot x xs, ap {B = ℕ} (λ b. cond b 1 0) it.0),
-      subst (λ k. place < length (loan_in store k).values) (sym (same_of slot x it.0)) less,
+      ap (λ k. test (loan_in store k)) (same_of slot x it.0) ∙ it.1,
     ))
-    (λ later. let rest = place_at store slot place xs later in (omega (arith, times_cons slot x xs, rest.0), rest.1))
-    (either (eqb slot x && nat_lt place (length (loan_in store x).values)) (list_any (λ loan. eqb slot loan.slot && nat_lt place (length loan.values)) (map (loan_in store) xs)) is)
+    (λ later. let rest = test_at store slot test xs later in (omega (arith, times_cons slot x xs, rest.0), rest.1))
+    (either (eqb slot x && test (loan_in store x)) (list_any (λ loan. eqb slot loan.slot && test loan) (map (loan_in store) xs)) is)
 
 pub masked_length : {T : Type 0} (marks : List Bool) (values : List T) → length marks ≡ length values → length (masked marks values) ≡ length values
 masked_length [] [] same = refl
@@ -113,32 +113,57 @@ change_seen old new uses state slot change is sender lent at =
       ap (λ j. times j (held uses.connections)) same,
     ))
 
+-- other values and marks stand in a slot
+values_changed : {T U : Type 0} (old new : Store T U) (slot : ℕ) (change : Loan T U → Loan T U) (values : List T) (marks : List Bool)
+    → slot < length old.values.payloads → slot < length old.written.payloads
+    → new.values ≡ with_payload slot values old.values → new.written ≡ with_payload slot marks old.written → new.headers ≡ old.headers → new.blank ≡ old.blank
+    → loan_of slot (get_or old.headers slot old.blank) (masked marks values) ≡ change (loan_in old slot) → ChangedAt old slot change new
+values_changed {T = T} old new slot change values marks below here values_are marks_are headers blank changes = record {
+  loans = λ k apart.
+      told k (masked (payload_at k new.written) (payload_at k new.values))
+      ∙ ap (λ ms. loan_of k (get_or old.headers k old.blank) (masked ms (payload_at k new.values))) (other_payload old.written new.written slot k marks marks_are apart)
+      ∙ ap (λ vs. loan_of k (get_or old.headers k old.blank) (masked (payload_at k old.written) vs)) (other_payload old.values new.values slot k values values_are apart);
+  messages = λ k apart.
+      ap (λ hs. message_of k (get_or hs k new.blank) (payload_at k new.values)) headers
+      ∙ ap (λ b. message_of k (get_or old.headers k b) (payload_at k new.values)) blank
+      ∙ ap (λ vs. message_of k (get_or old.headers k old.blank) vs) (other_payload old.values new.values slot k values values_are apart);
+  loan =
+      told slot (masked (payload_at slot new.written) (payload_at slot new.values))
+      ∙ ap (λ ms. loan_of slot (get_or old.headers slot old.blank) (masked ms (payload_at slot new.values))) (this_payload old.written new.written slot marks marks_are here)
+      ∙ ap (λ vs. loan_of slot (get_or old.headers slot old.blank) (masked marks vs)) (this_payload old.values new.values slot values values_are below)
+      ∙ changes;
+  frame = λ b uses. ap (λ v. sender_of v b uses) values_are;
+  blank = blank;
+}
+  where
+    told : (k : ℕ) (vs : List (Option T)) → loan_of k (get_or new.headers k new.blank) vs ≡ loan_of k (get_or old.headers k old.blank) vs
+    told k vs = ap (λ hs. loan_of k (get_or hs k new.blank) vs) headers ∙ ap (λ b. loan_of k (get_or old.headers k b) vs) blank
+
 -- a value is written in a slot
 pub value_written : {T U : Type 0} (old new : Store T U) (slot place : ℕ) (value : T) → length (payload_at slot old.written) ≡ length (payload_at slot old.values)
     → slot < length old.values.payloads → slot < length old.written.payloads
     → new.values ≡ with_payload slot (set (payload_at slot old.values) place value) old.values
     → new.written ≡ with_payload slot (set (payload_at slot old.written) place true) old.written
     → new.headers ≡ old.headers → new.blank ≡ old.blank → ChangedAt old slot (write_value place value) new
-value_written {T = T} old new slot place value marks below here values written headers blank = record {
-  loans = λ k apart.
-      told k (masked (payload_at k new.written) (payload_at k new.values))
-      ∙ ap (λ ms. loan_of k (get_or old.headers k old.blank) (masked ms (payload_at k new.values))) (other_payload old.written new.written slot k (set (payload_at slot old.written) place true) written apart)
-      ∙ ap (λ vs. loan_of k (get_or old.headers k old.blank) (masked (payload_at k old.written) vs)) (other_payload old.values new.values slot k (set (payload_at slot old.values) place value) values apart);
-  messages = λ k apart.
-      ap (λ hs. message_of k (get_or hs k new.blank) (payload_at k new.values)) headers
-      ∙ ap (λ b. message_of k (get_or old.headers k b) (payload_at k new.values)) blank
-      ∙ ap (λ vs. message_of k (get_or old.headers k old.blank) vs) (other_payload old.values new.values slot k (set (payload_at slot old.values) place value) values apart);
-  loan =
-      told slot (masked (payload_at slot new.written) (payload_at slot new.values))
-      ∙ ap (λ ms. loan_of slot (get_or old.headers slot old.blank) (masked ms (payload_at slot new.values))) (this_payload old.written new.written slot (set (payload_at slot old.written) place true) written here)
-      ∙ ap (λ vs. loan_of slot (get_or old.headers slot old.blank) (masked (set (payload_at slot old.written) place true) vs)) (this_payload old.values new.values slot (set (payload_at slot old.values) place value) values below)
-      ∙ ap (loan_of slot (get_or old.headers slot old.blank)) (masked_set (payload_at slot old.written) (payload_at slot old.values) place value marks);
-  frame = λ b uses. ap (λ v. sender_of v b uses) values;
-  blank = blank;
-}
-  where
-    told : (k : ℕ) (vs : List (Option T)) → loan_of k (get_or new.headers k new.blank) vs ≡ loan_of k (get_or old.headers k old.blank) vs
-    told k vs = ap (λ hs. loan_of k (get_or hs k new.blank) vs) headers ∙ ap (λ b. loan_of k (get_or old.headers k b) vs) blank
+value_written old new slot place value marks below here values written headers blank =
+    values_changed old new slot (write_value place value) (set (payload_at slot old.values) place value) (set (payload_at slot old.written) place true) below here values written headers blank
+    (ap (loan_of slot (get_or old.headers slot old.blank)) (masked_set (payload_at slot old.written) (payload_at slot old.values) place value marks))
+
+masked_all : {T : Type 0} (count : ℕ) (values : List T) → length values ≡ count → masked (replicate count true) values ≡ map Some values
+masked_all zero [] long = refl
+masked_all zero (value ∷ values) long = absurd (omega (arith, long))
+masked_all (suc count) [] long = absurd (omega (arith, long))
+masked_all (suc count) (value ∷ values) long = ap (λ rest. Some value ∷ rest) (masked_all count values (omega (arith, long)))
+
+-- all values are written in a slot
+pub all_written_at : {T U : Type 0} (old new : Store T U) (slot : ℕ) (values : List T) → length values ≡ length (payload_at slot old.written)
+    → slot < length old.values.payloads → slot < length old.written.payloads
+    → new.values ≡ with_payload slot values old.values
+    → new.written ≡ with_payload slot (replicate (length (payload_at slot old.written)) true) old.written
+    → new.headers ≡ old.headers → new.blank ≡ old.blank → ChangedAt old slot (write_all values) new
+all_written_at old new slot values long below here values_are written headers blank =
+    values_changed old new slot (write_all values) values (replicate (length (payload_at slot old.written)) true) below here values_are written headers blank
+    (ap (loan_of slot (get_or old.headers slot old.blank)) (masked_all (length (payload_at slot old.written)) values long))
 
 abbrev with_header : {U : Type 0} → SlotHeader U → U → SlotHeader U
 with_header header user_header = record header { user_header = user_header }
@@ -171,3 +196,56 @@ header_written old new slot header user_header below made headers values written
   frame = λ b uses. ap (λ v. sender_of v b uses) values;
   blank = blank;
 }
+
+-- what holds of a publisher holds after other values and as many marks were put into a slot
+pub values_kept : {T U : Type 0} (old new : Store T U) (uses : Uses ℕ ℕ) (slot : ℕ) (values : List T) (marks : List Bool) → IsSender old uses → slot < uses.first + uses.size
+    → new.values ≡ with_payload slot values old.values → new.written ≡ with_payload slot marks old.written → new.headers ≡ old.headers → length marks ≡ length values → IsSender new uses
+values_kept old new uses slot values marks is below values_are marks_are headers long = record {
+  values = ap (λ v. length v.payloads) values_are ∙ length-set old.values.payloads slot values ∙ is.values;
+  written = ap (λ v. length v.payloads) marks_are ∙ length-set old.written.payloads slot marks ∙ is.written;
+  headers = ap length headers ∙ is.headers;
+  values_size = ap (λ v. v.size) values_are ∙ is.values_size;
+  written_size = ap (λ v. v.size) marks_are ∙ is.written_size;
+  room = ap (λ v. v.room) marks_are ∙ is.room ∙ sym (ap (λ v. v.room) values_are);
+  segments = ap (λ v. v.segments) marks_are ∙ is.segments ∙ sym (ap (λ v. v.segments) values_are);
+  most_segments = ap (λ v. v.most_segments) marks_are ∙ is.most_segments ∙ sym (ap (λ v. v.most_segments) values_are);
+  marks = λ k. ⊎_elim (λ same. rw same.1 here) (λ other. there k other.1) (eqb_tells k slot);
+  sole = is.sole;
+  within = is.within;
+}
+  where
+    here : length (payload_at slot new.written) ≡ length (payload_at slot new.values)
+    here = ap length (this_payload old.written new.written slot marks marks_are (omega (arith, below, is.written)))
+        ∙ long ∙ sym (ap length (this_payload old.values new.values slot values values_are (omega (arith, below, is.values))))
+
+    there : (k : ℕ) → k ≢ slot → length (payload_at k new.written) ≡ length (payload_at k new.values)
+    there k apart = ap length (other_payload old.written new.written slot k marks marks_are apart) ∙ is.marks k
+        ∙ sym (ap length (other_payload old.values new.values slot k values values_are apart))
+
+-- a value is written exactly where its mark is set
+pub marked : {T : Type 0} (marks : List Bool) (values : List T) (place : ℕ) → length marks ≡ length values
+    → is_some (get_or (masked marks values) place None) ≡ get_or marks place false
+marked [] values place same = refl
+marked (mark ∷ marks) [] place same = absurd (omega (arith, same))
+marked (true ∷ marks) (value ∷ values) zero same = refl
+marked (false ∷ marks) (value ∷ values) zero same = refl
+marked (mark ∷ marks) (value ∷ values) (suc place) same = marked marks values place (omega (arith, same))
+
+pub marked_within : (marks : List Bool) (place : ℕ) → get_or marks place false ≡ true → place < length marks
+marked_within [] place on = search (rules, on)
+marked_within (mark ∷ marks) zero on = omega arith
+marked_within (mark ∷ marks) (suc place) on = omega (arith, marked_within marks place on)
+
+-- a written value is written again in a slot
+pub value_changed : {T U : Type 0} (old new : Store T U) (slot place : ℕ) (value : T) → length (payload_at slot old.written) ≡ length (payload_at slot old.values)
+    → slot < length old.values.payloads → slot < length old.written.payloads → get_or (payload_at slot old.written) place false ≡ true
+    → new.values ≡ with_payload slot (set (payload_at slot old.values) place value) old.values
+    → new.written ≡ old.written → new.headers ≡ old.headers → new.blank ≡ old.blank → ChangedAt old slot (write_value place value) new
+value_changed old new slot place value marks below here on values written headers blank =
+    value_written old new slot place value marks below here values (written ∙ sym (ap (λ ms. with_payload slot ms old.written) still ∙ again)) headers blank
+  where
+    still : set (payload_at slot old.written) place true ≡ payload_at slot old.written
+    still = ap (set (payload_at slot old.written) place) (sym on) ∙ set-get_or (payload_at slot old.written) place false
+
+    again : with_payload slot (payload_at slot old.written) old.written ≡ old.written
+    again = ap (λ payloads. record old.written { payloads = payloads }) (set-get_or old.written.payloads slot [])

@@ -1,5 +1,5 @@
 -- Messages and loans by what they hold.
-use Rattle.std.specs.Prelude.{ℕ, Bool, List, [], ◌∷◌, set, replicate, is_some, Option, None, Some}
+use Rattle.std.specs.Prelude.{ℕ, Bool, List, [], ◌∷◌, map, set, replicate, is_some, Option, None, Some}
 use Rattle.std.specs.List.{list_all}
 
 -- A message: the slot that it stands in, which no other message in use has, the number of its elements, its user header and
@@ -38,6 +38,10 @@ new_loan slot values elements user_header = record { slot = slot; elements = ele
 -- a value is written at a place
 abbrev pub write_value : {T U : Type 0} → ℕ → T → Loan T U → Loan T U
 write_value place value loan = record loan { values = set loan.values place (Some value) }
+
+-- all values are written at once
+abbrev pub write_all : {T U : Type 0} → List T → Loan T U → Loan T U
+write_all values loan = record loan { values = map Some values }
 
 -- another user header
 abbrev pub write_user_header : {T U : Type 0} → U → Loan T U → Loan T U

@@ -1,5 +1,5 @@
 -- One publisher with its messages.
-use Rattle.std.specs.Prelude.{false, ℕ, ◌+◌, ◌<◌, ◌≤◌, ◌≡◌, Bool, List, [], ◌∷◌, length, get_or, map, Option, None, Some, option_map, if◌then◌else◌, eqb, nat_lt, ◌&&◌, slice_get}
+use Rattle.std.specs.Prelude.{false, ℕ, ◌+◌, ◌<◌, ◌≤◌, ◌≡◌, Bool, List, [], ◌∷◌, length, get_or, map, Option, None, Some, option_map, if◌then◌else◌, eqb, nat_lt, ◌&&◌, is_some, slice_get}
 use Rattle.std.specs.List.{list_any}
 use Rattle.iox_domain_slots.specs.Uses.{Uses, Connection, in_use, loaned, segment_opened}
 use Rattle.iox_domain_slots.specs.Counting.{times}
@@ -69,6 +69,14 @@ has_loan slot uses = list_any (λ loan. eqb slot loan.slot) uses.loans
 -- one of the loans stands in this slot, and has this place
 abbrev pub has_place : {T U : Type 0} → ℕ → ℕ → Uses (Loan T U) (Message T U) → Bool
 has_place slot place uses = list_any (λ loan. eqb slot loan.slot && nat_lt place (length loan.values)) uses.loans
+
+-- one of the loans stands in this slot, and the value at this place of it is written
+abbrev pub has_value : {T U : Type 0} → ℕ → ℕ → Uses (Loan T U) (Message T U) → Bool
+has_value slot place uses = list_any (λ loan. eqb slot loan.slot && is_some (get_or loan.values place None)) uses.loans
+
+-- one of the loans stands in this slot, and has so many values
+abbrev pub has_length : {T U : Type 0} → ℕ → ℕ → Uses (Loan T U) (Message T U) → Bool
+has_length slot count uses = list_any (λ loan. eqb slot loan.slot && eqb count (length loan.values)) uses.loans
 
 -- whether a loan is written; no loan isn't
 abbrev pub is_written_loan : {T U : Type 0} → Option (Loan T U) → Bool

@@ -1,5 +1,5 @@
 //! Laws of the steps of a publisher, in other words than theirs. They stand on functions that do nothing.
-ghost use Rattle.iox_domain_sender.specs.Laws.{FullExactlyIf, HeldStays};
+ghost use Rattle.iox_domain_sender.specs.Laws.{FullExactlyIf, HeldStays, WholeIsSent};
 
 /// Something in use stands in each slot of a segment exactly if as many different loans and messages of it are in use as it has
 /// slots: that is when `Sender::loan` makes none.
@@ -7,8 +7,13 @@ pub fn full_exactly_if()
     ensures { FullExactlyIf }
 {}
 
-/// A message that a subscriber holds stays as it is through loans, sends, new segments and deliveries, and when any connection
-/// ends, that subscriber's own too.
-pub fn held_stays<L, X>()
-    ensures { HeldStays L X }
+/// A message that a subscriber holds stays as it is through every step of its publisher, also when a connection ends, that subscriber's
+/// own too; only it can give the message back.
+pub fn held_stays<T, U>()
+    ensures { HeldStays T U }
+{}
+
+/// A loan whose values are written all at once is wholly written, and just these values are sent.
+pub fn whole_is_sent<T, U>()
+    ensures { WholeIsSent T U }
 {}

@@ -1,5 +1,6 @@
 //! The values that stand in the slots of a publisher.
 ghost use Rattle.std.specs.Prelude.{◌≡◌, ◌+◌, ◌-◌, ◌*◌, ◌/◌, ◌%◌, ◌<◌, ◌≤◌, ◌++◌, length, get_or, set, replicate, [], IfOk};
+ghost use Rattle.std.specs.Borrow.{sem};
 ghost use Rattle.iox_domain_sender.specs.Payloads.{PayloadsState, payload_at, with_payload};
 
 use crate::rows::Rows;
@@ -35,6 +36,8 @@ impl<T> Model for Payloads<T> {
 }
 
 impl<T: Copy> Payloads<T> {
+    ghost use Rattle.iox_domain_sender.specs.PayloadsLends.{LendsInSlot};
+
     /// No slots, to come in at most so many segments of this size. It fails only where memory is wanting.
     pub fn new(alloc: Global, size: usize, most_segments: usize) -> Result<Payloads<T>, AllocError>
         ensures { IfOk result (λ made. made ≡ record { size = size; segments = 0; most_segments = most_segments; room = 0; payloads = [] }) }
@@ -68,16 +71,15 @@ impl<T: Copy> Payloads<T> {
         segment.set_length(row, count);
     }
 
-    /// Gives a slot of the last segment this value so many times.
-    pub fn fill(&mut self, slot: usize, count: usize, value: T)
+    /// Puts these values into a slot, in the place of as many that stand there.
+    pub fn copy(&mut self, slot: usize, values: &[T])
         requires slot { slot < length self.old.payloads }
-        requires last { length self.old.payloads ≤ slot + self.old.size }
-        requires room { count ≤ self.old.room }
-        ensures { self.new ≡ with_payload slot (replicate count value) self.old }
+        requires length { length values.now ≡ length (payload_at slot self.old) }
+        ensures { self.new ≡ with_payload slot values.now self.old }
     {
         let row = slot % self.size;
         let segment = &mut self.segments[slot / self.size];
-        segment.fill(row, count, value);
+        segment.copy(row, values);
     }
 
     /// Puts a value at a place of a slot.
@@ -88,6 +90,16 @@ impl<T: Copy> Payloads<T> {
         let row = slot % self.size;
         let segment = &mut self.segments[slot / self.size];
         segment.write(row, place, value);
+    }
+
+    /// The value at a place of a slot, to be changed there.
+    pub fn value_mut(&mut self, slot: usize, place: usize) -> &mut T
+        requires { place < length (payload_at slot self.old) }
+        ensures* writes_back { sem 𝓛 (LendsInSlot T.row self.entry slot place result) }
+        ensures value { result.now ≡ get_or (payload_at slot self.old) place result.now }
+    {
+        let row = slot % self.size;
+        self.segments[slot / self.size].value_mut(row, place)
     }
 
     /// The values of a slot.
@@ -122,5 +134,17 @@ impl<T: Copy> Payloads<T> {
         ensures { result ≡ self.now.most_segments - self.now.segments }
     {
         self.most_segments.saturating_sub(self.segments.len())
+    }
+}
+
+impl Payloads<bool> {
+    /// Puts this mark at each place of a slot.
+    pub fn fill(&mut self, slot: usize, mark: bool)
+        requires { slot < length self.old.payloads }
+        ensures { self.new ≡ with_payload slot (replicate (length (payload_at slot self.old)) mark) self.old }
+    {
+        let row = slot % self.size;
+        let segment = &mut self.segments[slot / self.size];
+        segment.fill(row, mark);
     }
 }

@@ -1,5 +1,6 @@
 //! Rows of values in one block of memory.
-ghost use Rattle.std.specs.Prelude.{◌≡◌, ◌+◌, ◌*◌, ◌^◌, ◌<◌, ◌≤◌, length, get_or, set, take, drop, replicate, [], IfOk};
+ghost use Rattle.std.specs.Prelude.{◌≡◌, ◌+◌, ◌*◌, ◌^◌, ◌<◌, ◌≤◌, ◌++◌, length, get_or, set, take, drop, replicate, [], IfOk};
+ghost use Rattle.std.specs.Borrow.{sem};
 ghost use Rattle.iox_domain_sender.specs.Rows.{RowsState, row_at, with_row};
 
 use std::alloc::{AllocError, Global};
@@ -27,6 +28,8 @@ impl<T> Model for Rows<T> {
 }
 
 impl<T: Copy> Rows<T> {
+    ghost use Rattle.iox_domain_sender.specs.RowsLends.{LendsInRow};
+
     /// Rows without a value, with this room each. It fails only where memory is wanting.
     pub fn new(alloc: Global, rows: usize, room: usize, blank: T) -> Result<Rows<T>, AllocError>
         ensures { IfOk result (λ made. made ≡ record { room = room; rows = replicate rows [] }) }
@@ -58,16 +61,14 @@ impl<T: Copy> Rows<T> {
         self.lengths[row] = count;
     }
 
-    /// Gives a row this value so many times.
-    pub fn fill(&mut self, row: usize, count: usize, value: T)
+    /// Puts these values into a row, in the place of as many that stand there.
+    pub fn copy(&mut self, row: usize, values: &[T])
         requires row { row < length self.old.rows }
-        requires room { count ≤ self.old.room }
-        ensures { self.new ≡ with_row row (replicate count value) self.old }
+        requires length { length values.now ≡ length (row_at row self.old) }
+        ensures { self.new ≡ with_row row values.now self.old }
     {
-        self.set_length(row, count);
-        for place in 0..count {
-            self.write(row, place, value);
-        }
+        let start = row * self.room;
+        put(&mut self.values, start, values);
     }
 
     /// Puts a value at a place of a row.
@@ -79,6 +80,16 @@ impl<T: Copy> Rows<T> {
         self.values[at] = value;
     }
 
+    /// The value at a place of a row, to be changed there.
+    pub fn value_mut(&mut self, row: usize, place: usize) -> &mut T
+        requires { place < length (row_at row self.old) }
+        ensures* writes_back { sem 𝓛 (LendsInRow T.row self.entry row place result) }
+        ensures value { result.now ≡ get_or (row_at row self.old) place result.now }
+    {
+        let at = row * self.room + place;
+        &mut self.values[at]
+    }
+
     /// The values of a row.
     pub fn row(&self, row: usize) -> &[T]
         requires { row < length self.now.rows }
@@ -86,6 +97,35 @@ impl<T: Copy> Rows<T> {
     {
         part(&self.values, row * self.room, self.lengths[row])
     }
+}
+
+impl Rows<bool> {
+    /// Puts this mark at each place of a row.
+    pub fn fill(&mut self, row: usize, mark: bool)
+        requires { row < length self.old.rows }
+        ensures { self.new ≡ with_row row (replicate (length (row_at row self.old)) mark) self.old }
+    {
+        let start = row * self.room;
+        mark_part(&mut self.values, start, self.lengths[row], mark);
+    }
+}
+
+// Puts values from a place on.
+fn put<T: Copy>(all: &mut [T], start: usize, values: &[T])
+    requires { start + length values.now ≤ length all.old }
+    ensures { all.new ≡ take start all.old ++ (values.now ++ drop (start + length values.now) all.old) }
+{
+    let end = start + values.len();
+    all[start..end].copy_from_slice(values);
+}
+
+// Puts a mark at so many places from one on.
+fn mark_part(all: &mut [bool], start: usize, count: usize, mark: bool)
+    requires { start + count ≤ length all.old }
+    ensures { all.new ≡ take start all.old ++ (replicate count mark ++ drop (start + count) all.old) }
+{
+    let end = start + count;
+    all[start..end].fill(mark);
 }
 
 // So many values from a place on.

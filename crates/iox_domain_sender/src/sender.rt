@@ -2,9 +2,10 @@
 ghost use Rattle.std.specs.Prelude.{◌≡◌, ℕ, ◌+◌, ◌<◌, ◌≤◌, length, get_or, set, map, is_some, option_copied, slice_get, position, nat_lt, IsSome, IfOk, OnErr, ◌-◌, ◌^◌, ◌==◌, [], true, false, None, Some};
 ghost use Rattle.iox_domain_slots.specs.declared.stage.Stage.TheVariants as stage;
 ghost use Rattle.iox_domain_slots.specs.Uses.{Uses, nobody, placed, connected, is_there, worst_case, accepts, offered, taken, given_back, ended, welcomed, dropped, begun, finished, connection_at, with_connection};
+ghost use Rattle.std.specs.Borrow.{sem};
 ghost use Rattle.std.specs.List.{list_all};
-ghost use Rattle.iox_domain_sender.specs.Messages.{Message, Loan, write_value, write_user_header, sent_as};
-ghost use Rattle.iox_domain_sender.specs.Sending.{SenderState, LoanMade, with_uses, change_loan, has_loan, has_place, is_written_at, opened_for};
+ghost use Rattle.iox_domain_sender.specs.Messages.{Message, Loan, write_value, write_all, write_user_header, sent_as};
+ghost use Rattle.iox_domain_sender.specs.Sending.{SenderState, LoanMade, with_uses, change_loan, has_loan, has_place, has_value, has_length, is_written_at, opened_for};
 
 use crate::payloads::Payloads;
 use crate::rows::Rows;
@@ -37,6 +38,8 @@ impl<T, U> Model for Sender<T, U> {
 }
 
 impl<T: Copy, U: Copy> Sender<T, U> {
+    ghost use Rattle.iox_domain_sender.specs.SenderLends.{LendsValue};
+
     /// A publisher with one segment of slots, of which none is in use. `blank` fills the slots, and a new loan has this user
     /// header. It fails only where memory is wanting.
     pub fn new(
@@ -107,7 +110,8 @@ impl<T: Copy, U: Copy> Sender<T, U> {
     {
         let slot = self.uses.loan()?;
         self.values.set_length(slot, values);
-        self.written.fill(slot, values, false);
+        self.written.set_length(slot, values);
+        self.written.fill(slot, false);
         self.headers[slot] = SlotHeader {
             elements,
             user_header: self.blank.user_header,
@@ -122,6 +126,15 @@ impl<T: Copy, U: Copy> Sender<T, U> {
     {
         self.values.write(slot, place, value);
         self.written.write(slot, place, true);
+    }
+
+    /// Writes all values of the loan in this slot at once.
+    pub fn write_from_slice(&mut self, slot: usize, values: &[T])
+        requires { has_length slot (length values.now) self.old.uses ≡ true }
+        ensures { self.new ≡ with_uses (change_loan slot (write_all values.now) self.old.uses) self.old }
+    {
+        self.values.copy(slot, values);
+        self.written.fill(slot, true);
     }
 
     /// Writes the user header of the loan in this slot.
@@ -157,6 +170,16 @@ impl<T: Copy, U: Copy> Sender<T, U> {
         place < self.values.values(slot).len()
     }
 
+    /// Whether a loan of so many values stands in this slot: the condition of writing all of them at once.
+    pub fn has_length(&self, slot: usize, count: usize) -> bool
+        ensures { result ≡ has_length slot count self.now.uses }
+    {
+        if !self.has_loan(slot) {
+            return false;
+        }
+        count == self.values.values(slot).len()
+    }
+
     /// The value at a place of the loan in this slot, if it is written.
     pub fn value(&self, slot: usize, place: usize) -> Option<&T>
         requires { has_place slot place self.now.uses ≡ true }
@@ -166,6 +189,22 @@ impl<T: Copy, U: Copy> Sender<T, U> {
             return None;
         }
         Some(&self.values.values(slot)[place])
+    }
+
+    /// Whether a loan stands in this slot of which the value at this place is written: the condition of changing it there.
+    pub fn has_value(&self, slot: usize, place: usize) -> bool
+        ensures { result ≡ has_value slot place self.now.uses }
+    {
+        self.has_loan(slot) && is_marked(self.written.values(slot), place)
+    }
+
+    /// The written value at a place of the loan in this slot, to be changed there.
+    pub fn value_mut(&mut self, slot: usize, place: usize) -> &mut T
+        requires { has_value slot place self.old.uses ≡ true }
+        ensures* writes_back { sem 𝓛 (LendsValue T.row U.row self.entry slot place result) }
+        ensures value { (at : ℕ) (loan : Loan T U) → slice_get self.old.uses.loans at ≡ Some loan → loan.slot ≡ slot → get_or loan.values place None ≡ Some result.now }
+    {
+        self.values.value_mut(slot, place)
     }
 
     /// Begins the send of the written loan at this place of the list, and answers its slot: it is no loan any longer, but in use
@@ -304,7 +343,8 @@ impl<T: Copy, U: Copy> Sender<T, U> {
 
     /// How far the connection is; vacant where there is none.
     pub fn stage(&self, index: usize) -> Stage
-        ensures { result ≡ (connection_at index self.now.uses).stage }
+        ensures stage { result ≡ (connection_at index self.now.uses).stage }
+        ensures vacant { result ≡ stage.Vacant → connection_at index self.now.uses ≡ nobody }
     {
         self.uses.stage(index)
     }
@@ -405,6 +445,16 @@ impl<T: Copy, U: Copy> Sender<T, U> {
         ensures { self.new ≡ with_uses (with_connection index (welcomed self.old.uses.history (connection_at index self.old.uses)) self.old.uses) self.old }
     {
         self.uses.welcome(index);
+    }
+}
+
+// Whether there is such a place, and it is set.
+fn is_marked(marks: &[bool], place: usize) -> bool
+    ensures { result ≡ get_or marks.now place false }
+{
+    match marks.get(place) {
+        Some(mark) => *mark,
+        None => false,
     }
 }
 

@@ -350,7 +350,8 @@ impl Links {
 
     /// How far the connection is; vacant where there is none.
     pub fn stage(&self, index: usize) -> Stage
-        ensures { result ≡ (seen (get_or self.now.links index None)).stage }
+        ensures stage { result ≡ (seen (get_or self.now.links index None)).stage }
+        ensures vacant { result ≡ stage.Vacant → seen (get_or self.now.links index None) ≡ nobody }
     {
         if index >= self.items.len() {
             return Stage::Vacant;

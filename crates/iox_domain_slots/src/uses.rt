@@ -303,7 +303,8 @@ impl SlotUses {
 
     /// How far the connection is; vacant where there is none.
     pub fn stage(&self, index: usize) -> Stage
-        ensures { result ≡ (connection_at index self.now).stage }
+        ensures stage { result ≡ (connection_at index self.now).stage }
+        ensures vacant { result ≡ stage.Vacant → connection_at index self.now ≡ nobody }
     {
         self.links.stage(index)
     }
