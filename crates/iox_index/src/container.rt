@@ -1,8 +1,9 @@
 //! The container whose capacity its type fixes.
-ghost use Rattle.std.specs.Prelude.{◌≡◌, ◌↔◌, ◌+◌, ℕ, List, Option, true, false, length, slice_get, not, nat_eq, IfOk, OnErr, IsErr};
+ghost use Rattle.std.specs.Prelude.{◌≡◌, ◌≤◌, ◌↔◌, ◌+◌, ℕ, List, Option, true, false, length, slice_get, not, nat_eq, IfOk, OnErr, IsErr};
 ghost use Rattle.iox_index_base.specs.declared.container.Member.{Member};
 ghost use Rattle.std.specs.Bool.{OnFalse};
 ghost use Rattle.std.specs.List.{FoldsTo};
+ghost use Rattle.iox_index_base.specs.Places.{padded};
 ghost use Rattle.iox_index_base.specs.Release.{state_of};
 ghost use Rattle.iox_index_base.specs.Container.{Contents, Copied, empty_container, count_members, lowest_free, handle_of, with_member, without_member, settled, owns, HasRoom, copy_of, may_update, IsCopyOf, member_of, handle_at, first_handle, members_of, Recovered};
 
@@ -13,7 +14,8 @@ use iox_index_base::{
 use std::alloc::{AllocError, Global};
 use std::marker::Model;
 
-/// `CAPACITY` places for members, each with its owner. New members get the lowest free index.
+/// `CAPACITY` places for members, each with its owner. New members get the lowest free index. A place takes memory once it
+/// had a member, or one behind it.
 ///
 /// Ported from `iceoryx2_bb_lock_free::mpmc::container::FixedSizeContainer`.
 #[derive(Drop)]
@@ -89,6 +91,14 @@ impl<T: Copy, const CAPACITY: usize> FixedSizeContainer<T, CAPACITY> {
         ensures { result ≡ member_of (slice_get self.now.members index) }
     {
         self.container.get(index)
+    }
+
+    /// The places up to the last that ever had a member: those behind them, up to the capacity, are empty.
+    pub fn places(&self) -> &[Option<Member<T>>]
+        ensures whole { padded (length self.now.members) result.now ≡ self.now.members }
+        ensures bound { length result.now ≤ length self.now.members }
+    {
+        self.container.places()
     }
 
     /// The handle of the member at this index; `None` where there is none, and past the capacity.

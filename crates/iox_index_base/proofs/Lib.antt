@@ -1,4 +1,5 @@
 pub mod FreeLists
 pub mod Locked
+pub mod Padded
 pub mod Recovering
 pub mod Told

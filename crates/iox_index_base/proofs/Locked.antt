@@ -11,7 +11,7 @@ pub count-cons : {C : Type 0} (cell : Option C) (cells : List (Option C)) → co
 count-cons cell cells = sum_by-cons (λ c. cond (is_some c) 1 0) cell cells
 
 -- no more cells are full once one was emptied
-count-emptied : {C : Type 0} (cells : List (Option C)) (index : ℕ) → count_by is_some (set cells index None) ≤ count_by is_some cells
+pub count-emptied : {C : Type 0} (cells : List (Option C)) (index : ℕ) → count_by is_some (set cells index None) ≤ count_by is_some cells
 count-emptied [] index = omega arith
 count-emptied (cell ∷ cells) zero = omega (arith, count-cons cell cells, count-cons None cells)
 count-emptied (cell ∷ cells) (suc index) =

@@ -4,7 +4,7 @@ use Rattle.std.proofs.Math.ListN.{get_or, set, drop_of_length-le}
 use Rattle.std.proofs.Math.Seq.{drop-cons}
 use Rattle.std.specs.List.{cons_option}
 use Rattle.iox_string.specs.Retained.{KeepsAsAnswered}
-use Rattle.std.proofs.lemmas.List.{drop-set-lt}
+use Rattle.std.proofs.lemmas.List.{drop-set-lt, get_or_default}
 use Rattle.iox_index_base.specs.Recovery.{asked_from, without_each, Recovers}
 
 add-one : (n : ℕ) → suc n ≡ n + 1
@@ -29,6 +29,11 @@ module _ {C X F : Type 0} (asked : ℕ → C → Option X) (index_of : X → ℕ
   pub Leads-end : (first : F) (old : List C) (now : F) (at : ℕ) (cells : List C) → Leads first old now at cells → length cells ≤ at
       → Recovers asked index_of empty R first old cells now
   Leads-end first old now at cells s done = s.whole [] now (rw (drop_of_length-le cells done) ([], refl, refl, refl))
+
+  -- nothing is asked about from `at` on
+  pub Leads-rest : (first : F) (old : List C) (now : F) (at : ℕ) (cells : List C) → Leads first old now at cells → asked_from asked at (drop at cells) ≡ []
+      → Recovers asked index_of empty R first old cells now
+  Leads-rest first old now at cells s none = s.whole [] now (rw none ([], refl, refl, refl))
 
   -- the cell at `at` isn't asked about
   pub Leads-other : (first : F) (old : List C) (now : F) (at : ℕ) (cells : List C) (cell : C) → Leads first old now at cells
@@ -63,6 +68,10 @@ module _ {C X F : Type 0} (asked : ℕ → C → Option X) (index_of : X → ℕ
         subst W place (s.whole (x ∷ told) last (subst P (sym (asked_next at cells cell (Some x) more read own))
         (true ∷ rest.0, ap (λ n. suc n) rest.1, (next, call, rest.2), ap (λ ts. x ∷ ts) rest.3)));
   }
+
+-- a cell that was read at some default, at itself
+pub read-as : {C : Type 0} (cells : List C) (at : ℕ) (cell default : C) → cell ≡ get_or cells at default → at < length cells → cell ≡ get_or cells at cell
+read-as cells at cell default read more = read ∙ get_or_default cells at default cell more
 
 -- what is asked about of cells of which the first is asked about
 pub asked-first : {C X : Type 0} (asked : ℕ → C → Option X) (at : ℕ) (cells : List C) (cell : C) (tail : List C) (x : X) → cells ≡ cell ∷ tail

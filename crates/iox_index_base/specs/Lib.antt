@@ -1,6 +1,7 @@
 pub mod Container
 pub mod Head
 pub mod Owner
+pub mod Places
 pub mod Recovery
 pub mod Refusals
 pub mod Release

@@ -4,11 +4,13 @@ ghost use Rattle.std.specs.Bool.{OnFalse};
 ghost use Rattle.std.specs.List.{FoldsTo, position};
 ghost use Rattle.iox_container.specs.Callback.{CallsUntilStop};
 ghost use Rattle.iox_index_base.specs.Recovery.{asked_from};
+ghost use Rattle.iox_index_base.specs.Places.{padded};
 ghost use Rattle.iox_index_base.specs.Release.{locks, state_of};
 ghost use Rattle.iox_index_base.specs.Container.{Contents, Copied, empty_container, count_members, lowest_free, handle_of, with_member, without_member, settled, owns, is_numbered, is_of, HasRoom, copy_of, may_update, IsCopyOf, value_of, member_of, handle_at, first_handle, told, told_of, members_of, Recovered, all_members};
 
 use crate::error::{ContainerAddFailure, ContainerRemoveError};
 use crate::owner::OwnerId;
+use crate::places::Places;
 use crate::release::{ReleaseMode, ReleaseState};
 use iox_container::CallbackProgression;
 use std::alloc::{AllocError, Global};
@@ -44,26 +46,29 @@ impl ContainerHandle {
 
 /// Members at the indices below a capacity, each with its owner. New members get the lowest free index.
 ///
+/// The room for all members is taken when the container is made, and touched as it is used: a place takes memory once it
+/// had a member, or one behind it, so a container of many places that has few members is small, and quickly made and
+/// searched.
+///
 /// Ported from `iceoryx2_bb_lock_free::mpmc::container::Container`.
 #[derive(Drop)]
 pub struct Container<T: Copy> {
     id: u64,
-    members: Vec<Option<Member<T>>>,
+    members: Places<Member<T>>,
     changes: u64,
     locked: bool,
 }
 
 impl<T: Copy> Model for Container<T> {
-    ghost use Rattle.std.specs.Prelude.{is_some};
-    ghost use Rattle.std.specs.List.{count_by};
     ghost use Rattle.iox_index_base.specs.Release.{IsUnheldIfLocked};
+    ghost use Rattle.iox_index_base.specs.Places.{count_filled};
     ghost use Rattle.iox_index_base.specs.Container.{Contents};
 
     ghost Value = { Contents T };
 
-    ghost view = { λ c. record { id = c.id; members = c.members.items; changes = c.changes; locked = c.locked } };
+    ghost view = { λ c. record { id = c.id; members = c.members; changes = c.changes; locked = c.locked } };
 
-    ghost invariant = { λ c. IsUnheldIfLocked c.locked (count_by is_some c.members.items) };
+    ghost invariant = { λ c. IsUnheldIfLocked c.locked (count_filled c.members) };
 }
 
 /// What was copied of a container.
@@ -72,7 +77,7 @@ impl<T: Copy> Model for Container<T> {
 #[derive(Drop)]
 pub struct ContainerState<T: Copy> {
     id: u64,
-    members: Vec<Option<Member<T>>>,
+    members: Places<Member<T>>,
     changes: u64,
 }
 
@@ -81,7 +86,7 @@ impl<T: Copy> Model for ContainerState<T> {
 
     ghost Value = { Copied T };
 
-    ghost view = { λ s. record { id = s.id; members = s.members.items; changes = s.changes } };
+    ghost view = { λ s. record { id = s.id; members = s.members; changes = s.changes } };
 }
 
 impl<T: Copy> Container<T> {
@@ -91,7 +96,7 @@ impl<T: Copy> Container<T> {
     {
         Ok(Container {
             id,
-            members: vec![in alloc; None; capacity]?,
+            members: Places::new(alloc, capacity)?,
             changes: 0,
             locked: false,
         })
@@ -116,16 +121,16 @@ impl<T: Copy> Container<T> {
         if self.locked {
             return Err(ContainerAddFailure::IsLocked);
         }
-        let Some(index) = lowest_free(self.members.as_slice()) else {
-            return Err(ContainerAddFailure::OutOfSpace);
-        };
-        self.changes += 1;
-        let number = self.changes;
-        self.members[index] = Some(Member {
+        let number = self.changes + 1;
+        let member = Member {
             number,
             owner,
             value,
-        });
+        };
+        let Some(index) = self.members.fill(member) else {
+            return Err(ContainerAddFailure::OutOfSpace);
+        };
+        self.changes = number;
         Ok(ContainerHandle {
             container: self.id,
             index,
@@ -149,7 +154,7 @@ impl<T: Copy> Container<T> {
         if !self.owns(handle) {
             return Err(ContainerRemoveError::ContainerHandleNotOwnedByContainer);
         }
-        self.members[handle.index] = None;
+        self.members.empty(handle.index);
         self.changes += 1;
         Ok(self.settle(mode))
     }
@@ -158,10 +163,10 @@ impl<T: Copy> Container<T> {
     fn owns(&self, handle: ContainerHandle) -> bool
         ensures { result ≡ owns handle self.now }
     {
-        if handle.container != self.id || handle.index >= self.members.len() {
+        if handle.container != self.id {
             return false;
         }
-        match self.members[handle.index] {
+        match self.members.get(handle.index) {
             None => false,
             Some(member) => member.number == handle.number,
         }
@@ -186,17 +191,22 @@ impl<T: Copy> Container<T> {
     pub fn first_of(&self, owner: OwnerId) -> Option<ContainerHandle>
         ensures { result ≡ first_handle (members_of owner self.now.id self.now.members) }
     {
-        first_told(owner, self.id, self.members.as_slice())
+        first_told(owner, self.id, self.members.used())
     }
 
     /// The member at this index; `None` where there is none, and past the capacity.
     pub fn get(&self, index: usize) -> Option<Member<T>>
         ensures { result ≡ member_of (slice_get self.now.members index) }
     {
-        match self.members.get(index)? {
-            None => None,
-            Some(member) => Some(*member),
-        }
+        self.members.get(index)
+    }
+
+    /// The places up to the last that ever had a member: those behind them, up to the capacity, are empty.
+    pub fn places(&self) -> &[Option<Member<T>>]
+        ensures whole { padded (length self.now.members) result.now ≡ self.now.members }
+        ensures bound { length result.now ≤ length self.now.members }
+    {
+        self.members.used()
     }
 
     /// The handle of the member at this index; `None` where there is none, and past the capacity.
@@ -217,7 +227,7 @@ impl<T: Copy> Container<T> {
         ensures called { FoldsTo (λ p x q. F.step p x.0 x.1 tt q) callback.old (members_of owner self.now.id self.now.members) callback.new }
         ensures callable { F.IsAlwaysCallable callback.new }
     {
-        call_members(callback, owner, self.id, self.members.as_slice());
+        call_members(callback, owner, self.id, self.members.used());
     }
 
     /// Asks `decide` about each member of the owner, by rising index, and removes those for which it answers true. With
@@ -246,11 +256,9 @@ impl<T: Copy> Container<T> {
     pub fn get_state(&self, alloc: Global) -> Result<ContainerState<T>, AllocError>
         ensures copied { IfOk result (λ state. state ≡ copy_of self.now) }
     {
-        let mut members = Vec::with_capacity(alloc, self.members.len())?;
-        members.extend_from_slice(self.members.as_slice())?;
         Ok(ContainerState {
             id: self.id,
-            members,
+            members: self.members.copy(alloc)?,
             changes: self.changes,
         })
     }
@@ -273,7 +281,7 @@ impl<T: Copy> Container<T> {
         if state.changes == self.changes {
             return false;
         }
-        state.members.copy_from_slice(self.members.as_slice());
+        state.members.copy_from(&self.members);
         state.changes = self.changes;
         true
     }
@@ -297,10 +305,7 @@ impl<T: Copy> Container<T> {
     pub fn len(&self) -> usize
         ensures { result ≡ count_members self.now }
     {
-        self.members
-            .iter()
-            .filter(|member| member.is_some())
-            .count()
+        self.members.filled()
     }
 
     /// How many members fit.
@@ -319,17 +324,15 @@ impl<T: Copy> ContainerState<T> {
         ensures called { CallsUntilStop (λ p x answer q. F.step p x.0 x.1 answer q) callback.old (all_members self.now) callback.new }
         ensures callable { F.IsAlwaysCallable callback.new }
     {
-        call_until_stop(callback, self.id, self.members.as_slice());
+        call_until_stop(callback, self.id, self.members.used());
     }
 
     /// The value of the member at this index; `None` where there was no member, and past the capacity.
     pub fn get(&self, index: usize) -> Option<T>
         ensures { result ≡ value_of (slice_get self.now.members index) }
     {
-        match self.members.get(index)? {
-            None => None,
-            Some(member) => Some(member.value),
-        }
+        let member = self.members.get(index)?;
+        Some(member.value)
     }
 }
 
@@ -435,25 +438,20 @@ fn remove_where<T: Copy, F: FnMut(ContainerHandle, T) -> bool>(
     decide: &mut F,
     owner: OwnerId,
     id: u64,
-    members: &mut Vec<Option<Member<T>>>,
+    members: &mut Places<Member<T>>,
 )
     requires { F.IsAlwaysCallable decide.old }
-    ensures removed { Recovered (λ p x answer q. F.step p x.0 x.1 answer q) owner id decide.old members.old.items members.new.items decide.new }
+    ensures removed { Recovered (λ p x answer q. F.step p x.0 x.1 answer q) owner id decide.old members.old members.new decide.new }
     ensures callable { F.IsAlwaysCallable decide.new }
-    ensures capacity { length members.new.items ≡ length members.old.items }
+    ensures capacity { length members.new ≡ length members.old }
 {
-    for index in 0..members.len() {
-        let Some(found) = told_of(owner, id, index, members[index]) else {
+    let used = members.used().len();
+    for index in 0..used {
+        let Some(found) = told_of(owner, id, index, members.get(index)) else {
             continue;
         };
         if decide(found.0, found.1) {
-            members[index] = None;
+            members.empty(index);
         }
     }
-}
-
-fn lowest_free<T: Copy>(members: &[Option<Member<T>>]) -> Option<usize>
-    ensures { result ≡ position (λ member. not (is_some member)) members.now }
-{
-    members.iter().position(|member| !member.is_some())
 }

@@ -206,3 +206,77 @@ fn members_are_looked_up(rt: HostRuntime) -> Result<(), Fail> {
     assert!(rt; is_of_one(&mut FixedSizeContainer::new(rt.alloc(), 1)?, owner));
     Ok(())
 }
+
+/// More places than anyone fills.
+const MANY: usize = (1 << 24) - 1;
+
+/// The values at the first places of a container, up to the last that ever had a member, as decimal digits: 0 where a place is
+/// empty.
+fn digits(container: &Container<u64>) -> u64 {
+    let mut digits = 1;
+    for place in container.places() {
+        let value = place.map_or(0, |member| member.value % 10);
+        digits = digits % 1_000_000 * 10 + value;
+    }
+    digits
+}
+
+/// Whether an empty container of many places has three members, then none at the first two, then a new one at the first.
+fn come_and_go(container: &mut Container<u64>, owner: OwnerId) -> bool {
+    let none = digits(container) == 1;
+    let (first, second) = (added(container, 1, owner), added(container, 2, owner));
+    let three = added(container, 3, owner).is_some() && digits(container) == 1123;
+    let (Some(first), Some(second)) = (first, second) else {
+        return false;
+    };
+    let gone = removed(container, first, ReleaseMode::Default).is_some()
+        && removed(container, second, ReleaseMode::Default).is_some()
+        && digits(container) == 1003;
+    none && three && gone && added(container, 4, owner).is_some() && digits(container) == 1403
+}
+
+/// Whether all is told of a container of many places that has a member at its first and its third.
+fn are_told(container: &mut Container<u64>, owner: OwnerId) -> bool {
+    container.capacity() == MANY
+        && container.len() == 2
+        && found(container, owner) == 4 ^ 3
+        && container.get(MANY - 1).is_none()
+        && container.handle(2) != None
+        && container.handle(MANY) == None
+        && is_recovered(container, owner, 3)
+        && digits(container) == 1400
+}
+
+#[test]
+fn members_come_and_go_among_many_places(rt: HostRuntime) -> Result<(), Fail> {
+    let owner = OwnerId::new(313)?;
+    let mut container = Container::<u64>::new(rt.alloc(), 5, MANY)?;
+    assert!(rt; come_and_go(&mut container, owner));
+    assert!(rt; are_told(&mut container, owner));
+    Ok(())
+}
+
+/// Whether a copy of an empty container follows it to two members, and then another container with its id back to none.
+fn is_followed_to_and_fro(
+    container: &mut Container<u64>,
+    other: &Container<u64>,
+    copy: &mut ContainerState<u64>,
+    owner: OwnerId,
+) -> bool {
+    let none = indices(copy) == 0;
+    let two = added(container, 10, owner).is_some() && added(container, 20, owner).is_some();
+    let followed = container.is_state_of(copy) && container.update_state(copy);
+    let both = indices(copy) == 3 && copy.get(1) == Some(20);
+    let back = other.is_state_of(copy) && other.update_state(copy);
+    none && two && followed && both && back && indices(copy) == 0 && copy.get(1) == None
+}
+
+#[test]
+fn a_copy_follows_to_more_places_and_to_fewer(rt: HostRuntime) -> Result<(), Fail> {
+    let owner = OwnerId::new(313)?;
+    let mut container = Container::<u64>::new(rt.alloc(), 5, MANY)?;
+    let other = Container::<u64>::new(rt.alloc(), 5, MANY)?;
+    let mut copy = container.get_state(rt.alloc())?;
+    assert!(rt; is_followed_to_and_fro(&mut container, &other, &mut copy, owner));
+    Ok(())
+}

@@ -1,5 +1,6 @@
 use Rattle.std.proofs.Common.{◌≡◌, None, length}
 use Rattle.iox_index_base.specs.Container.{told_of}
+use Rattle.iox_index_base.proofs.Padded.{StaysEmpty}
 use Rattle.iox_index_base.proofs.Recovering.{Leads}
 use Rattle.iox_index_base.proofs.container.remove_where.Given as goal
 
@@ -9,5 +10,6 @@ invariant-loop-index g l =
     goal.F-IsAlwaysCallable g l.decide
     × (l.owner ≡ l.fn.owner)
     × (l.id ≡ l.fn.id)
-    × (length l.members.items ≡ length l.fn.members.items)
-    × Leads (told_of l.fn.owner l.fn.id) (λ x. x.0.index) None (λ p x answer q. goal.F-step g p x.0 x.1 answer q) l.fn.decide l.fn.members.items l.decide l.index l.members.items
+    × (length l.members ≡ length l.fn.members)
+    × StaysEmpty l.fn.members l.members
+    × Leads (told_of l.fn.owner l.fn.id) (λ x. x.0.index) None (λ p x answer q. goal.F-step g p x.0 x.1 answer q) l.fn.decide l.fn.members l.decide l.index l.members
