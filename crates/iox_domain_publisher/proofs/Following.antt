@@ -1,16 +1,14 @@
 -- An update goes from place to place.
-use Rattle.std.proofs.Common.{◌≡◌, ◌+◌, ◌<◌, ◌≤◌, ℕ, Bool, true, false, List, ◌∷◌, length, drop, get_or, Result, Option, None, Some, refl, sym, ap, ◌∙◌}
+use Rattle.std.proofs.Common.{◌≡◌, ◌+◌, ◌<◌, ◌≤◌, ℕ, Bool, List, ◌∷◌, length, drop, get_or, Result, Option, None, refl, sym, ap, ◌∙◌}
 use Rattle.std.proofs.lemmas.List.{drop_more, drop_all, get_or_default}
 use Rattle.std.specs.Prelude.{is_ok}
 use Rattle.std.specs.declared.alloc.AllocError.{AllocError}
-use Rattle.iox_domain_values.specs.Relations.{AllowSame}
 use Rattle.iox_domain_values.specs.declared.connection_failure.ConnectionFailure.{ConnectionFailure}
 use Rattle.iox_domain_values.specs.declared.degradation.DegradationAction.{DegradationAction}
 use Rattle.iox_domain_values.specs.declared.degradation.DegradationInfo.{DegradationInfo}
 use Rattle.iox_index_base.specs.declared.container.Member.{Member}
-use Rattle.iox_domain_publisher.proofs.Delivering.{same_still}
 use Rattle.iox_domain_publisher.specs.Ports.{with_connections}
-use Rattle.iox_domain_publisher.specs.Updating.{Follows, Asks, FollowsAll, OnlyConnections, told_of, update_answer}
+use Rattle.iox_domain_publisher.specs.Updating.{Follows, Asks, FollowsAll, OnlyConnections, update_answer}
 use Rattle.iox_domain_publisher.specs.declared.publisher_port.PublisherPort.{PublisherPort}
 use Rattle.iox_domain_publisher.specs.declared.subscriber_entry.SubscriberEntry.{SubscriberEntry}
 
@@ -20,44 +18,34 @@ only_still {T} {U} first now next one two = two ∙ ap (changed next) one where
   changed : PublisherPort T U → PublisherPort T U → PublisherPort T U
   changed after before = record (with_connections after.sender.uses.connections before) { seen = after.seen; ties = after.ties; readers = after.readers }
 
--- what is asked of handlers that may answer the same
-pub asks_same : {T U : Type 0} (may other : DegradationInfo → DegradationAction → Type 0) (listed : Option (Member SubscriberEntry)) (port : PublisherPort T U) (found : Option ConnectionFailure) (is_made : Bool) (after : Option ConnectionFailure)
-    → AllowSame other may → Asks other listed port found is_made after → Asks may listed port found is_made after
-asks_same may other listed port found true after same asks = asks
-asks_same may other None port found false after same asks = asks
-asks_same may other (Some member) port found false after same asks = (asks.0, (same (told_of member.value port) asks.0).0 asks.1, asks.2)
-
 -- Where an update stands before a place: whatever comes of the places that are left comes of all of them.
 pub record Following {T U : Type 0} (may : DegradationInfo → DegradationAction → Type 0) (listed : List (Option (Member SubscriberEntry))) (first : PublisherPort T U)
-    (now_may : DegradationInfo → DegradationAction → Type 0) (found : Option ConnectionFailure) (now : PublisherPort T U) (place : ℕ) : Type 0 where
+    (found : Option ConnectionFailure) (now : PublisherPort T U) (place : ℕ) : Type 0 where
   pub rest : (answer : Result (Unit {0}) ConnectionFailure) (new : PublisherPort T U) → FollowsAll may place (drop place listed) found now answer new → FollowsAll may 0 listed None first answer new
-  pub same : AllowSame now_may may
   pub only : OnlyConnections first now
 
 -- nothing was followed yet
-pub following_none : {T U : Type 0} (may : DegradationInfo → DegradationAction → Type 0) (listed : List (Option (Member SubscriberEntry))) (first : PublisherPort T U) → Following may listed first may None first 0
-following_none may listed first = record { rest = λ answer new further. further; same = λ question answer. (λ made. made, λ made. made); only = refl }
+pub following_none : {T U : Type 0} (may : DegradationInfo → DegradationAction → Type 0) (listed : List (Option (Member SubscriberEntry))) (first : PublisherPort T U) → Following may listed first None first 0
+following_none may listed first = record { rest = λ answer new further. further; only = refl }
 
 -- one place more is followed
-pub following_on : {T U : Type 0} (may now_may next_may : DegradationInfo → DegradationAction → Type 0) (listed : List (Option (Member SubscriberEntry))) (first now next : PublisherPort T U) (place : ℕ)
+pub following_on : {T U : Type 0} (may : DegradationInfo → DegradationAction → Type 0) (listed : List (Option (Member SubscriberEntry))) (first now next : PublisherPort T U) (place : ℕ)
     (member asked : Option (Member SubscriberEntry)) (found after : Option ConnectionFailure) (outcome : Result (Unit {0}) AllocError) (is_made : Bool)
-    → Following may listed first now_may found now place → place < length listed → member ≡ get_or listed place member → asked ≡ get_or listed place asked → is_made ≡ is_ok outcome
-    → Follows place member now outcome next → OnlyConnections now next → Asks now_may asked next found is_made after → AllowSame next_may now_may
-    → Following may listed first next_may after next (place + 1)
-following_on may now_may next_may listed first now next place member asked found after outcome is_made so_far within is_member is_asked is_outcome follows only asks same =
+    → Following may listed first found now place → place < length listed → member ≡ get_or listed place member → asked ≡ get_or listed place asked → is_made ≡ is_ok outcome
+    → Follows place member now outcome next → OnlyConnections now next → Asks may asked next found is_made after
+    → Following may listed first after next (place + 1)
+following_on may listed first now next place member asked found after outcome is_made so_far within is_member is_asked is_outcome follows only asks =
     let left : drop place listed ≡ member ∷ drop (place + 1) listed = drop_more listed place member within ∙ ap (λ one. one ∷ drop (place + 1) listed) (sym is_member) in
     let one : asked ≡ member = is_asked ∙ get_or_default listed place asked member within ∙ sym is_member in
-    let asks_of : Asks now_may member next found (is_ok outcome) after = rw (← one) (rw (← is_outcome) asks) in
+    let asks_of : Asks may member next found (is_ok outcome) after = rw (← one) (rw (← is_outcome) asks) in
     record {
-      rest = λ answer new further. so_far.rest answer new
-          (rw left (outcome, next, after, follows, asks_same may now_may member next found (is_ok outcome) after so_far.same asks_of, further));
-      same = same_still may now_may next_may same so_far.same;
+      rest = λ answer new further. so_far.rest answer new (rw left (outcome, next, after, follows, asks_of, further));
       only = only_still first now next so_far.only only;
     }
 
 -- no place is left
-pub followed : {T U : Type 0} (may now_may : DegradationInfo → DegradationAction → Type 0) (listed : List (Option (Member SubscriberEntry))) (first now : PublisherPort T U) (place : ℕ) (found : Option ConnectionFailure)
+pub followed : {T U : Type 0} (may : DegradationInfo → DegradationAction → Type 0) (listed : List (Option (Member SubscriberEntry))) (first now : PublisherPort T U) (place : ℕ) (found : Option ConnectionFailure)
     (answer : Result (Unit {0}) ConnectionFailure)
-    → Following may listed first now_may found now place → length listed ≤ place → answer ≡ update_answer found → FollowsAll may 0 listed None first answer now
-followed may now_may listed first now place found answer so_far over is_answer =
+    → Following may listed first found now place → length listed ≤ place → answer ≡ update_answer found → FollowsAll may 0 listed None first answer now
+followed may listed first now place found answer so_far over is_answer =
     so_far.rest answer now (rw (drop_all place listed over) (is_answer, refl))

@@ -1,5 +1,5 @@
-pub mod Asking
 pub mod Delivering
 pub mod Following
 pub mod Asked
 pub mod Parting
+pub mod Reaching

@@ -5,3 +5,4 @@ pub mod Ports
 pub mod Updating
 pub mod Sending
 pub mod Leaving
+pub mod Laws

@@ -1,6 +1,5 @@
 //! A publisher sends.
 ghost use Rattle.std.specs.Prelude.{◌≡◌, ◌≢◌, ℕ, ◌+◌, ◌-◌, ◌<◌, ◌≤◌, ◌^◌, Ok, length, get_or, is_some, true, None, Some, IfSome, IsSome};
-ghost use Rattle.iox_domain_values.specs.Relations.{AllowSame};
 ghost use Rattle.iox_domain_values.specs.DegradationAnswers.{Allowed};
 ghost use Rattle.iox_domain_values.specs.declared.degradation.DegradationCause.TheVariants as cause;
 ghost use Rattle.iox_domain_sender.specs.Sending.{is_written_at};
@@ -86,10 +85,8 @@ impl<T: Copy, U: Copy> PublisherPort<T, U> {
     }
 
     // Goes on to the next place; answers false where the send waits at a full mailbox, and where there is no place left.
-    fn step(&mut self, handlers: &mut Handlers) -> bool
-        ensures step { Steps (MayDecide (λ object. (⟦<dyn BackpressureFn as BackpressureFn>⟧ object.vtable).allows object.value) handlers.old.strategy handlers.old.backpressure) (meeting_at self.old.progress.place self.old) (met self.old.progress.place self.old) result self.new }
-        ensures same { AllowSame (MayDecide (λ object. (⟦<dyn BackpressureFn as BackpressureFn>⟧ object.vtable).allows object.value) handlers.new.strategy handlers.new.backpressure) (MayDecide (λ object. (⟦<dyn BackpressureFn as BackpressureFn>⟧ object.vtable).allows object.value) handlers.old.strategy handlers.old.backpressure) }
-        ensures others { handlers.new.degradation ≡ handlers.old.degradation }
+    fn step(&mut self, handlers: &Handlers) -> bool
+        ensures { Steps (MayDecide (λ object. (⟦<dyn BackpressureFn as BackpressureFn>⟧ object.vtable).allows object.value) handlers.now.strategy handlers.now.backpressure) (meeting_at self.old.progress.place self.old) (met self.old.progress.place self.old) result self.new }
     {
         match self.meet() {
             Meeting::Over => false,
@@ -110,10 +107,8 @@ impl<T: Copy, U: Copy> PublisherPort<T, U> {
     }
 
     // Goes over the places that are left, up to one where the send waits; answers whether it came to the end.
-    fn go_on(&mut self, handlers: &mut Handlers) -> bool
-        ensures delivers { Delivers (MayDecide (λ object. (⟦<dyn BackpressureFn as BackpressureFn>⟧ object.vtable).allows object.value) handlers.old.strategy handlers.old.backpressure) (length self.old.ties - self.old.progress.place) self.old result self.new }
-        ensures same { AllowSame (MayDecide (λ object. (⟦<dyn BackpressureFn as BackpressureFn>⟧ object.vtable).allows object.value) handlers.new.strategy handlers.new.backpressure) (MayDecide (λ object. (⟦<dyn BackpressureFn as BackpressureFn>⟧ object.vtable).allows object.value) handlers.old.strategy handlers.old.backpressure) }
-        ensures others { handlers.new.degradation ≡ handlers.old.degradation }
+    fn go_on(&mut self, handlers: &Handlers) -> bool
+        ensures { Delivers (MayDecide (λ object. (⟦<dyn BackpressureFn as BackpressureFn>⟧ object.vtable).allows object.value) handlers.now.strategy handlers.now.backpressure) (length self.old.ties - self.old.progress.place) self.old result self.new }
     {
         for _place in self.progress.place()..self.ties.len() {
             if !self.step(handlers) {
@@ -140,10 +135,8 @@ impl<T: Copy, U: Copy> PublisherPort<T, U> {
     }
 
     // Goes on with the send that is under way.
-    fn deliver(&mut self, handlers: &mut Handlers) -> Result<Sent, SendError>
-        ensures sends { Finishes (MayDecide (λ object. (⟦<dyn BackpressureFn as BackpressureFn>⟧ object.vtable).allows object.value) handlers.old.strategy handlers.old.backpressure) self.old result self.new }
-        ensures same { AllowSame (MayDecide (λ object. (⟦<dyn BackpressureFn as BackpressureFn>⟧ object.vtable).allows object.value) handlers.new.strategy handlers.new.backpressure) (MayDecide (λ object. (⟦<dyn BackpressureFn as BackpressureFn>⟧ object.vtable).allows object.value) handlers.old.strategy handlers.old.backpressure) }
-        ensures others { handlers.new.degradation ≡ handlers.old.degradation }
+    fn deliver(&mut self, handlers: &Handlers) -> Result<Sent, SendError>
+        ensures { Finishes (MayDecide (λ object. (⟦<dyn BackpressureFn as BackpressureFn>⟧ object.vtable).allows object.value) handlers.now.strategy handlers.now.backpressure) self.old result self.new }
     {
         let arrived = self.go_on(handlers);
         self.conclude(arrived)
@@ -152,10 +145,8 @@ impl<T: Copy, U: Copy> PublisherPort<T, U> {
     /// Tries the place again at which the send waits, after so many nanoseconds, and goes on. Answers as `send` does.
     ///
     /// This port's own: `iceoryx2::port::publisher::Publisher::send` waits itself.
-    pub fn retry(&mut self, elapsed: u64, handlers: &mut Handlers) -> Result<Sent, SendError>
-        ensures sends { Finishes (MayDecide (λ object. (⟦<dyn BackpressureFn as BackpressureFn>⟧ object.vtable).allows object.value) handlers.old.strategy handlers.old.backpressure) (with_progress (tried_again elapsed self.old.progress) self.old) result self.new }
-        ensures same { AllowSame (MayDecide (λ object. (⟦<dyn BackpressureFn as BackpressureFn>⟧ object.vtable).allows object.value) handlers.new.strategy handlers.new.backpressure) (MayDecide (λ object. (⟦<dyn BackpressureFn as BackpressureFn>⟧ object.vtable).allows object.value) handlers.old.strategy handlers.old.backpressure) }
-        ensures others { handlers.new.degradation ≡ handlers.old.degradation }
+    pub fn retry(&mut self, elapsed: u64, handlers: &Handlers) -> Result<Sent, SendError>
+        ensures { Finishes (MayDecide (λ object. (⟦<dyn BackpressureFn as BackpressureFn>⟧ object.vtable).allows object.value) handlers.now.strategy handlers.now.backpressure) (with_progress (tried_again elapsed self.old.progress) self.old) result self.new }
     {
         self.try_again(elapsed);
         self.deliver(handlers)
@@ -225,18 +216,16 @@ impl<T: Copy, U: Copy> PublisherPort<T, U> {
         slot: usize,
         listed: &[Option<Member<SubscriberEntry>>],
         changes: u64,
-        handlers: &mut Handlers,
+        handlers: &Handlers,
     ) -> Option<Result<Sent, SendError>>
-        ensures sends { Sends (Allowed (λ object. (⟦<dyn DegradationFn as DegradationFn>⟧ object.vtable).allows object.value) handlers.old.degradation cause.FailedToEstablishConnection) (MayDecide (λ object. (⟦<dyn BackpressureFn as BackpressureFn>⟧ object.vtable).allows object.value) handlers.old.strategy handlers.old.backpressure) listed.now changes (ready_loan slot self.old) self.old result self.new }
-        ensures same { AllowSame (MayDecide (λ object. (⟦<dyn BackpressureFn as BackpressureFn>⟧ object.vtable).allows object.value) handlers.new.strategy handlers.new.backpressure) (MayDecide (λ object. (⟦<dyn BackpressureFn as BackpressureFn>⟧ object.vtable).allows object.value) handlers.old.strategy handlers.old.backpressure) }
-        ensures same_degradation { AllowSame (Allowed (λ object. (⟦<dyn DegradationFn as DegradationFn>⟧ object.vtable).allows object.value) handlers.new.degradation cause.FailedToEstablishConnection) (Allowed (λ object. (⟦<dyn DegradationFn as DegradationFn>⟧ object.vtable).allows object.value) handlers.old.degradation cause.FailedToEstablishConnection) }
+        ensures { Sends (Allowed (λ object. (⟦<dyn DegradationFn as DegradationFn>⟧ object.vtable).allows object.value) handlers.now.degradation cause.FailedToEstablishConnection) (MayDecide (λ object. (⟦<dyn BackpressureFn as BackpressureFn>⟧ object.vtable).allows object.value) handlers.now.strategy handlers.now.backpressure) listed.now changes (ready_loan slot self.old) self.old result self.new }
     {
         let at = self.ready(slot)?;
         if !self.stands {
             self.drop_loan(at);
             return Some(Err(SendError::ConnectionBrokenSinceSenderNoLongerExists));
         }
-        if let Err(failure) = self.update(alloc, listed, changes, &mut handlers.degradation) {
+        if let Err(failure) = self.update(alloc, listed, changes, &handlers.degradation) {
             self.drop_loan(at);
             return Some(Err(SendError::ConnectionError(failure)));
         }

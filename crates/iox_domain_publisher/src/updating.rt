@@ -1,7 +1,6 @@
 //! A publisher follows the list of subscribers.
 ghost use Rattle.std.specs.Prelude.{◌≡◌, ℕ, ◌+◌, ◌<◌, ◌≤◌, ◌^◌, Ok, length, get_or, None, Some};
 ghost use Rattle.iox_domain_values.specs.DegradationAnswers.{Allowed};
-ghost use Rattle.iox_domain_values.specs.Relations.{AllowSame};
 ghost use Rattle.iox_domain_values.specs.declared.degradation.DegradationCause.TheVariants as cause;
 ghost use Rattle.iox_domain_publisher.specs.Places.{leads_to};
 ghost use Rattle.iox_domain_publisher.specs.Ports.{with_connections};
@@ -102,10 +101,9 @@ impl<T: Copy, U: Copy> PublisherPort<T, U> {
         listed: &Option<Member<SubscriberEntry>>,
         is_made: bool,
         found: Option<ConnectionFailure>,
-        handler: &mut DegradationHandler,
+        handler: &DegradationHandler,
     ) -> Option<ConnectionFailure>
-        ensures asks { Asks (Allowed (λ object. (⟦<dyn DegradationFn as DegradationFn>⟧ object.vtable).allows object.value) handler.old cause.FailedToEstablishConnection) listed.now self.now found is_made result }
-        ensures same { AllowSame (Allowed (λ object. (⟦<dyn DegradationFn as DegradationFn>⟧ object.vtable).allows object.value) handler.new cause.FailedToEstablishConnection) (Allowed (λ object. (⟦<dyn DegradationFn as DegradationFn>⟧ object.vtable).allows object.value) handler.old cause.FailedToEstablishConnection) }
+        ensures { Asks (Allowed (λ object. (⟦<dyn DegradationFn as DegradationFn>⟧ object.vtable).allows object.value) handler.now cause.FailedToEstablishConnection) listed.now self.now found is_made result }
     {
         let Some(member) = listed else {
             return found;
@@ -127,10 +125,9 @@ impl<T: Copy, U: Copy> PublisherPort<T, U> {
         &mut self,
         alloc: Global,
         listed: &[Option<Member<SubscriberEntry>>],
-        handler: &mut DegradationHandler,
+        handler: &DegradationHandler,
     ) -> Result<(), ConnectionFailure>
-        ensures follows { FollowsAll (Allowed (λ object. (⟦<dyn DegradationFn as DegradationFn>⟧ object.vtable).allows object.value) handler.old cause.FailedToEstablishConnection) 0 listed.now None self.old result self.new }
-        ensures same { AllowSame (Allowed (λ object. (⟦<dyn DegradationFn as DegradationFn>⟧ object.vtable).allows object.value) handler.new cause.FailedToEstablishConnection) (Allowed (λ object. (⟦<dyn DegradationFn as DegradationFn>⟧ object.vtable).allows object.value) handler.old cause.FailedToEstablishConnection) }
+        ensures follows { FollowsAll (Allowed (λ object. (⟦<dyn DegradationFn as DegradationFn>⟧ object.vtable).allows object.value) handler.now cause.FailedToEstablishConnection) 0 listed.now None self.old result self.new }
         ensures only { OnlyConnections self.old self.new }
     {
         let mut found = None;
@@ -151,10 +148,9 @@ impl<T: Copy, U: Copy> PublisherPort<T, U> {
         alloc: Global,
         listed: &[Option<Member<SubscriberEntry>>],
         changes: u64,
-        handler: &mut DegradationHandler,
+        handler: &DegradationHandler,
     ) -> Result<(), ConnectionFailure>
-        ensures updates { Updates (Allowed (λ object. (⟦<dyn DegradationFn as DegradationFn>⟧ object.vtable).allows object.value) handler.old cause.FailedToEstablishConnection) listed.now changes self.old result self.new }
-        ensures same { AllowSame (Allowed (λ object. (⟦<dyn DegradationFn as DegradationFn>⟧ object.vtable).allows object.value) handler.new cause.FailedToEstablishConnection) (Allowed (λ object. (⟦<dyn DegradationFn as DegradationFn>⟧ object.vtable).allows object.value) handler.old cause.FailedToEstablishConnection) }
+        ensures updates { Updates (Allowed (λ object. (⟦<dyn DegradationFn as DegradationFn>⟧ object.vtable).allows object.value) handler.now cause.FailedToEstablishConnection) listed.now changes self.old result self.new }
         ensures only { OnlyConnections self.old self.new }
     {
         if self.seen == changes {

@@ -1,12 +1,15 @@
 //! Tests of the ports' values, of the bookkeeping of slots and of messages: what no clause says.
 //!
 //! - `messages`: the way of a message by what it holds.
+//! - `publishers`: a publisher and the list of its subscribers.
 //! - `slots`: the way of a message through the slots of a publisher.
 //! - `values`: texts, and the objects that a caller hands in.
 #![tactic(auto)]
 
 #[cfg(test)]
 mod messages;
+#[cfg(test)]
+mod publishers;
 #[cfg(test)]
 mod slots;
 #[cfg(test)]

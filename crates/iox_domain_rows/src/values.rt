@@ -11,6 +11,7 @@ use iox_domain_values::{
 };
 use serde_json::Error;
 use std::alloc::{AllocError, Global};
+use std::cell::Cell;
 use std::fmt::Display;
 use std::test::Fail;
 
@@ -184,13 +185,13 @@ fn strategies_go_through_their_names(rt: HostRuntime) -> Result<(), Fail> {
 // Retries while it is told the number of its calls so far, and fails the send otherwise.
 #[derive(Drop)]
 struct Counting {
-    calls: u64,
+    calls: Cell<u64>,
 }
 
 impl Counting {
-    fn is_told(&mut self, number: u64) -> bool {
-        let expected = self.calls;
-        self.calls = expected.wrapping_add(1);
+    fn is_told(&self, number: u64) -> bool {
+        let expected = self.calls.get();
+        self.calls.set(expected.wrapping_add(1));
         number == expected
     }
 }
@@ -198,7 +199,7 @@ impl Counting {
 impl BackpressureFn for Counting {
     ghost allows = { λ _ _ answer. (answer ≡ action.Retry) ⊎ (answer ≡ action.DiscardDataAndFail) };
 
-    fn call(&mut self, info: &BackpressureInfo) -> BackpressureAction {
+    fn call(&self, info: &BackpressureInfo) -> BackpressureAction {
         if self.is_told(info.retries) {
             BackpressureAction::Retry
         } else {
@@ -210,7 +211,7 @@ impl BackpressureFn for Counting {
 impl DegradationFn for Counting {
     ghost allows = { λ _ _ _ _. ⊤ };
 
-    fn call(&mut self, cause: DegradationCause, info: &DegradationInfo) -> DegradationAction {
+    fn call(&self, cause: DegradationCause, info: &DegradationInfo) -> DegradationAction {
         if self.is_told(info.receiver_port_id)
             && cause == DegradationCause::FailedToEstablishConnection
         {
@@ -224,7 +225,7 @@ impl DegradationFn for Counting {
 impl PreallocatedSamplesFn for Counting {
     ghost allows = { λ _ worst_case answer. answer ≤ worst_case };
 
-    fn call(&mut self, worst_case: usize) -> usize {
+    fn call(&self, worst_case: usize) -> usize {
         if self.is_told(0) {
             worst_case / 2
         } else {
@@ -248,7 +249,7 @@ const DEGRADATION: DegradationInfo = DegradationInfo {
 };
 
 // Whether a new object is asked once a call, and told how often it was.
-fn is_asked_once(handler: &mut BackpressureHandler) -> bool {
+fn is_asked_once(handler: &BackpressureHandler) -> bool {
     let mut info = BACKPRESSURE;
     let first = handler.call(&info) == BackpressureAction::Retry;
     info.retries = 1;
@@ -259,28 +260,43 @@ fn is_asked_once(handler: &mut BackpressureHandler) -> bool {
 
 #[test]
 fn objects_are_asked_once_a_call(rt: HostRuntime) -> Result<(), Fail> {
-    let object = Box::new(rt.alloc(), Counting { calls: 0 })?;
-    assert!(rt; is_asked_once(&mut BackpressureHandler::boxed(object)));
+    let object = Box::new(
+        rt.alloc(),
+        Counting {
+            calls: Cell::new(0),
+        },
+    )?;
+    assert!(rt; is_asked_once(&BackpressureHandler::boxed(object)));
     Ok(())
 }
 
 // Whether a new object is told of the connection.
-fn is_told_of_it(handler: &mut DegradationHandler) -> bool {
+fn is_told_of_it(handler: &DegradationHandler) -> bool {
     let cause = DegradationCause::FailedToEstablishConnection;
     handler.call(cause, &DEGRADATION) == DegradationAction::Ignore
         && handler.call(cause, &DEGRADATION) == DegradationAction::DegradeAndFail
 }
 
 // Whether a new object is told of the places.
-fn is_told_of_places(places: &mut PreallocatedSamplesOverride) -> bool {
+fn is_told_of_places(places: &PreallocatedSamplesOverride) -> bool {
     places.number_of_places(10) == 5 && places.number_of_places(10) == 10
 }
 
 #[test]
 fn objects_are_told_of_connections_and_places(rt: HostRuntime) -> Result<(), Fail> {
-    let object = Box::new(rt.alloc(), Counting { calls: 0 })?;
-    assert!(rt; is_told_of_it(&mut DegradationHandler::boxed(object)));
-    let object = Box::new(rt.alloc(), Counting { calls: 0 })?;
-    assert!(rt; is_told_of_places(&mut PreallocatedSamplesOverride::boxed(object)));
+    let object = Box::new(
+        rt.alloc(),
+        Counting {
+            calls: Cell::new(0),
+        },
+    )?;
+    assert!(rt; is_told_of_it(&DegradationHandler::boxed(object)));
+    let object = Box::new(
+        rt.alloc(),
+        Counting {
+            calls: Cell::new(0),
+        },
+    )?;
+    assert!(rt; is_told_of_places(&PreallocatedSamplesOverride::boxed(object)));
     Ok(())
 }

@@ -3,5 +3,4 @@ pub mod BackpressureAnswers
 pub mod DegradationAnswers
 pub mod ErrorTexts
 pub mod OverrideAnswers
-pub mod Relations
 pub mod Strategy

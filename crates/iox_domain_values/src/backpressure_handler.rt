@@ -1,6 +1,5 @@
 //! Who decides at a full mailbox.
 ghost use Rattle.std.specs.Prelude.{◌≡◌};
-ghost use Rattle.iox_domain_values.specs.Relations.{AllowSame};
 ghost use Rattle.iox_domain_values.specs.BackpressureAnswers.{Allowed, fixed_action_of};
 ghost use Rattle.iox_domain_values.specs.declared.backpressure.BackpressureInfo.{BackpressureInfo};
 ghost use Rattle.iox_domain_values.specs.declared.backpressure.BackpressureAction.{BackpressureAction};
@@ -11,14 +10,13 @@ use crate::backpressure::{BackpressureAction, BackpressureInfo};
 /// An object that decides at a full mailbox.
 ///
 /// Ported from `iceoryx2::port::BackpressureFn`, which is a closure there. An object names, for each info, the actions that
-/// it may answer. A call keeps to them, and they stay the same after it, whatever else of the object changes.
+/// it may answer, and a call keeps to them. What it remembers from call to call it keeps in cells.
 pub trait BackpressureFn: Drop {
     ghost allows: { Self → BackpressureInfo → BackpressureAction → Type 0 };
 
     /// What is to be done about this full mailbox.
-    fn call(&mut self, info: &BackpressureInfo) -> BackpressureAction
-        ensures answer { allows self.old info.now result }
-        ensures same { AllowSame (allows self.new) (allows self.old) };
+    fn call(&self, info: &BackpressureInfo) -> BackpressureAction
+        ensures { allows self.now info.now result };
 }
 
 /// Who decides at a full mailbox: the same action each time, or an object that the caller made.
@@ -57,12 +55,9 @@ impl BackpressureHandler {
         }
     }
 
-    /// What is to be done about this full mailbox: an action that the handler may answer. After the call it may answer the
-    /// same as before.
-    pub fn call(&mut self, info: &BackpressureInfo) -> BackpressureAction
-        ensures answer { Allowed (λ object. allows object) self.old info.now result }
-        ensures same { AllowSame (Allowed (λ object. allows object) self.new) (Allowed (λ object. allows object) self.old) }
-        ensures fixed { fixed_action_of self.new ≡ fixed_action_of self.old }
+    /// What is to be done about this full mailbox: an action that the handler may answer.
+    pub fn call(&self, info: &BackpressureInfo) -> BackpressureAction
+        ensures { Allowed (λ object. allows object) self.now info.now result }
     {
         match self {
             BackpressureHandler::Fixed(action) => *action,

@@ -1,6 +1,5 @@
 //! Who decides where a connection failed.
 ghost use Rattle.std.specs.Prelude.{◌≡◌};
-ghost use Rattle.iox_domain_values.specs.Relations.{AllowSameOf};
 ghost use Rattle.iox_domain_values.specs.DegradationAnswers.{Allowed, fixed_action_of};
 ghost use Rattle.iox_domain_values.specs.declared.degradation.DegradationAction.TheVariants as action;
 ghost use Rattle.iox_domain_values.specs.declared.degradation.DegradationAction.{DegradationAction};
@@ -13,14 +12,13 @@ use crate::degradation::{DegradationAction, DegradationCause, DegradationInfo};
 /// An object that decides where a connection failed.
 ///
 /// Ported from `iceoryx2::port::DegradationFn`, which is a closure there. An object names, for each cause and info, the
-/// actions that it may answer. A call keeps to them, and they stay the same after it, whatever else of the object changes.
+/// actions that it may answer, and a call keeps to them. What it remembers from call to call it keeps in cells.
 pub trait DegradationFn: Drop {
     ghost allows: { Self → DegradationCause → DegradationInfo → DegradationAction → Type 0 };
 
     /// What is to be done about this connection.
-    fn call(&mut self, cause: DegradationCause, info: &DegradationInfo) -> DegradationAction
-        ensures answer { allows self.old cause info.now result }
-        ensures same { AllowSameOf (allows self.new) (allows self.old) };
+    fn call(&self, cause: DegradationCause, info: &DegradationInfo) -> DegradationAction
+        ensures { allows self.now cause info.now result };
 }
 
 /// Who decides where a connection failed: the same action each time, or an object that the caller made.
@@ -59,12 +57,9 @@ impl DegradationHandler {
         }
     }
 
-    /// What is to be done about this connection: an action that the handler may answer. After the call it may answer the
-    /// same as before.
-    pub fn call(&mut self, cause: DegradationCause, info: &DegradationInfo) -> DegradationAction
-        ensures answer { Allowed (λ object. allows object) self.old cause info.now result }
-        ensures same { AllowSameOf (Allowed (λ object. allows object) self.new) (Allowed (λ object. allows object) self.old) }
-        ensures fixed { fixed_action_of self.new ≡ fixed_action_of self.old }
+    /// What is to be done about this connection: an action that the handler may answer.
+    pub fn call(&self, cause: DegradationCause, info: &DegradationInfo) -> DegradationAction
+        ensures { Allowed (λ object. allows object) self.now cause info.now result }
     {
         match self {
             DegradationHandler::Fixed(action) => *action,

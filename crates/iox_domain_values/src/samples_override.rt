@@ -1,20 +1,18 @@
 //! Who decides how many places a publisher gets.
 ghost use Rattle.std.specs.Prelude.{◌≡◌, ◌≤◌, ℕ};
-ghost use Rattle.iox_domain_values.specs.Relations.{AllowSame};
 ghost use Rattle.iox_domain_values.specs.OverrideAnswers.{Allowed, places};
 ghost use Rattle.iox_domain_values.specs.declared.samples_override.PreallocatedSamplesOverride.TheVariants as chosen;
 
 /// An object that decides how many places a publisher gets.
 ///
-/// An object names, for each number of places that are needed in the worst case, the numbers that it may answer. A call keeps
-/// to them, and they stay the same after it, whatever else of the object changes.
+/// An object names, for each number of places that are needed in the worst case, the numbers that it may answer, and a call keeps
+/// to them. What it remembers from call to call it keeps in cells.
 pub trait PreallocatedSamplesFn: Drop {
     ghost allows: { Self → ℕ → ℕ → Type 0 };
 
     /// How many places, where so many are needed in the worst case.
-    fn call(&mut self, worst_case: usize) -> usize
-        ensures answer { allows self.old worst_case result }
-        ensures same { AllowSame (allows self.new) (allows self.old) };
+    fn call(&self, worst_case: usize) -> usize
+        ensures { allows self.now worst_case result };
 }
 
 /// Who decides how many places a publisher gets: as many as are needed in the worst case, a number, or an object that the
@@ -47,10 +45,9 @@ impl PreallocatedSamplesOverride {
     }
 
     /// A number that may be answered, where so many places are needed in the worst case. It may be 0, or above the worst
-    /// case. After the call the same may be answered as before.
-    pub fn call(&mut self, worst_case: usize) -> usize
-        ensures answer { Allowed (λ object. allows object) self.old worst_case result }
-        ensures same { AllowSame (Allowed (λ object. allows object) self.new) (Allowed (λ object. allows object) self.old) }
+    /// case.
+    pub fn call(&self, worst_case: usize) -> usize
+        ensures { Allowed (λ object. allows object) self.now worst_case result }
     {
         match self {
             PreallocatedSamplesOverride::WorstCase => worst_case,
@@ -61,12 +58,11 @@ impl PreallocatedSamplesOverride {
 
     /// How many places a publisher gets that needs so many in the worst case: a number that may be answered, but at least 1
     /// and at most the worst case.
-    pub fn number_of_places(&mut self, worst_case: usize) -> usize
+    pub fn number_of_places(&self, worst_case: usize) -> usize
         requires { 1 ≤ worst_case }
-        ensures number { (answer : ℕ) × Allowed (λ object. allows object) self.old worst_case answer × (result ≡ places worst_case answer) }
+        ensures number { (answer : ℕ) × Allowed (λ object. allows object) self.now worst_case answer × (result ≡ places worst_case answer) }
         ensures least { 1 ≤ result }
         ensures most { result ≤ worst_case }
-        ensures same { AllowSame (Allowed (λ object. allows object) self.new) (Allowed (λ object. allows object) self.old) }
     {
         self.call(worst_case).clamp(1, worst_case)
     }

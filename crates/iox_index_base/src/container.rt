@@ -109,6 +109,13 @@ impl<T: Copy> Container<T> {
         self.changes < u64::MAX
     }
 
+    /// How often the members changed so far: a port that follows the container compares it with what it last saw.
+    pub fn changes(&self) -> u64
+        ensures { result ≡ self.now.changes }
+    {
+        self.changes
+    }
+
     /// Adds a member at the lowest free index, and answers its handle.
     ///
     /// Refused with `IsLocked` if the container is locked, else with `OutOfSpace` if it is full.

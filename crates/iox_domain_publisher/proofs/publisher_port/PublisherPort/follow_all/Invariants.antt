@@ -5,5 +5,4 @@ use Rattle.iox_domain_publisher.proofs.publisher_port.PublisherPort.follow_all.G
 
 abbrev pub invariant-loop-place : goal.invariant-loop-place
 invariant-loop-place g l =
-    Following (Allowed (λ object. (goal.DegradationFn-dyn g (object.vtable, object.value)).allows object.value) l.fn.handler cause.FailedToEstablishConnection) l.fn.listed l.fn.self
-    (Allowed (λ object. (goal.DegradationFn-dyn g (object.vtable, object.value)).allows object.value) l.handler cause.FailedToEstablishConnection) l.found l.self l.place
+    Following (Allowed (λ object. (goal.DegradationFn-dyn g (object.vtable, object.value)).allows object.value) l.fn.handler cause.FailedToEstablishConnection) l.fn.listed l.fn.self l.found l.self l.place

@@ -1,10 +1,7 @@
-use Rattle.std.specs.Prelude.{◌≡◌}
 use Rattle.iox_domain_publisher.specs.Answers.{MayDecide}
 use Rattle.iox_domain_publisher.proofs.Delivering.{Going}
 use Rattle.iox_domain_publisher.proofs.publisher_port.PublisherPort.go_on.Given as goal
 
 abbrev pub invariant-loop-place : goal.invariant-loop-place
 invariant-loop-place g l =
-    Going (MayDecide (λ object. (goal.BackpressureFn-dyn g (object.vtable, object.value)).allows object.value) l.fn.handlers.strategy l.fn.handlers.backpressure) l.fn.self
-    (MayDecide (λ object. (goal.BackpressureFn-dyn g (object.vtable, object.value)).allows object.value) l.handlers.strategy l.handlers.backpressure) l.self l._place
-    × (l.handlers.degradation ≡ l.fn.handlers.degradation)
+    Going (MayDecide (λ object. (goal.BackpressureFn-dyn g (object.vtable, object.value)).allows object.value) l.fn.handlers.strategy l.fn.handlers.backpressure) l.fn.self l.self l._place
