@@ -3,3 +3,4 @@ pub mod Following
 pub mod Asked
 pub mod Parting
 pub mod Reaching
+pub mod Beginning

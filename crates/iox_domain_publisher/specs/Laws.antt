@@ -1,6 +1,7 @@
 -- What a send comes to, in other words than its steps.
-use Rattle.std.specs.Prelude.{zero, suc, ℕ, ◌+◌, ◌≡◌, Bool, true, false, length, get_or, Option, None, Some, Result, Ok, if◌then◌else◌}
+use Rattle.std.specs.Prelude.{zero, suc, ℕ, ◌+◌, ◌≡◌, Bool, false, length, get_or, Option, None, Some, Result, Ok, Err, ◌≢◌, if◌then◌else◌}
 use Rattle.iox_domain_values.specs.declared.port_error.SendError.{SendError}
+use Rattle.iox_domain_values.specs.declared.port_error.SendError.TheVariants as sending
 use Rattle.iox_domain_publisher.specs.declared.meeting.Sent.{Sent}
 use Rattle.iox_domain_publisher.specs.declared.meeting.Sent.TheVariants as sent
 use Rattle.iox_domain_publisher.specs.Ports.{is_live}
@@ -20,6 +21,6 @@ live_from (suc count) place port = (if is_live_tie (get_or port.ties place None)
 abbrev pub live_ties : {T U : Type 0} → PublisherPort T U → ℕ
 live_ties port = live_from (length port.ties) 0 port
 
--- With safe overflow each connection that goes on takes the message: a send that answers is never blocked, never fails, and counts them all.
-abbrev pub ReachesAll : {T U : Type 0} → PublisherPort T U → Result Sent SendError → PublisherPort T U → Type 0
-ReachesAll old answer new = old.sender.uses.overflows ≡ true → answer ≡ Ok (sent.Delivered (live_ties new))
+-- Each connection that goes on took the message: a send that answers Ok counts them all, and none was passed over.
+abbrev pub ReachesAll : {T U : Type 0} → Option (Result Sent SendError) → PublisherPort T U → Type 0
+ReachesAll answer new = ((done : Sent) → answer ≡ Some (Ok done) → done ≡ sent.Delivered (live_ties new)) × (answer ≢ Some (Err sending.UnableToDeliver))

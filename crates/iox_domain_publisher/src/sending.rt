@@ -5,7 +5,9 @@ ghost use Rattle.iox_domain_values.specs.declared.degradation.DegradationCause.T
 ghost use Rattle.iox_domain_sender.specs.Sending.{is_written_at};
 ghost use Rattle.iox_domain_publisher.specs.Answers.{MayDecide};
 ghost use Rattle.iox_domain_publisher.specs.declared.meeting.Meeting.TheVariants as meeting;
-ghost use Rattle.iox_domain_publisher.specs.Progress.{passed, counted, failing, tried_again};
+ghost use Rattle.iox_domain_publisher.specs.declared.meeting.Sent.TheVariants as sent;
+ghost use Rattle.iox_domain_publisher.specs.Laws.{live_ties, ReachesAll};
+ghost use Rattle.iox_domain_publisher.specs.Progress.{start, passed, counted, failing, tried_again};
 ghost use Rattle.iox_domain_publisher.specs.Sending.{meeting_of, meeting_at, put_at, met, with_progress, info_of, goes_on_by, decided_by, sent_answer, concluded, ready_loan, begun_at, dropped_at, Sends, Steps, Delivers, Finishes};
 
 use crate::handlers::Handlers;
@@ -136,7 +138,8 @@ impl<T: Copy, U: Copy> PublisherPort<T, U> {
 
     // Goes on with the send that is under way.
     fn deliver(&mut self, handlers: &Handlers) -> Result<Sent, SendError>
-        ensures { Finishes (MayDecide (λ object. (⟦<dyn BackpressureFn as BackpressureFn>⟧ object.vtable).allows object.value) handlers.now.strategy handlers.now.backpressure) self.old result self.new }
+        ensures sends { Finishes (MayDecide (λ object. (⟦<dyn BackpressureFn as BackpressureFn>⟧ object.vtable).allows object.value) handlers.now.strategy handlers.now.backpressure) self.old result self.new }
+        ensures all { self.old.sender.uses.overflows ≡ true → is_some self.old.sender.uses.sending ≡ true → self.old.progress ≡ start → result ≡ Ok (sent.Delivered (live_ties self.new)) }
     {
         let arrived = self.go_on(handlers);
         self.conclude(arrived)
@@ -187,7 +190,10 @@ impl<T: Copy, U: Copy> PublisherPort<T, U> {
         requires loan { at < length self.old.sender.uses.loans }
         requires alone { self.old.sender.uses.sending ≡ None }
         requires written { is_written_at at self.old.sender.uses ≡ true }
-        ensures { self.new ≡ begun_at at self.old }
+        ensures begun { self.new ≡ begun_at at self.old }
+        ensures under_way { is_some self.new.sender.uses.sending ≡ true }
+        ensures first { self.new.progress ≡ start }
+        ensures kind { self.new.sender.uses.overflows ≡ self.old.sender.uses.overflows }
     {
         let _slot = self.sender.begin_send(at);
         self.progress = Progress::start();
@@ -218,7 +224,8 @@ impl<T: Copy, U: Copy> PublisherPort<T, U> {
         changes: u64,
         handlers: &Handlers,
     ) -> Option<Result<Sent, SendError>>
-        ensures { Sends (Allowed (λ object. (⟦<dyn DegradationFn as DegradationFn>⟧ object.vtable).allows object.value) handlers.now.degradation cause.FailedToEstablishConnection) (MayDecide (λ object. (⟦<dyn BackpressureFn as BackpressureFn>⟧ object.vtable).allows object.value) handlers.now.strategy handlers.now.backpressure) listed.now changes (ready_loan slot self.old) self.old result self.new }
+        ensures sends { Sends (Allowed (λ object. (⟦<dyn DegradationFn as DegradationFn>⟧ object.vtable).allows object.value) handlers.now.degradation cause.FailedToEstablishConnection) (MayDecide (λ object. (⟦<dyn BackpressureFn as BackpressureFn>⟧ object.vtable).allows object.value) handlers.now.strategy handlers.now.backpressure) listed.now changes (ready_loan slot self.old) self.old result self.new }
+        ensures all { self.old.sender.uses.overflows ≡ true → ReachesAll result self.new }
     {
         let at = self.ready(slot)?;
         if !self.stands {
