@@ -34,7 +34,7 @@ use Rattle.iox_negotiate_laws.proofs.Seats.{AreOnce}
 
 -- ---- the nodes
 
-taken : (node : ℕ) (before : Nodes) → AreOnce before → TakesOneOff node before (left node before)
+pub taken : (node : ℕ) (before : Nodes) → AreOnce before → TakesOneOff node before (left node before)
 taken node before once = by_count (factories_of before node) refl
   where
     nothing : factories_of before node ≡ None → TakesOneOff node before before

@@ -15,3 +15,4 @@ pub mod Closing
 pub mod Rooming
 pub mod Careful
 pub mod CallRooms
+pub mod Gaining
