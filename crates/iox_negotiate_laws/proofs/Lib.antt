@@ -16,3 +16,4 @@ pub mod Rooming
 pub mod Careful
 pub mod CallRooms
 pub mod Gaining
+pub mod Owning
