@@ -1,8 +1,7 @@
 -- What a call registers: one that answers no service registers nothing, and one that answers a service registers it with its last accesses.
-use Rattle.std.proofs.Common.{◌≡◌, ℕ, zero, suc, Bool, cond, ◌&&◌, List, [], ◌∷◌, ◌++◌, Option, None, Some, Result, Ok, Err, nat_eq, refl, sym, ap, subst, ◌∙◌, ◌⊎◌, inl, inr}
+use Rattle.std.proofs.Common.{◌≡◌, ℕ, zero, suc, cond, ◌&&◌, List, [], ◌∷◌, ◌++◌, Option, None, Some, Result, Ok, Err, nat_eq, refl, sym, ap, subst, ◌∙◌, ◌⊎◌, inl, inr}
 use Rattle.std.proofs.Math.Logic.{⊎_elim}
 use Rattle.iox_describe_base.specs.declared.hash.ServiceHash.{ServiceHash}
-use Rattle.iox_describe.specs.Line.{line}
 use Rattle.iox_describe_settings.specs.Agreement.{Agreement}
 use Rattle.iox_negotiate_rounds.specs.Access.{Access, Look, Lock, MakeSegment, Publish, Unlock, OpenSegment, RemoveDescription, RemoveSegment}
 use Rattle.iox_negotiate_rounds.specs.Creating.{Unlocks, Undoes, Publishes, Makes, LockGoes, Locks, CreatesSeen, CreatesIf}

@@ -17,3 +17,4 @@ pub mod Careful
 pub mod CallRooms
 pub mod Gaining
 pub mod Owning
+pub mod Counting
