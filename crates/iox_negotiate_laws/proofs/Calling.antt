@@ -78,7 +78,7 @@ fresh-world id = record { is = new-table id; stand = λ f in_it. absurd in_it }
 
 module _ {V : ℕ → Type 0} where
   -- any front of what a call does keeps the factories that are open through it
-  call-front : (call : Call V) (held : List Factory) (done rest : List Access) (old new : Steps) → World held old.table → MayBegin call held → Tells call (done ++ rest) → Went SteppedSight old done new
+  pub call-front : (call : Call V) (held : List Factory) (done rest : List Access) (old new : Steps) → World held old.table → MayBegin call held → Tells call (done ++ rest) → Went SteppedSight old done new
       → World (kept call held) new.table
   call-front (Creates node agreed refusal result) held done rest old new w may told went =
       world-quiet held done old new (quiet-front done rest (creates-quiet agreed.service_hash node agreed refusal (done ++ rest) result told)) w went

@@ -26,7 +26,7 @@ use Rattle.iox_negotiate_table.proofs.Entries.{lookup-set}
 use Rattle.iox_negotiate_laws.specs.Histories.{Accesses}
 use Rattle.iox_negotiate_laws.specs.Factories.{Factory, is_of, times, IsAmong}
 use Rattle.iox_negotiate_laws.specs.Calls.{Call, Creates, Opening, Either, Closing, Between, factory_of, opened_too, MayBegin, open_after, Goes, Called}
-use Rattle.iox_negotiate_laws.specs.Counts.{any_of, FactoriesAreCounted}
+use Rattle.iox_negotiate_laws.specs.Counts.{any_of, AreCounted, FactoriesAreCounted}
 use Rattle.iox_negotiate_laws.proofs.Maps.{by_test}
 use Rattle.iox_negotiate_laws.proofs.Tables.{sees, seat-found}
 use Rattle.iox_negotiate_laws.proofs.Changes.{IsElsewhere, changes, elsewhere, by_hash}
@@ -40,12 +40,12 @@ use Rattle.iox_negotiate_laws.proofs.Gaining.{Calm, AllCalm, Last, Entrance, Pub
 use Rattle.iox_negotiate_laws.proofs.Owning.{IsBelow, BoundedAt, Owned, loosened, left-own, owned-step, owned-access, one_more, owned-opening, owned-publication, new-owned}
 
 -- how many of these a node has in the service of a number
-abbrev counts : List Factory → ℕ → ℕ → ℕ
+abbrev pub counts : List Factory → ℕ → ℕ → ℕ
 counts all number node = times number node all
 
 -- ---- accesses
 
-calm-keeps : (all : List Factory) (made : List Access) (old new : Steps) → AllCalm made → Owned (counts all) old.table → Went SteppedSight old made new → Owned (counts all) new.table
+pub calm-keeps : (all : List Factory) (made : List Access) (old new : Steps) → AllCalm made → Owned (counts all) old.table → Went SteppedSight old made new → Owned (counts all) new.table
 calm-keeps all [] old new calm o went = subst (λ s. Owned (counts all) s.table) (sym went) o
 calm-keeps all (access ∷ made) old new calm o (mid, sight, went) =
     calm-keeps all made mid new calm.1 (stepped-keeps (λ t. Owned (counts all) t) (owned-step (counts all)) (λ a. Calm a) (owned-access (counts all)) access old mid calm.0 o sight) went
@@ -198,7 +198,7 @@ module _ (front back : List Factory) (f : Factory) (old new : Contents) (answer 
       another : f.number ≡ number → ⊥
       another same = differ (ap (λ h. h.digest) (number-hash old f.agreed.service_hash other f.number number (line f.agreed) bytes w.is is_open.published (sym e.entry ∙ published) same))
 
-  leave-owned : Owned (counts (front ++ back)) new
+  pub leave-owned : Owned (counts (front ++ back)) new
   leave-owned = record {
     is = sees old new w.is (Leave f.agreed.service_hash f.number f.node answer) sight;
     bounded = λ other number. by_hash f.agreed.service_hash other
@@ -216,9 +216,9 @@ closing-owned before after factory result (Leave under of by answer ∷ rest) ol
 closing-owned before after factory result made old new w o told went = absurd told
 
 -- each open factory stands, and no other is registered
-record Exact (all : List Factory) (table : Contents) : Type 0 where
-  world : World all table
-  owned : Owned (counts all) table
+pub record Exact (all : List Factory) (table : Contents) : Type 0 where
+  pub world : World all table
+  pub owned : Owned (counts all) table
 
 won-is : {F : Type 0} (node : ℕ) (result : Result Opened F) (all : List Factory) → with_won node (won result) all ≡ opened_too node result all
 won-is node (Ok service) all = refl
@@ -230,7 +230,7 @@ opens-owned node result all made old new lists end g o went is =
     subst (λ t. Owned (counts (opened_too node result all)) t) (sym is) (subst (λ a. Owned (counts a) end.table) (won-is node result all) (gains-owned all node (won result) made (record { table = old; lists = lists }) end g o went))
 
 module _ {V : ℕ → Type 0} where
-  call-owned : (call : Call V) (held : List Factory) (old new : Contents) → Exact held old → MayBegin call held → Goes call old new → Owned (counts (open_after call held)) new
+  pub call-owned : (call : Call V) (held : List Factory) (old new : Contents) → Exact held old → MayBegin call held → Goes call old new → Owned (counts (open_after call held)) new
   call-owned (Creates node agreed refusal result) held old new x may (lists, end, does, is) =
       opens-owned node result held does.made old new lists end (creates-gains agreed.service_hash node agreed refusal does.made result does.told) x.owned does.went is
   call-owned (Opening kind hash node verdict result) held old new x may (lists, end, does, is) =
@@ -261,7 +261,12 @@ just (Some found) count most below = at (nat_lt 0 count) refl
     at true some = let upper = below.1 in let same : found ≡ count = omega (arith, most, upper) in ap (λ n. Some n) same
     at false none = let one = below.0 in let upper = below.1 in absurd (grind (arith, none, one, upper))
 
+pub exactly : (all : List Factory) (table : Contents) → Exact all table → AreCounted all table
+exactly all table x hash number node bytes nodes published stands =
+    just (factories_of nodes node) (times number node all) (times-bounded all table hash number node bytes nodes x.world.is x.world.stand published stands) (x.owned.bounded hash number bytes nodes node published stands)
+
+pub exact-after : {V : ℕ → Type 0} (id : ℕ) (calls : List (Call V)) (table : Contents) (held : List Factory) → Called (empty_table id) [] calls table held → Exact held table
+exact-after id calls table held happened = called calls (empty_table id) table [] held (record { world = fresh-world id; owned = new-owned (counts []) id }) happened
+
 pub factories-counted : (V : ℕ → Type 0) → FactoriesAreCounted V
-factories-counted V id calls table held hash number node bytes nodes happened published stands =
-    let x = called calls (empty_table id) table [] held (record { world = fresh-world id; owned = new-owned (counts []) id }) happened in
-    just (factories_of nodes node) (times number node held) (times-bounded held table hash number node bytes nodes x.world.is x.world.stand published stands) (x.owned.bounded hash number bytes nodes node published stands)
+factories-counted V id calls table held happened = exactly held table (exact-after id calls table held happened)

@@ -18,3 +18,4 @@ pub mod CallRooms
 pub mod Gaining
 pub mod Owning
 pub mod Counting
+pub mod CountingInside
