@@ -65,7 +65,11 @@ fn a_look_is_refused(rt: HostRuntime) -> Result<(), Fail> {
         assert!(rt;
             is_open_refused(rt.alloc(), &mut storage, *opening)?
                 && is_create_refused(rt.alloc(), &mut storage, *creating)?
-                && is_either_refused(rt.alloc(), &mut storage, EventOpenOrCreateError::from(*opening))?
+                && is_either_refused(
+                    rt.alloc(),
+                    &mut storage,
+                    EventOpenOrCreateError::from(*opening)
+                )?
                 && storage.counted(3, 0),
             "{shown:?}"
         );
@@ -75,7 +79,10 @@ fn a_look_is_refused(rt: HostRuntime) -> Result<(), Fail> {
 
 /// What a lock is answered, and what creating comes to.
 const LOCKS: [(LockAnswer, EventCreateError); 3] = [
-    (LockAnswer::Denied, EventCreateError::InsufficientPermissions),
+    (
+        LockAnswer::Denied,
+        EventCreateError::InsufficientPermissions,
+    ),
     (LockAnswer::Fault, EventCreateError::InternalFailure),
     (LockAnswer::OutOfMemory, EventCreateError::OutOfMemory),
 ];
@@ -87,7 +94,11 @@ fn a_lock_is_refused(rt: HostRuntime) -> Result<(), Fail> {
         storage.lock = *lock;
         assert!(rt;
             is_create_refused(rt.alloc(), &mut storage, *creating)?
-                && is_either_refused(rt.alloc(), &mut storage, EventOpenOrCreateError::from(*creating))?
+                && is_either_refused(
+                    rt.alloc(),
+                    &mut storage,
+                    EventOpenOrCreateError::from(*creating)
+                )?
                 && storage.counted(2, 2),
             "{lock:?}"
         );
@@ -121,7 +132,11 @@ fn a_segment_is_refused(rt: HostRuntime) -> Result<(), Fail> {
         storage.segment = *segment;
         assert!(rt;
             is_open_refused(rt.alloc(), &mut storage, *opening)?
-                && is_either_refused(rt.alloc(), &mut storage, EventOpenOrCreateError::from(*opening))?
+                && is_either_refused(
+                    rt.alloc(),
+                    &mut storage,
+                    EventOpenOrCreateError::from(*opening)
+                )?
                 && storage.counted(3, 5),
             "{segment:?}"
         );
