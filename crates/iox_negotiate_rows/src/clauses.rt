@@ -1,11 +1,12 @@
 //! Each clause of each pattern, by openers over one table: the one that fails it and all later ones is refused with just its error.
-use crate::shared::builder;
+use crate::shared::{builder, is_wanted};
 use iox_describe::pattern::{Event, PublishSubscribe, RequestResponse};
 use iox_describe::{AttributeError, AttributeVerifier, LimitError};
 use iox_negotiate::{Negotiated, ServiceBuilder};
 use iox_negotiate_errors::{EventOpenError, PublishSubscribeOpenError, RequestResponseOpenError};
 use iox_negotiate_table::Table;
 use std::alloc::Global;
+use std::fmt::Debug;
 use std::test::Fail;
 
 /// A key that no service has, or nothing.
@@ -24,12 +25,12 @@ fn is_refused<P: Negotiated>(
     asked: ServiceBuilder<P>,
     is_key: bool,
     refusal: P::OpenError,
-) -> Result<bool, AttributeError>
+) -> Result<bool, Fail>
 where
-    P::OpenError: PartialEq,
+    P::OpenError: PartialEq + Debug,
 {
     let opened = asked.open_with_attributes(alloc, required(alloc, is_key)?, table);
-    Ok(opened.err() == Some(refusal))
+    is_wanted(opened.err(), Some(refusal))
 }
 
 const PUBLISH_SUBSCRIBE: [PublishSubscribeOpenError; 9] = [

@@ -1,6 +1,5 @@
 //! A storage that refuses one kind of access, each of its refusals in turn.
-use crate::shared::{Fixed, NoLook, builder};
-use iox_describe::LimitError;
+use crate::shared::{Fixed, NoLook, builder, is_wanted};
 use iox_negotiate_errors::{EventCreateError, EventOpenError, EventOpenOrCreateError};
 use iox_negotiate_rounds::{LockAnswer, OpenSegmentAnswer};
 use std::alloc::Global;
@@ -11,8 +10,11 @@ fn is_open_refused(
     alloc: Global,
     storage: &mut Fixed,
     refusal: EventOpenError,
-) -> Result<bool, LimitError> {
-    Ok(builder(b"E")?.event().open(alloc, storage).err() == Some(refusal))
+) -> Result<bool, Fail> {
+    is_wanted(
+        builder(b"E")?.event().open(alloc, storage).err(),
+        Some(refusal),
+    )
 }
 
 /// Whether `create` is refused so.
@@ -20,8 +22,11 @@ fn is_create_refused(
     alloc: Global,
     storage: &mut Fixed,
     refusal: EventCreateError,
-) -> Result<bool, LimitError> {
-    Ok(builder(b"E")?.event().create(alloc, storage).err() == Some(refusal))
+) -> Result<bool, Fail> {
+    is_wanted(
+        builder(b"E")?.event().create(alloc, storage).err(),
+        Some(refusal),
+    )
 }
 
 /// Whether `open_or_create` is refused so.
@@ -29,8 +34,11 @@ fn is_either_refused(
     alloc: Global,
     storage: &mut Fixed,
     refusal: EventOpenOrCreateError,
-) -> Result<bool, LimitError> {
-    Ok(builder(b"E")?.event().open_or_create(alloc, storage).err() == Some(refusal))
+) -> Result<bool, Fail> {
+    is_wanted(
+        builder(b"E")?.event().open_or_create(alloc, storage).err(),
+        Some(refusal),
+    )
 }
 
 /// What a look shows, and what opening and creating come to.

@@ -8,6 +8,8 @@ use iox_negotiate_rounds::{
     RemoveAnswer, Storage, StoredDescription,
 };
 use std::alloc::{AllocError, Global};
+use std::fmt::Debug;
+use std::test::Fail;
 
 /// The one line of service `23` over slices of `u64` with a `u64` user header, at default settings.
 pub const LINE: &str =
@@ -64,6 +66,14 @@ impl Fixed {
     pub(crate) fn counted(&self, looks: u64, others: u64) -> bool {
         self.looks == looks && self.others == others
     }
+}
+
+/// True, if this is the wanted answer. Another one ends the test and is told, so that an allocation failure is told as one.
+pub(crate) fn is_wanted<T: Copy + Debug + PartialEq>(answer: T, wanted: T) -> Result<bool, Fail> {
+    if answer != wanted {
+        return Err(Fail::from(answer));
+    }
+    Ok(true)
 }
 
 /// A builder of the service of this name, for node 5.
