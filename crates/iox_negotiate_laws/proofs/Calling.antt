@@ -73,12 +73,12 @@ either-world node verdict agreed refusal (Ok service) held made old new w told w
 either-world node verdict agreed refusal (Err failure) held made old new w told went =
     world-quiet held made old new (rounds-quiet (EitherRound agreed.service_hash node verdict agreed refusal) (either-quiet agreed.service_hash node verdict agreed refusal) _ made (Err failure) told) w went
 
-fresh-world : (id : ℕ) → World [] (empty_table id)
+pub fresh-world : (id : ℕ) → World [] (empty_table id)
 fresh-world id = record { is = new-table id; stand = λ f in_it. absurd in_it }
 
 module _ {V : ℕ → Type 0} where
   -- any front of what a call does keeps the factories that are open through it
-  call-front : (call : Call V) (held : List Factory) (done rest : List Access) (old new : Steps) → World held old.table → MayBegin call held → Tells call (done ++ rest) → Went SteppedSight old done new
+  pub call-front : (call : Call V) (held : List Factory) (done rest : List Access) (old new : Steps) → World held old.table → MayBegin call held → Tells call (done ++ rest) → Went SteppedSight old done new
       → World (kept call held) new.table
   call-front (Creates node agreed refusal result) held done rest old new w may told went =
       world-quiet held done old new (quiet-front done rest (creates-quiet agreed.service_hash node agreed refusal (done ++ rest) result told)) w went
@@ -94,7 +94,7 @@ module _ {V : ℕ → Type 0} where
       differ : access ∷ (done ++ rest) ≡ [] → ⊥
       differ e = cc
 
-  call-world : (call : Call V) (held : List Factory) (old new : Contents) → World held old → MayBegin call held → Goes call old new → World (open_after call held) new
+  pub call-world : (call : Call V) (held : List Factory) (old new : Contents) → World held old → MayBegin call held → Goes call old new → World (open_after call held) new
   call-world (Creates node agreed refusal result) held old new w may (lists, end, does, is) =
       moved (opened_too node result held) new end is (creates-world node agreed refusal result held does.made (record { table = old; lists = lists }) end w does.told does.went)
   call-world (Opening kind hash node verdict result) held old new w may (lists, end, does, is) =

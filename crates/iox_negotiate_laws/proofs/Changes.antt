@@ -26,7 +26,7 @@ use Rattle.iox_negotiate_table.specs.declared.segment.Segment.TheVariants.{Open}
 use Rattle.iox_negotiate_table.specs.declared.step.ForeignStep.{ForeignStep}
 use Rattle.iox_negotiate_table.specs.declared.step.ForeignStep.TheVariants as step
 use Rattle.iox_negotiate_table.specs.Nodes.{first_node, first_foreign}
-use Rattle.iox_negotiate_table.specs.Segments.{after_leave, after_foreign_leave}
+use Rattle.iox_negotiate_table.specs.Segments.{Opens, after_leave, RegistersIn, after_foreign_leave}
 use Rattle.iox_negotiate_table.specs.Contents.{Contents, entry_at, segment_at, with_entry, without_entry, with_new_segment, with_segment, without_segment, with_lock, digest_cmp, place_cmp, may_make, may_publish, may_unlock, is_published, may_remove_description, may_remove_segment}
 use Rattle.iox_negotiate_table.specs.Foreign.{Acts, IsFor, DoneOrLacking, Done, foreign_lock, published_number, with_service, PublishesForeign, RegistersForeign, RegistersAt, after_leaving, left_at, after_removal, is_left_by}
 use Rattle.iox_negotiate_table.specs.Sights.{Sight, LocksAt, LocksFree, Makes, Publishes, Unlocks, OpensAt, LeavesAt, Removes}
@@ -37,6 +37,14 @@ use Rattle.iox_negotiate_laws.proofs.Maps.{no, on, by_test, insert-apart, remove
 use Rattle.iox_negotiate_laws.proofs.Rooms.{SameRoom, opens-room, leave-room, register-room, foreign-leave-room}
 use Rattle.iox_negotiate_laws.proofs.Tables.{lock-of, digest-exact, place-exact, digest-self, own-lock, foreign-locked}
 
+-- what an event makes of a segment that stands: own nodes open and leave it, and foreign nodes come in and leave
+abbrev pub Turns : Event → ℕ → Segment → Segment → Type 0
+Turns (Accesses (OpenSegment hash number node answer)) at before after = (number ≡ at) × Opens node before answer after
+Turns (Accesses (Leave hash number node answer)) at before after = (number ≡ at) × (after ≡ after_leave node before)
+Turns (Steps hash (step.Register node)) at before after = (result : Result (Unit {0}) AllocError) × RegistersIn node before result after
+Turns (Steps hash (step.Leave node)) at before after = after ≡ after_foreign_leave node before
+Turns event at before after = ⊥
+
 -- What an event under a hash may make of a table.
 pub data Change (event : Event) (hash : ServiceHash) (old new : Contents) : Type 0 where
   Same : (is : new ≡ old) → Change event hash old new
@@ -45,7 +53,8 @@ pub data Change (event : Event) (hash : ServiceHash) (old new : Contents) : Type
   PublishOf : (node number : ℕ) (bytes : List ℕ) (locked : entry_at hash old ≡ Some (Locked (Own node) number)) (by : PublishesAs hash number bytes old event) (is : new ≡ with_entry hash (Described number bytes) old)
       → Change event hash old new
   NewSegment : (number node : ℕ) (segment : Segment) (locked : entry_at hash old ≡ Some (Locked (Own node) number)) (is : new ≡ with_new_segment hash number segment old) → Change event hash old new
-  OfSegment : (number : ℕ) (before segment : Segment) (stood : segment_at hash number old ≡ Some before) (room : SameRoom before segment) (is : new ≡ with_segment hash number segment old) → Change event hash old new
+  OfSegment : (number : ℕ) (before segment : Segment) (stood : segment_at hash number old ≡ Some before) (room : SameRoom before segment) (turns : Turns event number before segment)
+      (is : new ≡ with_segment hash number segment old) → Change event hash old new
   WithoutSegment : (number : ℕ) (is : new ≡ without_segment hash number old) → Change event hash old new
   ServiceOf : (node number : ℕ) (agreed : Agreement) (locked : entry_at hash old ≡ Some (Locked (Foreign node) number)) (by : PublishesAs hash number (line agreed) old event)
       (own : IsFor hash agreed) (is : new ≡ with_service hash number node agreed old) → Change event hash old new
@@ -84,15 +93,17 @@ module _ (event : Event) (hash : ServiceHash) (old new : Contents) where
   unlocks true h = Without h
   unlocks false h = Same h
 
-  opens : (number node : ℕ) (answer : OpenSegmentAnswer) (b : Bool) (found : Option Segment) → segment_at hash number old ≡ found → OpensAt b found hash number node old answer new → Change event hash old new
-  opens number node answer true (Some segment) stood h = OfSegment number segment h.0 stood (opens-room node segment h.0 answer h.1) h.2
-  opens number node answer true None stood h = Same h.1
-  opens number node answer false found stood h = Same h.1
+  opens : (number node : ℕ) (answer : OpenSegmentAnswer) → ((before after : Segment) → Opens node before answer after → Turns event number before after)
+      → (b : Bool) (found : Option Segment) → segment_at hash number old ≡ found → OpensAt b found hash number node old answer new → Change event hash old new
+  opens number node answer turns true (Some segment) stood h = OfSegment number segment h.0 stood (opens-room node segment h.0 answer h.1) (turns segment h.0 h.1) h.2
+  opens number node answer turns true None stood h = Same h.1
+  opens number node answer turns false found stood h = Same h.1
 
-  leaves : (number node : ℕ) (answer : LeaveAnswer) (b : Bool) (found : Option Segment) → segment_at hash number old ≡ found → LeavesAt b found hash number node old answer new → Change event hash old new
-  leaves number node answer true (Some segment) stood h = OfSegment number segment (after_leave node segment) stood (leave-room node segment) h.1
-  leaves number node answer true None stood h = Same h.1
-  leaves number node answer false found stood h = Same h.1
+  leaves : (number node : ℕ) (answer : LeaveAnswer) → ((before : Segment) → Turns event number before (after_leave node before))
+      → (b : Bool) (found : Option Segment) → segment_at hash number old ≡ found → LeavesAt b found hash number node old answer new → Change event hash old new
+  leaves number node answer turns true (Some segment) stood h = OfSegment number segment (after_leave node segment) stood (leave-room node segment) (turns segment) h.1
+  leaves number node answer turns true None stood h = Same h.1
+  leaves number node answer turns false found stood h = Same h.1
 
   removes-description : (answer : RemoveAnswer) (b : Bool) → Removes b (without_entry hash old) old answer new → Change event hash old new
   removes-description answer true h = Without h.1
@@ -115,21 +126,23 @@ module _ (event : Event) (hash : ServiceHash) (old new : Contents) where
   gives-up result true h = Without h.1
   gives-up result false h = Same h.1
 
-  registers-foreign : (number node : ℕ) (result : Result (Unit {0}) AllocError) (found : Option Segment) → segment_at hash number old ≡ found → RegistersAt found hash number node old result new → Change event hash old new
-  registers-foreign number node result (Some segment) stood h = OfSegment number segment h.0 stood (register-room node segment h.0 result h.1) h.2
-  registers-foreign number node result None stood h = Same h.1
+  module _ (node : ℕ) (result : Result (Unit {0}) AllocError) (turns : (number : ℕ) (before after : Segment) → RegistersIn node before result after → Turns event number before after) where
+    registers-foreign : (number : ℕ) (found : Option Segment) → segment_at hash number old ≡ found → RegistersAt found hash number node old result new → Change event hash old new
+    registers-foreign number (Some segment) stood h = OfSegment number segment h.0 stood (register-room node segment h.0 result h.1) (turns number segment h.0 h.1) h.2
+    registers-foreign number None stood h = Same h.1
 
-  registers-at : (node : ℕ) (result : Result (Unit {0}) AllocError) (found : Option ℕ) → RegistersForeign found hash node old result new → Change event hash old new
-  registers-at node result (Some number) h = registers-foreign number node result (segment_at hash number old) refl h
-  registers-at node result None h = Same h.1
+    registers-at : (found : Option ℕ) → RegistersForeign found hash node old result new → Change event hash old new
+    registers-at (Some number) h = registers-foreign number (segment_at hash number old) refl h
+    registers-at None h = Same h.1
 
-  leaves-foreign : (number node : ℕ) (found : Option Segment) → segment_at hash number old ≡ found → new ≡ left_at found hash number node old → Change event hash old new
-  leaves-foreign number node (Some segment) stood h = OfSegment number segment (after_foreign_leave node segment) stood (foreign-leave-room node segment) h
-  leaves-foreign number node None stood h = Same h
+  module _ (node : ℕ) (turns : (number : ℕ) (before : Segment) → Turns event number before (after_foreign_leave node before)) where
+    leaves-foreign : (number : ℕ) (found : Option Segment) → segment_at hash number old ≡ found → new ≡ left_at found hash number node old → Change event hash old new
+    leaves-foreign number (Some segment) stood h = OfSegment number segment (after_foreign_leave node segment) stood (foreign-leave-room node segment) (turns number segment) h
+    leaves-foreign number None stood h = Same h
 
-  leaves-number : (node : ℕ) (found : Option ℕ) → new ≡ after_leaving found hash node old → Change event hash old new
-  leaves-number node (Some number) h = leaves-foreign number node (segment_at hash number old) refl h
-  leaves-number node None h = Same h
+    leaves-number : (found : Option ℕ) → new ≡ after_leaving found hash node old → Change event hash old new
+    leaves-number (Some number) h = leaves-foreign number (segment_at hash number old) refl h
+    leaves-number None h = Same h
 
   removes-foreign : (number : ℕ) (b : Bool) → new ≡ cond b (without_segment hash number (without_entry hash old)) old → Change event hash old new
   removes-foreign number true h = Removal number h
@@ -169,8 +182,8 @@ module _ (old new : Contents) where
   sees (MakeSegment hash number node max_nodes answer) h = makes _ hash old new number node max_nodes answer (may_make hash number node max_nodes old) refl h
   sees (Publish hash number bytes answer) h = publishes hash old new number bytes answer (may_publish hash number old) refl h
   sees (Unlock hash number) h = unlocks _ hash old new (may_unlock hash number old) h
-  sees (OpenSegment hash number node answer) h = opens _ hash old new number node answer (is_published hash number old) (segment_at hash number old) refl h
-  sees (Leave hash number node answer) h = leaves _ hash old new number node answer (is_published hash number old) (segment_at hash number old) refl h
+  sees (OpenSegment hash number node answer) h = opens (Accesses (OpenSegment hash number node answer)) hash old new number node answer (λ before after turned. (refl, turned)) (is_published hash number old) (segment_at hash number old) refl h
+  sees (Leave hash number node answer) h = leaves (Accesses (Leave hash number node answer)) hash old new number node answer (λ before. (refl, refl)) (is_published hash number old) (segment_at hash number old) refl h
   sees (RemoveDescription hash number answer) h = removes-description _ hash old new answer (may_remove_description hash number old) h
   sees (RemoveSegment hash number answer) h = removes-segment _ hash old new number answer (may_remove_segment hash number old) h
 
@@ -178,8 +191,8 @@ module _ (old new : Contents) where
   acts hash (step.Lock node) result h = locks-foreign _ hash old new node result (entry_at hash old) (not (nat_eq old.next (2 ^ 64 - 1))) refl h
   acts hash (step.GiveUp node) result h = gives-up _ hash old new result (is_some (foreign_lock node (entry_at hash old))) h
   acts hash (step.Publish node agreed) result h = publishes-foreign hash old new node result agreed (foreign_lock node (entry_at hash old)) refl h
-  acts hash (step.Register node) result h = registers-at _ hash old new node result (published_number (entry_at hash old)) h
-  acts hash (step.Leave node) result h = leaves-number _ hash old new node (published_number (entry_at hash old)) h.1
+  acts hash (step.Register node) result h = registers-at (Steps hash (step.Register node)) hash old new node result (λ number before after turned. (result, turned)) (published_number (entry_at hash old)) h
+  acts hash (step.Leave node) result h = leaves-number (Steps hash (step.Leave node)) hash old new node (λ number before. refl) (published_number (entry_at hash old)) h.1
   acts hash (step.Remove node) result h = removes-number _ hash old new node (published_number (entry_at hash old)) h.1
 
   pub changes : (event : Event) → Happens old event new → Change event (hash_of event) old new
@@ -245,7 +258,7 @@ module _ (hash other : ServiceHash) (differ : hash.digest ≢ other.digest) (old
     entry = refl;
     segment = λ n. insert-apart place_cmp (hash.digest, number) segment (is_at (place_cmp (other.digest, n))) (place-away (hash.digest, number) (other.digest, n) (place-differs hash other differ number n)) place-exact old.segments;
   })
-  elsewhere event (OfSegment number before segment stood room is) = rw is (record {
+  elsewhere event (OfSegment number before segment stood room turns is) = rw is (record {
     entry = refl;
     segment = λ n. set-apart (is_at (place_cmp (hash.digest, number))) (is_at (place_cmp (other.digest, n))) (place-apart (hash.digest, number) (other.digest, n) (place-differs hash other differ number n)) old.segments segment;
   })
@@ -271,7 +284,7 @@ rises event hash old new (LockOf node free is) = rw is (omega arith)
 rises event hash old new (Without is) = rw is (omega arith)
 rises event hash old new (PublishOf node number bytes locked by is) = rw is (omega arith)
 rises event hash old new (NewSegment number node segment locked is) = rw is (omega arith)
-rises event hash old new (OfSegment number before segment stood room is) = rw is (omega arith)
+rises event hash old new (OfSegment number before segment stood room turns is) = rw is (omega arith)
 rises event hash old new (WithoutSegment number is) = rw is (omega arith)
 rises event hash old new (ServiceOf node number agreed locked by own is) = rw is (omega arith)
 rises event hash old new (Removal number is) = rw is (omega arith)

@@ -34,7 +34,7 @@ use Rattle.iox_negotiate_laws.proofs.Seats.{AreOnce}
 
 -- ---- the nodes
 
-taken : (node : ℕ) (before : Nodes) → AreOnce before → TakesOneOff node before (left node before)
+pub taken : (node : ℕ) (before : Nodes) → AreOnce before → TakesOneOff node before (left node before)
 taken node before once = by_count (factories_of before node) refl
   where
     nothing : factories_of before node ≡ None → TakesOneOff node before before
@@ -77,18 +77,18 @@ equal : (n : ℕ) → nat_eq n n ≡ true
 equal n = grind arith
 
 module _ (hash : ServiceHash) (number node : ℕ) (bytes : List ℕ) (old : Contents) (table : IsTable old) (is_open : IsOpenIn hash number node bytes old) where
-  abbrev after : Nodes
+  abbrev pub after : Nodes
   after = left node is_open.nodes
 
   -- what the leave found and left
-  record Left (b : Bool) (answer : LeaveAnswer) (mid : Contents) : Type 0 where
-    answered : answer ≡ leave_answer (Open is_open.nodes) (closed_if b (Own node) after)
-    is : mid ≡ with_segment hash number (closed_if b (Own node) after) old
+  pub record Left (b : Bool) (answer : LeaveAnswer) (mid : Contents) : Type 0 where
+    pub answered : answer ≡ leave_answer (Open is_open.nodes) (closed_if b (Own node) after)
+    pub is : mid ≡ with_segment hash number (closed_if b (Own node) after) old
 
   flag : is_published hash number old ≡ true
   flag = rw is_open.published (equal number)
 
-  leaves : (answer : LeaveAnswer) (mid : Contents) → Sight old (Leave hash number node answer) mid → Left (nat_eq (count_in after) 0) answer mid
+  pub leaves : (answer : LeaveAnswer) (mid : Contents) → Sight old (Leave hash number node answer) mid → Left (nat_eq (count_in after) 0) answer mid
   leaves answer mid h = found (subst (λ b. LeavesAt b (segment_at hash number old) hash number node old answer mid) flag h)
     where
       found-open : LeavesPublished (Some (Open is_open.nodes)) hash number node old answer mid → Left (nat_eq (count_in after) 0) answer mid

@@ -81,7 +81,7 @@ found-of number bytes (Some (Described at text)) (inr h) = absurd (differ h)
 found-not-lacking : (number : ℕ) (bytes : List ℕ) → look.Found number bytes ≡ look.OutOfMemory → ⊥
 found-not-lacking number bytes e = cc
 
-registered-not-lacking : opening.Registered ≡ opening.OutOfMemory → ⊥
+pub registered-not-lacking : opening.Registered ≡ opening.OutOfMemory → ⊥
 registered-not-lacking e = cc
 
 pub made-not-lacking : making.Made ≡ making.OutOfMemory → ⊥

@@ -61,7 +61,7 @@ some-same one other e = cc
 pub nodes-apart : (one other : ℕ) → one ≢ other → (k : ℕ) → is_at (nat_cmp one) k ≡ true → is_at (nat_cmp other) k ≡ false
 nodes-apart one other differ k at = apart-of nat_cmp exact_unsigned one other differ k at
 
-node-away : (one other : ℕ) → one ≢ other → is_at (nat_cmp other) one ≡ false
+pub node-away : (one other : ℕ) → one ≢ other → is_at (nat_cmp other) one ≡ false
 node-away one other differ = nodes-apart one other differ one (rw (is-self nat_cmp nat_cmp_total one) refl)
 
 pub by_number : {P : Type 0} (one other : ℕ) → (one ≡ other → P) → (one ≢ other → P) → P

@@ -15,3 +15,7 @@ pub mod Closing
 pub mod Rooming
 pub mod Careful
 pub mod CallRooms
+pub mod Gaining
+pub mod Owning
+pub mod Counting
+pub mod CountingInside

@@ -53,7 +53,7 @@ abbrev pub UnpublishingEvent : Event → Type 0
 UnpublishingEvent (Accesses access) = Unpublishing access
 UnpublishingEvent (StepsUnder hash step) = Unit {0}
 
-no-publish : (hash : ServiceHash) (number node : ℕ) (bytes : List ℕ) (old : Contents) (event : Event) → UnpublishingEvent event → entry_at hash old ≡ Some (Locked (Own node) number) → PublishesAs hash number bytes old event → ⊥
+pub no-publish : (hash : ServiceHash) (number node : ℕ) (bytes : List ℕ) (old : Contents) (event : Event) → UnpublishingEvent event → entry_at hash old ≡ Some (Locked (Own node) number) → PublishesAs hash number bytes old event → ⊥
 no-publish hash number node bytes old (Accesses (Publish under of text publishing.Published)) un locked by = un
 no-publish hash number node bytes old (Accesses (Publish under of text publishing.Fault)) un locked by = differ by.5
   where
@@ -69,7 +69,7 @@ no-publish hash number node bytes old (StepsUnder under (step.Publish by_node ag
     differ e = cc
 no-publish hash number node bytes old event un locked by = by
 
-open-is : (segment : Segment) (nodes : Nodes) → Some segment ≡ Some (Open nodes) → segment ≡ Open nodes
+pub open-is : (segment : Segment) (nodes : Nodes) → Some segment ≡ Some (Open nodes) → segment ≡ Open nodes
 open-is segment nodes e = cc
 
 -- the nodes of a segment that kept its room
@@ -91,7 +91,7 @@ module _ (hash : ServiceHash) (number : ℕ) (old new : Contents) (is : IsTable 
   kept-here (Without same) agreed nodes published within stands = (no-entry (rw same (entry-gone hash old is))) agreed nodes published within stands
   kept-here (PublishOf node at bytes locked by same) agreed nodes published within stands = absurd (no-publish hash at node bytes old event un locked by)
   kept-here (NewSegment at node segment locked same) agreed nodes published within stands = (not-described (Own node) at (rw same locked)) agreed nodes published within stands
-  kept-here (OfSegment at before segment stood kept same) agreed nodes published within stands = by_number at number here there
+  kept-here (OfSegment at before segment stood kept turns same) agreed nodes published within stands = by_number at number here there
     where
       entry : entry_at hash old ≡ Some (Described number (line agreed))
       entry = subst (λ t. entry_at hash t ≡ Some (Described number (line agreed))) same published

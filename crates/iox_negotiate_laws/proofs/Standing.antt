@@ -204,7 +204,7 @@ same-count table h1 h2 n1 n2 d1 d2 b1 b2 c1 c2 hash number node x y =
     some-same c1 c2 (sym x.has ∙ ap (λ ns. factories_of ns d1) nodes ∙ ap (λ d. factories_of y.nodes d) node ∙ y.has)
 
 -- of one number there is one hash
-number-hash : (table : Contents) (h1 h2 : ServiceHash) (n1 n2 : ℕ) (b1 b2 : List ℕ) → IsTable table → entry_at h1 table ≡ Some (Described n1 b1) → entry_at h2 table ≡ Some (Described n2 b2) → n1 ≡ n2 → h1 ≡ h2
+pub number-hash : (table : Contents) (h1 h2 : ServiceHash) (n1 n2 : ℕ) (b1 b2 : List ℕ) → IsTable table → entry_at h1 table ≡ Some (Described n1 b1) → entry_at h2 table ≡ Some (Described n2 b2) → n1 ≡ n2 → h1 ≡ h2
 number-hash table h1 h2 n1 n2 b1 b2 is one other same = (one-life-of table table [] h2 h1 (Described n2 b2) (Described n1 b1) is refl other one same).0
 
 pub joined : (all : List Factory) (f : Factory) (table : Contents) (count : ℕ) → IsTable table → AllStand all table → IsHeld f.agreed.service_hash f.number f.node (line f.agreed) count table

@@ -4,3 +4,4 @@ pub mod Factories
 pub mod Calls
 pub mod Closing
 pub mod Rooms
+pub mod Counts

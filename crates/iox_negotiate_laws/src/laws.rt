@@ -2,6 +2,7 @@
 //! does nothing: its contract is the law.
 ghost use Rattle.iox_negotiate_laws.specs.Calls.{OpenFactoriesStand, StandInsideCalls, of_three};
 ghost use Rattle.iox_negotiate_laws.specs.Closing.{ClosesOne};
+ghost use Rattle.iox_negotiate_laws.specs.Counts.{FactoriesAreCounted, CountedInsideCalls};
 ghost use Rattle.iox_negotiate_laws.specs.Lives.{TakenOnce, OneLife, PublishedByItsLock, FewAreIn, OpenedStands};
 ghost use Rattle.iox_negotiate_laws.specs.Rooms.{RoomsAreAgreed, RoomsInsideCalls};
 
@@ -43,6 +44,19 @@ pub fn open_factories_stand<P: Request, Q: Request, R: Request>()
 /// And so after each access inside a call, each one that the call doesn't close.
 pub fn stand_inside_calls<P: Request, Q: Request, R: Request>()
     ensures { StandInsideCalls (of_three P.ClauseError Q.ClauseError R.ClauseError) }
+{}
+
+/// Registered are just the factories that are open: after any calls in a new table, with whatever foreign steps before each access
+/// and between the calls, the segment of each published service has just those own nodes that have factories of it open, and counts
+/// as many factories of each as are open.
+pub fn factories_are_counted<P: Request, Q: Request, R: Request>()
+    ensures { FactoriesAreCounted (of_three P.ClauseError Q.ClauseError R.ClauseError) }
+{}
+
+/// And so it is after each access inside a call: registered are just the factories that were open before the call, or just those that
+/// are open after it.
+pub fn counted_inside_calls<P: Request, Q: Request, R: Request>()
+    ensures { CountedInsideCalls (of_three P.ClauseError Q.ClauseError R.ClauseError) }
 {}
 
 /// A closing in the table goes well: it takes one factory of its node off, the node's last one takes the node out, and the last of

@@ -2,12 +2,15 @@
 //! with ample memory goes well.
 //!
 //! It has no items of its own, only tests: `rounds` counts the rounds that lead to nothing, `lines` holds the lines
-//! that builders publish against rows from outside, `closing` the three refusals of `close`, `texts` what errors display as.
-//! Over the table, `conversations` has what nodes answer each other, `lives` each pattern from creation to end and again,
+//! that builders publish against rows from outside, `closing` the three refusals of `close`, `refusals` those of each other
+//! access, `texts` what errors display as.
+//! Over the table, `clauses` has the openers that each clause refuses, `conversations` what nodes answer each other, `lives` each pattern from creation to end and again,
 //! `phases` each foreign step where it fits and where it doesn't, `undoing` creations of which an access fails.
 //! `shared` and `foreign` are what they share.
 #![tactic(auto)]
 
+#[cfg(test)]
+mod clauses;
 #[cfg(test)]
 mod closing;
 #[cfg(test)]
@@ -20,6 +23,8 @@ mod lines;
 mod lives;
 #[cfg(test)]
 mod phases;
+#[cfg(test)]
+mod refusals;
 #[cfg(test)]
 mod rounds;
 #[cfg(test)]

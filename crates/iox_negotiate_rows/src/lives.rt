@@ -1,12 +1,13 @@
 //! Services of each pattern from their creation to their end, and again.
-use crate::shared::builder;
+use crate::shared::{builder, is_wanted};
 use iox_negotiate::{Negotiated, PortFactory, ServiceBuilder};
 use iox_negotiate_errors::{
     EventCreateError, EventOpenError, PublishSubscribeCreateError, PublishSubscribeOpenError,
     RequestResponseCreateError, RequestResponseOpenError,
 };
 use iox_negotiate_table::Table;
-use std::alloc::{AllocError, Global};
+use std::alloc::Global;
+use std::fmt::Debug;
 use std::test::Fail;
 
 /// Whether `open` is refused so.
@@ -15,11 +16,14 @@ fn is_open_refused<P: Negotiated>(
     asked: &ServiceBuilder<P>,
     table: &mut Table,
     refusal: P::OpenError,
-) -> Result<bool, AllocError>
+) -> Result<bool, Fail>
 where
-    P::OpenError: PartialEq,
+    P::OpenError: PartialEq + Debug,
 {
-    Ok(asked.try_clone(alloc)?.open(alloc, table).err() == Some(refusal))
+    is_wanted(
+        asked.try_clone(alloc)?.open(alloc, table).err(),
+        Some(refusal),
+    )
 }
 
 /// Whether `create` is refused so.
@@ -28,11 +32,14 @@ fn is_create_refused<P: Negotiated>(
     asked: &ServiceBuilder<P>,
     table: &mut Table,
     refusal: P::CreateError,
-) -> Result<bool, AllocError>
+) -> Result<bool, Fail>
 where
-    P::CreateError: PartialEq,
+    P::CreateError: PartialEq + Debug,
 {
-    Ok(asked.try_clone(alloc)?.create(alloc, table).err() == Some(refusal))
+    is_wanted(
+        asked.try_clone(alloc)?.create(alloc, table).err(),
+        Some(refusal),
+    )
 }
 
 /// Whether the factory is of the service of this number, and is closed.
@@ -47,11 +54,12 @@ fn is_opened<P: Negotiated>(
     table: &mut Table,
     first: PortFactory<P>,
     number: u64,
-) -> Result<bool, AllocError> {
-    match asked.try_clone(alloc)?.open(alloc, table) {
-        Ok(second) => Ok(is_closed(first, table, number) && is_closed(second, table, number)),
-        Err(_) => Ok(false),
-    }
+) -> Result<bool, Fail>
+where
+    P::OpenError: Debug,
+{
+    let second = asked.try_clone(alloc)?.open(alloc, table)?;
+    Ok(is_closed(first, table, number) && is_closed(second, table, number))
 }
 
 /// Whether the service is created under this number, not created again, opened, and closed.
@@ -61,17 +69,16 @@ fn is_created<P: Negotiated>(
     table: &mut Table,
     number: u64,
     stands: P::CreateError,
-) -> Result<bool, AllocError>
+) -> Result<bool, Fail>
 where
-    P::CreateError: PartialEq,
+    P::OpenError: Debug,
+    P::CreateError: PartialEq + Debug,
 {
-    match asked.try_clone(alloc)?.create(alloc, table) {
-        Ok(first) => Ok(
-            is_create_refused(alloc, asked, table, stands)?
-                && is_opened(alloc, asked, table, first, number)?,
-        ),
-        Err(_) => Ok(false),
-    }
+    let first = asked.try_clone(alloc)?.create(alloc, table)?;
+    Ok(
+        is_create_refused(alloc, asked, table, stands)?
+            && is_opened(alloc, asked, table, first, number)?,
+    )
 }
 
 /// Whether the service lives under this number, and stands neither before nor after.
@@ -81,10 +88,10 @@ fn is_lived<P: Negotiated>(
     table: &mut Table,
     number: u64,
     (absent, stands): (P::OpenError, P::CreateError),
-) -> Result<bool, AllocError>
+) -> Result<bool, Fail>
 where
-    P::OpenError: PartialEq + Copy,
-    P::CreateError: PartialEq,
+    P::OpenError: PartialEq + Debug,
+    P::CreateError: PartialEq + Debug,
 {
     Ok(
         is_open_refused(alloc, asked, table, absent)?
@@ -99,7 +106,7 @@ fn is_publish_subscribe_lived(alloc: Global, table: &mut Table, number: u64) -> 
         PublishSubscribeCreateError::AlreadyExists,
     );
     let asked = builder(b"A")?.publish_subscribe::<u64>();
-    Ok(is_lived(alloc, &asked, table, number, errors)?)
+    is_lived(alloc, &asked, table, number, errors)
 }
 
 fn is_event_lived(alloc: Global, table: &mut Table, number: u64) -> Result<bool, Fail> {
@@ -108,7 +115,7 @@ fn is_event_lived(alloc: Global, table: &mut Table, number: u64) -> Result<bool,
         EventCreateError::AlreadyExists,
     );
     let asked = builder(b"A")?.event();
-    Ok(is_lived(alloc, &asked, table, number, errors)?)
+    is_lived(alloc, &asked, table, number, errors)
 }
 
 fn is_request_response_lived(alloc: Global, table: &mut Table, number: u64) -> Result<bool, Fail> {
@@ -117,7 +124,7 @@ fn is_request_response_lived(alloc: Global, table: &mut Table, number: u64) -> R
         RequestResponseCreateError::AlreadyExists,
     );
     let asked = builder(b"A")?.request_response::<u8, u64>();
-    Ok(is_lived(alloc, &asked, table, number, errors)?)
+    is_lived(alloc, &asked, table, number, errors)
 }
 
 #[test]

@@ -8,16 +8,28 @@ use iox_negotiate_rounds::{
     RemoveAnswer, Storage, StoredDescription,
 };
 use std::alloc::{AllocError, Global};
+use std::fmt::Debug;
+use std::test::Fail;
 
 /// The one line of service `23` over slices of `u64` with a `u64` user header, at default settings.
 pub const LINE: &str =
     "{\"attributes\":[],\"name\":\"23\",\"pattern\":\"publish_subscribe\",\"service_hash\":\"40bd001563085fc35165329ea1ff5c5ecbdbbeef\",\"settings\":{\"enable_safe_overflow\":true,\"history_size\":0,\"max_nodes\":20,\"max_publishers\":2,\"max_subscribers\":8,\"subscriber_max_borrowed_samples\":2,\"subscriber_max_buffer_size\":2,\"types\":{\"header\":{\"alignment\":8,\"name\":\"Header\",\"size\":24,\"variant\":\"FixedSize\"},\"payload\":{\"alignment\":8,\"name\":\"u64\",\"size\":8,\"variant\":\"Dynamic\"},\"user_header\":{\"alignment\":8,\"name\":\"u64\",\"size\":8,\"variant\":\"FixedSize\"}}},\"version\":1}";
+
+/// A look that shows neither that a service stands nor that none does.
+#[derive(Clone, Copy, Debug)]
+pub enum NoLook {
+    Locked,
+    Denied,
+    Broken,
+    OutOfMemory,
+}
 
 /// The answers to give, and how many accesses there were.
 #[derive(Drop)]
 pub struct Fixed {
     pub id: u64,
     pub line: Vec<u8>,
+    pub no_look: Option<NoLook>,
     pub lock: LockAnswer,
     pub segment: OpenSegmentAnswer,
     pub leave: LeaveAnswer,
@@ -35,6 +47,7 @@ impl Fixed {
         Ok(Fixed {
             id: 1,
             line: bytes,
+            no_look: None,
             lock: LockAnswer::Taken(7),
             segment: OpenSegmentAnswer::Registered,
             leave: LeaveAnswer::Emptied,
@@ -53,6 +66,14 @@ impl Fixed {
     pub(crate) fn counted(&self, looks: u64, others: u64) -> bool {
         self.looks == looks && self.others == others
     }
+}
+
+/// True, if this is the wanted answer. Another one ends the test and is told, so that an allocation failure is told as one.
+pub(crate) fn is_wanted<T: Copy + Debug + PartialEq>(answer: T, wanted: T) -> Result<bool, Fail> {
+    if answer != wanted {
+        return Err(Fail::from(answer));
+    }
+    Ok(true)
 }
 
 /// A builder of the service of this name, for node 5.
@@ -76,6 +97,13 @@ impl Storage for Fixed {
 
     fn look(&mut self, _hash: &ServiceHash) -> LookAnswer {
         self.looks = self.looks.saturating_add(1);
+        match self.no_look {
+            None => {}
+            Some(NoLook::Locked) => return LookAnswer::Locked,
+            Some(NoLook::Denied) => return LookAnswer::Denied,
+            Some(NoLook::Broken) => return LookAnswer::Broken,
+            Some(NoLook::OutOfMemory) => return LookAnswer::OutOfMemory,
+        }
         if self.line.is_empty() {
             return LookAnswer::Absent;
         }

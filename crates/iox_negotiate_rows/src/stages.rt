@@ -1,4 +1,5 @@
 //! Each access in each stage, each foreign step where it fits and where it doesn't, sizes and repeated calls.
+use crate::shared::is_wanted;
 use iox_describe::{
     AttributeSpecifier, Description, Header, LimitError, MessageTypeDetails, MessagingPattern,
     ServiceHash, ServiceName, Settings, TypeVariant, publish_subscribe, service_hash,
@@ -36,78 +37,95 @@ fn shown(answer: LookAnswer) -> (&'static str, u64) {
 }
 
 // A table in which node 5 locked the hash, which is life 1.
-fn locked(alloc: Global, hash: &ServiceHash) -> Table {
+fn locked(alloc: Global, hash: &ServiceHash) -> Result<Table, Fail> {
     let mut table = Table::new(alloc, 7);
-    let _lock = table.lock(hash, 5);
-    table
+    is_wanted(table.lock(hash, 5), LockAnswer::Taken(1))?;
+    Ok(table)
 }
 
 // A table in which service 1 is published with room for two nodes, and node 5 is in.
-fn published(alloc: Global, hash: &ServiceHash) -> Table {
-    let mut table = locked(alloc, hash);
-    let _made = table.make_segment(hash, 1, 5, 2);
-    let _published = table.publish(hash, 1, b"text");
-    table
+fn published(alloc: Global, hash: &ServiceHash) -> Result<Table, Fail> {
+    let mut table = locked(alloc, hash)?;
+    is_wanted(table.make_segment(hash, 1, 5, 2), MakeSegmentAnswer::Made)?;
+    is_wanted(table.publish(hash, 1, b"text"), PublishAnswer::Published)?;
+    Ok(table)
 }
 
 /// Whether the segment is made by who has the lock, for at least one node, and once.
-fn is_made_once(table: &mut Table, hash: &ServiceHash) -> bool {
-    table.lock(hash, 6) == LockAnswer::IsLocked
-        && table.make_segment(hash, 1, 6, 2) == MakeSegmentAnswer::Fault
-        && table.make_segment(hash, 1, 5, 0) == MakeSegmentAnswer::Fault
-        && table.make_segment(hash, 1, 5, LARGEST) == MakeSegmentAnswer::Made
-        && table.make_segment(hash, 1, 5, 2) == MakeSegmentAnswer::Fault
+fn is_made_once(table: &mut Table, hash: &ServiceHash) -> Result<bool, Fail> {
+    Ok(
+        is_wanted(table.lock(hash, 6), LockAnswer::IsLocked)?
+            && is_wanted(table.make_segment(hash, 1, 6, 2), MakeSegmentAnswer::Fault)?
+            && is_wanted(table.make_segment(hash, 1, 5, 0), MakeSegmentAnswer::Fault)?
+            && is_wanted(
+                table.make_segment(hash, 1, 5, LARGEST),
+                MakeSegmentAnswer::Made,
+            )?
+            && is_wanted(table.make_segment(hash, 1, 5, 2), MakeSegmentAnswer::Fault)?,
+    )
 }
 
 /// Whether what is made is shown once it is published.
-fn is_published_then(table: &mut Table, hash: &ServiceHash) -> bool {
-    shown(table.look(hash)) == ("locked", 0)
-        && table.publish(hash, 1, b"text") == PublishAnswer::Published
-        && shown(table.look(hash)) == ("found", 1)
-        && table.lock(hash, 6) == LockAnswer::Exists
+fn is_published_then(table: &mut Table, hash: &ServiceHash) -> Result<bool, Fail> {
+    Ok(
+        is_wanted(shown(table.look(hash)), ("locked", 0))?
+            && is_wanted(table.publish(hash, 1, b"text"), PublishAnswer::Published)?
+            && is_wanted(shown(table.look(hash)), ("found", 1))?
+            && is_wanted(table.lock(hash, 6), LockAnswer::Exists)?,
+    )
 }
 
 #[test]
 fn a_service_is_made_by_who_has_the_lock(rt: HostRuntime) -> Result<(), Fail> {
     let hash = hash_of(b"a")?;
-    let mut table = locked(rt.alloc(), &hash);
-    assert!(rt; is_made_once(&mut table, &hash));
-    assert!(rt; is_published_then(&mut table, &hash));
+    let mut table = locked(rt.alloc(), &hash)?;
+    assert!(rt; is_made_once(&mut table, &hash)?);
+    assert!(rt; is_published_then(&mut table, &hash)?);
     Ok(())
 }
 
 /// Whether two nodes come in, one of them twice, a third doesn't, and another life isn't there.
-fn is_entered(table: &mut Table, hash: &ServiceHash) -> bool {
-    table.open_segment(hash, 1, 5) == OpenSegmentAnswer::Registered
-        && table.open_segment(hash, 1, 6) == OpenSegmentAnswer::Registered
-        && table.open_segment(hash, 1, 8) == OpenSegmentAnswer::Full
-        && table.open_segment(hash, 2, 5) == OpenSegmentAnswer::Absent
+fn is_entered(table: &mut Table, hash: &ServiceHash) -> Result<bool, Fail> {
+    Ok(
+        is_wanted(
+            table.open_segment(hash, 1, 5),
+            OpenSegmentAnswer::Registered,
+        )? && is_wanted(
+            table.open_segment(hash, 1, 6),
+            OpenSegmentAnswer::Registered,
+        )? && is_wanted(table.open_segment(hash, 1, 8), OpenSegmentAnswer::Full)?
+            && is_wanted(table.open_segment(hash, 2, 5), OpenSegmentAnswer::Absent)?,
+    )
 }
 
 /// Whether the last factory of the last node empties the segment, and no other.
-fn is_left_last(table: &mut Table, hash: &ServiceHash) -> bool {
-    table.leave(hash, 1, 8) == LeaveAnswer::Stays
-        && table.leave(hash, 1, 6) == LeaveAnswer::Stays
-        && table.leave(hash, 1, 5) == LeaveAnswer::Stays
-        && table.leave(hash, 1, 5) == LeaveAnswer::Emptied
-        && table.open_segment(hash, 1, 5) == OpenSegmentAnswer::Marked
+fn is_left_last(table: &mut Table, hash: &ServiceHash) -> Result<bool, Fail> {
+    Ok(
+        is_wanted(table.leave(hash, 1, 8), LeaveAnswer::Stays)?
+            && is_wanted(table.leave(hash, 1, 6), LeaveAnswer::Stays)?
+            && is_wanted(table.leave(hash, 1, 5), LeaveAnswer::Stays)?
+            && is_wanted(table.leave(hash, 1, 5), LeaveAnswer::Emptied)?
+            && is_wanted(table.open_segment(hash, 1, 5), OpenSegmentAnswer::Marked)?,
+    )
 }
 
 /// Whether the description goes first, another life begins, and then the segment goes.
-fn is_removed_then(table: &mut Table, hash: &ServiceHash) -> bool {
-    table.remove_segment(hash, 1) == RemoveAnswer::Fault
-        && table.remove_description(hash, 1) == RemoveAnswer::Removed
-        && table.lock(hash, 6) == LockAnswer::Taken(2)
-        && table.remove_segment(hash, 1) == RemoveAnswer::Removed
-        && table.remove_segment(hash, 1) == RemoveAnswer::Fault
+fn is_removed_then(table: &mut Table, hash: &ServiceHash) -> Result<bool, Fail> {
+    Ok(
+        is_wanted(table.remove_segment(hash, 1), RemoveAnswer::Fault)?
+            && is_wanted(table.remove_description(hash, 1), RemoveAnswer::Removed)?
+            && is_wanted(table.lock(hash, 6), LockAnswer::Taken(2))?
+            && is_wanted(table.remove_segment(hash, 1), RemoveAnswer::Removed)?
+            && is_wanted(table.remove_segment(hash, 1), RemoveAnswer::Fault)?,
+    )
 }
 
 #[test]
 fn nodes_come_and_go(rt: HostRuntime) -> Result<(), Fail> {
     let hash = hash_of(b"a")?;
-    let mut table = published(rt.alloc(), &hash);
-    assert!(rt; is_entered(&mut table, &hash) && is_left_last(&mut table, &hash));
-    assert!(rt; is_removed_then(&mut table, &hash));
+    let mut table = published(rt.alloc(), &hash)?;
+    assert!(rt; is_entered(&mut table, &hash)? && is_left_last(&mut table, &hash)?);
+    assert!(rt; is_removed_then(&mut table, &hash)?);
     Ok(())
 }
 
@@ -135,8 +153,13 @@ fn a_later_life_has_another_number(rt: HostRuntime) -> Result<(), Fail> {
     let hash = hash_of(b"a")?;
     let mut table = Table::new(rt.alloc(), 1);
     act_through_two_lives(&mut table, &hash)?;
-    assert!(rt; table.open_segment(&hash, 1, 5) == OpenSegmentAnswer::Absent);
-    assert!(rt; shown(table.look(&hash)) == ("found", 2));
-    assert!(rt; table.open_segment(&hash, 2, 5) == OpenSegmentAnswer::Registered);
+    assert!(rt; is_wanted(table.open_segment(&hash, 1, 5), OpenSegmentAnswer::Absent)?);
+    assert!(rt; is_wanted(shown(table.look(&hash)), ("found", 2))?);
+    assert!(rt;
+        is_wanted(
+            table.open_segment(&hash, 2, 5),
+            OpenSegmentAnswer::Registered
+        )?
+    );
     Ok(())
 }

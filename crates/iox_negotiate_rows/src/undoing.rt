@@ -2,8 +2,8 @@
 ghost use Rattle.std.specs.Prelude.{◌≡◌};
 
 use crate::foreign::hash_of_a;
-use crate::shared::builder;
-use iox_describe::{LimitError, ServiceHash};
+use crate::shared::{builder, is_wanted};
+use iox_describe::ServiceHash;
 use iox_negotiate_errors::PublishSubscribeCreateError;
 use iox_negotiate_rounds::{
     LeaveAnswer, LockAnswer, LookAnswer, MakeSegmentAnswer, OpenSegmentAnswer, PublishAnswer,
@@ -132,18 +132,19 @@ fn is_refused(
     alloc: Global,
     storage: &mut Failing,
     error: PublishSubscribeCreateError,
-) -> Result<bool, LimitError> {
+) -> Result<bool, Fail> {
     let asked = builder(b"A")?.publish_subscribe::<u64>();
-    Ok(asked.create(alloc, storage).err() == Some(error) && storage.left == 0)
+    is_wanted(asked.create(alloc, storage).err(), Some(error))?;
+    is_wanted((error, storage.left), (error, 0))
 }
 
 /// Whether neither description nor segment is left, and the next lock has this number.
-fn is_nothing_left(table: &mut Table, next: u64) -> Result<bool, LimitError> {
+fn is_nothing_left(table: &mut Table, next: u64) -> Result<bool, Fail> {
     let hash = hash_of_a()?;
     Ok(
         matches!(table.look(&hash), LookAnswer::Absent)
             && table.remove_segment(&hash, 1) == RemoveAnswer::Fault
-            && table.lock(&hash, 5) == LockAnswer::Taken(next),
+            && is_wanted(table.lock(&hash, 5), LockAnswer::Taken(next))?,
     )
 }
 
