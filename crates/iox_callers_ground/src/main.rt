@@ -1,4 +1,4 @@
-//! A first call of each crate of the ground floor, as a function whose contract follows from the contracts of that crate
+//! First calls of crates of the ground floor, each as a function whose contract follows from the contracts of that crate
 //! alone; each is run, and what it returns is printed.
 #![tactic(auto)]
 
