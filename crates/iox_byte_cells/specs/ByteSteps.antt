@@ -1,3 +1,4 @@
+-- A cell of bytes, stored to and loaded from one byte at a time.
 use Rattle.std.specs.Prelude.{ℕ, ◌≡◌, ◌<◌, ◌==◌, List, [], ◌∷◌, length, take, Option, Some, None, unwrap_or, slice_index, slice_index_or, nat_lt, if◌then◌else◌}
 use Rattle.std.specs.Option.{option_or}
 use Rattle.iox_byte_cells.specs.declared.byte_machine.ByteStep.{ByteStep}

@@ -1,2 +1,3 @@
+-- The definitions that contracts about a cell of bytes cite.
 pub mod ByteSteps
 pub mod Wide

@@ -1,3 +1,4 @@
+-- A list with a capacity, and the pushes that let the oldest item go.
 use Rattle.std.specs.Prelude.{ℕ, ◌++◌, ◌==◌, nat_lt, List, [], ◌∷◌, length, drop, Option, Some, None, slice_get, if◌then◌else◌}
 
 -- items in their order, and how many there may be

@@ -1,3 +1,4 @@
+-- The texts of a vector's errors.
 use Rattle.std.specs.Prelude.{ℕ, List, codes}
 use Rattle.iox_container.specs.declared.vector.error.VectorModificationError.{VectorModificationError}
 use Rattle.iox_container.specs.declared.vector.error.VectorModificationError.TheVariants.{InsertWouldExceedCapacity, OutOfBounds}

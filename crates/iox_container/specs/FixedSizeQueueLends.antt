@@ -1,3 +1,4 @@
+-- What a queue of fixed size holds once a reference to its oldest item ends.
 use Rattle.std.specs.Prelude.{List, Option, slice_set}
 use Rattle.std.specs.Borrow.{Fml, LendsIf, MutBor, RattleType}
 use Rattle.iox_container.specs.contracts.queue.fixed_size_queue.FixedSizeQueue.{the_row}

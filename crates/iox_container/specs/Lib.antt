@@ -1,3 +1,4 @@
+-- The definitions that contracts about vectors, queues and options cite.
 pub mod BoundedList
 pub mod Callback
 pub mod ErrorTexts

@@ -1,3 +1,4 @@
+-- What a queue holds once a reference to its oldest item ends.
 use Rattle.std.specs.Prelude.{Option, slice_set}
 use Rattle.std.specs.Borrow.{Fml, LendsIf, MutBor, RattleType}
 use Rattle.iox_container.specs.BoundedList.{BoundedList}

@@ -1,3 +1,4 @@
+-- What a relocatable option holds once a reference to its value ends.
 use Rattle.std.specs.Prelude.{Option}
 use Rattle.std.specs.Borrow.{Fml, LendsIf, MutBor, RattleType}
 use Rattle.iox_container.specs.declared.relocatable_option.RelocatableOption.{RelocatableOption}

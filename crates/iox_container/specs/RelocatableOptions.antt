@@ -1,3 +1,4 @@
+-- A relocatable option as a plain one.
 use Rattle.std.specs.Prelude as std
 use Rattle.iox_container.specs.declared.relocatable_option.RelocatableOption.{RelocatableOption}
 use Rattle.iox_container.specs.declared.relocatable_option.RelocatableOption.TheVariants.{None, Some}

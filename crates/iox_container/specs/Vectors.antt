@@ -1,3 +1,4 @@
+-- What a vector answers to changes, and which items it gets from calls.
 use Rattle.std.specs.Prelude.{ℕ, ◌≡◌, ◌+◌, ◌<◌, ◌≤◌, ◌↔◌, List, [], ◌∷◌, ◌++◌, drop, length, Result, Err, IsOk}
 use Rattle.std.specs.List.{FoldsTo, refill}
 use Rattle.std.proofs.lemmas.List.{take_at}

@@ -1,3 +1,4 @@
+-- Capital letters as small ones: the normal form of the tests' semantic string.
 use Rattle.std.specs.Prelude.{ℕ, ◌≡◌, ◌+◌, List, [], ◌∷◌, map, refl, nat_le, ◌&&◌, if◌then◌else◌}
 use Rattle.std.proofs.Common.{arith, ap, ◌∙◌}
 use Rattle.std.proofs.lemmas.Bool.Decides.{nat_tests}

@@ -1,1 +1,2 @@
+-- The definitions that contracts about the tests of containers cite.
 pub mod LetterCase

@@ -1,3 +1,4 @@
+-- The definitions that contracts about names, types and attributes cite.
 pub mod Limits
 pub mod Detail
 pub mod Compatible

@@ -1,3 +1,4 @@
+-- The definitions that contracts about the settings of services cite.
 pub mod Setting
 pub mod PublishSubscribeSettings
 pub mod EventSettings

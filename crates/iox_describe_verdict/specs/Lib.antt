@@ -1,3 +1,4 @@
+-- The definitions that contracts about requirements cite.
 pub mod Verdict
 pub mod Earliest
 pub mod PublishSubscribeClauses

@@ -1,3 +1,4 @@
+-- The definitions that contracts about the hub cite.
 pub mod Mailbox
 pub mod Connection
 pub mod Domain

@@ -1,3 +1,4 @@
+-- The definitions that contracts about sets of indices and containers cite.
 pub mod Container
 pub mod Head
 pub mod Owner

@@ -1,1 +1,2 @@
+-- The definitions that contracts about JSON texts cite.
 pub mod Plain

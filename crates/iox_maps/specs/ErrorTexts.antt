@@ -1,3 +1,4 @@
+-- The texts of a flat map's errors.
 use Rattle.std.specs.Prelude.{ℕ, List, codes}
 use Rattle.iox_maps.specs.declared.flat_map.error.FlatMapError.{FlatMapError}
 use Rattle.iox_maps.specs.declared.flat_map.error.FlatMapError.TheVariants.{KeyAlreadyExists, IsFull}

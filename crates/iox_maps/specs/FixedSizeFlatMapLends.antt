@@ -1,3 +1,4 @@
+-- What a flat map of fixed size holds once a reference to a value ends.
 use Rattle.std.specs.Prelude.{Option}
 use Rattle.std.specs.Borrow.{Fml, LendsIf, MutBor, RattleType}
 use Rattle.std.specs.declared.cmp.PartialEq.{Ghosts}

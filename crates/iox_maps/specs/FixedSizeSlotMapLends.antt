@@ -1,3 +1,4 @@
+-- What a slot map of fixed size holds once a reference to a value ends.
 use Rattle.std.specs.Prelude.{ℕ, Option}
 use Rattle.std.specs.Borrow.{Fml, LendsIf, MutBor, RattleType}
 use Rattle.iox_maps.specs.SlotTable.{SlotTable, with_value}

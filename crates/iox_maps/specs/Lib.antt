@@ -1,3 +1,4 @@
+-- The definitions that contracts about maps cite.
 pub mod BoundedKeys
 pub mod ErrorTexts
 pub mod FixedSizeFlatMapLends

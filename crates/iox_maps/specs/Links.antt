@@ -1,3 +1,4 @@
+-- A list of keys that lies in two tables of links, forth and back.
 use Rattle.std.specs.Prelude.{ℕ, zero, suc, ◌≡◌, ◌+◌, ◌<◌, List, [], ◌∷◌, length, slice_index_or}
 use Rattle.iox_maps.specs.SlotTable.{Among, Distinct}
 

@@ -1,3 +1,4 @@
+-- A flat map: pairs of a key and a value, at places of their own.
 use Rattle.std.specs.Prelude.{ℕ, ◌≡◌, ◌≢◌, ◌+◌, List, [], ◌∷◌, Bool, false, Option, Some, None, slice_set, option_map, if◌then◌else◌}
 use Rattle.iox_container.specs.declared.callback_progression.CallbackProgression.{CallbackProgression}
 use Rattle.iox_container.specs.Callback.{CallsUntilStop}

@@ -1,3 +1,4 @@
+-- The definitions that contracts about bit sets cite.
 pub mod Steps
 pub mod Sums
 pub mod Told

@@ -1,2 +1,3 @@
+-- The definitions that contracts about the overflowing ring cite.
 pub mod Overflowing
 pub mod OverflowingRing

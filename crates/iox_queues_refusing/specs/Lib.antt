@@ -1,1 +1,2 @@
+-- The definitions that contracts about the refusing ring cite.
 pub mod Refusing

@@ -1,3 +1,4 @@
+-- The definitions that contracts about steps and schedules cite.
 pub mod Access
 pub mod Schedule
 pub mod Order

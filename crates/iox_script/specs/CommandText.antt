@@ -1,4 +1,4 @@
--- Which bytes spell a command.
+-- Which bytes spell a command. A letter is its code: f is 102, m 109, n 110, p 112 and s 115.
 use Rattle.std.specs.Prelude.{ℕ, List, [], ◌∷◌, Option, None, Some, codes, if◌then◌else◌}
 use Rattle.std.specs.Option.{option_map}
 use Rattle.iox_hub.specs.declared.command.Command.{Command}

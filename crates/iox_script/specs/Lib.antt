@@ -1,3 +1,4 @@
+-- The definitions that contracts about script lines cite.
 pub mod Words
 pub mod CommandText
 pub mod ReplyText

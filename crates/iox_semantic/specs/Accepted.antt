@@ -1,3 +1,4 @@
+-- Which texts a semantic string may have, and what it answers to others.
 use Rattle.std.specs.Prelude.{ℕ, ◌≡◌, ◌<◌, ◌≤◌, ◌↔◌, List, Bool, false, length, Result, Err, IsOk}
 use Rattle.iox_string.specs.StringBytes.{IsStringBytes}
 use Rattle.iox_semantic.specs.declared.error.SemanticStringError.{SemanticStringError}

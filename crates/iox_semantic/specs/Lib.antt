@@ -1,2 +1,3 @@
+-- The definitions that contracts about semantic strings cite.
 pub mod Accepted
 pub mod Refusals

@@ -1,3 +1,4 @@
+-- The texts of a semantic string's errors, and which of them the string below leads to.
 use Rattle.std.specs.Prelude.{ℕ, List, codes}
 use Rattle.iox_string.specs.declared.error.StringModificationError.{StringModificationError}
 use Rattle.iox_string.specs.declared.error.StringModificationError.TheVariants as changing

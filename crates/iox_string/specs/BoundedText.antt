@@ -1,3 +1,4 @@
+-- A text with a capacity.
 use Rattle.std.specs.Prelude.{ℕ, List}
 
 -- a text and how many bytes it may have

@@ -1,3 +1,4 @@
+-- The texts of a string's errors.
 use Rattle.std.specs.Prelude.{ℕ, List, codes}
 use Rattle.iox_string.specs.declared.error.StringModificationError.{StringModificationError}
 use Rattle.iox_string.specs.declared.error.StringModificationError.TheVariants.{InsertWouldExceedCapacity, InvalidCharacter}

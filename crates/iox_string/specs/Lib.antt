@@ -1,3 +1,4 @@
+-- The definitions that contracts about strings cite.
 pub mod BoundedText
 pub mod Bytes
 pub mod ErrorTexts

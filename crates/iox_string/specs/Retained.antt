@@ -1,3 +1,4 @@
+-- Which items stay where a test is asked about each.
 use Rattle.std.specs.Prelude.{◌≡◌, Bool, List, length}
 use Rattle.std.specs.List.{items_where_true}
 use Rattle.std.specs.List.Retain.{ReturnsInTurn}

@@ -1,3 +1,4 @@
+-- Which bytes a string may hold.
 use Rattle.std.specs.Prelude.{ℕ, ◌≤◌, List, All}
 
 -- a byte that a string may hold: 1 to 127

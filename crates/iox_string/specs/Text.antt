@@ -1,3 +1,4 @@
+-- How a text is changed and searched, and what a change is answered with.
 use Rattle.std.specs.Prelude.{ℕ, ◌≡◌, ◌+◌, ◌<◌, ◌≤◌, ◌++◌, ◌↔◌, List, length, take, drop, Result, Err, IsOk, Option, MatchOption}
 use Rattle.iox_string.specs.declared.error.StringModificationError.{StringModificationError}
 use Rattle.iox_string.specs.declared.error.StringModificationError.TheVariants.{InsertWouldExceedCapacity, InvalidCharacter}

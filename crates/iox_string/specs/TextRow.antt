@@ -1,3 +1,4 @@
+-- How a text lies in a row of cells: its bytes, and zeros behind them.
 use Rattle.std.specs.Prelude.{ℕ, ◌≡◌, ◌-◌, ◌≤◌, ◌++◌, List, length, take, drop, replicate}
 use Rattle.std.proofs.Common.{arith, length-take-le, take-append-drop}
 use Rattle.iox_string.specs.StringBytes.{IsStringBytes}

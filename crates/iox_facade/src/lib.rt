@@ -1,0 +1,20 @@
+//! All that a program names, by the modules in which iceoryx2 has it: the crates below under one name.
+//!
+//! | Module | What it names |
+//! |---|---|
+//! | `prelude` | what a first program needs |
+//! | `node` | nodes, and the hub that keeps them with all services in one value |
+//! | `service` | names, attributes, descriptions, builders, open services, and storages for them |
+//! | `port` | one publisher with its messages, and what ports take and answer |
+//! | `container` | vectors, strings, queues, options, maps, semantic strings, byte cells |
+//! | `lock_free` | sets of indices, containers of members, queues and bit sets |
+//!
+//! What isn't there yet has no name here: it comes with its crate.
+#![tactic(auto)]
+
+pub mod container;
+pub mod lock_free;
+pub mod node;
+pub mod port;
+pub mod prelude;
+pub mod service;

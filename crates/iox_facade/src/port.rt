@@ -1,0 +1,9 @@
+//! Ports of publish-subscribe, as far as they are there: one publisher with its messages, and what ports take and answer.
+pub use iox_domain_sender::{Sender, SenderConfig};
+pub use iox_domain_values::{
+    AllocationStrategy, BackpressureAction, BackpressureDecision, BackpressureHandler,
+    BackpressureInfo, BackpressureStrategy, BackpressureToReceiverAction, ConnectionFailure,
+    DataSegmentType, DegradationAction, DegradationCause, DegradationHandler, DegradationInfo,
+    LoanError, PreallocatedSamplesOverride, PublisherCreateError, ReceiveError, SendError,
+    SubscriberCreateError, ZeroCopyCreationError,
+};

@@ -1,0 +1,14 @@
+//! Services: how they are named and described, how nodes agree on one, and where that is stored.
+pub use iox_describe::{
+    Attribute, AttributeError, AttributeKey, AttributeSpecifier, AttributeValue, AttributeVerifier,
+    Description, DescriptionError, Header, LimitError, MessageTypeDetails, MessagingPattern,
+    ServiceHash, ServiceName, TypeDetail, TypeVariant, ZeroCopySend, decode, encode, service_hash,
+};
+pub use iox_negotiate::{Builder, Payload, PortFactory, ServiceBuilder, Slice};
+pub use iox_negotiate_errors::{
+    CloseError, EventCreateError, EventOpenError, EventOpenOrCreateError,
+    PublishSubscribeCreateError, PublishSubscribeOpenError, PublishSubscribeOpenOrCreateError,
+    RequestResponseCreateError, RequestResponseOpenError, RequestResponseOpenOrCreateError,
+};
+pub use iox_negotiate_rounds::Storage;
+pub use iox_negotiate_table::Table;
