@@ -1,4 +1,5 @@
-//! Ports of publish-subscribe, as far as they are there: one publisher with its messages, and what ports take and answer.
+//! Ports of publish-subscribe, as far as they are there: one publisher with its messages and connections, and what ports take and answer.
+pub use iox_domain_publisher::{Handlers, PublisherPort, Sent, SubscriberEntry};
 pub use iox_domain_sender::{Sender, SenderConfig};
 pub use iox_domain_values::{
     AllocationStrategy, BackpressureAction, BackpressureDecision, BackpressureHandler,
