@@ -1,2 +1,3 @@
 pub mod Having
 pub mod Staying
+pub mod First

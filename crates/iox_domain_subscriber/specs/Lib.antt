@@ -1,3 +1,6 @@
 pub mod Reading
 pub mod Publishers
 pub mod PublishersLends
+pub mod Keys
+pub mod Subscribing
+pub mod Receiving
