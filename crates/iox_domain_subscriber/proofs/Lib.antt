@@ -1,3 +1,4 @@
 pub mod Having
 pub mod Staying
 pub mod First
+pub mod Sweeping

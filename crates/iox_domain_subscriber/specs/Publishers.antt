@@ -44,6 +44,15 @@ most_borrowed_at_port (Some port) = port.sender.uses.most_borrowed
 abbrev pub most_borrowed_in : {T U : Type 0} → ℕ → List (ℕ × PublisherPort T U) → ℕ
 most_borrowed_in number ports = most_borrowed_at_port (port_of number ports)
 
+-- whether a publisher is on the list; none isn't
+abbrev pub port_stands : {T U : Type 0} → Option (PublisherPort T U) → Bool
+port_stands None = false
+port_stands (Some port) = port.stands
+
+-- whether the publisher of a number is on the list: it didn't leave
+abbrev pub stands_in : {T U : Type 0} → ℕ → List (ℕ × PublisherPort T U) → Bool
+stands_in number ports = port_stands (port_of number ports)
+
 -- one step of a publisher, if there is one
 abbrev pub changed_at_port : {T U : Type 0} → ℕ → (PublisherPort T U → PublisherPort T U) → Option (PublisherPort T U) → List (ℕ × PublisherPort T U) → List (ℕ × PublisherPort T U)
 changed_at_port number step None ports = ports

@@ -3,7 +3,7 @@ ghost use Rattle.std.specs.Prelude.{◌≡◌, ◌<◌, length, map, min, slice_
 ghost use Rattle.std.specs.Borrow.{sem};
 ghost use Rattle.std.specs.Option.{option_copied_mut};
 ghost use Rattle.iox_domain_publisher.specs.Ports.{ended_at, detached_at};
-ghost use Rattle.iox_domain_subscriber.specs.Publishers.{port_of, with_port, added, connection_in, most_borrowed_in, changed, is_over_in, settled, released, AttachesTo};
+ghost use Rattle.iox_domain_subscriber.specs.Publishers.{port_of, with_port, added, connection_in, most_borrowed_in, stands_in, changed, is_over_in, settled, released, AttachesTo};
 ghost use Rattle.iox_domain_subscriber.specs.Reading.{place_of, taken_at, given_back_at};
 
 use crate::reading::{borrowed_at, give_back_at, is_over, take_at, waiting_at};
@@ -93,6 +93,16 @@ impl<T: Copy, U: Copy> Publishers<T, U> {
         match self.get(number) {
             Some(port) => port.sender.most_borrowed(),
             None => 0,
+        }
+    }
+
+    /// Whether the publisher of a number is on the list of publishers: it is there, and didn't leave.
+    pub fn stands(&self, number: u64) -> bool
+        ensures { result ≡ stands_in number self.now }
+    {
+        match self.get(number) {
+            Some(port) => port.stands,
+            None => false,
         }
     }
 
