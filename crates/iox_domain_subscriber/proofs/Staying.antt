@@ -1,11 +1,13 @@
 -- Publishers of which none changes stay as they are.
-use Rattle.std.proofs.Common.{rules, ◌≡◌, ◌∷◌, [], ℕ, Bool, true, false, cond, is_some, List, Option, None, Some, refl, sym, ap, ◌∙◌}
+use Rattle.std.proofs.Common.{rules, ◌≡◌, ◌∷◌, [], ℕ, Bool, true, false, cond, is_some, List, Option, None, Some, Result, Ok, Err, min, refl, sym, ap, ◌∙◌}
 use Rattle.std.specs.Ordering.{nat_cmp}
 use Rattle.std.specs.BTreeMap.{is_at}
+use Rattle.std.specs.declared.alloc.AllocError.{AllocError}
 use Rattle.std.specs.Map.{lookup, set_value}
 use Rattle.iox_domain_publisher.specs.declared.publisher_port.PublisherPort.{PublisherPort}
+use Rattle.iox_domain_publisher.specs.Ports.{Attaches}
 use Rattle.iox_domain_subscriber.specs.Reading.{given_back_at}
-use Rattle.iox_domain_subscriber.specs.Publishers.{port_of, changed, changed_at_port, released}
+use Rattle.iox_domain_subscriber.specs.Publishers.{port_of, with_port, changed, changed_at_port, released, AttachesAtPort}
 
 same_entry : {K X : Type 0} (test : K → Bool) (entries : List (K × X)) (value : X) → lookup test entries ≡ Some value → set_value test entries value ≡ entries
 same_entry test [] value there = refl
@@ -30,3 +32,10 @@ pub nothing_given : {T U : Type 0} (number index : ℕ) (place : Option ℕ) (po
     → new ≡ changed number (given_back_at index place) ports → new ≡ released number index place ports
 nothing_given number index (Some at) ports new none is = search (rules, none)
 nothing_given number index None ports new none is = is ∙ nothing_changed number index ports (port_of number ports) refl
+
+-- where the attaching is refused nothing changes
+pub attaches_there : {T U : Type 0} (number subscriber limit : ℕ) (old : List (ℕ × PublisherPort T U)) (port after : PublisherPort T U) (answer : Result ℕ AllocError) → port_of number old ≡ Some port
+    → Attaches subscriber (min limit port.sender.uses.most_waiting) port answer after
+    → AttachesAtPort number subscriber limit (Some port) old (Some answer) (with_port number old after)
+attaches_there number subscriber limit old port after (Err error) there same = ap (with_port number old) same ∙ same_entry (is_at (nat_cmp number)) old port there
+attaches_there number subscriber limit old port after (Ok index) there attaches = (after, attaches, refl)

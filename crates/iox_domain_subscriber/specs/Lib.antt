@@ -4,3 +4,4 @@ pub mod PublishersLends
 pub mod Keys
 pub mod Subscribing
 pub mod Receiving
+pub mod Following

@@ -1,5 +1,5 @@
 -- The publishers of a service, each with its number.
-use Rattle.std.specs.Prelude.{ℕ, ◌≡◌, min, Bool, false, List, Option, None, Some, Result, if◌then◌else◌}
+use Rattle.std.specs.Prelude.{ℕ, ◌≡◌, min, Bool, false, List, Option, None, Some, Result, Ok, Err, if◌then◌else◌}
 use Rattle.std.specs.Ordering.{nat_cmp}
 use Rattle.std.specs.BTreeMap.{insert_entry, is_at}
 use Rattle.std.specs.Map.{lookup, set_value, remove_entry}
@@ -84,8 +84,9 @@ released number index (Some at) ports = settled number (changed number (given_ba
 abbrev pub AttachesAtPort : {T U : Type 0} → ℕ → ℕ → ℕ → Option (PublisherPort T U) → List (ℕ × PublisherPort T U) → Option (Result ℕ AllocError) → List (ℕ × PublisherPort T U) → Type 0
 AttachesAtPort number subscriber limit None old answer new = (answer ≡ None) × (new ≡ old)
 AttachesAtPort number subscriber limit (Some port) old None new = ⊥
-AttachesAtPort {T} {U} number subscriber limit (Some port) old (Some answer) new =
-    (after : PublisherPort T U) × Attaches subscriber (min limit port.sender.uses.most_waiting) port answer after × (new ≡ with_port number old after)
+AttachesAtPort number subscriber limit (Some port) old (Some (Err error)) new = new ≡ old
+AttachesAtPort {T} {U} number subscriber limit (Some port) old (Some (Ok index)) new =
+    (after : PublisherPort T U) × Attaches subscriber (min limit port.sender.uses.most_waiting) port (Ok index) after × (new ≡ with_port number old after)
 
 -- a subscriber attaches to its connection at the publisher of a number
 abbrev pub AttachesTo : {T U : Type 0} → ℕ → ℕ → ℕ → List (ℕ × PublisherPort T U) → Option (Result ℕ AllocError) → List (ℕ × PublisherPort T U) → Type 0

@@ -6,10 +6,14 @@
 //! - [`attached`]: where a subscriber reads.
 //! - [`subscriber_port`]: a subscriber.
 //! - [`receiving`]: it receives.
+//! - [`publisher_entry`]: what the list of publishers tells of one.
+//! - [`following`]: it follows one place of that list.
 #![tactic(auto)]
 
 pub mod attached;
+pub mod following;
 pub mod keys;
+pub mod publisher_entry;
 pub mod publishers;
 pub mod reading;
 pub mod receiving;
@@ -17,5 +21,6 @@ pub mod subscriber_port;
 
 pub use attached::{Attached, Taken};
 pub use keys::Keys;
+pub use publisher_entry::PublisherEntry;
 pub use publishers::Publishers;
 pub use subscriber_port::SubscriberPort;

@@ -29,7 +29,7 @@ impl SubscriberPort {
     }
 
     // How many messages are borrowed of the connection of a key.
-    fn borrowed<T: Copy, U: Copy>(&self, key: usize, publishers: &Publishers<T, U>) -> usize
+    pub(crate) fn borrowed<T: Copy, U: Copy>(&self, key: usize, publishers: &Publishers<T, U>) -> usize
         ensures { result ≡ length (connection_by (attached_at key self.now) publishers.now).borrowed }
     {
         match self.attached(key) {
@@ -70,14 +70,14 @@ impl SubscriberPort {
     }
 
     // Whether nothing waits and nothing is borrowed at the connection of a key.
-    fn is_idle<T: Copy, U: Copy>(&self, key: usize, publishers: &Publishers<T, U>) -> bool
+    pub(crate) fn is_idle<T: Copy, U: Copy>(&self, key: usize, publishers: &Publishers<T, U>) -> bool
         ensures { result ≡ is_idle self.now publishers.now key }
     {
         self.waiting(key, publishers) == 0 && self.borrowed(key, publishers) == 0
     }
 
     // Ends the connection of a key.
-    fn end_key<T: Copy, U: Copy>(&mut self, key: usize, publishers: &mut Publishers<T, U>)
+    pub(crate) fn end_key<T: Copy, U: Copy>(&mut self, key: usize, publishers: &mut Publishers<T, U>)
         ensures port { self.new ≡ ended_key key self.old }
         ensures publishers { publishers.new ≡ ended_ports (attached_at key self.old) publishers.old }
     {
@@ -116,7 +116,7 @@ impl SubscriberPort {
     }
 
     // The first key whose connection has data.
-    fn first_data<T: Copy, U: Copy>(&self, publishers: &Publishers<T, U>) -> Option<usize>
+    pub(crate) fn first_data<T: Copy, U: Copy>(&self, publishers: &Publishers<T, U>) -> Option<usize>
         ensures { IsFirst (has_data self.now publishers.now) result }
     {
         for key in 0..self.connections.capacity() {
@@ -162,7 +162,7 @@ impl SubscriberPort {
     }
 
     // Ends the expired connection of a key, at a place of the list.
-    fn drop_expired<T: Copy, U: Copy>(
+    pub(crate) fn drop_expired<T: Copy, U: Copy>(
         &mut self,
         place: usize,
         key: usize,
@@ -242,7 +242,7 @@ impl SubscriberPort {
     }
 
     // Receives from the connections that there are.
-    fn receive_now<T: Copy, U: Copy>(
+    pub(crate) fn receive_now<T: Copy, U: Copy>(
         &mut self,
         publishers: &mut Publishers<T, U>,
     ) -> Result<Option<Taken>, ReceiveError>
