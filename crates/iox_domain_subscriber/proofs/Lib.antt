@@ -2,3 +2,4 @@ pub mod Having
 pub mod Staying
 pub mod First
 pub mod Sweeping
+pub mod Walking

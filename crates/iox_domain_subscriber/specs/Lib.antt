@@ -5,3 +5,4 @@ pub mod Keys
 pub mod Subscribing
 pub mod Receiving
 pub mod Following
+pub mod Updating

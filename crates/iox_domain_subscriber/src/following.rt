@@ -175,7 +175,7 @@ impl SubscriberPort {
     }
 
     // Follows a place that lists this publisher.
-    fn follow_listed<T: Copy, U: Copy>(
+    pub(crate) fn follow_listed<T: Copy, U: Copy>(
         &mut self,
         alloc: Global,
         place: usize,
@@ -196,7 +196,7 @@ impl SubscriberPort {
     }
 
     // Follows a place that lists none.
-    fn follow_none<T: Copy, U: Copy>(&mut self, place: usize, publishers: &mut Publishers<T, U>)
+    pub(crate) fn follow_none<T: Copy, U: Copy>(&mut self, place: usize, publishers: &mut Publishers<T, U>)
         ensures { FollowsNone place self.old publishers.old self.new publishers.new }
     {
         let Some(key) = self.places.get(place) else {

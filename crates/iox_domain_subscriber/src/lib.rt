@@ -8,6 +8,7 @@
 //! - [`receiving`]: it receives.
 //! - [`publisher_entry`]: what the list of publishers tells of one.
 //! - [`following`]: it follows one place of that list.
+//! - [`updating`]: it follows all of them.
 #![tactic(auto)]
 
 pub mod attached;
@@ -18,6 +19,7 @@ pub mod publishers;
 pub mod reading;
 pub mod receiving;
 pub mod subscriber_port;
+pub mod updating;
 
 pub use attached::{Attached, Taken};
 pub use keys::Keys;
