@@ -3,3 +3,4 @@ pub mod Staying
 pub mod First
 pub mod Sweeping
 pub mod Walking
+pub mod Serving

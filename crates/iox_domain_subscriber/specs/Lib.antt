@@ -6,3 +6,4 @@ pub mod Subscribing
 pub mod Receiving
 pub mod Following
 pub mod Updating
+pub mod Laws

@@ -1,5 +1,5 @@
 //! The keys of connections in an order.
-ghost use Rattle.std.specs.Prelude.{◌≡◌, length, nat_le, slice_get, remove, [], IfOk};
+ghost use Rattle.std.specs.Prelude.{◌≡◌, ◌≤◌, length, nat_le, slice_get, remove, [], IfOk};
 ghost use Rattle.iox_domain_subscriber.specs.Keys.{KeysState, with_last};
 
 use std::alloc::{AllocError, Global};
@@ -13,14 +13,14 @@ pub struct Keys {
 }
 
 impl Model for Keys {
-    ghost use Rattle.std.specs.Prelude.{◌≤◌, vec_capacity};
+    ghost use Rattle.std.specs.Prelude.{◌≤◌, length, vec_capacity};
     ghost use Rattle.iox_domain_subscriber.specs.Keys.{KeysState};
 
     ghost Value = { KeysState };
 
     ghost view = { λ k. record { items = k.items.items; room = k.room } };
 
-    ghost invariant = { λ k. k.room ≤ vec_capacity k.items };
+    ghost invariant = { λ k. (k.room ≤ vec_capacity k.items) × (length k.items.items ≤ k.room) };
 }
 
 impl Keys {
@@ -34,9 +34,10 @@ impl Keys {
         })
     }
 
-    /// How many keys there are.
+    /// How many keys there are: never more than there is room for.
     pub fn len(&self) -> usize
-        ensures { result ≡ length self.now.items }
+        ensures value { result ≡ length self.now.items }
+        ensures few { length self.now.items ≤ self.now.room }
     {
         self.items.len()
     }

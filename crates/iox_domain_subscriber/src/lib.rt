@@ -9,11 +9,13 @@
 //! - [`publisher_entry`]: what the list of publishers tells of one.
 //! - [`following`]: it follows one place of that list.
 //! - [`updating`]: it follows all of them.
+//! - [`laws`]: what its steps come to, in other words.
 #![tactic(auto)]
 
 pub mod attached;
 pub mod following;
 pub mod keys;
+pub mod laws;
 pub mod publisher_entry;
 pub mod publishers;
 pub mod reading;
