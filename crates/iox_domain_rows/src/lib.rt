@@ -2,6 +2,7 @@
 //!
 //! - `messages`: the way of a message by what it holds.
 //! - `slots`: the way of a message through the slots of a publisher.
+//! - `subscribers`: the way of a message from publishers to a subscriber.
 //! - `values`: texts, and the objects that a caller hands in.
 #![tactic(auto)]
 
@@ -9,5 +10,7 @@
 mod messages;
 #[cfg(test)]
 mod slots;
+#[cfg(test)]
+mod subscribers;
 #[cfg(test)]
 mod values;

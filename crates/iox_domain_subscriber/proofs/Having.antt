@@ -1,5 +1,5 @@
 -- Whether one of the connections is there.
-use Rattle.std.proofs.Common.{rules, arith, ◌≡◌, ◌<◌, ◌+◌, ◌||◌, ◌∷◌, [], ℕ, zero, suc, Bool, true, false, nat_lt, List, length, get_or, refl, sym, ap, ◌∙◌}
+use Rattle.std.proofs.Common.{rules, arith, ◌≡◌, ◌<◌, ◌+◌, ◌||◌, ◌∷◌, [], ℕ, zero, suc, Bool, true, false, nat_lt, List, length, get_or, refl, ap, ◌∙◌}
 use Rattle.std.specs.List.{list_any}
 use Rattle.iox_domain_slots.specs.Uses.{Connection, nobody, is_there}
 

@@ -1,10 +1,10 @@
 -- Who gives is one that may give.
-use Rattle.std.proofs.Common.{rules, ◌≡◌, ◌<◌, ◌&&◌, ◌⊎◌, inl, inr, ◌∷◌, [], ℕ, zero, suc, Bool, true, false, nat_lt, List, length, get_or, slice_get, Option, None, Some, Result, Ok, Err, refl, sym, ap, ◌∙◌, arith}
+use Rattle.std.proofs.Common.{rules, ◌≡◌, ◌&&◌, ◌∷◌, [], ℕ, zero, suc, Bool, true, nat_lt, List, length, get_or, slice_get, Option, None, Some, Result, Ok, refl, sym, ap, ◌∙◌, arith}
 use Rattle.std.proofs.Math.Logic.{⊎_elim}
 use Rattle.std.proofs.lemmas.Option.{slice_get-get_or}
 use Rattle.iox_domain_publisher.specs.declared.publisher_port.PublisherPort.{PublisherPort}
-use Rattle.iox_domain_subscriber.specs.Subscribing.{attached_at, connection_by, most_by, has_data, is_below, gives, taken_of}
-use Rattle.iox_domain_subscriber.specs.Receiving.{IsFirst, IsMet, IsGiver, given, receive_answer}
+use Rattle.iox_domain_subscriber.specs.Subscribing.{attached_at, connection_by, most_by, gives, taken_of}
+use Rattle.iox_domain_subscriber.specs.Receiving.{IsMet, IsGiver, given, receive_answer}
 use Rattle.iox_domain_subscriber.specs.Laws.{ReceivesIfGiven}
 use Rattle.iox_domain_subscriber.specs.declared.attached.Attached.{Attached}
 use Rattle.iox_domain_subscriber.specs.declared.attached.Taken.{Taken}

@@ -1,5 +1,5 @@
 -- Expired connections are ended, and left, one by one.
-use Rattle.std.proofs.Common.{rules, arith, ◌≡◌, ◌+◌, ◌-◌, ◌<◌, ◌≤◌, ◌∷◌, [], ℕ, zero, suc, Bool, true, false, List, length, get_or, drop, slice_get, Option, None, Some, refl, sym, ap, ◌∙◌}
+use Rattle.std.proofs.Common.{arith, ◌≡◌, ◌+◌, ◌-◌, ◌<◌, ◌≤◌, ℕ, zero, suc, Bool, true, false, List, length, get_or, drop, slice_get, Option, None, refl, sym, ap, ◌∙◌}
 use Rattle.std.proofs.lemmas.List.{drop_more, drop_all}
 use Rattle.iox_domain_publisher.specs.declared.publisher_port.PublisherPort.{PublisherPort}
 use Rattle.iox_domain_subscriber.specs.Receiving.{is_idle_at, dropped_port, dropped_ports, swept, left_at, left_all, SweepsAt}

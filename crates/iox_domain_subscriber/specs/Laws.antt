@@ -1,9 +1,8 @@
 -- What the steps of a subscriber come to, in other words.
-use Rattle.std.specs.Prelude.{ℕ, ◌≡◌, true, false, List, Option, None, Some, IsSome, Result, Ok, Err}
+use Rattle.std.specs.Prelude.{ℕ, ◌≡◌, true, List, Option, Some, Result, Ok}
 use Rattle.iox_domain_values.specs.declared.port_error.ReceiveError.{ReceiveError}
-use Rattle.iox_domain_values.specs.declared.port_error.ReceiveError.TheVariants as receiving
 use Rattle.iox_domain_publisher.specs.declared.publisher_port.PublisherPort.{PublisherPort}
-use Rattle.iox_domain_subscriber.specs.Subscribing.{has_data, gives}
+use Rattle.iox_domain_subscriber.specs.Subscribing.{gives}
 use Rattle.iox_domain_subscriber.specs.Receiving.{Receives}
 use Rattle.iox_domain_subscriber.specs.declared.attached.Taken.{Taken}
 use Rattle.iox_domain_subscriber.specs.declared.subscriber_port.SubscriberPort.{SubscriberPort}

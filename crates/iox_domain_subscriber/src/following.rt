@@ -196,7 +196,11 @@ impl SubscriberPort {
     }
 
     // Follows a place that lists none.
-    pub(crate) fn follow_none<T: Copy, U: Copy>(&mut self, place: usize, publishers: &mut Publishers<T, U>)
+    pub(crate) fn follow_none<T: Copy, U: Copy>(
+        &mut self,
+        place: usize,
+        publishers: &mut Publishers<T, U>,
+    )
         ensures { FollowsNone place self.old publishers.old self.new publishers.new }
     {
         let Some(key) = self.places.get(place) else {

@@ -29,7 +29,11 @@ impl SubscriberPort {
     }
 
     // How many messages are borrowed of the connection of a key.
-    pub(crate) fn borrowed<T: Copy, U: Copy>(&self, key: usize, publishers: &Publishers<T, U>) -> usize
+    pub(crate) fn borrowed<T: Copy, U: Copy>(
+        &self,
+        key: usize,
+        publishers: &Publishers<T, U>,
+    ) -> usize
         ensures { result ≡ length (connection_by (attached_at key self.now) publishers.now).borrowed }
     {
         match self.attached(key) {
@@ -70,14 +74,22 @@ impl SubscriberPort {
     }
 
     // Whether nothing waits and nothing is borrowed at the connection of a key.
-    pub(crate) fn is_idle<T: Copy, U: Copy>(&self, key: usize, publishers: &Publishers<T, U>) -> bool
+    pub(crate) fn is_idle<T: Copy, U: Copy>(
+        &self,
+        key: usize,
+        publishers: &Publishers<T, U>,
+    ) -> bool
         ensures { result ≡ is_idle self.now publishers.now key }
     {
         self.waiting(key, publishers) == 0 && self.borrowed(key, publishers) == 0
     }
 
     // Ends the connection of a key.
-    pub(crate) fn end_key<T: Copy, U: Copy>(&mut self, key: usize, publishers: &mut Publishers<T, U>)
+    pub(crate) fn end_key<T: Copy, U: Copy>(
+        &mut self,
+        key: usize,
+        publishers: &mut Publishers<T, U>,
+    )
         ensures port { self.new ≡ ended_key key self.old }
         ensures publishers { publishers.new ≡ ended_ports (attached_at key self.old) publishers.old }
     {
@@ -116,7 +128,10 @@ impl SubscriberPort {
     }
 
     // The first key whose connection has data.
-    pub(crate) fn first_data<T: Copy, U: Copy>(&self, publishers: &Publishers<T, U>) -> Option<usize>
+    pub(crate) fn first_data<T: Copy, U: Copy>(
+        &self,
+        publishers: &Publishers<T, U>,
+    ) -> Option<usize>
         ensures { IsFirst (has_data self.now publishers.now) result }
     {
         for key in 0..self.connections.capacity() {

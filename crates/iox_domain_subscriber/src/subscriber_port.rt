@@ -1,6 +1,7 @@
 //! A subscriber.
 ghost use Rattle.std.specs.Prelude.{◌≡◌, ◌+◌, replicate, [], None, IfOk, true, false};
 ghost use Rattle.std.specs.List.{range_with_len};
+
 use crate::attached::Attached;
 use crate::keys::Keys;
 use iox_domain_publisher::Places;

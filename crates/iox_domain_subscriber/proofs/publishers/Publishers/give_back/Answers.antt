@@ -1,4 +1,4 @@
-use Rattle.std.proofs.Common.{rules, ◌≡◌, ◌∙◌, false, is_some, sym}
+use Rattle.std.proofs.Common.{rules, ◌∙◌, sym}
 use Rattle.iox_domain_subscriber.specs.Reading.{place_of}
 use Rattle.iox_domain_subscriber.specs.Publishers.{connection_in}
 use Rattle.iox_domain_subscriber.proofs.Staying.{nothing_given}
