@@ -5,7 +5,11 @@ use std::alloc::{AllocError, Global};
 use std::test::Fail;
 
 // A publisher of so many slots with room for so many numbers, one loan, no history, and one message waiting and borrowed.
-pub(crate) fn publisher(alloc: Global, slots: usize, room: usize) -> Result<Sender<u64, u8>, AllocError> {
+pub(crate) fn publisher(
+    alloc: Global,
+    slots: usize,
+    room: usize,
+) -> Result<Sender<u64, u8>, AllocError> {
     let config = SenderConfig {
         overflows: true,
         slots,
@@ -95,11 +99,19 @@ fn receive(sender: &mut Sender<u64, u8>, index: usize) -> usize {
 }
 
 // Whether the message in a slot has these values, that user header and as many elements.
-pub(crate) fn reads(sender: &Sender<u64, u8>, slot: usize, values: &[u64], user_header: u8) -> bool {
+fn reads(sender: &Sender<u64, u8>, slot: usize, values: &[u64], user_header: u8) -> bool {
     sender.has_slot(slot)
         && sender.payload(slot) == values
         && *sender.user_header(slot) == user_header
         && sender.elements(slot) == values.len() as u64
+}
+
+// The first value of the message in a slot; 0 where there is none.
+pub(crate) fn first_value(sender: &Sender<u64, u8>, slot: usize) -> u64 {
+    if !sender.has_slot(slot) {
+        return 0;
+    }
+    sender.payload(slot).first().copied().unwrap_or(0)
 }
 
 // Sends one message of three values, written from the last to the first; its slot.

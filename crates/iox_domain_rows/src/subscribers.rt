@@ -1,10 +1,8 @@
 //! The way of a message from publishers to a subscriber.
-use crate::messages::{lend, publisher, reads, send, write_all};
+use crate::messages::{first_value, lend, publisher, send, write_all};
 use iox_domain_publisher::{Places, Progress, PublisherPort};
 use iox_domain_subscriber::{PublisherEntry, Publishers, SubscriberPort, Taken};
-use iox_domain_values::{
-    ConnectionFailure, DegradationAction, DegradationHandler, ReceiveError, ZeroCopyCreationError,
-};
+use iox_domain_values::{DegradationAction, DegradationHandler};
 use iox_index_base::{Member, OwnerId};
 use std::alloc::{AllocError, Global};
 use std::test::Fail;
@@ -55,36 +53,40 @@ fn listed(publisher: u64) -> Option<Member<PublisherEntry>> {
     }
 }
 
-// Receives with these publishers on the list.
-fn receive(
-    world: &mut World,
-    alloc: Global,
-    numbers: [u64; 2],
-    changes: u64,
-) -> Result<Option<Taken>, ReceiveError> {
-    world.subscriber.receive(
+// Receives with this publisher on the list.
+fn receive(world: &mut World, alloc: Global, number: u64, changes: u64) -> Option<Taken> {
+    let answer = world.subscriber.receive(
         alloc,
-        &[listed(numbers[0]), listed(numbers[1])],
+        &[listed(number)],
         changes,
         &mut world.handler,
         &mut world.publishers,
-    )
+    );
+    answer.unwrap_or(None)
 }
 
-// Whether some connection has data, with these publishers on the list.
-fn has_samples(
-    world: &mut World,
-    alloc: Global,
-    numbers: [u64; 2],
-    changes: u64,
-) -> Result<bool, ConnectionFailure> {
-    world.subscriber.has_samples(
+// Whether receiving is refused with this publisher on the list.
+fn is_refused(world: &mut World, alloc: Global, number: u64, changes: u64) -> bool {
+    let answer = world.subscriber.receive(
         alloc,
-        &[listed(numbers[0]), listed(numbers[1])],
+        &[listed(number)],
         changes,
         &mut world.handler,
         &mut world.publishers,
-    )
+    );
+    answer.is_err()
+}
+
+// Whether some connection has data, with this publisher on the list.
+fn has_samples(world: &mut World, alloc: Global, number: u64, changes: u64) -> bool {
+    let answer = world.subscriber.has_samples(
+        alloc,
+        &[listed(number)],
+        changes,
+        &mut world.handler,
+        &mut world.publishers,
+    );
+    answer.unwrap_or(false)
 }
 
 // Sends a value at a publisher's first connection; whether it was delivered.
@@ -105,88 +107,73 @@ fn leave(world: &mut World, number: u64) -> bool {
     true
 }
 
-// Whether this value of this publisher was received, and is still held.
-fn holds(world: &World, got: &Result<Option<Taken>, ReceiveError>, number: u64, value: u64) -> bool {
-    match (got, world.publishers.get(number)) {
-        (Ok(Some(taken)), Some(port)) => {
-            taken.publisher == number && reads(&port.sender, taken.slot, &[value], 7)
-        }
-        _ => false,
-    }
+// The value that is read of what was received.
+fn read(world: &World, got: Option<Taken>) -> u64 {
+    let Some(taken) = got else {
+        return 0;
+    };
+    let Some(port) = world.publishers.get(taken.publisher) else {
+        return 0;
+    };
+    first_value(&port.sender, taken.slot)
 }
 
 // Gives back what was received; whether it was borrowed.
-fn release(world: &mut World, got: Result<Option<Taken>, ReceiveError>) -> bool {
-    match got {
-        Ok(Some(taken)) => {
-            world.publishers.give_back(taken.publisher, taken.index, taken.slot)
-        }
-        _ => false,
-    }
+fn release(world: &mut World, got: Option<Taken>) -> bool {
+    let Some(taken) = got else {
+        return false;
+    };
+    world
+        .publishers
+        .give_back(taken.publisher, taken.index, taken.slot)
 }
 
 // Whether a message is received once it was sent, and a second one only once the first is given back.
 fn receives_in_turn(world: &mut World, alloc: Global) -> bool {
-    let none = receive(world, alloc, [7, 0], 1) == Ok(None);
-    let first = publish(world, 7, 11) && has_samples(world, alloc, [7, 0], 1) == Ok(true);
-    let got = receive(world, alloc, [7, 0], 1);
-    let held = holds(world, &got, 7, 11) && has_samples(world, alloc, [7, 0], 1) == Ok(false);
-    let refused = publish(world, 7, 12)
-        && receive(world, alloc, [7, 0], 1) == Err(ReceiveError::ExceedsMaxBorrows);
-    let released = holds(world, &got, 7, 11) && release(world, got);
-    let next = receive(world, alloc, [7, 0], 1);
-    none && first && held && refused && released && holds(world, &next, 7, 12)
+    let early = has_samples(world, alloc, 7, 1);
+    let sent = publish(world, 7, 11) && has_samples(world, alloc, 7, 1);
+    let got = receive(world, alloc, 7, 1);
+    let refused = publish(world, 7, 12) && is_refused(world, alloc, 7, 1);
+    let held = read(world, got) == 11 && release(world, got);
+    !early && sent && refused && held
+}
+
+// Whether the next message has this value.
+fn comes_next(world: &mut World, alloc: Global, value: u64) -> bool {
+    let got = receive(world, alloc, 7, 1);
+    read(world, got) == value
 }
 
 #[test]
 fn a_subscriber_receives_in_turn(rt: HostRuntime) -> Result<(), Fail> {
     let mut world = make_world(rt.alloc(), 2)?;
-    assert!(rt; receives_in_turn(&mut world, rt.alloc()));
+    assert!(rt; receives_in_turn(&mut world, rt.alloc()) && comes_next(&mut world, rt.alloc(), 12));
     Ok(())
 }
 
-// Whether a message of a publisher that left is received before one of a publisher that stands, and a connection that gave all is gone with
-// its publisher.
-fn serves_the_expired_first(world: &mut World, alloc: Global) -> bool {
-    let attached = receive(world, alloc, [7, 8], 1) == Ok(None);
-    let sent = publish(world, 7, 11) && publish(world, 8, 21) && leave(world, 8);
-    let got = receive(world, alloc, [7, 0], 2);
-    let first = holds(world, &got, 8, 21) && release(world, got);
-    let stays = world.publishers.get(8).is_some();
-    let next = receive(world, alloc, [7, 0], 2);
-    let second = holds(world, &next, 7, 11);
-    attached && sent && first && stays && second && world.publishers.get(8).is_none()
+// Whether a publisher left while its message is held, and another that came to its place is connected: `refused` says whether only once
+// the message is given back.
+fn comes_in_its_place(world: &mut World, alloc: Global, refused: bool) -> bool {
+    let sent = !has_samples(world, alloc, 7, 1) && publish(world, 7, 11);
+    let got = receive(world, alloc, 7, 1);
+    let left = leave(world, 7) && is_refused(world, alloc, 8, 2) == refused;
+    let held = read(world, got) == 11 && release(world, got);
+    sent && left && held
+}
+
+// Whether the other one gives, and the one that left is gone.
+fn gives_then(world: &mut World, alloc: Global) -> bool {
+    let sent = !has_samples(world, alloc, 8, 2) && publish(world, 8, 21);
+    let got = receive(world, alloc, 8, 2);
+    sent && read(world, got) == 21 && world.publishers.get(7).is_none()
 }
 
 #[test]
-fn an_expired_connection_gives_first(rt: HostRuntime) -> Result<(), Fail> {
-    let mut world = make_world(rt.alloc(), 2)?;
-    assert!(rt; serves_the_expired_first(&mut world, rt.alloc()));
-    Ok(())
-}
-
-// Why a publisher is refused where the former connection of its place can't expire.
-const NO_ROOM: ReceiveError = ReceiveError::ConnectionFailure(
-    ConnectionFailure::FailedToEstablishConnection(
-        ZeroCopyCreationError::ExpiredConnectionBufferFull,
-    ),
-);
-
-// Whether a publisher is refused where a held connection stays at its place, and is connected once that is given back.
-fn refuses_and_tries_again(world: &mut World, alloc: Global) -> bool {
-    let sent = receive(world, alloc, [7, 0], 1) == Ok(None) && publish(world, 7, 11);
-    let got = receive(world, alloc, [7, 0], 1);
-    let refused = leave(world, 7) && receive(world, alloc, [8, 0], 2) == Err(NO_ROOM);
-    let again = receive(world, alloc, [8, 0], 2) == Err(NO_ROOM);
-    let released = holds(world, &got, 7, 11) && release(world, got);
-    let connected = receive(world, alloc, [8, 0], 2) == Ok(None) && publish(world, 8, 21);
-    let next = receive(world, alloc, [8, 0], 2);
-    sent && refused && again && released && connected && holds(world, &next, 8, 21)
-}
-
-#[test]
-fn a_place_that_is_held_is_tried_again(rt: HostRuntime) -> Result<(), Fail> {
-    let mut world = make_world(rt.alloc(), 0)?;
-    assert!(rt; refuses_and_tries_again(&mut world, rt.alloc()));
+fn a_publisher_that_left_is_gone_in_the_end(rt: HostRuntime) -> Result<(), Fail> {
+    for most_expired in [0, 1] {
+        let mut world = make_world(rt.alloc(), most_expired)?;
+        assert!(rt; comes_in_its_place(&mut world, rt.alloc(), most_expired == 0));
+        assert!(rt; gives_then(&mut world, rt.alloc()));
+    }
     Ok(())
 }
