@@ -30,7 +30,7 @@ expired_port key port = record port { expired = with_last key port.expired }
 abbrev pub replaced_port : ℕ → ℕ → ℕ → SubscriberPort → SubscriberPort
 replaced_port place out key port = expired_port key (dropped_port place (Some out) port)
 
--- the publishers after that
+-- the publishers after an expired connection ended
 abbrev pub replaced_ports : {T U : Type 0} → ℕ → SubscriberPort → List (ℕ × PublisherPort T U) → List (ℕ × PublisherPort T U)
 replaced_ports out port ports = dropped_ports (Some out) port ports
 
@@ -77,7 +77,7 @@ abbrev pub KeepsReached : ℕ → Attached → SubscriberPort → SubscriberPort
 KeepsReached place attached port new =
     (key : ℕ) × (slice_get port.connections.free 0 ≡ Some key) × (new ≡ record port { connections = stored port.connections key attached; places = set port.places place (Some key) })
 
--- under the key that comes next
+-- a connection comes to a place, under the key that comes next
 abbrev pub KeepsAt : ℕ → Attached → SubscriberPort → SubscriberPort → Type 0
 KeepsAt place attached port new = (key : ℕ) × (slice_get port.connections.free 0 ≡ Some key) × (new ≡ kept_at place key attached port)
 

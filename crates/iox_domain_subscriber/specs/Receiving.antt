@@ -31,7 +31,7 @@ abbrev pub dropped_port : ℕ → Option ℕ → SubscriberPort → SubscriberPo
 dropped_port place None port = port
 dropped_port place (Some key) port = record (ended_key key port) { expired = record port.expired { items = remove port.expired.items place } }
 
--- the publishers after that
+-- the publishers after the expired connection of a key ended
 abbrev pub dropped_ports : {T U : Type 0} → Option ℕ → SubscriberPort → List (ℕ × PublisherPort T U) → List (ℕ × PublisherPort T U)
 dropped_ports None port ports = ports
 dropped_ports (Some key) port ports = ended_ports (attached_at key port) ports
@@ -60,7 +60,7 @@ abbrev pub given : {T U : Type 0} → Option ℕ → SubscriberPort → List (�
 given None port ports = None
 given (Some key) port ports = taken_of (attached_at key port) ports
 
--- the publishers after that
+-- the publishers after a giver gave
 abbrev pub given_ports : {T U : Type 0} → Option ℕ → SubscriberPort → List (ℕ × PublisherPort T U) → List (ℕ × PublisherPort T U)
 given_ports None port ports = ports
 given_ports (Some key) port ports = taken_ports (attached_at key port) ports
@@ -92,7 +92,7 @@ left_at None ports = ports
 left_at (Some attached) ports =
     if stands_in attached.publisher ports then changed attached.publisher (detached_at attached.index) ports else ended_ports (Some attached) ports
 
--- nor at any of these
+-- nobody reads at any of these connections any longer
 abbrev pub left_all : {T U : Type 0} → List (Option Attached) → List (ℕ × PublisherPort T U) → List (ℕ × PublisherPort T U)
 left_all [] ports = ports
 left_all (attached ∷ rest) ports = left_all rest (left_at attached ports)

@@ -65,7 +65,7 @@ taken_of (Some attached) ports = Some (record {
   slot = get_or (map (λ message. message.slot) (connection_in attached.publisher attached.index ports).waiting) 0 0;
 })
 
--- the publishers after that
+-- the publishers after the oldest message that waits at a connection was received
 abbrev pub taken_ports : {T U : Type 0} → Option Attached → List (ℕ × PublisherPort T U) → List (ℕ × PublisherPort T U)
 taken_ports None ports = ports
 taken_ports (Some attached) ports = changed attached.publisher (taken_at attached.index) ports
