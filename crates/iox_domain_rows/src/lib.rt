@@ -3,6 +3,7 @@
 //! - `messages`: the way of a message by what it holds.
 //! - `publishers`: a publisher and the list of its subscribers.
 //! - `slots`: the way of a message through the slots of a publisher.
+//! - `subscribers`: the way of a message from publishers to a subscriber.
 //! - `values`: texts, and the objects that a caller hands in.
 #![tactic(auto)]
 
@@ -12,5 +13,7 @@ mod messages;
 mod publishers;
 #[cfg(test)]
 mod slots;
+#[cfg(test)]
+mod subscribers;
 #[cfg(test)]
 mod values;

@@ -5,7 +5,11 @@ use std::alloc::{AllocError, Global};
 use std::test::Fail;
 
 // A publisher of so many slots with room for so many numbers, one loan, no history, and one message waiting and borrowed.
-fn publisher(alloc: Global, slots: usize, room: usize) -> Result<Sender<u64, u8>, AllocError> {
+pub(crate) fn publisher(
+    alloc: Global,
+    slots: usize,
+    room: usize,
+) -> Result<Sender<u64, u8>, AllocError> {
     let config = SenderConfig {
         overflows: true,
         slots,
@@ -28,7 +32,7 @@ fn join(sender: &mut Sender<u64, u8>, alloc: Global) -> Result<usize, AllocError
 }
 
 // Makes a loan of so many values.
-fn lend(sender: &mut Sender<u64, u8>, values: usize) -> usize {
+pub(crate) fn lend(sender: &mut Sender<u64, u8>, values: usize) -> usize {
     if !sender.may_loan() || values > sender.room() {
         return usize::MAX;
     }
@@ -45,7 +49,7 @@ fn write(sender: &mut Sender<u64, u8>, slot: usize, place: usize, value: u64) ->
 }
 
 // Writes all values of a loan at once where it has as many.
-fn write_all(sender: &mut Sender<u64, u8>, slot: usize, values: &[u64]) -> bool {
+pub(crate) fn write_all(sender: &mut Sender<u64, u8>, slot: usize, values: &[u64]) -> bool {
     if !sender.has_length(slot, values.len()) {
         return false;
     }
@@ -69,7 +73,7 @@ fn is_whole(sender: &Sender<u64, u8>, slot: usize) -> bool {
 }
 
 // Sends a written loan to a connection; whether it was delivered.
-fn send(sender: &mut Sender<u64, u8>, slot: usize, index: usize) -> bool {
+pub(crate) fn send(sender: &mut Sender<u64, u8>, slot: usize, index: usize) -> bool {
     let at = sender.place_of_loan(slot).unwrap_or(usize::MAX);
     if at >= sender.loans() || sender.is_sending() || !sender.is_written(at) {
         return false;
@@ -100,6 +104,14 @@ fn reads(sender: &Sender<u64, u8>, slot: usize, values: &[u64], user_header: u8)
         && sender.payload(slot) == values
         && *sender.user_header(slot) == user_header
         && sender.elements(slot) == values.len() as u64
+}
+
+// The first value of the message in a slot; 0 where there is none.
+pub(crate) fn first_value(sender: &Sender<u64, u8>, slot: usize) -> u64 {
+    if !sender.has_slot(slot) {
+        return 0;
+    }
+    sender.payload(slot).first().copied().unwrap_or(0)
 }
 
 // Sends one message of three values, written from the last to the first; its slot.

@@ -1,0 +1,6 @@
+pub mod Having
+pub mod Staying
+pub mod First
+pub mod Sweeping
+pub mod Walking
+pub mod Serving

@@ -1,0 +1,21 @@
+//! Where a subscriber reads.
+
+/// A connection that a subscriber reads from.
+#[derive(Clone, Copy, Debug, PartialEq, Eq)]
+pub struct Attached {
+    /// The number of the publisher.
+    pub publisher: u64,
+    /// The index of the connection there.
+    pub index: usize,
+}
+
+/// A message that was received.
+#[derive(Clone, Copy, Debug, PartialEq, Eq)]
+pub struct Taken {
+    /// The number of its publisher.
+    pub publisher: u64,
+    /// The index of the connection that it came through.
+    pub index: usize,
+    /// The slot that it stands in.
+    pub slot: usize,
+}

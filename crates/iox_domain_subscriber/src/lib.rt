@@ -1,0 +1,30 @@
+//! One subscriber over the publishers of its service: whose messages it reads, and how it receives.
+//!
+//! - [`reading`]: what a subscriber does at one publisher.
+//! - [`publishers`]: the publishers of a service, by number.
+//! - [`keys`]: the keys of connections in an order.
+//! - [`attached`]: where a subscriber reads.
+//! - [`subscriber_port`]: a subscriber.
+//! - [`receiving`]: it receives.
+//! - [`publisher_entry`]: what the list of publishers tells of one.
+//! - [`following`]: it follows one place of that list.
+//! - [`updating`]: it follows all of them.
+//! - [`laws`]: what its steps come to, in other words.
+#![tactic(auto)]
+
+pub mod attached;
+pub mod following;
+pub mod keys;
+pub mod laws;
+pub mod publisher_entry;
+pub mod publishers;
+pub mod reading;
+pub mod receiving;
+pub mod subscriber_port;
+pub mod updating;
+
+pub use attached::{Attached, Taken};
+pub use keys::Keys;
+pub use publisher_entry::PublisherEntry;
+pub use publishers::Publishers;
+pub use subscriber_port::SubscriberPort;

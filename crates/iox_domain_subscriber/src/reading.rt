@@ -1,0 +1,96 @@
+//! What a subscriber does at one publisher.
+ghost use Rattle.std.specs.Prelude.{◌≡◌, ◌<◌, length, map, is_some, slice_get, Some};
+ghost use Rattle.std.specs.List.{list_any};
+ghost use Rattle.iox_domain_slots.specs.Uses.{is_there};
+ghost use Rattle.iox_domain_publisher.specs.Ports.{connection_of};
+ghost use Rattle.iox_domain_subscriber.specs.Reading.{is_over, place_of, taken_at, given_back_at};
+
+use iox_domain_publisher::PublisherPort;
+use iox_domain_slots::Stage;
+
+/// How many messages wait at the connection of this index; none where there is none.
+pub fn waiting_at<T: Copy, U: Copy>(port: &PublisherPort<T, U>, index: usize) -> usize
+    ensures { result ≡ length (connection_of index port.now).waiting }
+{
+    match port.sender.stage(index) {
+        Stage::Vacant => 0,
+        Stage::Live | Stage::Ended => port.sender.waiting(index),
+    }
+}
+
+/// How many messages are borrowed of the connection of this index; none where there is none.
+pub fn borrowed_at<T: Copy, U: Copy>(port: &PublisherPort<T, U>, index: usize) -> usize
+    ensures { result ≡ length (connection_of index port.now).borrowed }
+{
+    match port.sender.stage(index) {
+        Stage::Vacant => 0,
+        Stage::Live | Stage::Ended => port.sender.borrowed(index),
+    }
+}
+
+/// Borrows the oldest message that waits at the connection of this index, and answers its slot.
+pub fn take_at<T: Copy, U: Copy>(port: &mut PublisherPort<T, U>, index: usize) -> usize
+    requires data { 0 < length (connection_of index port.old).waiting }
+    requires room { length (connection_of index port.old).borrowed < port.old.sender.uses.most_borrowed }
+    ensures slot { slice_get (map (λ message. message.slot) (connection_of index port.old).waiting) 0 ≡ Some result }
+    ensures new { port.new ≡ taken_at index port.old }
+{
+    port.sender.take(index)
+}
+
+/// Gives back the first message in this slot that is borrowed of the connection of this index; answers false where none is.
+pub fn give_back_at<T: Copy, U: Copy>(
+    port: &mut PublisherPort<T, U>,
+    index: usize,
+    slot: usize,
+) -> bool
+    ensures answer { result ≡ is_some (place_of slot (connection_of index port.old)) }
+    ensures new { port.new ≡ given_back_at index (place_of slot (connection_of index port.old)) port.old }
+{
+    match find(port, index, slot) {
+        Some(at) => {
+            port.sender.give_back(index, at);
+            true
+        }
+        None => false,
+    }
+}
+
+// Where in the list of what is borrowed of the connection of this index the first message in this slot is.
+fn find<T: Copy, U: Copy>(port: &PublisherPort<T, U>, index: usize, slot: usize) -> Option<usize>
+    ensures { result ≡ place_of slot (connection_of index port.now) }
+{
+    match port.sender.stage(index) {
+        Stage::Vacant => None,
+        Stage::Live | Stage::Ended => port.sender.place_of_borrowed(index, slot),
+    }
+}
+
+/// Whether the publisher left, and has neither loans nor connections.
+pub fn is_over<T: Copy, U: Copy>(port: &PublisherPort<T, U>) -> bool
+    ensures { result ≡ is_over port.now }
+{
+    !port.stands && port.sender.loans() == 0 && !has_connections(port)
+}
+
+// Whether the publisher has a connection: one that goes on, or ended and holds something.
+fn has_connections<T: Copy, U: Copy>(port: &PublisherPort<T, U>) -> bool
+    ensures { result ≡ list_any is_there port.now.sender.uses.connections }
+{
+    for index in 0..port.sender.indices() {
+        if is_there_at(port, index) {
+            return true;
+        }
+    }
+    false
+}
+
+// Whether there is a connection of this index.
+fn is_there_at<T: Copy, U: Copy>(port: &PublisherPort<T, U>, index: usize) -> bool
+    ensures { result ≡ is_there (connection_of index port.now) }
+{
+    match port.sender.stage(index) {
+        Stage::Vacant => false,
+        Stage::Live | Stage::Ended => true,
+    }
+}

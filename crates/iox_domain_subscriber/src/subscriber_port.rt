@@ -1,0 +1,74 @@
+//! A subscriber.
+ghost use Rattle.std.specs.Prelude.{◌≡◌, ◌+◌, replicate, [], None, IfOk, true, false};
+ghost use Rattle.std.specs.List.{range_with_len};
+
+use crate::attached::Attached;
+use crate::keys::Keys;
+use iox_domain_publisher::Places;
+use iox_maps::SlotMap;
+use std::alloc::{AllocError, Global};
+
+/// A subscriber with its connections.
+///
+/// Ported from `iceoryx2::port::subscriber::Subscriber`.
+#[derive(Drop)]
+pub struct SubscriberPort {
+    /// The number of its service.
+    pub service: u64,
+    /// Its own number.
+    pub number: u64,
+    /// Whether it is on the list of subscribers: it didn't leave.
+    pub stands: bool,
+    /// How many messages may wait for it at a connection.
+    pub buffer_size: usize,
+    /// How often the list of publishers had changed when it was last followed.
+    pub seen: u64,
+    /// Whether a connection failed for want of room among the expired ones: the list is then followed again.
+    pub again: bool,
+    /// For each place of the list of publishers the key of its connection.
+    pub places: Places<usize>,
+    /// Its connections, the expired ones too.
+    pub connections: SlotMap<Attached>,
+    /// The keys of the connections whose publisher left, in the order in which they expired.
+    pub expired: Keys,
+}
+
+impl SubscriberPort {
+    /// A subscriber on the list, without connections: at most so many go on, and so many more may expire. The list of publishers is
+    /// followed at its first update. It fails only where memory is wanting.
+    pub fn new(
+        alloc: Global,
+        service: u64,
+        number: u64,
+        buffer_size: usize,
+        most_connections: usize,
+        most_expired: usize,
+    ) -> Result<SubscriberPort, AllocError>
+        ensures { IfOk result (λ port. port ≡ record {
+          service = service;
+          number = number;
+          stands = true;
+          buffer_size = buffer_size;
+          seen = 0;
+          again = true;
+          places = [];
+          connections = record { values = replicate (most_connections + most_expired) None; free = range_with_len 0 (most_connections + most_expired) };
+          expired = record { items = []; room = most_expired };
+        }) }
+    {
+        let Some(most) = most_connections.checked_add(most_expired) else {
+            return Err(AllocError);
+        };
+        Ok(SubscriberPort {
+            service,
+            number,
+            stands: true,
+            buffer_size,
+            seen: 0,
+            again: true,
+            places: Places::new(alloc),
+            connections: SlotMap::new(alloc, most)?,
+            expired: Keys::new(alloc, most_expired)?,
+        })
+    }
+}
