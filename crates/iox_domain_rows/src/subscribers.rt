@@ -59,7 +59,7 @@ fn receive(world: &mut World, alloc: Global, number: u64, changes: u64) -> Optio
         alloc,
         &[listed(number)],
         changes,
-        &mut world.handler,
+        &world.handler,
         &mut world.publishers,
     );
     answer.unwrap_or(None)
@@ -71,7 +71,7 @@ fn is_refused(world: &mut World, alloc: Global, number: u64, changes: u64) -> bo
         alloc,
         &[listed(number)],
         changes,
-        &mut world.handler,
+        &world.handler,
         &mut world.publishers,
     );
     answer.is_err()
@@ -83,7 +83,7 @@ fn has_samples(world: &mut World, alloc: Global, number: u64, changes: u64) -> b
         alloc,
         &[listed(number)],
         changes,
-        &mut world.handler,
+        &world.handler,
         &mut world.publishers,
     );
     answer.unwrap_or(false)

@@ -1,58 +1,46 @@
 -- An update goes from place to place.
-use Rattle.std.proofs.Common.{arith, ◌≡◌, ◌+◌, ◌-◌, ◌<◌, ◌≤◌, ℕ, zero, suc, List, ◌∷◌, length, drop, get_or, Result, Ok, Err, Option, None, Some, refl, sym, ap, ◌∙◌}
+use Rattle.std.proofs.Common.{arith, ◌≡◌, ◌+◌, ◌-◌, ◌<◌, ◌≤◌, ℕ, zero, suc, List, ◌∷◌, length, drop, get_or, Result, Option, None, refl, sym, ap, ◌∙◌}
 use Rattle.std.proofs.lemmas.List.{drop_more, drop_all, get_or_default}
-use Rattle.iox_domain_values.specs.Relations.{AllowSame}
 use Rattle.iox_domain_values.specs.declared.connection_failure.ConnectionFailure.{ConnectionFailure}
 use Rattle.iox_domain_values.specs.declared.connection_failure.ZeroCopyCreationError.{ZeroCopyCreationError}
 use Rattle.iox_domain_values.specs.declared.degradation.DegradationAction.{DegradationAction}
 use Rattle.iox_domain_values.specs.declared.degradation.DegradationInfo.{DegradationInfo}
 use Rattle.iox_index_base.specs.declared.container.Member.{Member}
-use Rattle.iox_domain_publisher.proofs.Delivering.{same_still}
 use Rattle.iox_domain_publisher.specs.declared.publisher_port.PublisherPort.{PublisherPort}
-use Rattle.iox_domain_subscriber.specs.Updating.{told_of, is_listed, FollowsOne, AsksOf, FollowsFrom, FollowsNoneIf, FollowsNones}
+use Rattle.iox_domain_subscriber.specs.Updating.{is_listed, FollowsOne, AsksOf, FollowsFrom, FollowsNoneIf, FollowsNones}
 use Rattle.iox_domain_subscriber.specs.declared.publisher_entry.PublisherEntry.{PublisherEntry}
 use Rattle.iox_domain_subscriber.specs.declared.subscriber_port.SubscriberPort.{SubscriberPort}
 
--- what is asked of handlers that may answer the same
-asks_same : (may other : DegradationInfo → DegradationAction → Type 0) (listed : Option (Member PublisherEntry)) (port : SubscriberPort) (found : Option ConnectionFailure) (outcome : Result (Unit {0}) ZeroCopyCreationError)
-    (after : Option ConnectionFailure) → AllowSame other may → AsksOf other listed port found outcome after → AsksOf may listed port found outcome after
-asks_same may other None port found outcome after same asks = asks
-asks_same may other (Some member) port found (Ok done) after same asks = asks
-asks_same may other (Some member) port found (Err failure) after same asks = (asks.0, (same (told_of member.value port) asks.0).0 asks.1, asks.2)
-
 -- Where an update stands before a place: whatever comes of the places that are left comes of all of them.
 pub record Following {T U : Type 0} (may : DegradationInfo → DegradationAction → Type 0) (listed : List (Option (Member PublisherEntry))) (first : SubscriberPort) (first_ports : List (ℕ × PublisherPort T U))
-    (now_may : DegradationInfo → DegradationAction → Type 0) (found : Option ConnectionFailure) (now : SubscriberPort) (now_ports : List (ℕ × PublisherPort T U)) (place : ℕ) : Type 0 where
+    (found : Option ConnectionFailure) (now : SubscriberPort) (now_ports : List (ℕ × PublisherPort T U)) (place : ℕ) : Type 0 where
   pub rest : (after : Option ConnectionFailure) (new : SubscriberPort) (new_ports : List (ℕ × PublisherPort T U)) → FollowsFrom may place (drop place listed) found now now_ports after new new_ports
       → FollowsFrom may 0 listed None first first_ports after new new_ports
-  pub same : AllowSame now_may may
 
 -- nothing was followed yet
 pub following_none : {T U : Type 0} (may : DegradationInfo → DegradationAction → Type 0) (listed : List (Option (Member PublisherEntry))) (first : SubscriberPort) (first_ports : List (ℕ × PublisherPort T U))
-    → Following may listed first first_ports may None first first_ports 0
-following_none may listed first first_ports = record { rest = λ after new new_ports further. further; same = λ question answer. (λ made. made, λ made. made) }
+    → Following may listed first first_ports None first first_ports 0
+following_none may listed first first_ports = record { rest = λ after new new_ports further. further }
 
 -- one place more is followed
-pub following_on : {T U : Type 0} (may now_may next_may : DegradationInfo → DegradationAction → Type 0) (listed : List (Option (Member PublisherEntry))) (first now next : SubscriberPort)
+pub following_on : {T U : Type 0} (may : DegradationInfo → DegradationAction → Type 0) (listed : List (Option (Member PublisherEntry))) (first now next : SubscriberPort)
     (first_ports now_ports next_ports : List (ℕ × PublisherPort T U)) (place : ℕ) (member asked : Option (Member PublisherEntry)) (found after : Option ConnectionFailure) (outcome : Result (Unit {0}) ZeroCopyCreationError)
-    → Following may listed first first_ports now_may found now now_ports place → place < length listed → member ≡ get_or listed place member → asked ≡ get_or listed place asked
-    → FollowsOne place member now now_ports outcome next next_ports → AsksOf now_may asked next found outcome after → AllowSame next_may now_may
-    → Following may listed first first_ports next_may after next next_ports (place + 1)
-following_on may now_may next_may listed first now next first_ports now_ports next_ports place member asked found after outcome so_far within is_member is_asked follows asks same =
+    → Following may listed first first_ports found now now_ports place → place < length listed → member ≡ get_or listed place member → asked ≡ get_or listed place asked
+    → FollowsOne place member now now_ports outcome next next_ports → AsksOf may asked next found outcome after
+    → Following may listed first first_ports after next next_ports (place + 1)
+following_on may listed first now next first_ports now_ports next_ports place member asked found after outcome so_far within is_member is_asked follows asks =
     let left : drop place listed ≡ member ∷ drop (place + 1) listed = drop_more listed place member within ∙ ap (λ one. one ∷ drop (place + 1) listed) (sym is_member) in
     let one : asked ≡ member = is_asked ∙ get_or_default listed place asked member within ∙ sym is_member in
-    let asks_of : AsksOf now_may member next found outcome after = rw (← one) asks in
+    let asks_of : AsksOf may member next found outcome after = rw (← one) asks in
     record {
-      rest = λ last new new_ports further. so_far.rest last new new_ports
-          (rw left (outcome, next, next_ports, after, follows, asks_same may now_may member next found outcome after so_far.same asks_of, further));
-      same = same_still may now_may next_may same so_far.same;
+      rest = λ last new new_ports further. so_far.rest last new new_ports (rw left (outcome, next, next_ports, after, follows, asks_of, further));
     }
 
 -- no place is left
-pub followed : {T U : Type 0} (may now_may : DegradationInfo → DegradationAction → Type 0) (listed : List (Option (Member PublisherEntry))) (first now : SubscriberPort) (first_ports now_ports : List (ℕ × PublisherPort T U))
-    (place : ℕ) (found : Option ConnectionFailure) → Following may listed first first_ports now_may found now now_ports place → length listed ≤ place
+pub followed : {T U : Type 0} (may : DegradationInfo → DegradationAction → Type 0) (listed : List (Option (Member PublisherEntry))) (first now : SubscriberPort) (first_ports now_ports : List (ℕ × PublisherPort T U))
+    (place : ℕ) (found : Option ConnectionFailure) → Following may listed first first_ports found now now_ports place → length listed ≤ place
     → FollowsFrom may 0 listed None first first_ports found now now_ports
-followed may now_may listed first now first_ports now_ports place found so_far over = so_far.rest found now now_ports (rw (drop_all place listed over) (refl, refl, refl))
+followed may listed first now first_ports now_ports place found so_far over = so_far.rest found now now_ports (rw (drop_all place listed over) (refl, refl, refl))
 
 -- Where the places that list none stand before one.
 abbrev pub Clearing : {T U : Type 0} → List (Option (Member PublisherEntry)) → ℕ → SubscriberPort → List (ℕ × PublisherPort T U) → SubscriberPort → List (ℕ × PublisherPort T U) → ℕ → Type 0

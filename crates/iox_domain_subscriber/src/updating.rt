@@ -1,7 +1,6 @@
 //! A subscriber follows the list of publishers.
 ghost use Rattle.std.specs.Prelude.{◌≡◌, ◌+◌, ◌<◌, ◌^◌, length, None};
 ghost use Rattle.iox_domain_values.specs.DegradationAnswers.{Allowed};
-ghost use Rattle.iox_domain_values.specs.Relations.{AllowSame};
 ghost use Rattle.iox_domain_values.specs.declared.degradation.DegradationCause.TheVariants as cause;
 ghost use Rattle.iox_domain_publisher.specs.Updating.{first_failure, update_answer};
 ghost use Rattle.iox_domain_subscriber.specs.Updating.{told_of, is_listed, FollowsOne, AsksOf, FollowsFrom, FollowsNoneIf, FollowsNones, FollowsList, Updates, HasSamplesAfter, HasSamples, ReceivesAfter, ReceivesNext};
@@ -53,10 +52,9 @@ impl SubscriberPort {
         listed: &Option<Member<PublisherEntry>>,
         outcome: Result<(), ZeroCopyCreationError>,
         found: Option<ConnectionFailure>,
-        handler: &mut DegradationHandler,
+        handler: &DegradationHandler,
     ) -> Option<ConnectionFailure>
-        ensures asks { AsksOf (Allowed (λ object. (⟦<dyn DegradationFn as DegradationFn>⟧ object.vtable).allows object.value) handler.old cause.FailedToEstablishConnection) listed.now self.now found outcome result }
-        ensures same { AllowSame (Allowed (λ object. (⟦<dyn DegradationFn as DegradationFn>⟧ object.vtable).allows object.value) handler.new cause.FailedToEstablishConnection) (Allowed (λ object. (⟦<dyn DegradationFn as DegradationFn>⟧ object.vtable).allows object.value) handler.old cause.FailedToEstablishConnection) }
+        ensures { AsksOf (Allowed (λ object. (⟦<dyn DegradationFn as DegradationFn>⟧ object.vtable).allows object.value) handler.now cause.FailedToEstablishConnection) listed.now self.now found outcome result }
     {
         let Some(member) = listed else {
             return found;
@@ -78,11 +76,10 @@ impl SubscriberPort {
         &mut self,
         alloc: Global,
         listed: &[Option<Member<PublisherEntry>>],
-        handler: &mut DegradationHandler,
+        handler: &DegradationHandler,
         publishers: &mut Publishers<T, U>,
     ) -> Option<ConnectionFailure>
-        ensures follows { FollowsFrom (Allowed (λ object. (⟦<dyn DegradationFn as DegradationFn>⟧ object.vtable).allows object.value) handler.old cause.FailedToEstablishConnection) 0 listed.now None self.old publishers.old result self.new publishers.new }
-        ensures same { AllowSame (Allowed (λ object. (⟦<dyn DegradationFn as DegradationFn>⟧ object.vtable).allows object.value) handler.new cause.FailedToEstablishConnection) (Allowed (λ object. (⟦<dyn DegradationFn as DegradationFn>⟧ object.vtable).allows object.value) handler.old cause.FailedToEstablishConnection) }
+        ensures { FollowsFrom (Allowed (λ object. (⟦<dyn DegradationFn as DegradationFn>⟧ object.vtable).allows object.value) handler.now cause.FailedToEstablishConnection) 0 listed.now None self.old publishers.old result self.new publishers.new }
     {
         let mut found = None;
         for place in 0..listed.len() {
@@ -125,11 +122,10 @@ impl SubscriberPort {
         &mut self,
         alloc: Global,
         listed: &[Option<Member<PublisherEntry>>],
-        handler: &mut DegradationHandler,
+        handler: &DegradationHandler,
         publishers: &mut Publishers<T, U>,
     ) -> Result<(), ConnectionFailure>
-        ensures follows { FollowsList (Allowed (λ object. (⟦<dyn DegradationFn as DegradationFn>⟧ object.vtable).allows object.value) handler.old cause.FailedToEstablishConnection) listed.now self.old publishers.old result self.new publishers.new }
-        ensures same { AllowSame (Allowed (λ object. (⟦<dyn DegradationFn as DegradationFn>⟧ object.vtable).allows object.value) handler.new cause.FailedToEstablishConnection) (Allowed (λ object. (⟦<dyn DegradationFn as DegradationFn>⟧ object.vtable).allows object.value) handler.old cause.FailedToEstablishConnection) }
+        ensures { FollowsList (Allowed (λ object. (⟦<dyn DegradationFn as DegradationFn>⟧ object.vtable).allows object.value) handler.now cause.FailedToEstablishConnection) listed.now self.old publishers.old result self.new publishers.new }
     {
         let found = self.follow_all(alloc, listed, handler, publishers);
         self.follow_nones(listed, publishers);
@@ -148,11 +144,10 @@ impl SubscriberPort {
         alloc: Global,
         listed: &[Option<Member<PublisherEntry>>],
         changes: u64,
-        handler: &mut DegradationHandler,
+        handler: &DegradationHandler,
         publishers: &mut Publishers<T, U>,
     ) -> Result<(), ConnectionFailure>
-        ensures updates { Updates (Allowed (λ object. (⟦<dyn DegradationFn as DegradationFn>⟧ object.vtable).allows object.value) handler.old cause.FailedToEstablishConnection) listed.now changes self.old publishers.old result self.new publishers.new }
-        ensures same { AllowSame (Allowed (λ object. (⟦<dyn DegradationFn as DegradationFn>⟧ object.vtable).allows object.value) handler.new cause.FailedToEstablishConnection) (Allowed (λ object. (⟦<dyn DegradationFn as DegradationFn>⟧ object.vtable).allows object.value) handler.old cause.FailedToEstablishConnection) }
+        ensures { Updates (Allowed (λ object. (⟦<dyn DegradationFn as DegradationFn>⟧ object.vtable).allows object.value) handler.now cause.FailedToEstablishConnection) listed.now changes self.old publishers.old result self.new publishers.new }
     {
         if self.seen == changes && !self.again {
             return Ok(());
@@ -170,11 +165,10 @@ impl SubscriberPort {
         alloc: Global,
         listed: &[Option<Member<PublisherEntry>>],
         changes: u64,
-        handler: &mut DegradationHandler,
+        handler: &DegradationHandler,
         publishers: &mut Publishers<T, U>,
     ) -> Result<bool, ConnectionFailure>
-        ensures answers { HasSamples (Allowed (λ object. (⟦<dyn DegradationFn as DegradationFn>⟧ object.vtable).allows object.value) handler.old cause.FailedToEstablishConnection) listed.now changes self.old publishers.old result self.new publishers.new }
-        ensures same { AllowSame (Allowed (λ object. (⟦<dyn DegradationFn as DegradationFn>⟧ object.vtable).allows object.value) handler.new cause.FailedToEstablishConnection) (Allowed (λ object. (⟦<dyn DegradationFn as DegradationFn>⟧ object.vtable).allows object.value) handler.old cause.FailedToEstablishConnection) }
+        ensures { HasSamples (Allowed (λ object. (⟦<dyn DegradationFn as DegradationFn>⟧ object.vtable).allows object.value) handler.now cause.FailedToEstablishConnection) listed.now changes self.old publishers.old result self.new publishers.new }
     {
         let updated = self.update(alloc, listed, changes, handler, publishers);
         self.has_samples_after(updated, publishers)
@@ -205,11 +199,10 @@ impl SubscriberPort {
         alloc: Global,
         listed: &[Option<Member<PublisherEntry>>],
         changes: u64,
-        handler: &mut DegradationHandler,
+        handler: &DegradationHandler,
         publishers: &mut Publishers<T, U>,
     ) -> Result<Option<Taken>, ReceiveError>
-        ensures receives { ReceivesNext (Allowed (λ object. (⟦<dyn DegradationFn as DegradationFn>⟧ object.vtable).allows object.value) handler.old cause.FailedToEstablishConnection) listed.now changes self.old publishers.old result self.new publishers.new }
-        ensures same { AllowSame (Allowed (λ object. (⟦<dyn DegradationFn as DegradationFn>⟧ object.vtable).allows object.value) handler.new cause.FailedToEstablishConnection) (Allowed (λ object. (⟦<dyn DegradationFn as DegradationFn>⟧ object.vtable).allows object.value) handler.old cause.FailedToEstablishConnection) }
+        ensures { ReceivesNext (Allowed (λ object. (⟦<dyn DegradationFn as DegradationFn>⟧ object.vtable).allows object.value) handler.now cause.FailedToEstablishConnection) listed.now changes self.old publishers.old result self.new publishers.new }
     {
         let updated = self.update(alloc, listed, changes, handler, publishers);
         self.receive_after(updated, publishers)

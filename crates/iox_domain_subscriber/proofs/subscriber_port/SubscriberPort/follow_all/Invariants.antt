@@ -6,4 +6,4 @@ use Rattle.iox_domain_subscriber.proofs.subscriber_port.SubscriberPort.follow_al
 abbrev pub invariant-loop-place : goal.invariant-loop-place
 invariant-loop-place g l =
     Following (Allowed (λ object. (goal.DegradationFn-dyn g (object.vtable, object.value)).allows object.value) l.fn.handler cause.FailedToEstablishConnection) l.fn.listed l.fn.self l.fn.publishers
-    (Allowed (λ object. (goal.DegradationFn-dyn g (object.vtable, object.value)).allows object.value) l.handler cause.FailedToEstablishConnection) l.found l.self l.publishers l.place
+    l.found l.self l.publishers l.place
