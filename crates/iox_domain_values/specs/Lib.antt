@@ -4,3 +4,4 @@ pub mod DegradationAnswers
 pub mod ErrorTexts
 pub mod OverrideAnswers
 pub mod Strategy
+pub mod Sizes
