@@ -1,5 +1,7 @@
 -- A publisher comes and leaves.
 use Rattle.std.specs.Prelude.{zero, suc, ℕ, ◌+◌, true, false, [], length, get_or, None, if◌then◌else◌}
+use Rattle.iox_domain_values.specs.declared.data_segment.AllocationStrategy.{AllocationStrategy}
+use Rattle.iox_domain_values.specs.declared.port_owner.PortIdentity.{PortIdentity}
 use Rattle.iox_domain_sender.specs.declared.sender_config.SenderConfig.{SenderConfig}
 use Rattle.iox_domain_publisher.specs.Places.{is_attached}
 use Rattle.iox_domain_publisher.specs.Progress.{start}
@@ -7,10 +9,13 @@ use Rattle.iox_domain_publisher.specs.Ports.{ended_at}
 use Rattle.iox_domain_publisher.specs.declared.publisher_port.PublisherPort.{PublisherPort}
 
 -- a publisher that is connected to nobody
-abbrev pub new_port : {T U : Type 0} → ℕ → ℕ → SenderConfig → U → PublisherPort T U
-new_port service number config user_header = record {
-  service = service;
-  number = number;
+abbrev pub new_port : {T U : Type 0} → PortIdentity → AllocationStrategy → SenderConfig → U → PublisherPort T U
+new_port identity allocation config user_header = record {
+  service = identity.service;
+  number = identity.number;
+  owner = identity.owner;
+  place = identity.place;
+  allocation = allocation;
   stands = true;
   seen = 0;
   ties = [];

@@ -6,14 +6,15 @@ use crate::places::Places;
 use crate::progress::Progress;
 use crate::publisher_port::PublisherPort;
 use iox_domain_sender::{Sender, SenderConfig};
+use iox_domain_values::{AllocationStrategy, PortIdentity};
 use std::alloc::{AllocError, Global};
 
 impl<T: Copy, U: Copy> PublisherPort<T, U> {
-    /// A publisher of this number in a service, that is connected to nobody yet. It fails only where memory is wanting.
+    /// A publisher that is connected to nobody yet, and is to be listed at its place. It fails only where memory is wanting.
     pub fn new(
         alloc: Global,
-        service: u64,
-        number: u64,
+        identity: PortIdentity,
+        allocation: AllocationStrategy,
         config: SenderConfig,
         blank: T,
         user_header: U,
@@ -23,11 +24,14 @@ impl<T: Copy, U: Copy> PublisherPort<T, U> {
         requires waiting { config.most_waiting < 2 ^ 32 }
         requires borrowed { config.most_borrowed < 2 ^ 32 }
         requires segments { 0 < config.most_segments }
-        ensures { IfOk result (λ port. port ≡ new_port service number config user_header) }
+        ensures { IfOk result (λ port. port ≡ new_port identity allocation config user_header) }
     {
         Ok(PublisherPort {
-            service,
-            number,
+            service: identity.service,
+            number: identity.number,
+            owner: identity.owner,
+            place: identity.place,
+            allocation,
             stands: true,
             seen: 0,
             ties: Places::new(alloc),

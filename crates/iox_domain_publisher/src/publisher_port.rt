@@ -3,6 +3,7 @@ use crate::places::Places;
 use crate::progress::Progress;
 use crate::reader::Reader;
 use iox_domain_sender::Sender;
+use iox_domain_values::{AllocationStrategy, PortOwner};
 
 /// A publisher with its messages and connections.
 ///
@@ -13,6 +14,12 @@ pub struct PublisherPort<T, U> {
     pub service: u64,
     /// Its own number.
     pub number: u64,
+    /// Who it belongs to.
+    pub owner: PortOwner,
+    /// Its place in the list of publishers.
+    pub place: usize,
+    /// How its room grows where a longer slice is asked for.
+    pub allocation: AllocationStrategy,
     /// Whether it is on the list of publishers: it didn't leave.
     pub stands: bool,
     /// How often the list of subscribers had changed when it was last followed.

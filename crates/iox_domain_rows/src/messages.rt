@@ -1,8 +1,25 @@
 //! The way of a message by what it holds.
 use iox_domain_sender::{Sender, SenderConfig};
 use iox_domain_slots::Stage;
+use iox_domain_values::{PortIdentity, PortOwner};
 use std::alloc::{AllocError, Global};
 use std::test::Fail;
+
+// Who the ports belong to.
+pub(crate) const OWNER: PortOwner = PortOwner {
+    number: 3,
+    node_id: 4,
+};
+
+// A port of a service at the first place.
+pub(crate) fn identity(service: u64, number: u64) -> PortIdentity {
+    PortIdentity {
+        service,
+        number,
+        owner: OWNER,
+        place: 0,
+    }
+}
 
 // A publisher of so many slots with room for so many numbers, one loan, no history, and one message waiting and borrowed.
 pub(crate) fn publisher(

@@ -1,9 +1,10 @@
 //! A publisher and the list of its subscribers.
+use crate::messages::identity;
 use iox_domain_publisher::{Handlers, PublisherPort, Sent, SubscriberEntry};
 use iox_domain_sender::SenderConfig;
 use iox_domain_slots::Stage;
 use iox_domain_values::{
-    BackpressureAction, BackpressureHandler, BackpressureStrategy, DegradationHandler, SendError,
+    AllocationStrategy, BackpressureAction, BackpressureHandler, BackpressureStrategy, DegradationHandler, SendError,
 };
 use iox_index_base::{Container, OwnerId, ReleaseMode};
 use std::alloc::{AllocError, Global};
@@ -21,7 +22,14 @@ fn publisher(alloc: Global, overflows: bool) -> Result<PublisherPort<u64, u8>, A
         most_waiting: 2,
         most_borrowed: 1,
     };
-    PublisherPort::new(alloc, 5, 1, config, 0, 0)
+    PublisherPort::new(
+        alloc,
+        identity(5, 1),
+        AllocationStrategy::Static,
+        config,
+        0,
+        0,
+    )
 }
 
 // Who decides, with this strategy and this answer of a handler, if there is one.

@@ -1,8 +1,8 @@
 //! The way of a message from publishers to a subscriber.
-use crate::messages::{first_value, lend, publisher, send, write_all};
+use crate::messages::{OWNER, first_value, identity, lend, publisher, send, write_all};
 use iox_domain_publisher::{Places, Progress, PublisherPort};
 use iox_domain_subscriber::{PublisherEntry, Publishers, SubscriberPort, Taken};
-use iox_domain_values::{DegradationAction, DegradationHandler};
+use iox_domain_values::{AllocationStrategy, DegradationAction, DegradationHandler};
 use iox_index_base::{Member, OwnerId};
 use std::alloc::{AllocError, Global};
 use std::test::Fail;
@@ -20,6 +20,9 @@ fn port(alloc: Global, number: u64) -> Result<PublisherPort<u64, u8>, AllocError
     Ok(PublisherPort {
         service: 1,
         number,
+        owner: OWNER,
+        place: 0,
+        allocation: AllocationStrategy::Static,
         stands: true,
         seen: 0,
         ties: Places::new(alloc),
@@ -36,7 +39,7 @@ fn make_world(alloc: Global, most_expired: usize) -> Result<World, AllocError> {
     publishers.insert(8, port(alloc, 8)?)?;
     Ok(World {
         publishers,
-        subscriber: SubscriberPort::new(alloc, 1, 5, 2, 2, most_expired)?,
+        subscriber: SubscriberPort::new(alloc, identity(1, 5), 2, 2, most_expired)?,
         handler: DegradationHandler::new_with(DegradationAction::DegradeAndFail),
     })
 }

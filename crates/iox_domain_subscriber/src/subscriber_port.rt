@@ -5,6 +5,7 @@ ghost use Rattle.std.specs.List.{range_with_len};
 use crate::attached::Attached;
 use crate::keys::Keys;
 use iox_domain_publisher::Places;
+use iox_domain_values::{PortIdentity, PortOwner};
 use iox_maps::SlotMap;
 use std::alloc::{AllocError, Global};
 
@@ -17,10 +18,16 @@ pub struct SubscriberPort {
     pub service: u64,
     /// Its own number.
     pub number: u64,
+    /// Who it belongs to.
+    pub owner: PortOwner,
+    /// Its place in the list of subscribers.
+    pub place: usize,
     /// Whether it is on the list of subscribers: it didn't leave.
     pub stands: bool,
     /// How many messages may wait for it at a connection.
     pub buffer_size: usize,
+    /// How many of the samples that it received aren't released yet.
+    pub held: usize,
     /// How often the list of publishers had changed when it was last followed.
     pub seen: u64,
     /// Whether a connection failed for want of room among the expired ones: the list is then followed again.
@@ -34,21 +41,23 @@ pub struct SubscriberPort {
 }
 
 impl SubscriberPort {
-    /// A subscriber on the list, without connections: at most so many go on, and so many more may expire. The list of publishers is
+    /// A subscriber that is to be listed at its place, without connections and samples: at most so many go on, and so many more may expire. The list of publishers is
     /// followed at its first update. It fails only where memory is wanting.
     pub fn new(
         alloc: Global,
-        service: u64,
-        number: u64,
+        identity: PortIdentity,
         buffer_size: usize,
         most_connections: usize,
         most_expired: usize,
     ) -> Result<SubscriberPort, AllocError>
         ensures { IfOk result (λ port. port ≡ record {
-          service = service;
-          number = number;
+          service = identity.service;
+          number = identity.number;
+          owner = identity.owner;
+          place = identity.place;
           stands = true;
           buffer_size = buffer_size;
+          held = 0;
           seen = 0;
           again = true;
           places = [];
@@ -60,10 +69,13 @@ impl SubscriberPort {
             return Err(AllocError);
         };
         Ok(SubscriberPort {
-            service,
-            number,
+            service: identity.service,
+            number: identity.number,
+            owner: identity.owner,
+            place: identity.place,
             stands: true,
             buffer_size,
+            held: 0,
             seen: 0,
             again: true,
             places: Places::new(alloc),

@@ -7,6 +7,7 @@
 //! | `backpressure` | what a handler is told of a full mailbox, what it may answer, and what strategy and answer come to |
 //! | `degradation` | what a handler is told of a failed connection, and what it may answer |
 //! | `data_segment` | how the room of a publisher grows |
+//! | `port_owner` | whose port it is, and which one |
 //! | `service_sizes` | how much a service allows to its ports, and how many slots a publisher needs there |
 //! | `connection_failure`, `port_error`, `create_error` | why a connection fails, a loan, a send or a receive is refused, a port or a domain isn't made |
 //! | `backpressure_handler`, `degradation_handler`, `samples_override` | the objects that are handed in, or one fixed answer in their place |
@@ -23,6 +24,7 @@ pub mod data_segment;
 pub mod degradation;
 pub mod degradation_handler;
 pub mod port_error;
+pub mod port_owner;
 pub mod samples_override;
 pub mod service_sizes;
 
@@ -37,5 +39,6 @@ pub use data_segment::{AllocationStrategy, DataSegmentType};
 pub use degradation::{DegradationAction, DegradationCause, DegradationInfo};
 pub use degradation_handler::{DegradationFn, DegradationHandler};
 pub use port_error::{LoanError, ReceiveError, SendError};
+pub use port_owner::{PortIdentity, PortOwner};
 pub use samples_override::{PreallocatedSamplesFn, PreallocatedSamplesOverride};
 pub use service_sizes::ServiceSizes;

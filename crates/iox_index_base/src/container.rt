@@ -116,6 +116,13 @@ impl<T: Copy> Container<T> {
         self.changes
     }
 
+    /// The lowest index without a member, which the next one gets; `None` where each has one.
+    pub fn lowest_free(&self) -> Option<usize>
+        ensures { result ≡ lowest_free self.now }
+    {
+        self.members.lowest_empty()
+    }
+
     /// Adds a member at the lowest free index, and answers its handle.
     ///
     /// Refused with `IsLocked` if the container is locked, else with `OutOfSpace` if it is full.

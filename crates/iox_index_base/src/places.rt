@@ -80,6 +80,20 @@ impl<C: Copy> Places<C> {
         *self.cells.get(index)?
     }
 
+    /// The lowest place that is empty; `None` where each is filled.
+    pub(crate) fn lowest_empty(&self) -> Option<usize>
+        ensures { result ≡ lowest_empty self.now }
+    {
+        if let Some(index) = lowest_empty(self.cells.as_slice()) {
+            return Some(index);
+        }
+        let index = self.cells.len();
+        if index == self.count {
+            return None;
+        }
+        Some(index)
+    }
+
     /// Fills the lowest place that is empty, and answers its index; `None` where each is filled.
     pub(crate) fn fill(&mut self, content: C) -> Option<usize>
         ensures answer { result ≡ lowest_empty self.old }

@@ -1,0 +1,21 @@
+//! The ports of one service by their numbers: who is listed, whose connections there are, and what each call of a port does to them.
+//!
+//! - [`roll`]: the list of the ports of one kind.
+//! - [`subscribers`]: the subscribers of a service, by number.
+//! - [`service_ports`]: the ports of a service.
+//! - [`making`]: a publisher and a subscriber come.
+//! - [`publishing`]: a publisher follows the subscribers, sends and leaves.
+//! - [`subscribing`]: a subscriber follows the publishers, receives, releases and leaves.
+#![tactic(auto)]
+
+
+
+pub mod publishing;
+pub mod roll;
+pub mod service_ports;
+pub mod subscribers;
+pub mod subscribing;
+
+pub use roll::Roll;
+pub use service_ports::ServicePorts;
+pub use subscribers::Subscribers;
