@@ -1,2 +1,3 @@
 pub mod Rolling
 pub mod Lifting
+pub mod Coming

@@ -4,3 +4,4 @@ pub mod SubscribersLends
 pub mod Ports
 pub mod Publishing
 pub mod Subscribing
+pub mod Making

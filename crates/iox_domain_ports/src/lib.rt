@@ -10,12 +10,14 @@
 
 
 
+pub mod making;
 pub mod publishing;
 pub mod roll;
 pub mod service_ports;
 pub mod subscribers;
 pub mod subscribing;
 
+pub use making::{PublisherConfig, SubscriberConfig};
 pub use roll::Roll;
 pub use service_ports::ServicePorts;
 pub use subscribers::Subscribers;

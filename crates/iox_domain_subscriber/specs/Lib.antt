@@ -7,3 +7,4 @@ pub mod Receiving
 pub mod Following
 pub mod Updating
 pub mod Laws
+pub mod Arriving

@@ -1,6 +1,6 @@
 //! A subscriber.
-ghost use Rattle.std.specs.Prelude.{◌≡◌, ◌+◌, replicate, [], None, IfOk, true, false};
-ghost use Rattle.std.specs.List.{range_with_len};
+ghost use Rattle.std.specs.Prelude.{◌≡◌, IfOk};
+ghost use Rattle.iox_domain_subscriber.specs.Arriving.{new_subscriber};
 
 use crate::attached::Attached;
 use crate::keys::Keys;
@@ -50,20 +50,7 @@ impl SubscriberPort {
         most_connections: usize,
         most_expired: usize,
     ) -> Result<SubscriberPort, AllocError>
-        ensures { IfOk result (λ port. port ≡ record {
-          service = identity.service;
-          number = identity.number;
-          owner = identity.owner;
-          place = identity.place;
-          stands = true;
-          buffer_size = buffer_size;
-          held = 0;
-          seen = 0;
-          again = true;
-          places = [];
-          connections = record { values = replicate (most_connections + most_expired) None; free = range_with_len 0 (most_connections + most_expired) };
-          expired = record { items = []; room = most_expired };
-        }) }
+        ensures { IfOk result (λ port. port ≡ new_subscriber identity buffer_size most_connections most_expired) }
     {
         let Some(most) = most_connections.checked_add(most_expired) else {
             return Err(AllocError);

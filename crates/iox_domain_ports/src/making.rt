@@ -1,0 +1,279 @@
+//! A publisher and a subscriber come.
+ghost use Rattle.std.specs.Prelude.{◌≡◌, ◌+◌, ◌<◌, ◌^◌, Some, IfSome};
+ghost use Rattle.iox_domain_values.specs.OverrideAnswers as overriding_of;
+ghost use Rattle.iox_domain_values.specs.DegradationAnswers.{Allowed};
+ghost use Rattle.iox_domain_values.specs.declared.degradation.DegradationCause.TheVariants as cause;
+ghost use Rattle.iox_domain_ports.specs.Subscribers.{subscriber_of};
+ghost use Rattle.iox_domain_ports.specs.Making.{slots_needed, publisher_place, subscriber_place, buffer_of, segments_of, sender_config, identity_of, AddsPublisher, CreatesPublisher, FollowsFirst, AddsSubscriber, CreatesSubscriber};
+
+use crate::service_ports::ServicePorts;
+use iox_domain_publisher::{PublisherPort, SubscriberEntry};
+use iox_domain_sender::SenderConfig;
+use iox_domain_subscriber::{PublisherEntry, SubscriberPort};
+use iox_domain_values::degradation_handler::DegradationFn;
+use iox_domain_values::samples_override::PreallocatedSamplesFn;
+use iox_domain_values::{
+    AllocationStrategy, DegradationHandler, PortIdentity, PortOwner, PreallocatedSamplesOverride,
+    PublisherCreateError, SubscriberCreateError,
+};
+use std::alloc::{AllocError, Global};
+
+/// What a publisher is made with.
+#[derive(Clone, Copy, Debug, PartialEq, Eq)]
+pub struct PublisherConfig {
+    /// Who it belongs to.
+    pub owner: PortOwner,
+    /// How many loans may be out.
+    pub max_loaned_samples: usize,
+    /// How many values stand in a slot at first: 1 where a message is a single value.
+    pub values: usize,
+    /// What a loan of more values does.
+    pub allocation: AllocationStrategy,
+}
+
+/// What a subscriber is made with.
+#[derive(Clone, Copy, Debug, PartialEq, Eq)]
+pub struct SubscriberConfig {
+    /// Who it belongs to.
+    pub owner: PortOwner,
+    /// How many messages may wait at a connection: 0 is 1, and as many as the service allows where none is named.
+    pub buffer_size: Option<usize>,
+}
+
+impl<T: Copy, U: Copy> ServicePorts<T, U> {
+    /// A publisher comes, and its number is the answer. It gets as many slots as it needs in the worst case, or fewer as `overriding`
+    /// answers; `blank` fills them, and a loan has this user header at first. It is connected to the subscribers that are listed; where
+    /// a connection isn't made `handler` is asked, and it comes nevertheless.
+    ///
+    /// Refused with `UnableToCreateDataSegment` if the slots of the worst case or `values` are 2^32 or more; else with
+    /// `ExceedsMaxSupportedPublishers` if no place is free; else with `UnableToCreateDataSegment` where memory is wanting. Then
+    /// nothing has changed.
+    ///
+    /// Ported from `iceoryx2::service::port_factory::publisher::PortFactoryPublisher::create`.
+    pub fn create_publisher(
+        &mut self,
+        alloc: Global,
+        config: PublisherConfig,
+        blank: T,
+        user_header: U,
+        overriding: &PreallocatedSamplesOverride,
+        handler: &DegradationHandler,
+    ) -> Result<u64, PublisherCreateError>
+        ensures { CreatesPublisher (overriding_of.Allowed (λ object. (⟦<dyn PreallocatedSamplesFn as PreallocatedSamplesFn>⟧ object.vtable).allows object.value) overriding.now)
+          (Allowed (λ object. (⟦<dyn DegradationFn as DegradationFn>⟧ object.vtable).allows object.value) handler.now cause.FailedToEstablishConnection)
+          config user_header (slots_needed config self.old) (publisher_place self.old) self.old result self.new }
+    {
+        let Some(needed) = self.slots_needed(&config) else {
+            return Err(PublisherCreateError::UnableToCreateDataSegment);
+        };
+        let Some(place) = self.publisher_place() else {
+            return Err(PublisherCreateError::ExceedsMaxSupportedPublishers);
+        };
+        let slots = overriding.number_of_places(needed.max(1));
+        match self.add_publisher(alloc, config, place, slots, blank, user_header, handler) {
+            Ok(number) => Ok(number),
+            Err(_) => Err(PublisherCreateError::UnableToCreateDataSegment),
+        }
+    }
+
+    // How many slots a publisher needs, unless they or the values of one are 2^32 or more.
+    fn slots_needed(&self, config: &PublisherConfig) -> Option<usize>
+        ensures slots { result ≡ slots_needed config.now self.now }
+        ensures loans { IfSome result (λ _. config.now.max_loaned_samples < 2 ^ 32) }
+    {
+        if config.values >= 0x1_0000_0000 {
+            return None;
+        }
+        self.sizes.worst_case(config.max_loaned_samples)
+    }
+
+    // The place that the next publisher gets, if there is one, and a number for it.
+    fn publisher_place(&self) -> Option<usize>
+        ensures place { result ≡ publisher_place self.now }
+        ensures number { IfSome result (λ _. self.now.next_port + 1 < 2 ^ 64) }
+    {
+        if self.next_port == u64::MAX {
+            return None;
+        }
+        self.publisher_list.free_place()
+    }
+
+    // A publisher comes at the place that is free.
+    fn add_publisher(
+        &mut self,
+        alloc: Global,
+        config: PublisherConfig,
+        place: usize,
+        slots: usize,
+        blank: T,
+        user_header: U,
+        handler: &DegradationHandler,
+    ) -> Result<u64, AllocError>
+        requires loans { config.max_loaned_samples < 2 ^ 32 }
+        requires place { publisher_place self.old ≡ Some place }
+        requires number { self.old.next_port + 1 < 2 ^ 64 }
+        ensures { AddsPublisher (Allowed (λ object. (⟦<dyn DegradationFn as DegradationFn>⟧ object.vtable).allows object.value) handler.now cause.FailedToEstablishConnection)
+          config user_header place slots self.old result self.new }
+    {
+        let number = self.next_port;
+        let mut port = PublisherPort::new(
+            alloc,
+            self.identity(config.owner, place),
+            config.allocation,
+            self.sender_config(&config, slots),
+            blank,
+            user_header,
+        )?;
+        let listed = self.subscriber_list.listed();
+        let changes = self.subscriber_list.changes();
+        // It comes also where it isn't connected.
+        let _ = port.update(alloc, listed, changes, handler);
+        self.publishers.insert(number, port)?;
+        let _ = self.publisher_list.enter(PublisherEntry { publisher: number });
+        self.next_port = number + 1;
+        Ok(number)
+    }
+
+    // Which port comes next.
+    fn identity(&self, owner: PortOwner, place: usize) -> PortIdentity
+        ensures { result ≡ identity_of owner place self.now }
+    {
+        PortIdentity {
+            service: self.service,
+            number: self.next_port,
+            owner,
+            place,
+        }
+    }
+
+    // How many messages a publisher and its connections may have.
+    fn sender_config(&self, config: &PublisherConfig, slots: usize) -> SenderConfig
+        ensures config { result ≡ sender_config config.now slots self.now }
+        ensures history { result.history < 2 ^ 32 }
+        ensures waiting { result.most_waiting < 2 ^ 32 }
+        ensures borrowed { result.most_borrowed < 2 ^ 32 }
+    {
+        SenderConfig {
+            overflows: self.sizes.enable_safe_overflow,
+            slots,
+            most_segments: segments_of(config.allocation),
+            room: config.values,
+            most_loans: config.max_loaned_samples,
+            history: self.sizes.history_size as usize,
+            most_waiting: self.sizes.subscriber_max_buffer_size as usize,
+            most_borrowed: self.sizes.subscriber_max_borrowed_samples as usize,
+        }
+    }
+
+    /// A subscriber comes, and its number is the answer. It is connected to the publishers that are listed; where a connection isn't made
+    /// `handler` is asked, and it comes nevertheless.
+    ///
+    /// Refused with `BufferSizeExceedsMaxSupportedBufferSizeOfService` if more messages are to wait than the service allows; else with
+    /// `ExceedsMaxSupportedSubscribers` if no place is free; else with `OutOfMemory` where memory is wanting. Then nothing has changed.
+    ///
+    /// Ported from `iceoryx2::service::port_factory::subscriber::PortFactorySubscriber::create`.
+    pub fn create_subscriber(
+        &mut self,
+        alloc: Global,
+        config: SubscriberConfig,
+        handler: &DegradationHandler,
+    ) -> Result<u64, SubscriberCreateError>
+        ensures { CreatesSubscriber (Allowed (λ object. (⟦<dyn DegradationFn as DegradationFn>⟧ object.vtable).allows object.value) handler.now cause.FailedToEstablishConnection)
+          config.owner (buffer_of config.buffer_size self.old) (subscriber_place self.old) self.old result self.new }
+    {
+        let Some(buffer_size) = self.buffer_of(config.buffer_size) else {
+            return Err(SubscriberCreateError::BufferSizeExceedsMaxSupportedBufferSizeOfService);
+        };
+        let Some(place) = self.subscriber_place() else {
+            return Err(SubscriberCreateError::ExceedsMaxSupportedSubscribers);
+        };
+        match self.add_subscriber(alloc, config.owner, place, buffer_size, handler) {
+            Ok(number) => Ok(number),
+            Err(_) => Err(SubscriberCreateError::OutOfMemory),
+        }
+    }
+
+    // How many messages may wait for a subscriber that asks for so many, unless it asks for too many.
+    fn buffer_of(&self, asked: Option<usize>) -> Option<usize>
+        ensures { result ≡ buffer_of asked self.now }
+    {
+        let most = self.sizes.subscriber_max_buffer_size as usize;
+        let buffer_size = match asked {
+            Some(size) => size.max(1),
+            None => most,
+        };
+        if most < buffer_size {
+            None
+        } else {
+            Some(buffer_size)
+        }
+    }
+
+    // The place that the next subscriber gets, if there is one, and a number for it.
+    fn subscriber_place(&self) -> Option<usize>
+        ensures place { result ≡ subscriber_place self.now }
+        ensures number { IfSome result (λ _. self.now.next_port + 1 < 2 ^ 64) }
+    {
+        if self.next_port == u64::MAX {
+            return None;
+        }
+        self.subscriber_list.free_place()
+    }
+
+    // A subscriber comes at the place that is free.
+    fn add_subscriber(
+        &mut self,
+        alloc: Global,
+        owner: PortOwner,
+        place: usize,
+        buffer_size: usize,
+        handler: &DegradationHandler,
+    ) -> Result<u64, AllocError>
+        requires place { subscriber_place self.old ≡ Some place }
+        requires number { self.old.next_port + 1 < 2 ^ 64 }
+        ensures { AddsSubscriber (Allowed (λ object. (⟦<dyn DegradationFn as DegradationFn>⟧ object.vtable).allows object.value) handler.now cause.FailedToEstablishConnection)
+          owner place buffer_size self.old result self.new }
+    {
+        let number = self.next_port;
+        let port = SubscriberPort::new(
+            alloc,
+            self.identity(owner, place),
+            buffer_size,
+            self.sizes.max_publishers as usize,
+            self.sizes.expired_connections as usize,
+        )?;
+        self.subscribers.insert(number, port)?;
+        self.follow_first(alloc, number, handler);
+        let entry = SubscriberEntry {
+            subscriber: number,
+            buffer_size,
+        };
+        let _ = self.subscriber_list.enter(entry);
+        self.next_port = number + 1;
+        Ok(number)
+    }
+
+    // A subscriber follows the list of publishers for the first time. It comes also where it isn't connected.
+    fn follow_first(&mut self, alloc: Global, number: u64, handler: &DegradationHandler)
+        ensures { FollowsFirst (Allowed (λ object. (⟦<dyn DegradationFn as DegradationFn>⟧ object.vtable).allows object.value) handler.now cause.FailedToEstablishConnection)
+          number (subscriber_of number self.old.subscribers) self.old self.new }
+    {
+        let Some(port) = self.subscribers.get_mut(number) else {
+            return;
+        };
+        let listed = self.publisher_list.listed();
+        let changes = self.publisher_list.changes();
+        let _ = port.update(alloc, listed, changes, handler, &mut self.publishers);
+    }
+}
+
+// How many segments a publisher may have.
+fn segments_of(allocation: AllocationStrategy) -> usize
+    ensures segments { result ≡ segments_of allocation }
+    ensures some { 0 < result }
+{
+    match allocation {
+        AllocationStrategy::Static => 1,
+        AllocationStrategy::BestFit | AllocationStrategy::PowerOfTwo => 255,
+    }
+}
