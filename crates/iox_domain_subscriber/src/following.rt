@@ -128,7 +128,7 @@ impl SubscriberPort {
         if self.connections.is_full() {
             return Err(ZeroCopyCreationError::OutOfMemory);
         }
-        if self.reach(place).is_err() {
+        if self.places.reach(place + 1).is_err() {
             return Err(ZeroCopyCreationError::OutOfMemory);
         }
         match publishers.attach(alloc, number, self.number, self.buffer_size) {
