@@ -1,5 +1,5 @@
 -- What a subscriber does at one place of the list of publishers.
-use Rattle.std.specs.Prelude.{ℕ, ◌+◌, ◌==◌, ◌≡◌, ◌||◌, is_none, Bool, true, false, List, length, get_or, set, slice_get, nat_le, Option, None, Some, Result, Ok, Err}
+use Rattle.std.specs.Prelude.{ℕ, ◌+◌, ◌<◌, ◌==◌, ◌≡◌, ◌≢◌, ◌||◌, is_none, Bool, true, false, List, [], length, get_or, set, slice_get, nat_le, Option, None, Some, Result, Ok, Err}
 use Rattle.std.specs.declared.alloc.AllocError.{AllocError}
 use Rattle.iox_maps.specs.SlotTable.{stored}
 use Rattle.iox_domain_values.specs.declared.connection_failure.ZeroCopyCreationError.{ZeroCopyCreationError}
@@ -149,3 +149,10 @@ FollowsNoneAt {T} {U} (Some key) place port ports new new_ports =
 -- What becomes of a place that lists none.
 abbrev pub FollowsNone : {T U : Type 0} → ℕ → SubscriberPort → List (ℕ × PublisherPort T U) → SubscriberPort → List (ℕ × PublisherPort T U) → Type 0
 FollowsNone place port ports new new_ports = FollowsNoneAt (get_or port.places place None) place port ports new new_ports
+
+-- A publisher that comes to a place where there was none, and which is reached, is always followed if a key is left and the publisher
+-- has the connection already.
+abbrev pub AttachesAtOnce : Type 0 → Type 0 → Type 0
+AttachesAtOnce T U = (place number : ℕ) (port new : SubscriberPort) (ports new_ports : List (ℕ × PublisherPort T U)) (answer : Result (Unit {0}) ZeroCopyCreationError)
+    → get_or port.places place None ≡ None → place < length port.places → port.connections.free ≢ [] → lacks_connection port.number (port_of number ports) ≡ false
+    → FollowsListed place number port ports answer new new_ports → answer ≡ Ok tt

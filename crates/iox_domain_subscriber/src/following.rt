@@ -2,7 +2,7 @@
 ghost use Rattle.std.specs.Prelude.{◌≡◌, ◌≢◌, ◌+◌, ◌<◌, ◌≤◌, ◌==◌, ◌^◌, IfOk, OnErr, length, get_or, [], None, Some, true};
 ghost use Rattle.iox_domain_subscriber.specs.Subscribing.{attached_at, connection_by, is_idle};
 ghost use Rattle.iox_domain_subscriber.specs.Receiving.{IsMet};
-ghost use Rattle.iox_domain_subscriber.specs.Following.{is_unborrowed, is_of, replaced_port, replaced_ports, within_reach, unplaced, Parts, PartsFull, KeepsReached, Connects, FollowsListed, FollowsFreed, FollowsNone};
+ghost use Rattle.iox_domain_subscriber.specs.Following.{is_unborrowed, is_of, replaced_port, replaced_ports, within_reach, unplaced, Parts, PartsFull, KeepsReached, Connects, FollowsListed, FollowsFreed, FollowsNone, AttachesAtOnce};
 
 use crate::attached::Attached;
 use crate::publishers::Publishers;
@@ -228,3 +228,9 @@ impl SubscriberPort {
         }
     }
 }
+
+/// A publisher that comes to a reached place where there was none is followed without memory, if a key is left and it has the
+/// connection already. A law of the step at a place: the function does nothing.
+pub fn attaches_at_once<T, U>()
+    ensures { AttachesAtOnce T U }
+{}
