@@ -1,10 +1,8 @@
 -- An update that finds all that it needs takes no memory.
-use Rattle.std.proofs.Common.{rules, arith, ◌≡◌, ◌≢◌, ◌+◌, ◌-◌, ◌<◌, ◌≤◌, ◌==◌, ◌||◌, ◌⊎◌, inl, inr, ◌++◌, ℕ, zero, suc, Bool, true, false, cond, List, [], ◌∷◌, length, get_or, set, replicate, is_some, is_none, nat_lt, nat_le, min, Result, Ok, Err, Option, None, Some, refl, sym, ap, ◌∙◌, zero-add, length-append, if◌then◌else◌}
-use Rattle.std.proofs.Math.Logic.{⊎_elim}
+use Rattle.std.proofs.Common.{arith, ◌≡◌, ◌≢◌, ◌+◌, ◌-◌, ◌<◌, ◌≤◌, ◌==◌, ◌||◌, ◌++◌, ℕ, zero, suc, Bool, true, false, cond, List, [], ◌∷◌, length, get_or, set, replicate, is_some, is_none, nat_lt, nat_le, Result, Ok, Err, Option, None, Some, refl, sym, ap, ◌∙◌, zero-add, length-append, if◌then◌else◌}
 use Rattle.std.proofs.lemmas.List.{get_or-set_other, length-set}
 use Rattle.std.proofs.lemmas.List.Folds.{position_or_len-set}
 use Rattle.std.specs.List.{position, position_or_len}
-use Rattle.std.specs.Prelude.{is_ok}
 use Rattle.std.specs.declared.alloc.AllocError.{AllocError}
 use Rattle.iox_index_base.specs.declared.container.Member.{Member}
 use Rattle.iox_domain_sender.specs.Messages.{Message}
@@ -12,8 +10,8 @@ use Rattle.iox_domain_values.specs.declared.connection_failure.ConnectionFailure
 use Rattle.iox_domain_values.specs.declared.degradation.DegradationAction.{DegradationAction}
 use Rattle.iox_domain_values.specs.declared.degradation.DegradationInfo.{DegradationInfo}
 use Rattle.iox_domain_publisher.specs.Places.{reached, leads_to}
-use Rattle.iox_domain_publisher.specs.Ports.{connection_to, connection_of, is_live, greeted_at, welcomed_at, Joins}
-use Rattle.iox_domain_publisher.specs.Updating.{is_tie_to, let_go_of, untied, within_reach, tied, takes_memory, Ties, Follows, FollowsTo, Asks, FollowsAll, UpdatesIf, Updates, update_answer}
+use Rattle.iox_domain_publisher.specs.Ports.{connection_to, connection_of, is_live, greeted_at, Joins}
+use Rattle.iox_domain_publisher.specs.Updating.{is_tie_to, let_go_of, untied, within_reach, tied, Ties, Follows, FollowsTo, FollowsAll, UpdatesIf, Updates}
 use Rattle.iox_domain_publisher.specs.Memory.{HasRoom, NeedsNoMemory}
 use Rattle.iox_domain_publisher.specs.declared.reader.Reader.{Reader}
 use Rattle.iox_domain_publisher.specs.declared.publisher_port.PublisherPort.{PublisherPort}

@@ -1,5 +1,5 @@
 -- Where memory may be wanting.
-use Rattle.std.proofs.Common.{rules, arith, ◌≡◌, ◌≤◌, ◌||◌, ℕ, Bool, true, false, length, nat_le, is_none, Result, Ok, Err, Option, None, Some, refl}
+use Rattle.std.proofs.Common.{arith, ◌≡◌, ◌≤◌, ◌||◌, ℕ, Bool, true, false, length, nat_le, Err, Option, None, Some, refl}
 use Rattle.std.specs.declared.alloc.AllocError.{AllocError}
 use Rattle.iox_domain_publisher.specs.Ports.{Joins, connection_to}
 use Rattle.iox_domain_publisher.specs.Updating.{takes_memory}

@@ -10,7 +10,7 @@ use std::alloc::{AllocError, Global};
 use std::marker::Model;
 
 /// How the values of a slot are marked: most loans are written all at once, and then there is nothing to be marked one by one.
-#[derive(Clone, Copy, Debug, PartialEq, Eq)]
+#[derive(Clone, Copy)]
 pub enum Marking {
     /// None of them is written.
     Unwritten,

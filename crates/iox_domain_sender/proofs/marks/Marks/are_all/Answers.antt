@@ -1,8 +1,6 @@
-use Rattle.std.proofs.Common.{rules, ◌<◌, ◌≡◌, ◌∙◌, ◌-◌, ◌*◌, ◌==◌, length, ap, sym}
-use Rattle.std.proofs.lemmas.List.{length-replicate}
+use Rattle.std.proofs.Common.{rules, ◌<◌, ◌∙◌, ◌-◌, ◌*◌, ◌==◌, length, ap, sym}
 use Rattle.std.specs.List.{list_all}
 use Rattle.iox_domain_sender.specs.Payloads.{payload_at}
-use Rattle.iox_domain_sender.specs.Marks.{marks_of}
 use Rattle.iox_domain_sender.proofs.Marking.{slot_there, marking_there, marks_by, all_true, false_all}
 use Rattle.iox_domain_sender.proofs.marks.Marks.are_all.Goals as goal
 

@@ -1,7 +1,5 @@
-use Rattle.std.proofs.Common.{rules, ◌<◌, ◌≡◌, ◌∙◌, ◌-◌, ◌*◌, false, nat_lt, get_or, length, ap, sym}
-use Rattle.std.proofs.lemmas.List.{length-replicate}
+use Rattle.std.proofs.Common.{rules, ◌<◌, ◌∙◌, ◌-◌, ◌*◌, false, nat_lt, get_or, length, ap, sym}
 use Rattle.iox_domain_sender.specs.Payloads.{payload_at}
-use Rattle.iox_domain_sender.specs.Marks.{marks_of}
 use Rattle.iox_domain_sender.proofs.Marking.{slot_there, marking_there, marks_by, true_within, none_true}
 use Rattle.iox_domain_sender.proofs.marks.Marks.is_marked.Goals as goal
 

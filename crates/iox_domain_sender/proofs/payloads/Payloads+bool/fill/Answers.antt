@@ -1,4 +1,4 @@
-use Rattle.std.proofs.Common.{rules, ◌%◌, ◌∙◌, ap, length, replicate}
+use Rattle.std.proofs.Common.{rules, ◌∙◌, ap, length, replicate}
 use Rattle.iox_domain_sender.specs.Rows.{with_row}
 use Rattle.iox_domain_sender.specs.Payloads.{payload_at}
 use Rattle.iox_domain_sender.proofs.Segments.{some_size, is_within, found}

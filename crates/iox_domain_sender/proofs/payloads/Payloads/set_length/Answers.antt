@@ -1,4 +1,4 @@
-use Rattle.std.proofs.Common.{rules, arith, ◌%◌, ◌∙◌, length, ap, sym}
+use Rattle.std.proofs.Common.{rules, arith, ◌∙◌, length, ap, sym}
 use Rattle.iox_domain_sender.specs.Payloads.{payload_at, with_payload}
 use Rattle.iox_domain_sender.specs.Rows.{row_at}
 use Rattle.iox_domain_sender.proofs.Segments.{some_size, is_within, found, payload_changed}

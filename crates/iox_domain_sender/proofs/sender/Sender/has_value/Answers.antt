@@ -1,4 +1,4 @@
-use Rattle.std.proofs.Common.{arith, ◌≡◌, ◌∙◌, ◌&&◌, true, false, get_or, is_some, ap, sym, None}
+use Rattle.std.proofs.Common.{arith, ◌≡◌, ◌∙◌, ◌&&◌, true, get_or, is_some, ap, sym, None}
 use Rattle.iox_domain_sender.specs.Payloads.{payload_at}
 use Rattle.iox_domain_sender.specs.Sending.{loan_in, has_loan}
 use Rattle.iox_domain_sender.proofs.Seen.{test_is, no_test, loan_below}

@@ -1,4 +1,4 @@
-use Rattle.std.proofs.Common.{arith, ◌≡◌, ◌∙◌, true, false, length, get_or, ap, sym, Some, None}
+use Rattle.std.proofs.Common.{arith, ◌≡◌, ◌∙◌, true, false, get_or, ap, sym, Some, None}
 use Rattle.iox_domain_sender.specs.Payloads.{payload_at}
 use Rattle.iox_domain_sender.proofs.Reading.{loan_in_is, value_absent, value_present}
 use Rattle.iox_domain_sender.proofs.Writing.{value_there}
