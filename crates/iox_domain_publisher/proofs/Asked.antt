@@ -1,5 +1,5 @@
 -- A send by its parts.
-use Rattle.std.proofs.Common.{◌≡◌, ℕ, Bool, true, List, Result, Ok, Err, Option, Some, refl}
+use Rattle.std.proofs.Common.{◌≡◌, ◌≢◌, ℕ, Bool, true, false, List, Result, Ok, Err, Option, Some, refl, sym, ◌∙◌, if◌then◌else◌}
 use Rattle.iox_domain_values.specs.declared.backpressure.BackpressureInfo.{BackpressureInfo}
 use Rattle.iox_domain_values.specs.declared.backpressure.BackpressureDecision.{BackpressureDecision}
 use Rattle.iox_domain_values.specs.declared.connection_failure.ConnectionFailure.{ConnectionFailure}
@@ -9,6 +9,7 @@ use Rattle.iox_domain_values.specs.declared.port_error.SendError.{SendError}
 use Rattle.iox_domain_values.specs.declared.port_error.SendError.TheVariants as sending
 use Rattle.iox_index_base.specs.declared.container.Member.{Member}
 use Rattle.iox_domain_publisher.specs.declared.meeting.Sent.{Sent}
+use Rattle.iox_domain_publisher.specs.declared.meeting.Sent.TheVariants as sent
 use Rattle.iox_domain_publisher.specs.declared.publisher_port.PublisherPort.{PublisherPort}
 use Rattle.iox_domain_publisher.specs.declared.subscriber_entry.SubscriberEntry.{SubscriberEntry}
 use Rattle.iox_domain_publisher.specs.Updating.{Updates}
@@ -35,3 +36,17 @@ pub sends_sent : {T U : Type 0} (may_degrade : DegradationInfo → DegradationAc
     → Sends may_degrade may listed changes ready old (Some answer) new
 sends_sent may_degrade may listed changes ready at old updated begun new outcome done answer is_ready stands updates is_ok is_begun finishes =
     rw is_ready (if_stands old.stands may_degrade may listed changes at old _ new stands (outcome, updated, updates, rw is_ok (answer, rw is_begun at finishes, refl)))
+
+-- a send that goes over its places isn't refused for want of a connection
+answers_else : (arrived fails : Bool) (delivered : ℕ) (failure : ConnectionFailure)
+    → (if arrived then (if fails then Err sending.UnableToDeliver else Ok (sent.Delivered delivered)) else Ok sent.Blocked) ≢ Err (sending.ConnectionError failure)
+answers_else true true delivered failure is = cc
+answers_else true false delivered failure is = cc
+answers_else false fails delivered failure is = cc
+
+pub finishes_else : {T U : Type 0} (may : BackpressureInfo → BackpressureDecision → Type 0) (old new : PublisherPort T U) (answer : Result Sent SendError) → Finishes may old answer new
+    → (failure : ConnectionFailure) → Some answer ≢ Some (Err (sending.ConnectionError failure))
+finishes_else {T} {U} may old new answer finishes failure is =
+    let gone : PublisherPort T U = finishes.1 in
+    let same : answer ≡ Err (sending.ConnectionError failure) = cc in
+    answers_else finishes.0 gone.progress.fails gone.progress.delivered failure (sym finishes.3 ∙ same)

@@ -6,3 +6,4 @@ pub mod Updating
 pub mod Sending
 pub mod Leaving
 pub mod Laws
+pub mod Memory

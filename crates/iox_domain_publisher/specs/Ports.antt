@@ -56,9 +56,9 @@ Joins subscriber limit None old answer new = Connects limit (record { subscriber
 abbrev pub attached_at : {T U : Type 0} → ℕ → ℕ → PublisherPort T U → PublisherPort T U
 attached_at subscriber index port = record port { readers = set port.readers index (Some (record { subscriber = subscriber; attached = true })) }
 
--- a subscriber attaches to its connection, which is made where there is none
+-- a subscriber attaches to its connection, which is made where there is none; only then memory may be wanting, and nothing changes
 abbrev pub Attaches : {T U : Type 0} → ℕ → ℕ → PublisherPort T U → Result ℕ AllocError → PublisherPort T U → Type 0
-Attaches subscriber limit old (Err error) new = new ≡ old
+Attaches subscriber limit old (Err error) new = (connection_to subscriber old ≡ None) × (new ≡ old)
 Attaches {T} {U} subscriber limit old (Ok index) new =
     (joined : PublisherPort T U) × Joins subscriber limit (connection_to subscriber old) old (Ok index) joined × (new ≡ attached_at subscriber index joined)
 

@@ -1,5 +1,5 @@
 -- A publisher follows the list of subscribers.
-use Rattle.std.specs.Prelude.{ℕ, ◌+◌, ◌==◌, ◌≡◌, min, is_ok, Bool, true, false, List, [], ◌∷◌, get_or, set, Option, None, Some, Result, Ok, Err}
+use Rattle.std.specs.Prelude.{ℕ, ◌+◌, ◌==◌, ◌≡◌, ◌||◌, min, nat_le, is_ok, is_none, Bool, true, false, List, [], ◌∷◌, length, get_or, set, Option, None, Some, Result, Ok, Err}
 use Rattle.std.specs.declared.alloc.AllocError.{AllocError}
 use Rattle.iox_domain_values.specs.declared.connection_failure.ConnectionFailure.{ConnectionFailure}
 use Rattle.iox_domain_values.specs.declared.connection_failure.ConnectionFailure.TheVariants.{FailedToEstablishConnection}
@@ -35,10 +35,14 @@ within_reach place port = record port { ties = reached (place + 1) port.ties }
 abbrev pub tied : {T U : Type 0} → ℕ → ℕ → PublisherPort T U → PublisherPort T U
 tied place index port = welcomed_at index (record port { ties = set port.ties place (Some index) })
 
+-- Whether tying a place to a subscriber takes memory: the place isn't reached yet, or no connection leads to the subscriber.
+abbrev pub takes_memory : {T U : Type 0} → ℕ → ℕ → PublisherPort T U → Bool
+takes_memory place subscriber port = nat_le (length port.ties) place || is_none (connection_to subscriber port)
+
 -- A place is tied to the connection of its subscriber, which is made where there is none, for as many waiting messages as it asks for
--- and may have; without memory nothing changes.
+-- and may have; where that takes memory, and there is none, nothing changes.
 abbrev pub Ties : {T U : Type 0} → ℕ → SubscriberEntry → PublisherPort T U → Result (Unit {0}) AllocError → PublisherPort T U → Type 0
-Ties place entry old (Err error) new = new ≡ old
+Ties place entry old (Err error) new = (takes_memory place entry.subscriber old ≡ true) × (new ≡ old)
 Ties {T} {U} place entry old (Ok done) new =
     (index : ℕ) × (joined : PublisherPort T U)
     × (Joins entry.subscriber (min entry.buffer_size old.sender.uses.most_waiting) (connection_to entry.subscriber old) (within_reach place old) (Ok index) joined)

@@ -72,7 +72,7 @@ impl<T: Copy, U: Copy> PublisherPort<T, U> {
     }
 
     /// The subscriber attaches to its connection, which is made where there is none, and whose index is the answer. It fails only
-    /// where memory is wanting, and then nothing has changed.
+    /// where there is none and memory is wanting, and then nothing has changed.
     pub fn attach(
         &mut self,
         alloc: Global,

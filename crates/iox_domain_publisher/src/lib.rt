@@ -8,6 +8,7 @@
 //! - [`handlers`]: who is asked at a full mailbox and where a connection failed.
 //! - [`publisher_port`]: a publisher.
 //! - [`connecting`]: its connections are made and ended.
+//! - [`laws`]: what its steps come to, in other words.
 //! - [`leaving`]: it comes and leaves.
 //! - [`updating`]: it follows the list of subscribers.
 //! - [`sending`]: it sends.
@@ -15,6 +16,7 @@
 
 pub mod connecting;
 pub mod handlers;
+pub mod laws;
 pub mod leaving;
 pub mod meeting;
 pub mod places;

@@ -1,5 +1,5 @@
 //! Values at places, as they are first needed.
-ghost use Rattle.std.specs.Prelude.{◌≡◌, length, take, set, get_or, None, [], OnErr, IfOk};
+ghost use Rattle.std.specs.Prelude.{◌≡◌, ◌<◌, length, take, set, get_or, None, [], OnErr, IfOk};
 ghost use Rattle.iox_domain_publisher.specs.Places.{reached, leads_to, left, unheard, is_attached};
 ghost use Rattle.std.specs.List.{position};
 
@@ -50,10 +50,11 @@ impl<A: Copy> Places<A> {
         }
     }
 
-    /// Reaches so many places at least, the new ones without a value. It fails only where memory is wanting, and then nothing has
-    /// changed.
+    /// Reaches so many places at least, the new ones without a value. It fails only where they aren't reached yet and memory is
+    /// wanting, and then nothing has changed.
     pub fn reach(&mut self, count: usize) -> Result<(), AllocError>
         ensures ok { IfOk result (λ _. self.new ≡ reached count self.old) }
+        ensures short { OnErr result (length self.old < count) }
         ensures err { OnErr result (self.new ≡ self.old) }
     {
         if self.items.len() >= count {

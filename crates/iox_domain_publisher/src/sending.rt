@@ -1,5 +1,5 @@
 //! A publisher sends.
-ghost use Rattle.std.specs.Prelude.{◌≡◌, ◌≢◌, ℕ, ◌+◌, ◌-◌, ◌<◌, ◌≤◌, ◌^◌, Ok, length, get_or, is_some, true, None, Some, IfSome, IsSome};
+ghost use Rattle.std.specs.Prelude.{◌≡◌, ◌≢◌, ℕ, ◌+◌, ◌-◌, ◌<◌, ◌≤◌, ◌^◌, Ok, Err, length, get_or, is_some, true, None, Some, IfSome, IsSome};
 ghost use Rattle.iox_domain_values.specs.DegradationAnswers.{Allowed};
 ghost use Rattle.iox_domain_values.specs.declared.degradation.DegradationCause.TheVariants as cause;
 ghost use Rattle.iox_domain_sender.specs.Sending.{is_written_at};
@@ -7,6 +7,9 @@ ghost use Rattle.iox_domain_publisher.specs.Answers.{MayDecide};
 ghost use Rattle.iox_domain_publisher.specs.declared.meeting.Meeting.TheVariants as meeting;
 ghost use Rattle.iox_domain_publisher.specs.declared.meeting.Sent.TheVariants as sent;
 ghost use Rattle.iox_domain_publisher.specs.Laws.{live_ties, ReachesAll};
+ghost use Rattle.iox_domain_publisher.specs.Memory.{HasRoom};
+ghost use Rattle.iox_domain_values.specs.declared.connection_failure.ConnectionFailure.{ConnectionFailure};
+ghost use Rattle.iox_domain_values.specs.declared.port_error.SendError.TheVariants as sending;
 ghost use Rattle.iox_domain_publisher.specs.Progress.{start, passed, counted, failing, tried_again};
 ghost use Rattle.iox_domain_publisher.specs.Sending.{meeting_of, meeting_at, put_at, met, with_progress, info_of, goes_on_by, decided_by, sent_answer, concluded, ready_loan, begun_at, dropped_at, Sends, Steps, Delivers, Finishes};
 
@@ -213,7 +216,7 @@ impl<T: Copy, U: Copy> PublisherPort<T, U> {
     /// another send waits.
     ///
     /// Refused with `ConnectionBrokenSinceSenderNoLongerExists` if the publisher left, with `ConnectionError` where the list isn't
-    /// followed; then the loan is given up, and nothing is sent. `UnableToDeliver` where a handler said so; what was delivered stays.
+    /// followed, which never is for want of memory where all that it needs is there; then the loan is given up, and nothing is sent. `UnableToDeliver` where a handler said so; what was delivered stays.
     ///
     /// Ported from `iceoryx2::port::publisher::Publisher::send`.
     pub fn send(
@@ -226,6 +229,7 @@ impl<T: Copy, U: Copy> PublisherPort<T, U> {
     ) -> Option<Result<Sent, SendError>>
         ensures sends { Sends (Allowed (λ object. (⟦<dyn DegradationFn as DegradationFn>⟧ object.vtable).allows object.value) handlers.now.degradation cause.FailedToEstablishConnection) (MayDecide (λ object. (⟦<dyn BackpressureFn as BackpressureFn>⟧ object.vtable).allows object.value) handlers.now.strategy handlers.now.backpressure) listed.now changes (ready_loan slot self.old) self.old result self.new }
         ensures all { self.old.sender.uses.overflows ≡ true → ReachesAll result self.new }
+        ensures enough { HasRoom listed.now self.old → (failure : ConnectionFailure) → result ≢ Some (Err (sending.ConnectionError failure)) }
     {
         let at = self.ready(slot)?;
         if !self.stands {

@@ -1,10 +1,11 @@
 //! A publisher follows the list of subscribers.
-ghost use Rattle.std.specs.Prelude.{◌≡◌, ℕ, ◌+◌, ◌<◌, ◌≤◌, ◌^◌, Ok, length, get_or, None, Some};
+ghost use Rattle.std.specs.Prelude.{◌≡◌, ℕ, ◌+◌, ◌<◌, ◌≤◌, ◌^◌, Ok, IfOk, OnErr, length, get_or, None, Some};
 ghost use Rattle.iox_domain_values.specs.DegradationAnswers.{Allowed};
 ghost use Rattle.iox_domain_values.specs.declared.degradation.DegradationCause.TheVariants as cause;
 ghost use Rattle.iox_domain_publisher.specs.Places.{leads_to};
 ghost use Rattle.iox_domain_publisher.specs.Ports.{with_connections};
-ghost use Rattle.iox_domain_publisher.specs.Updating.{is_tie_to, untied, Ties, Follows, first_failure, update_answer, told_of, Updates, FollowsAll, Asks, OnlyConnections};
+ghost use Rattle.iox_domain_publisher.specs.Memory.{HasRoom};
+ghost use Rattle.iox_domain_publisher.specs.Updating.{is_tie_to, untied, within_reach, Ties, Follows, first_failure, update_answer, told_of, Updates, FollowsAll, Asks, OnlyConnections};
 
 use crate::publisher_port::PublisherPort;
 use crate::reader::Reader;
@@ -40,6 +41,20 @@ impl<T: Copy, U: Copy> PublisherPort<T, U> {
         self.end(index);
     }
 
+    /// Reaches a place of the list of subscribers, so that following a subscriber there takes no memory where its connection is
+    /// there already: the service calls it when a subscriber comes, since an update must not fail then. It fails only where the
+    /// place isn't reached yet and memory is wanting, and then nothing has changed.
+    ///
+    /// This port's own.
+    pub fn reach(&mut self, place: usize) -> Result<(), AllocError>
+        requires { place + 1 < 2 ^ 64 }
+        ensures ok { IfOk result (λ _. self.new ≡ within_reach place self.old) }
+        ensures short { OnErr result (length self.old.ties ≤ place) }
+        ensures err { OnErr result (self.new ≡ self.old) }
+    {
+        self.ties.reach(place + 1)
+    }
+
     // Ties a place to the connection of its subscriber.
     fn tie(&mut self, alloc: Global, place: usize, entry: SubscriberEntry) -> Result<(), AllocError>
         requires { place + 1 < 2 ^ 64 }
@@ -48,7 +63,7 @@ impl<T: Copy, U: Copy> PublisherPort<T, U> {
     {
         let before = self.ties.len();
         let most = self.sender.most_waiting();
-        self.ties.reach(place + 1)?;
+        self.reach(place)?;
         match self.join(alloc, entry.subscriber, entry.buffer_size.min(most)) {
             Ok(index) => {
                 self.ties.put(place, Some(index));
@@ -140,7 +155,8 @@ impl<T: Copy, U: Copy> PublisherPort<T, U> {
 
     /// Follows the list of subscribers, if it changed since it was last followed: the connections of those that left end, and those
     /// that came are connected, and get what they may of the history. Where a connection isn't made the handler is asked; the answer is
-    /// the first failure that it degrades and fails, after all places were tried. A connection fails only where memory is wanting.
+    /// the first failure that it degrades and fails, after all places were tried. A connection fails only where memory is wanting, and
+    /// takes none where it is there already and its place is reached.
     ///
     /// Ported from `iceoryx2::port::publisher::Publisher::update_connections`.
     pub fn update(
@@ -151,6 +167,7 @@ impl<T: Copy, U: Copy> PublisherPort<T, U> {
         handler: &DegradationHandler,
     ) -> Result<(), ConnectionFailure>
         ensures updates { Updates (Allowed (λ object. (⟦<dyn DegradationFn as DegradationFn>⟧ object.vtable).allows object.value) handler.now cause.FailedToEstablishConnection) listed.now changes self.old result self.new }
+        ensures enough { HasRoom listed.now self.old → result ≡ Ok tt }
         ensures only { OnlyConnections self.old self.new }
     {
         if self.seen == changes {

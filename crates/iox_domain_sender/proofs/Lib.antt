@@ -1,5 +1,6 @@
 pub mod RowsIn
 pub mod Segments
+pub mod Marking
 pub mod Naming
 pub mod Kept
 pub mod Seen

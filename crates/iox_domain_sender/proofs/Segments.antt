@@ -194,17 +194,18 @@ slot_within payloads slot place inside = at (nat_lt slot (length payloads)) refl
         absurd (omega (arith, inside, ap length (get_or_past payloads slot [] past)))
 
 -- the segment of a slot, as a call is handed it: where the slot stands in it, and what comes of other values there
-pub record Found {T : Type 0} (state : PayloadsState T) (size most : ℕ) (segments : List (RowsState T)) (slot : ℕ) (segment : RowsState T) : Type 0 where
-  pub row : slot % size < length segment.rows
+pub record Found {T : Type 0} (state : PayloadsState T) (size most : ℕ) (segments : List (RowsState T)) (slot index row : ℕ) (segment : RowsState T) : Type 0 where
+  pub within : index < length segments
+  pub row_is : row < length segment.rows
   pub last : length state.payloads ≤ slot + state.size → segment.room ≡ state.room
-  pub holds : row_at (slot % size) segment ≡ payload_at slot state
-  pub changed : (values : List T) (new : RowsState T) → new ≡ with_row (slot % size) values segment
-      → seen_of size most (set segments (slot / size) new) ≡ with_payload slot values state
+  pub holds : row_at row segment ≡ payload_at slot state
+  pub changed : (values : List T) (new : RowsState T) → new ≡ with_row row values segment → seen_of size most (set segments index new) ≡ with_payload slot values state
 
-pub found : {T : Type 0} (state : PayloadsState T) (size most : ℕ) (segments : List (RowsState T)) (slot : ℕ) (segment : RowsState T) → seen_of size most segments ≡ state
-    → AllOfSize size segments → slot < length state.payloads → segment ≡ get_or segments (slot / size) segment → Found state size most segments slot segment
-found state size most segments slot segment is all below same = record {
-  row = omega (arith, place.row_is, all (slot / size) place.segment_is, ap (λ s. length s.rows) it);
+found_there : {T : Type 0} (state : PayloadsState T) (size most : ℕ) (segments : List (RowsState T)) (slot : ℕ) (segment : RowsState T) → seen_of size most segments ≡ state
+    → AllOfSize size segments → slot < length state.payloads → segment ≡ get_or segments (slot / size) segment → Found state size most segments slot (slot / size) (slot % size) segment
+found_there state size most segments slot segment is all below same = record {
+  within = place.segment_is;
+  row_is = omega (arith, place.row_is, all (slot / size) place.segment_is, ap (λ s. length s.rows) it);
   last = λ behind.
       ap (λ s. s.room) it
       ∙ ap (λ index. (get_or segments index no_rows).room)
@@ -219,3 +220,19 @@ found state size most segments slot segment is all below same = record {
 
     it : segment ≡ get_or segments (slot / size) no_rows
     it = same ∙ get_or_default segments (slot / size) segment no_rows place.segment_is
+
+pub found : {T : Type 0} (state : PayloadsState T) (size most : ℕ) (segments : List (RowsState T)) (slot index row : ℕ) (segment : RowsState T) → seen_of size most segments ≡ state
+    → AllOfSize size segments → slot < length state.payloads → index ≡ slot / size → row ≡ slot % size → segment ≡ get_or segments index segment → Found state size most segments slot index row segment
+found state size most segments slot index row segment is all below is_index is_row same =
+    subst (λ i. Found state size most segments slot i row segment) (sym is_index)
+    (subst (λ r. Found state size most segments slot (slot / size) r segment) (sym is_row)
+    (found_there state size most segments slot segment is all below (same ∙ ap (λ i. get_or segments i segment) is_index)))
+
+-- there is a segment then, and its size isn't 0
+pub some_size : {T : Type 0} (state : PayloadsState T) (size most : ℕ) (segments : List (RowsState T)) (slot : ℕ) → seen_of size most segments ≡ state → AllOfSize size segments → slot < length state.payloads → 0 < size
+some_size state size most segments slot is all below = (seen_placed state size most segments slot is all below).positive
+
+-- and it is one of them
+pub is_within : {T : Type 0} (state : PayloadsState T) (size most : ℕ) (segments : List (RowsState T)) (slot index : ℕ) → seen_of size most segments ≡ state → AllOfSize size segments → slot < length state.payloads
+    → index ≡ slot / size → index < length segments
+is_within state size most segments slot index is all below is_index = omega (arith, (seen_placed state size most segments slot is all below).segment_is, is_index)

@@ -1,5 +1,6 @@
 pub mod Rows
 pub mod Payloads
+pub mod Marks
 pub mod Messages
 pub mod Sending
 pub mod Laws

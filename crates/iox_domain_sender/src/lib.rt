@@ -2,6 +2,7 @@
 //!
 //! - [`rows`]: the values of the slots of one segment.
 //! - [`payloads`]: the values of the slots of all segments.
+//! - [`marks`]: which of them are written.
 //! - [`slot_header`]: what is told of a message beside its values.
 //! - [`sender_config`]: how a publisher is made.
 //! - [`laws`]: what the steps of a publisher come to, in other words.
@@ -9,6 +10,7 @@
 #![tactic(auto)]
 
 pub mod laws;
+pub mod marks;
 pub mod payloads;
 pub mod rows;
 pub mod sender;

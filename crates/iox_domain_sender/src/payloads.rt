@@ -66,8 +66,8 @@ impl<T: Copy> Payloads<T> {
         ensures length { length (payload_at slot self.new) ≡ count }
         ensures rest { self.new ≡ with_payload slot (payload_at slot self.new) self.old }
     {
-        let row = slot % self.size;
-        let segment = &mut self.segments[slot / self.size];
+        let row = row_of(slot, self.size);
+        let segment = &mut self.segments[segment_of(slot, self.size)];
         segment.set_length(row, count);
     }
 
@@ -77,8 +77,8 @@ impl<T: Copy> Payloads<T> {
         requires length { length values.now ≡ length (payload_at slot self.old) }
         ensures { self.new ≡ with_payload slot values.now self.old }
     {
-        let row = slot % self.size;
-        let segment = &mut self.segments[slot / self.size];
+        let row = row_of(slot, self.size);
+        let segment = &mut self.segments[segment_of(slot, self.size)];
         segment.copy(row, values);
     }
 
@@ -87,8 +87,8 @@ impl<T: Copy> Payloads<T> {
         requires { place < length (payload_at slot self.old) }
         ensures { self.new ≡ with_payload slot (set (payload_at slot self.old) place value) self.old }
     {
-        let row = slot % self.size;
-        let segment = &mut self.segments[slot / self.size];
+        let row = row_of(slot, self.size);
+        let segment = &mut self.segments[segment_of(slot, self.size)];
         segment.write(row, place, value);
     }
 
@@ -98,8 +98,9 @@ impl<T: Copy> Payloads<T> {
         ensures* writes_back { sem 𝓛 (LendsInSlot T.row self.entry slot place result) }
         ensures value { result.now ≡ get_or (payload_at slot self.old) place result.now }
     {
-        let row = slot % self.size;
-        self.segments[slot / self.size].value_mut(row, place)
+        let row = row_of(slot, self.size);
+        let segment = &mut self.segments[segment_of(slot, self.size)];
+        segment.value_mut(row, place)
     }
 
     /// The values of a slot.
@@ -107,8 +108,8 @@ impl<T: Copy> Payloads<T> {
         requires { slot < length self.now.payloads }
         ensures { result.now ≡ payload_at slot self.now }
     {
-        let row = slot % self.size;
-        let segment = &self.segments[slot / self.size];
+        let row = row_of(slot, self.size);
+        let segment = &self.segments[segment_of(slot, self.size)];
         segment.row(row)
     }
 
@@ -143,8 +144,24 @@ impl Payloads<bool> {
         requires { slot < length self.old.payloads }
         ensures { self.new ≡ with_payload slot (replicate (length (payload_at slot self.old)) mark) self.old }
     {
-        let row = slot % self.size;
-        let segment = &mut self.segments[slot / self.size];
+        let row = row_of(slot, self.size);
+        let segment = &mut self.segments[segment_of(slot, self.size)];
         segment.fill(row, mark);
     }
+}
+
+// The segment of a slot. Most slots are in the first one, and a division costs more than the rest of a call.
+fn segment_of(slot: usize, size: usize) -> usize
+    requires { 0 < size }
+    ensures { result ≡ slot / size }
+{
+    if slot < size { 0 } else { slot / size }
+}
+
+// The row of a slot in its segment.
+fn row_of(slot: usize, size: usize) -> usize
+    requires { 0 < size }
+    ensures { result ≡ slot % size }
+{
+    if slot < size { slot } else { slot % size }
 }

@@ -3,10 +3,10 @@ ghost use Rattle.std.specs.Prelude.{◌≡◌, ℕ, ◌+◌, ◌<◌, ◌≤◌,
 ghost use Rattle.iox_domain_slots.specs.declared.stage.Stage.TheVariants as stage;
 ghost use Rattle.iox_domain_slots.specs.Uses.{Uses, nobody, placed, connected, is_there, worst_case, accepts, offered, taken, given_back, ended, welcomed, dropped, begun, finished, connection_at, with_connection};
 ghost use Rattle.std.specs.Borrow.{sem};
-ghost use Rattle.std.specs.List.{list_all};
 ghost use Rattle.iox_domain_sender.specs.Messages.{Message, Loan, write_value, write_all, write_user_header, sent_as};
 ghost use Rattle.iox_domain_sender.specs.Sending.{SenderState, LoanMade, with_uses, change_loan, has_loan, has_place, has_value, has_length, is_written_at, opened_for};
 
+use crate::marks::Marks;
 use crate::payloads::Payloads;
 use crate::rows::Rows;
 use crate::sender_config::SenderConfig;
@@ -22,7 +22,7 @@ use std::marker::Model;
 pub struct Sender<T, U> {
     uses: SlotUses,
     values: Payloads<T>,
-    written: Payloads<bool>,
+    written: Marks,
     headers: Vec<SlotHeader<U>>,
     blank: SlotHeader<U>,
 }
@@ -84,7 +84,7 @@ impl<T: Copy, U: Copy> Sender<T, U> {
         )?;
         let mut values = Payloads::new(alloc, config.slots, config.most_segments)?;
         values.push(Rows::new(alloc, config.slots, config.room, blank)?);
-        let mut written = Payloads::new(alloc, config.slots, config.most_segments)?;
+        let mut written = Marks::new(alloc, config.slots, config.most_segments)?;
         written.push(Rows::new(alloc, config.slots, config.room, false)?);
         let blank = SlotHeader {
             elements: 0,
@@ -150,7 +150,7 @@ impl<T: Copy, U: Copy> Sender<T, U> {
         requires { at < length self.now.uses.loans }
         ensures { result ≡ is_written_at at self.now.uses }
     {
-        all_marked(self.written.values(self.uses.lent(at)))
+        self.written.are_all(self.uses.lent(at))
     }
 
     /// Whether a loan stands in this slot: the condition of writing its user header.
@@ -185,7 +185,7 @@ impl<T: Copy, U: Copy> Sender<T, U> {
         requires { has_place slot place self.now.uses ≡ true }
         ensures { (at : ℕ) (loan : Loan T U) → slice_get self.now.uses.loans at ≡ Some loan → loan.slot ≡ slot → option_copied result ≡ get_or loan.values place None }
     {
-        if !self.written.values(slot)[place] {
+        if !self.written.is_marked(slot, place) {
             return None;
         }
         Some(&self.values.values(slot)[place])
@@ -195,7 +195,7 @@ impl<T: Copy, U: Copy> Sender<T, U> {
     pub fn has_value(&self, slot: usize, place: usize) -> bool
         ensures { result ≡ has_value slot place self.now.uses }
     {
-        self.has_loan(slot) && is_marked(self.written.values(slot), place)
+        self.has_loan(slot) && self.written.is_marked(slot, place)
     }
 
     /// The written value at a place of the loan in this slot, to be changed there.
@@ -446,21 +446,4 @@ impl<T: Copy, U: Copy> Sender<T, U> {
     {
         self.uses.welcome(index);
     }
-}
-
-// Whether there is such a place, and it is set.
-fn is_marked(marks: &[bool], place: usize) -> bool
-    ensures { result ≡ get_or marks.now place false }
-{
-    match marks.get(place) {
-        Some(mark) => *mark,
-        None => false,
-    }
-}
-
-// Whether all of these are set.
-fn all_marked(marks: &[bool]) -> bool
-    ensures { result ≡ list_all (λ mark. mark) marks.now }
-{
-    marks.iter().all(|mark| *mark)
 }

@@ -3,6 +3,7 @@
 //! No payload is kept here: a message goes by the number of its slot.
 //!
 //! - [`slots`]: which slots are free, and how many uses the others have.
+//! - [`lists`]: short lists in their order.
 //! - [`mailbox`]: what waits between a publisher and a subscriber.
 //! - [`link`]: a connection: its mailbox, what is borrowed of it, what came back.
 //! - [`links`]: the connections of a publisher.
@@ -11,6 +12,7 @@
 
 pub mod link;
 pub mod links;
+mod lists;
 pub mod mailbox;
 pub mod slots;
 pub mod stage;

@@ -5,6 +5,7 @@ ghost use Rattle.iox_domain_slots.specs.Uses.{accepts, offered, taken};
 ghost use Rattle.iox_domain_slots.specs.Counting.{SlotsState, times, uses_of, let_go, Moves, Covers};
 ghost use Rattle.iox_domain_slots.specs.Links.{LinkState, all_of, connection_of, room_of, IsSameLink, IsFit, put_into, put_answer};
 
+use crate::lists::take_out;
 use crate::mailbox::{Mailbox, Put};
 use crate::slots::Slots;
 use iox_queues_base::IndexQueue;
@@ -155,7 +156,7 @@ impl Link {
         ensures fits { IsFit self.new }
         ensures uses { (k : ℕ) → times k (all_of self.new) ≡ times k (all_of self.old) }
     {
-        let slot = self.borrowed.remove(at);
+        let slot = take_out(&mut self.borrowed, at);
         let _has_room = self.returned.push(slot);
     }
 
@@ -167,7 +168,7 @@ impl Link {
         ensures fits { IsFit self.new }
         ensures moved { Moves slots.old (all_of self.old) slots.new (all_of self.new) }
     {
-        let slot = self.borrowed.remove(at);
+        let slot = take_out(&mut self.borrowed, at);
         slots.let_go(slot as usize);
     }
 

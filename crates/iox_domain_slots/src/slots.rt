@@ -3,6 +3,7 @@ ghost use Rattle.std.specs.Prelude.{◌≡◌, ◌+◌, ◌-◌, ◌^◌, ◌<�
 ghost use Rattle.iox_domain_slots.specs.Uses.{newest};
 ghost use Rattle.iox_domain_slots.specs.Counting.{SlotsState, times, uses_of, referred, let_go, LoanSlot, Moves, Covers};
 
+use crate::lists::take_out;
 use iox_index_base::{ReleaseMode, UniqueIndexSet};
 use std::alloc::{AllocError, Global};
 use std::collections::VecDeque;
@@ -91,7 +92,7 @@ impl Slots {
         requires { at < length self.old.loans }
         ensures { self.new ≡ record (let_go (get_or self.old.loans at 0) self.old) { loans = remove self.old.loans at } }
     {
-        let slot = self.loans.remove(at);
+        let slot = take_out(&mut self.loans, at);
         self.let_go(slot);
     }
 
@@ -101,7 +102,7 @@ impl Slots {
         ensures slot { result ≡ get_or self.old.loans at 0 }
         ensures new { self.new ≡ record self.old { loans = remove self.old.loans at } }
     {
-        self.loans.remove(at)
+        take_out(&mut self.loans, at)
     }
 
     /// Makes a slot that has a further use the newest of the history; of more than `kept` the oldest leaves.

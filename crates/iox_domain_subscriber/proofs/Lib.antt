@@ -1,5 +1,6 @@
 pub mod Having
 pub mod Staying
+pub mod Lacking
 pub mod First
 pub mod Sweeping
 pub mod Walking

@@ -37,5 +37,5 @@ nothing_given number index None ports new none is = is ∙ nothing_changed numbe
 pub attaches_there : {T U : Type 0} (number subscriber limit : ℕ) (old : List (ℕ × PublisherPort T U)) (port after : PublisherPort T U) (answer : Result ℕ AllocError) → port_of number old ≡ Some port
     → Attaches subscriber (min limit port.sender.uses.most_waiting) port answer after
     → AttachesAtPort number subscriber limit (Some port) old (Some answer) (with_port number old after)
-attaches_there number subscriber limit old port after (Err error) there same = ap (with_port number old) same ∙ same_entry (is_at (nat_cmp number)) old port there
+attaches_there number subscriber limit old port after (Err error) there refused = (refused.0, ap (with_port number old) refused.1 ∙ same_entry (is_at (nat_cmp number)) old port there)
 attaches_there number subscriber limit old port after (Ok index) there attaches = (after, attaches, refl)

@@ -1,13 +1,14 @@
 -- What a subscriber does at one place of the list of publishers.
-use Rattle.std.specs.Prelude.{ℕ, ◌+◌, ◌==◌, ◌≡◌, Bool, true, false, List, length, get_or, set, slice_get, nat_le, Option, None, Some, Result, Ok, Err}
+use Rattle.std.specs.Prelude.{ℕ, ◌+◌, ◌<◌, ◌==◌, ◌≡◌, ◌≢◌, ◌||◌, is_none, Bool, true, false, List, [], length, get_or, set, slice_get, nat_le, Option, None, Some, Result, Ok, Err}
 use Rattle.std.specs.declared.alloc.AllocError.{AllocError}
 use Rattle.iox_maps.specs.SlotTable.{stored}
 use Rattle.iox_domain_values.specs.declared.connection_failure.ZeroCopyCreationError.{ZeroCopyCreationError}
 use Rattle.iox_domain_values.specs.declared.connection_failure.ZeroCopyCreationError.TheVariants as creation
 use Rattle.iox_domain_publisher.specs.Places.{reached}
+use Rattle.iox_domain_publisher.specs.Ports.{connection_to}
 use Rattle.iox_domain_publisher.specs.declared.publisher_port.PublisherPort.{PublisherPort}
 use Rattle.iox_domain_subscriber.specs.Keys.{with_last}
-use Rattle.iox_domain_subscriber.specs.Publishers.{AttachesTo}
+use Rattle.iox_domain_subscriber.specs.Publishers.{port_of, AttachesTo}
 use Rattle.iox_domain_subscriber.specs.Subscribing.{attached_at, connection_by, is_idle, ended_key, ended_ports}
 use Rattle.iox_domain_subscriber.specs.Receiving.{IsMet, dropped_port, dropped_ports}
 use Rattle.iox_domain_subscriber.specs.declared.attached.Attached.{Attached}
@@ -68,6 +69,10 @@ abbrev pub Parts : {T U : Type 0} → ℕ → SubscriberPort → List (ℕ × Pu
 Parts key port ports is_free new new_ports =
     PartsIf (is_idle port ports key) (nat_le port.expired.room (length port.expired.items)) key port ports is_free new new_ports
 
+-- the place of the list is one that may have a connection
+abbrev pub within_reach : ℕ → SubscriberPort → SubscriberPort
+within_reach place port = record port { places = reached (place + 1) port.places }
+
 -- a connection comes to a place, under a key
 abbrev pub kept_at : ℕ → ℕ → Attached → SubscriberPort → SubscriberPort
 kept_at place key attached port = record port { connections = stored port.connections key attached; places = set (reached (place + 1) port.places) place (Some key) }
@@ -87,9 +92,21 @@ ConnectsBy place number None port new = new ≡ port
 ConnectsBy place number (Some (Err error)) port new = ⊥
 ConnectsBy place number (Some (Ok index)) port new = KeepsAt place (record { publisher = number; index = index }) port new
 
--- The subscriber attaches to a publisher, at a place; without memory nothing changes.
+-- whether a publisher has no connection yet that leads to a subscriber; where there is none, there is nothing to be made
+abbrev pub lacks_connection : {T U : Type 0} → ℕ → Option (PublisherPort T U) → Bool
+lacks_connection subscriber None = false
+lacks_connection subscriber (Some publisher) = is_none (connection_to subscriber publisher)
+
+-- Whether attaching to a publisher at a place takes memory: no key is left, the place isn't reached yet, or the publisher has no
+-- connection that leads to the subscriber.
+abbrev pub takes_memory : {T U : Type 0} → ℕ → ℕ → SubscriberPort → List (ℕ × PublisherPort T U) → Bool
+takes_memory place number port ports =
+    (length port.connections.free == 0) || (nat_le (length port.places) place || lacks_connection port.number (port_of number ports))
+
+-- The subscriber attaches to a publisher, at a place; where that takes memory, and there is none, nothing changes.
 abbrev pub Connects : {T U : Type 0} → ℕ → ℕ → SubscriberPort → List (ℕ × PublisherPort T U) → Result (Unit {0}) ZeroCopyCreationError → SubscriberPort → List (ℕ × PublisherPort T U) → Type 0
-Connects place number port ports (Err failure) new new_ports = (failure ≡ creation.OutOfMemory) × (new ≡ port) × (new_ports ≡ ports)
+Connects place number port ports (Err failure) new new_ports =
+    (failure ≡ creation.OutOfMemory) × (takes_memory place number port ports ≡ true) × (new ≡ port) × (new_ports ≡ ports)
 Connects place number port ports (Ok done) new new_ports =
     (answer : Option (Result ℕ AllocError)) × AttachesTo number port.number port.buffer_size ports answer new_ports × ConnectsBy place number answer port new
 
@@ -132,3 +149,10 @@ FollowsNoneAt {T} {U} (Some key) place port ports new new_ports =
 -- What becomes of a place that lists none.
 abbrev pub FollowsNone : {T U : Type 0} → ℕ → SubscriberPort → List (ℕ × PublisherPort T U) → SubscriberPort → List (ℕ × PublisherPort T U) → Type 0
 FollowsNone place port ports new new_ports = FollowsNoneAt (get_or port.places place None) place port ports new new_ports
+
+-- A publisher that comes to a place where there was none, and which is reached, is always followed if a key is left and the publisher
+-- has the connection already.
+abbrev pub AttachesAtOnce : Type 0 → Type 0 → Type 0
+AttachesAtOnce T U = (place number : ℕ) (port new : SubscriberPort) (ports new_ports : List (ℕ × PublisherPort T U)) (answer : Result (Unit {0}) ZeroCopyCreationError)
+    → get_or port.places place None ≡ None → place < length port.places → port.connections.free ≢ [] → lacks_connection port.number (port_of number ports) ≡ false
+    → FollowsListed place number port ports answer new new_ports → answer ≡ Ok tt

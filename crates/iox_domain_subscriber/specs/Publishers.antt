@@ -6,7 +6,7 @@ use Rattle.std.specs.Map.{lookup, set_value, remove_entry}
 use Rattle.std.specs.declared.alloc.AllocError.{AllocError}
 use Rattle.iox_domain_slots.specs.Uses.{Connection, nobody}
 use Rattle.iox_domain_sender.specs.Messages.{Message}
-use Rattle.iox_domain_publisher.specs.Ports.{connection_of, Attaches}
+use Rattle.iox_domain_publisher.specs.Ports.{connection_of, connection_to, Attaches}
 use Rattle.iox_domain_publisher.specs.declared.publisher_port.PublisherPort.{PublisherPort}
 use Rattle.iox_domain_subscriber.specs.Reading.{is_over, given_back_at}
 
@@ -80,11 +80,12 @@ abbrev pub released : {T U : Type 0} → ℕ → ℕ → Option ℕ → List (�
 released number index None ports = ports
 released number index (Some at) ports = settled number (changed number (given_back_at index (Some at)) ports)
 
--- a subscriber attaches to its connection at a publisher; nothing happens without one
+-- a subscriber attaches to its connection at a publisher, for which memory may be wanting only where it isn't there; nothing happens
+-- without a publisher
 abbrev pub AttachesAtPort : {T U : Type 0} → ℕ → ℕ → ℕ → Option (PublisherPort T U) → List (ℕ × PublisherPort T U) → Option (Result ℕ AllocError) → List (ℕ × PublisherPort T U) → Type 0
 AttachesAtPort number subscriber limit None old answer new = (answer ≡ None) × (new ≡ old)
 AttachesAtPort number subscriber limit (Some port) old None new = ⊥
-AttachesAtPort number subscriber limit (Some port) old (Some (Err error)) new = new ≡ old
+AttachesAtPort number subscriber limit (Some port) old (Some (Err error)) new = (connection_to subscriber port ≡ None) × (new ≡ old)
 AttachesAtPort {T} {U} number subscriber limit (Some port) old (Some (Ok index)) new =
     (after : PublisherPort T U) × Attaches subscriber (min limit port.sender.uses.most_waiting) port (Ok index) after × (new ≡ with_port number old after)
 

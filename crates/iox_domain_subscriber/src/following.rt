@@ -1,14 +1,14 @@
 //! A subscriber follows one place of the list of publishers.
-ghost use Rattle.std.specs.Prelude.{◌≡◌, ◌≢◌, ◌+◌, ◌<◌, ◌==◌, ◌^◌, length, get_or, [], None, Some, true};
+ghost use Rattle.std.specs.Prelude.{◌≡◌, ◌≢◌, ◌+◌, ◌<◌, ◌≤◌, ◌==◌, ◌^◌, IfOk, OnErr, length, get_or, [], None, Some, true};
 ghost use Rattle.iox_domain_subscriber.specs.Subscribing.{attached_at, connection_by, is_idle};
 ghost use Rattle.iox_domain_subscriber.specs.Receiving.{IsMet};
-ghost use Rattle.iox_domain_subscriber.specs.Following.{is_unborrowed, is_of, replaced_port, replaced_ports, unplaced, Parts, PartsFull, KeepsReached, Connects, FollowsListed, FollowsFreed, FollowsNone};
+ghost use Rattle.iox_domain_subscriber.specs.Following.{is_unborrowed, is_of, replaced_port, replaced_ports, within_reach, unplaced, Parts, PartsFull, KeepsReached, Connects, FollowsListed, FollowsFreed, FollowsNone, AttachesAtOnce};
 
 use crate::attached::Attached;
 use crate::publishers::Publishers;
 use crate::subscriber_port::SubscriberPort;
 use iox_domain_values::ZeroCopyCreationError;
-use std::alloc::Global;
+use std::alloc::{AllocError, Global};
 
 impl SubscriberPort {
     // How many of the expired connections are met before one is idle; all if none is.
@@ -99,6 +99,20 @@ impl SubscriberPort {
         self.part_full(key, publishers)
     }
 
+    /// Reaches a place of the list of publishers, so that following a publisher there takes no memory where its connection is there
+    /// already: the service calls it when a publisher comes, since an update must not fail then. It fails only where the place
+    /// isn't reached yet and memory is wanting, and then nothing has changed.
+    ///
+    /// This port's own.
+    pub fn reach(&mut self, place: usize) -> Result<(), AllocError>
+        requires { place + 1 < 2 ^ 64 }
+        ensures ok { IfOk result (λ _. self.new ≡ within_reach place self.old) }
+        ensures short { OnErr result (length self.old.places ≤ place) }
+        ensures err { OnErr result (self.new ≡ self.old) }
+    {
+        self.places.reach(place + 1)
+    }
+
     // Attaches to a publisher that is listed at a place.
     fn connect<T: Copy, U: Copy>(
         &mut self,
@@ -111,7 +125,10 @@ impl SubscriberPort {
         ensures { Connects place number self.old publishers.old result self.new publishers.new }
     {
         let before = self.places.len();
-        if self.connections.is_full() || self.places.reach(place + 1).is_err() {
+        if self.connections.is_full() {
+            return Err(ZeroCopyCreationError::OutOfMemory);
+        }
+        if self.places.reach(place + 1).is_err() {
             return Err(ZeroCopyCreationError::OutOfMemory);
         }
         match publishers.attach(alloc, number, self.number, self.buffer_size) {
@@ -211,3 +228,9 @@ impl SubscriberPort {
         }
     }
 }
+
+/// A publisher that comes to a reached place where there was none is followed without memory, if a key is left and it has the
+/// connection already. A law of the step at a place: the function does nothing.
+pub fn attaches_at_once<T, U>()
+    ensures { AttachesAtOnce T U }
+{}

@@ -1,5 +1,6 @@
 use Rattle.std.proofs.Common.{rules, sym}
-use Rattle.iox_domain_publisher.proofs.Asked.{sends_refused, sends_sent}
+use Rattle.iox_domain_publisher.specs.Answers.{MayDecide}
+use Rattle.iox_domain_publisher.proofs.Asked.{sends_refused, sends_sent, finishes_else}
 use Rattle.iox_domain_publisher.proofs.publisher_port.PublisherPort.send.Goals as goal
 
 pub returns-in-Err-clause-sends : goal.returns-in-Err-clause-sends
@@ -7,3 +8,7 @@ returns-in-Err-clause-sends g c = sends_refused _ _ _ _ _ c.in_ok-at.at _ c.upda
 
 pub returns-clause-sends : goal.returns-clause-sends
 returns-clause-sends g c = sends_sent _ _ _ _ _ c.in_ok-at.at _ c.update.new.self c.begin.new.self _ c.update.result _ c.deliver.result (sym c.in_ok-at.ensures.ready) (search (rules, c.if-not-self.false)) c.update.ensures.updates c.in_default.is c.begin.ensures.begun c.deliver.ensures.sends
+
+pub returns-clause-enough : goal.returns-clause-enough
+returns-clause-enough g c = λ room failure.
+    finishes_else (MayDecide (λ object. (goal.BackpressureFn-dyn g (object.vtable, object.value)).allows object.value) c.args.handlers.now.strategy c.args.handlers.now.backpressure) c.begin.new.self c.deliver.new.self c.deliver.result c.deliver.ensures.sends failure
