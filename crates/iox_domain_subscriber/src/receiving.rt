@@ -5,6 +5,7 @@ ghost use Rattle.iox_domain_subscriber.specs.Subscribing.{attached_at, connectio
 ghost use Rattle.iox_domain_subscriber.specs.Receiving.{IsFirst, IsMet, IsGiver, is_idle_at, dropped_port, dropped_ports, swept, given, given_ports, nothing_taken, left_at, left_all, SweepsAt, Serves, Receives};
 
 use crate::attached::{Attached, Seen, Taken};
+use crate::expired::Sought;
 use crate::publishers::Publishers;
 use crate::reading::{borrowed_at, waiting_at};
 use crate::subscriber_port::SubscriberPort;
@@ -61,7 +62,7 @@ impl SubscriberPort {
     }
 
     // Whether the connection of a key is below the limit of borrows, and has data.
-    fn gives<T: Copy, U: Copy>(&self, key: usize, publishers: &Publishers<T, U>) -> bool
+    pub(crate) fn gives<T: Copy, U: Copy>(&self, key: usize, publishers: &Publishers<T, U>) -> bool
         ensures { result ≡ gives self.now publishers.now key }
     {
         let seen = self.seen(key, publishers);
@@ -94,21 +95,6 @@ impl SubscriberPort {
         };
         let _removed = self.connections.remove(SlotMapKey::new(key));
         publishers.end(attached.publisher, attached.index);
-    }
-
-    // How many of the expired connections are met before one gives; all if none does.
-    fn met<T: Copy, U: Copy>(&self, publishers: &Publishers<T, U>) -> usize
-        ensures { IsMet (gives self.now publishers.now) self.now.expired.items result }
-    {
-        let count = self.expired.len();
-        for place in 0..count {
-            if let Some(key) = self.expired.at(place) {
-                if self.gives(key, publishers) {
-                    return place;
-                }
-            }
-        }
-        count
     }
 
     // The first key whose connection gives.
@@ -245,7 +231,7 @@ impl SubscriberPort {
     fn serve<T: Copy, U: Copy>(&mut self, publishers: &mut Publishers<T, U>) -> Option<Taken>
         ensures { Serves self.old publishers.old result self.new publishers.new }
     {
-        let met = self.met(publishers);
+        let met = self.first_expired(Sought::Giving, publishers);
         let giver = self.giver(met, publishers);
         let taken = self.take_of(giver, publishers);
         self.sweep(met, publishers);
