@@ -175,18 +175,58 @@ fn a_message_is_written_at_once(rt: HostRuntime) -> Result<(), Fail> {
     Ok(())
 }
 
+// The pages of 512 values that two loans are written with.
+const PAGE: &[u64] = &[7; 512];
+
+const OTHER_PAGE: &[u64] = &[3; 512];
+
+// Whether two loans of a page are written at once, and one of them is read as it was sent.
+fn is_page_sent(sender: &mut Sender<u64, u8>, index: usize) -> bool {
+    let other = lend(sender, 512);
+    let slot = lend(sender, 512);
+    write_all(sender, other, OTHER_PAGE)
+        && write_all(sender, slot, PAGE)
+        && send(sender, slot, index)
+        && receive(sender, index) == slot
+        && reads(sender, slot, PAGE, 7)
+        && sender.has_place(other, 511)
+}
+
 #[test]
 fn a_page_is_written_at_once(rt: HostRuntime) -> Result<(), Fail> {
     let mut sender = publisher(rt.alloc(), 2, 512)?;
     let index = join(&mut sender, rt.alloc())?;
-    let other = lend(&mut sender, 512);
-    let slot = lend(&mut sender, 512);
-    assert!(rt;
-        write_all(&mut sender, other, &[3; 512]) && write_all(&mut sender, slot, &[7; 512])
-    );
-    assert!(rt; send(&mut sender, slot, index) && receive(&mut sender, index) == slot);
-    assert!(rt; reads(&sender, slot, &[7; 512], 7) && sender.has_place(other, 511));
+    assert!(rt; is_page_sent(&mut sender, index));
     Ok(())
+}
+
+// Writes the user header of a loan; whether the slot has one.
+fn write_header(sender: &mut Sender<u64, u8>, slot: usize, user_header: u8) -> bool {
+    if !sender.has_loan(slot) {
+        return false;
+    }
+    sender.write_user_header(slot, user_header);
+    true
+}
+
+// Whether a loan without values beside this one is whole, and a third is refused.
+fn stands_beside(sender: &mut Sender<u64, u8>, slot: usize) -> bool {
+    let other = lend(sender, 0);
+    slot != other
+        && is_whole(sender, other)
+        && !write(sender, other, 0, 5)
+        && sender.has_loan(slot)
+        && !sender.has_loan(9)
+        && lend(sender, 0) == usize::MAX
+}
+
+// Whether the message with this user header comes as it was written.
+fn comes_with(sender: &mut Sender<u64, u8>, slot: usize, index: usize, user_header: u8) -> bool {
+    write_header(sender, slot, user_header)
+        && write(sender, slot, 0, 5)
+        && send(sender, slot, index)
+        && receive(sender, index) == slot
+        && reads(sender, slot, &[5], user_header)
 }
 
 #[test]
@@ -194,15 +234,7 @@ fn a_user_header_is_its_loans_own(rt: HostRuntime) -> Result<(), Fail> {
     let mut sender = publisher(rt.alloc(), 3, 1)?;
     let index = join(&mut sender, rt.alloc())?;
     let slot = lend(&mut sender, 1);
-    let other = lend(&mut sender, 0);
-    assert!(rt; slot != other && is_whole(&sender, other) && !write(&mut sender, other, 0, 5));
-    assert!(rt; sender.has_loan(slot) && !sender.has_loan(9) && lend(&mut sender, 0) == usize::MAX);
-    if sender.has_loan(slot) {
-        sender.write_user_header(slot, 9);
-    }
-    assert!(rt; write(&mut sender, slot, 0, 5) && send(&mut sender, slot, index));
-    let held = receive(&mut sender, index);
-    assert!(rt; held == slot && reads(&sender, held, &[5], 9));
+    assert!(rt; stands_beside(&mut sender, slot) && comes_with(&mut sender, slot, index, 9));
     Ok(())
 }
 
@@ -232,16 +264,37 @@ fn a_segment_is_opened_for_longer_loans(rt: HostRuntime) -> Result<(), Fail> {
     Ok(())
 }
 
+// Whether a publisher of so many slots and so much room has just these, joins, and opens a segment of twice the room.
+fn has_ample(
+    sender: &mut Sender<u64, u8>,
+    alloc: Global,
+    slots: usize,
+    room: usize,
+) -> Result<bool, AllocError> {
+    let made = join(sender, alloc)? == 0 && sender.room() == room && !sender.has_slot(slots);
+    let opened = is_opened(sender, alloc, room.saturating_mul(2))?;
+    let all = slots.saturating_mul(2);
+    Ok(made && opened && sender.has_slot(slots) == (slots > 0) && !sender.has_slot(all))
+}
+
+const SLOTS: [usize; 6] = [0, 1, 2, 7, 64, 8192];
+
+const ROOMS: [usize; 5] = [0, 1, 2, 7, 64];
+
+// The same with each room.
+fn have_ample(alloc: Global, slots: usize) -> Result<bool, AllocError> {
+    for room in &ROOMS {
+        if !has_ample(&mut publisher(alloc, slots, *room)?, alloc, slots, *room)? {
+            return Ok(false);
+        }
+    }
+    Ok(true)
+}
+
 #[test]
 fn ample_memory_is_never_wanting_to_publishers(rt: HostRuntime) -> Result<(), Fail> {
-    for slots in [0, 1, 2, 7, 64, 8192] {
-        for room in [0, 1, 2, 7, 64] {
-            let mut sender = publisher(rt.alloc(), slots, room)?;
-            let index = join(&mut sender, rt.alloc())?;
-            assert!(rt; index == 0 && sender.room() == room && !sender.has_slot(slots));
-            assert!(rt; is_opened(&mut sender, rt.alloc(), 2 * room)?);
-            assert!(rt; sender.has_slot(slots) == (slots > 0) && !sender.has_slot(2 * slots));
-        }
+    for slots in &SLOTS {
+        assert!(rt; have_ample(rt.alloc(), *slots)?, "{slots}");
     }
     Ok(())
 }

@@ -10,6 +10,14 @@ use iox_index_base::{Container, OwnerId, ReleaseMode};
 use std::alloc::{AllocError, Global};
 use std::test::Fail;
 
+// A publisher, the list of its subscribers, and who decides at a full mailbox.
+#[derive(Drop)]
+struct World {
+    port: PublisherPort<u64, u8>,
+    list: Container<SubscriberEntry>,
+    by: Handlers,
+}
+
 // A publisher of one number a message, with a history of two; at a connection two messages wait and one is borrowed.
 fn publisher(alloc: Global, overflows: bool) -> Result<PublisherPort<u64, u8>, AllocError> {
     let config = SenderConfig {
@@ -32,10 +40,24 @@ fn publisher(alloc: Global, overflows: bool) -> Result<PublisherPort<u64, u8>, A
     )
 }
 
-// Who decides, with this strategy and this answer of a handler, if there is one.
-fn handlers(strategy: BackpressureStrategy, answer: Option<BackpressureAction>) -> Handlers {
+// A publisher that waits at a full mailbox, and a list of at most two subscribers without any. A handler gives this answer, if there is
+// one.
+fn make_world(
+    alloc: Global,
+    overflows: bool,
+    answer: Option<BackpressureAction>,
+) -> Result<World, AllocError> {
+    Ok(World {
+        port: publisher(alloc, overflows)?,
+        list: Container::new(alloc, 1, 2)?,
+        by: handlers(answer),
+    })
+}
+
+// Who decides, with this answer of a handler, if there is one.
+fn handlers(answer: Option<BackpressureAction>) -> Handlers {
     Handlers {
-        strategy,
+        strategy: BackpressureStrategy::RetryUntilDelivered,
         backpressure: match answer {
             Some(action) => Some(BackpressureHandler::new_with(action)),
             None => None,
@@ -45,35 +67,39 @@ fn handlers(strategy: BackpressureStrategy, answer: Option<BackpressureAction>) 
 }
 
 // A subscriber is listed; whether it was.
-fn comes(
-    list: &mut Container<SubscriberEntry>,
-    owner: OwnerId,
-    subscriber: u64,
-    buffer_size: usize,
-) -> bool {
+fn comes(world: &mut World, subscriber: u64, buffer_size: usize) -> bool {
+    let Ok(owner) = OwnerId::new(3) else {
+        return false;
+    };
     let entry = SubscriberEntry {
         subscriber,
         buffer_size,
     };
-    list.has_room() && list.add(entry, owner).is_ok()
+    world.list.has_room() && world.list.add(entry, owner).is_ok()
 }
 
 // The subscriber at this place is listed no longer; whether it was.
-fn goes(list: &mut Container<SubscriberEntry>, place: usize) -> bool {
-    let Some(handle) = list.handle(place) else {
+fn goes(world: &mut World, place: usize) -> bool {
+    let Some(handle) = world.list.handle(place) else {
         return false;
     };
-    list.has_room() && list.remove(handle, ReleaseMode::Default).is_ok()
+    world.list.has_room() && world.list.remove(handle, ReleaseMode::Default).is_ok()
 }
 
-// Sends a number; what the send answered.
-fn publish(
-    port: &mut PublisherPort<u64, u8>,
-    alloc: Global,
-    list: &Container<SubscriberEntry>,
-    handlers: &Handlers,
-    number: u64,
-) -> Option<Result<Sent, SendError>> {
+// Sends a number; what the send answered. None where no send may begin.
+fn publish(world: &mut World, alloc: Global, number: u64) -> Option<Result<Sent, SendError>> {
+    let slot = write(&mut world.port, number)?;
+    world.port.send(
+        alloc,
+        slot,
+        world.list.places(),
+        world.list.changes(),
+        &world.by,
+    )
+}
+
+// Makes a loan of one number; its slot. None where none is left.
+fn write(port: &mut PublisherPort<u64, u8>, number: u64) -> Option<usize> {
     if !port.sender.may_loan() || port.sender.room() < 1 {
         return None;
     }
@@ -82,7 +108,22 @@ fn publish(
         return None;
     }
     port.sender.write(slot, 0, number);
-    port.send(alloc, slot, list.places(), list.changes(), handlers)
+    Some(slot)
+}
+
+// Whether a number is sent, and the send answers this.
+fn sends(world: &mut World, alloc: Global, number: u64, answer: Result<Sent, SendError>) -> bool {
+    publish(world, alloc, number) == Some(answer)
+}
+
+// Whether this number is the next that a subscriber reads.
+fn reads(world: &mut World, subscriber: u64, number: u64) -> bool {
+    read(&mut world.port, subscriber) == Some(number)
+}
+
+// Whether a subscriber has nothing to read.
+fn reads_nothing(world: &mut World, subscriber: u64) -> bool {
+    read(&mut world.port, subscriber) == None
 }
 
 // Borrows the oldest message that waits for a subscriber, reads its number, and gives it back.
@@ -124,110 +165,125 @@ fn give_back(port: &mut PublisherPort<u64, u8>, index: usize, slot: usize) {
 }
 
 // Whether a subscriber attaches to the publisher, which made its connection or makes it now.
-fn attaches(port: &mut PublisherPort<u64, u8>, alloc: Global, subscriber: u64) -> bool {
-    port.sender.most_waiting() >= 1 && port.attach(alloc, subscriber, 1).is_ok()
+fn attaches(world: &mut World, alloc: Global, subscriber: u64) -> bool {
+    world.port.sender.most_waiting() >= 1 && world.port.attach(alloc, subscriber, 1).is_ok()
 }
 
-const WAITING: BackpressureStrategy = BackpressureStrategy::RetryUntilDelivered;
-
-const DELIVERED: Option<Result<Sent, SendError>> = Some(Ok(Sent::Delivered(1)));
-
-const BLOCKED: Option<Result<Sent, SendError>> = Some(Ok(Sent::Blocked));
+// Whether a subscriber in the place of another gets what was sent before it came.
+fn hands_on_the_history(world: &mut World, alloc: Global) -> bool {
+    comes(world, 10, 2)
+        && sends(world, alloc, 1, Ok(Sent::Delivered(1)))
+        && goes(world, 0)
+        && comes(world, 11, 2)
+        && sends(world, alloc, 2, Ok(Sent::Delivered(1)))
+        && reads_nothing(world, 10)
+        && reads(world, 11, 1)
+        && reads(world, 11, 2)
+        && reads_nothing(world, 11)
+}
 
 #[test]
 fn a_subscriber_in_anothers_place_gets_the_history(rt: HostRuntime) -> Result<(), Fail> {
-    let owner = OwnerId::new(3)?;
-    let mut list = Container::new(rt.alloc(), 1, 2)?;
-    let mut port = publisher(rt.alloc(), true)?;
-    let by = handlers(WAITING, None);
-    assert!(rt; comes(&mut list, owner, 10, 2));
-    assert!(rt; publish(&mut port, rt.alloc(), &list, &by, 1) == DELIVERED);
-    assert!(rt; goes(&mut list, 0) && comes(&mut list, owner, 11, 2));
-    assert!(rt; publish(&mut port, rt.alloc(), &list, &by, 2) == DELIVERED);
-    assert!(rt; read(&mut port, 10) == None && read(&mut port, 11) == Some(1));
-    assert!(rt; read(&mut port, 11) == Some(2) && read(&mut port, 11) == None);
+    assert!(rt; hands_on_the_history(&mut make_world(rt.alloc(), true, None)?, rt.alloc()));
     Ok(())
+}
+
+// Whether the oldest message goes at each subscriber by its own buffer.
+fn lets_the_oldest_go(world: &mut World, alloc: Global) -> bool {
+    comes(world, 10, 1)
+        && comes(world, 11, 2)
+        && sends(world, alloc, 1, Ok(Sent::Delivered(2)))
+        && sends(world, alloc, 2, Ok(Sent::Delivered(2)))
+        && sends(world, alloc, 3, Ok(Sent::Delivered(2)))
+        && reads(world, 10, 3)
+        && reads_nothing(world, 10)
+        && reads(world, 11, 2)
+        && reads(world, 11, 3)
 }
 
 #[test]
 fn safe_overflow_lets_the_oldest_go_at_each_subscriber(rt: HostRuntime) -> Result<(), Fail> {
-    let owner = OwnerId::new(3)?;
-    let mut list = Container::new(rt.alloc(), 1, 2)?;
-    let mut port = publisher(rt.alloc(), true)?;
-    let by = handlers(WAITING, None);
-    assert!(rt; comes(&mut list, owner, 10, 1) && comes(&mut list, owner, 11, 2));
-    for number in 1..4 {
-        assert!(rt;
-            publish(&mut port, rt.alloc(), &list, &by, number) == Some(Ok(Sent::Delivered(2)))
-        );
-    }
-    assert!(rt; read(&mut port, 10) == Some(3) && read(&mut port, 10) == None);
-    assert!(rt; read(&mut port, 11) == Some(2) && read(&mut port, 11) == Some(3));
+    assert!(rt; lets_the_oldest_go(&mut make_world(rt.alloc(), true, None)?, rt.alloc()));
     Ok(())
 }
 
-// Whether a send waits at the full mailbox of a subscriber that reads, goes on once there is room, and can be given up.
-fn is_blocked_until_read(
-    port: &mut PublisherPort<u64, u8>,
-    alloc: Global,
-    list: &Container<SubscriberEntry>,
-    by: &Handlers,
-) -> bool {
-    publish(port, alloc, list, by, 2) == BLOCKED
-        && publish(port, alloc, list, by, 3) == None
-        && port.retry(50, by) == Ok(Sent::Blocked)
-        && read(port, 10) == Some(1)
-        && port.retry(70, by) == Ok(Sent::Delivered(1))
-        && publish(port, alloc, list, by, 4) == BLOCKED
-        && port.give_up() == 0
-        && read(port, 10) == Some(2)
-        && read(port, 10) == None
+// Whether a message at the full mailbox of a subscriber that doesn't read yet is let go, and the next waits once it reads.
+fn blocks_where_somebody_reads(world: &mut World, alloc: Global) -> bool {
+    comes(world, 10, 1)
+        && sends(world, alloc, 1, Ok(Sent::Delivered(1)))
+        && sends(world, alloc, 9, Ok(Sent::Delivered(0)))
+        && attaches(world, alloc, 10)
+        && sends(world, alloc, 2, Ok(Sent::Blocked))
+        && publish(world, alloc, 3) == None
+}
+
+// Whether a send that waits goes on once there is room, and the next can be given up.
+fn goes_on_where_it_is_read(world: &mut World, alloc: Global) -> bool {
+    world.port.retry(50, &world.by) == Ok(Sent::Blocked)
+        && reads(world, 10, 1)
+        && world.port.retry(70, &world.by) == Ok(Sent::Delivered(1))
+        && sends(world, alloc, 4, Ok(Sent::Blocked))
+        && world.port.give_up() == 0
+        && reads(world, 10, 2)
+        && reads_nothing(world, 10)
+}
+
+fn waits_at_a_full_mailbox(world: &mut World, alloc: Global) -> bool {
+    blocks_where_somebody_reads(world, alloc) && goes_on_where_it_is_read(world, alloc)
 }
 
 #[test]
 fn a_full_mailbox_blocks_where_somebody_reads(rt: HostRuntime) -> Result<(), Fail> {
-    let owner = OwnerId::new(3)?;
-    let mut list = Container::new(rt.alloc(), 1, 2)?;
-    let mut port = publisher(rt.alloc(), false)?;
-    let by = handlers(WAITING, None);
-    assert!(rt; comes(&mut list, owner, 10, 1));
-    assert!(rt; publish(&mut port, rt.alloc(), &list, &by, 1) == DELIVERED);
-    assert!(rt; publish(&mut port, rt.alloc(), &list, &by, 9) == Some(Ok(Sent::Delivered(0))));
-    assert!(rt; attaches(&mut port, rt.alloc(), 10));
-    assert!(rt; is_blocked_until_read(&mut port, rt.alloc(), &list, &by));
+    assert!(rt; waits_at_a_full_mailbox(&mut make_world(rt.alloc(), false, None)?, rt.alloc()));
     Ok(())
+}
+
+// Whether the other subscribers get what one of them can't take.
+fn goes_on_with_the_others(world: &mut World, alloc: Global) -> bool {
+    comes(world, 10, 1)
+        && comes(world, 11, 2)
+        && attaches(world, alloc, 10)
+        && sends(world, alloc, 1, Ok(Sent::Delivered(2)))
+        && sends(world, alloc, 2, Err(SendError::UnableToDeliver))
+        && reads(world, 10, 1)
+        && reads_nothing(world, 10)
+        && reads(world, 11, 1)
+        && reads(world, 11, 2)
 }
 
 #[test]
 fn a_send_that_is_to_fail_goes_on_with_the_other_subscribers(rt: HostRuntime) -> Result<(), Fail> {
-    let owner = OwnerId::new(3)?;
-    let mut list = Container::new(rt.alloc(), 1, 2)?;
-    let mut port = publisher(rt.alloc(), false)?;
-    let by = handlers(WAITING, Some(BackpressureAction::DiscardDataAndFail));
-    assert!(rt; comes(&mut list, owner, 10, 1) && comes(&mut list, owner, 11, 2));
-    assert!(rt; attaches(&mut port, rt.alloc(), 10));
-    assert!(rt; publish(&mut port, rt.alloc(), &list, &by, 1) == Some(Ok(Sent::Delivered(2))));
-    assert!(rt;
-        publish(&mut port, rt.alloc(), &list, &by, 2) == Some(Err(SendError::UnableToDeliver))
-    );
-    assert!(rt; read(&mut port, 10) == Some(1) && read(&mut port, 10) == None);
-    assert!(rt; read(&mut port, 11) == Some(1) && read(&mut port, 11) == Some(2));
+    let answer = Some(BackpressureAction::DiscardDataAndFail);
+    assert!(rt; goes_on_with_the_others(&mut make_world(rt.alloc(), false, answer)?, rt.alloc()));
     Ok(())
+}
+
+// Whether a publisher that left delivers nothing more, and what waits can still be read where a subscriber attached.
+fn sends_until_it_leaves(world: &mut World, alloc: Global) -> bool {
+    comes(world, 10, 2)
+        && comes(world, 11, 2)
+        && attaches(world, alloc, 11)
+        && sends(world, alloc, 1, Ok(Sent::Delivered(2)))
+}
+
+fn sends_no_more(world: &mut World, alloc: Global) -> bool {
+    world.port.leave();
+    sends(
+        world,
+        alloc,
+        2,
+        Err(SendError::ConnectionBrokenSinceSenderNoLongerExists),
+    ) && reads_nothing(world, 10)
+        && reads(world, 11, 1)
+        && world.port.sender.loans() == 0
+}
+
+fn leaves(world: &mut World, alloc: Global) -> bool {
+    sends_until_it_leaves(world, alloc) && sends_no_more(world, alloc)
 }
 
 #[test]
 fn a_publisher_that_left_sends_no_more(rt: HostRuntime) -> Result<(), Fail> {
-    let owner = OwnerId::new(3)?;
-    let mut list = Container::new(rt.alloc(), 1, 2)?;
-    let mut port = publisher(rt.alloc(), true)?;
-    let by = handlers(WAITING, None);
-    assert!(rt; comes(&mut list, owner, 10, 2) && comes(&mut list, owner, 11, 2));
-    assert!(rt; attaches(&mut port, rt.alloc(), 11));
-    assert!(rt; publish(&mut port, rt.alloc(), &list, &by, 1) == Some(Ok(Sent::Delivered(2))));
-    port.leave();
-    let refused = Some(Err(SendError::ConnectionBrokenSinceSenderNoLongerExists));
-    assert!(rt; publish(&mut port, rt.alloc(), &list, &by, 2) == refused);
-    assert!(rt; read(&mut port, 10) == None && read(&mut port, 11) == Some(1));
-    assert!(rt; port.sender.loans() == 0);
+    assert!(rt; leaves(&mut make_world(rt.alloc(), true, None)?, rt.alloc()));
     Ok(())
 }

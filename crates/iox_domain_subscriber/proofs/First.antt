@@ -1,9 +1,8 @@
 -- The first that passes a test is found one by one.
 use Rattle.std.proofs.Common.{rules, arith, ◌≡◌, ◌+◌, ◌<◌, ◌≤◌, ◌&&◌, inl, inr, ℕ, Bool, true, false, nat_lt, List, length, get_or, slice_get, None, Some, refl, sym, ap, ◌∙◌}
-use Rattle.std.proofs.lemmas.List.{get_or_past}
 use Rattle.std.proofs.lemmas.Option.{get_or_from_slice_get, slice_get-get_or}
 use Rattle.iox_domain_publisher.specs.declared.publisher_port.PublisherPort.{PublisherPort}
-use Rattle.iox_domain_subscriber.specs.Subscribing.{connection_by, has_data, is_below, gives}
+use Rattle.iox_domain_subscriber.specs.Subscribing.{attached_at, connection_by, has_data, is_below, gives}
 use Rattle.iox_domain_subscriber.specs.Receiving.{IsFirst, IsMet}
 use Rattle.iox_domain_subscriber.specs.declared.subscriber_port.SubscriberPort.{SubscriberPort}
 
@@ -31,12 +30,12 @@ none_first test count none past key = at (nat_lt key count) refl
         let behind : count ≤ key = grind (arith, less) in
         past key behind
 
--- a key past the others holds no connection, and so has no data and gives nothing
-pub no_data_past : {T U : Type 0} (port : SubscriberPort) (ports : List (ℕ × PublisherPort T U)) (key : ℕ) → length port.connections.values ≤ key → has_data port ports key ≡ false
-no_data_past port ports key past = ap (λ attached. nat_lt 0 (length (connection_by attached ports).waiting)) (get_or_past port.connections.values key None past)
+-- a key without a connection has no data and gives nothing
+pub no_data_without : {T U : Type 0} (port : SubscriberPort) (ports : List (ℕ × PublisherPort T U)) (key : ℕ) → attached_at key port ≡ None → has_data port ports key ≡ false
+no_data_without port ports key none = ap (λ attached. nat_lt 0 (length (connection_by attached ports).waiting)) none
 
-pub none_given_past : {T U : Type 0} (port : SubscriberPort) (ports : List (ℕ × PublisherPort T U)) (key : ℕ) → length port.connections.values ≤ key → gives port ports key ≡ false
-none_given_past port ports key past = both (is_below port ports key) (has_data port ports key) (no_data_past port ports key past)
+pub none_given_without : {T U : Type 0} (port : SubscriberPort) (ports : List (ℕ × PublisherPort T U)) (key : ℕ) → attached_at key port ≡ None → gives port ports key ≡ false
+none_given_without port ports key none = both (is_below port ports key) (has_data port ports key) (no_data_without port ports key none)
   where
     both : (a b : Bool) → b ≡ false → a && b ≡ false
     both true b is = is

@@ -1,10 +1,10 @@
 -- Who gives is one that may give.
-use Rattle.std.proofs.Common.{rules, ◌≡◌, ◌&&◌, ◌∷◌, [], ℕ, zero, suc, Bool, true, nat_lt, List, length, get_or, slice_get, Option, None, Some, Result, Ok, refl, sym, ap, ◌∙◌, arith}
+use Rattle.std.proofs.Common.{rules, ◌≡◌, ◌&&◌, ◌∷◌, [], ℕ, zero, suc, Bool, true, nat_lt, List, length, get_or, slice_get, Option, None, Some, Result, Ok, refl, sym, ap, subst, ◌∙◌, arith}
 use Rattle.std.proofs.Math.Logic.{⊎_elim}
 use Rattle.std.proofs.lemmas.Option.{slice_get-get_or}
 use Rattle.iox_domain_publisher.specs.declared.publisher_port.PublisherPort.{PublisherPort}
-use Rattle.iox_domain_subscriber.specs.Subscribing.{attached_at, connection_by, most_by, gives, taken_of}
-use Rattle.iox_domain_subscriber.specs.Receiving.{IsMet, IsGiver, given, receive_answer}
+use Rattle.iox_domain_subscriber.specs.Subscribing.{attached_at, connection_by, most_by, has_data, gives, taken_of}
+use Rattle.iox_domain_subscriber.specs.Receiving.{IsMet, IsGiver, given, IsReceiveAnswer}
 use Rattle.iox_domain_subscriber.specs.Laws.{ReceivesIfGiven}
 use Rattle.iox_domain_subscriber.specs.declared.attached.Attached.{Attached}
 use Rattle.iox_domain_subscriber.specs.declared.attached.Taken.{Taken}
@@ -40,18 +40,18 @@ given_there port ports key None is passes =
     search (rules, wrong)
 given_there port ports key (Some attached) is passes = (_, refl)
 
-answer_of : (taken : Option Taken) (unread : Option ℕ) (one : Taken) → receive_answer taken unread ≡ Ok (Some one) → taken ≡ Some one
-answer_of None None one is = search (rules, is)
-answer_of None (Some key) one is = search (rules, is)
-answer_of (Some taken) unread one is = search (rules, is)
+answer_of : (taken : Option Taken) (has_data : ℕ → Bool) (answer : Result (Option Taken) _) (one : Taken) → IsReceiveAnswer taken has_data answer → answer ≡ Ok (Some one) → taken ≡ Some one
+answer_of (Some taken) has_data answer one answers is = let same = sym answers ∙ is in search (rules, same)
+answer_of None has_data answer one (None, first, answers) is = let wrong = sym answers ∙ is in search (rules, wrong)
+answer_of None has_data answer one (Some key, first, answers) is = let wrong = sym answers ∙ is in search (rules, wrong)
 
-received : {T U : Type 0} (port : SubscriberPort) (ports : List (ℕ × PublisherPort T U)) (met key : ℕ) (giver : Option ℕ) (taken : Option Taken) (unread : Option ℕ) (answer : Result (Option Taken) _)
-    → IsMet (gives port ports) port.expired.items met → IsGiver (slice_get port.expired.items met) (gives port ports) giver → taken ≡ given giver port ports → answer ≡ receive_answer taken unread
+received : {T U : Type 0} (port : SubscriberPort) (ports : List (ℕ × PublisherPort T U)) (met key : ℕ) (giver : Option ℕ) (taken : Option Taken) (has_data : ℕ → Bool) (answer : Result (Option Taken) _)
+    → IsMet (gives port ports) port.expired.items met → IsGiver (slice_get port.expired.items met) (gives port ports) giver → taken ≡ given giver port ports → IsReceiveAnswer taken has_data answer
     → gives port ports key ≡ true → (one : Taken) × (answer ≡ Ok (Some one))
-received port ports met key None taken unread answer meets giver is answers passes = some_giver (gives port ports) (slice_get port.expired.items met) key giver passes
-received port ports met key (Some first) taken unread answer meets giver is answers passes =
+received port ports met key None taken has_data answer meets giver is answers passes = some_giver (gives port ports) (slice_get port.expired.items met) key giver passes
+received port ports met key (Some first) taken has_data answer meets giver is answers passes =
     let there = given_there port ports first (attached_at first port) refl (giver_passes (gives port ports) port.expired.items met first (slice_get port.expired.items met) refl meets giver) in
-    (there.0, answers ∙ ap (λ one. receive_answer one unread) (is ∙ there.1))
+    let A : Option Taken → Type 0 = λ one. IsReceiveAnswer one has_data answer in (there.0, subst A (is ∙ there.1) answers)
 
 gave : {T U : Type 0} (port : SubscriberPort) (ports : List (ℕ × PublisherPort T U)) (met : ℕ) (giver : Option ℕ) (one : Taken)
     → IsMet (gives port ports) port.expired.items met → IsGiver (slice_get port.expired.items met) (gives port ports) giver → given giver port ports ≡ Some one → (key : ℕ) × (gives port ports key ≡ true)
@@ -61,9 +61,9 @@ gave port ports met (Some key) one meets giver is = (key, giver_passes (gives po
 pub receives_if_given : {T U : Type 0} → ReceivesIfGiven T U
 receives_if_given = record {
   some = λ port new ports new_ports answer key receives passes.
-      let (taken, (met, meets, giver, is_giver, is_taken, after, after_ports), unread, first, answers) = receives in
-      received port ports met key giver taken unread answer meets is_giver is_taken answers passes;
+      let (taken, (met, meets, giver, is_giver, is_taken, after, after_ports), answers) = receives in
+      received port ports met key giver taken (has_data new new_ports) answer meets is_giver is_taken answers passes;
   none = λ port new ports new_ports answer one receives is.
-      let (taken, (met, meets, giver, is_giver, is_taken, after, after_ports), unread, first, answers) = receives in
-      gave port ports met giver one meets is_giver (sym is_taken ∙ answer_of taken unread one (sym answers ∙ is));
+      let (taken, (met, meets, giver, is_giver, is_taken, after, after_ports), answers) = receives in
+      gave port ports met giver one meets is_giver (sym is_taken ∙ answer_of taken (has_data new new_ports) answer one answers is);
 }

@@ -1,6 +1,6 @@
 -- Expired connections are ended, and left, one by one.
-use Rattle.std.proofs.Common.{arith, ◌≡◌, ◌+◌, ◌-◌, ◌<◌, ◌≤◌, ℕ, zero, suc, Bool, true, false, List, length, get_or, drop, slice_get, Option, None, refl, sym, ap, ◌∙◌}
-use Rattle.std.proofs.lemmas.List.{drop_more, drop_all}
+use Rattle.std.proofs.Common.{arith, ◌≡◌, ◌+◌, ◌-◌, ◌<◌, ◌≤◌, ◌∷◌, [], ℕ, zero, suc, Bool, true, false, List, length, get_or, drop, slice_get, Option, None, refl, sym, ap, ◌∙◌}
+use Rattle.std.proofs.lemmas.List.{drop_more, get_or-drop}
 use Rattle.iox_domain_publisher.specs.declared.publisher_port.PublisherPort.{PublisherPort}
 use Rattle.iox_domain_subscriber.specs.Receiving.{is_idle_at, dropped_port, dropped_ports, swept, left_at, left_all, SweepsAt}
 use Rattle.iox_domain_subscriber.specs.declared.attached.Attached.{Attached}
@@ -60,7 +60,14 @@ left_on all first now next key so_far within made =
     ∙ sym (ap (λ rest. left_all rest now) (drop_more all key None within))
     ∙ so_far
 
--- all are left
-pub all_left : {T U : Type 0} (all : List (Option Attached)) (first now : List (ℕ × PublisherPort T U)) (key : ℕ) → left_all (drop key all) now ≡ left_all all first → length all ≤ key
-    → now ≡ left_all all first
-all_left all first now key so_far over = ap (λ rest. left_all rest now) (sym (drop_all key all over)) ∙ so_far
+-- keys that hold no connection are left as they are
+none_left : {T U : Type 0} (rest : List (Option Attached)) (ports : List (ℕ × PublisherPort T U)) → ((key : ℕ) → get_or rest key None ≡ None) → left_all rest ports ≡ ports
+none_left [] ports none = refl
+none_left (attached ∷ rest) ports none =
+    ap (λ one. left_all rest (left_at one ports)) (none 0) ∙ none_left rest ports (λ key. none (suc key))
+
+-- all are left where no key from one on holds a connection
+pub all_left : {T U : Type 0} (all : List (Option Attached)) (first now : List (ℕ × PublisherPort T U)) (key : ℕ) → left_all (drop key all) now ≡ left_all all first
+    → ((other : ℕ) → key ≤ other → get_or all other None ≡ None) → now ≡ left_all all first
+all_left all first now key so_far none =
+    sym (none_left (drop key all) now (λ more. get_or-drop key all more None ∙ none (key + more) (omega arith))) ∙ so_far

@@ -4,6 +4,7 @@ pub mod PublishersLends
 pub mod Keys
 pub mod Subscribing
 pub mod Receiving
+pub mod Expired
 pub mod Following
 pub mod Updating
 pub mod Laws

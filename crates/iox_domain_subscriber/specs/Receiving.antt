@@ -74,17 +74,21 @@ Serves port ports answer port_after ports_after =
     × (answer ≡ given giver port ports)
     × (port_after ≡ (swept 0 met (port, given_ports giver port ports)).0) × (ports_after ≡ (swept 0 met (port, given_ports giver port ports)).1)
 
--- what is answered: a message, and else a refusal if some connection has data
-abbrev pub receive_answer : Option Taken → Option ℕ → Result (Option Taken) ReceiveError
-receive_answer (Some taken) unread = Ok (Some taken)
-receive_answer None None = Ok None
-receive_answer None (Some key) = Err receiving.ExceedsMaxBorrows
+-- what is answered where no message came: a refusal if there is a key whose connection has data
+abbrev pub nothing_taken : Option ℕ → Result (Option Taken) ReceiveError
+nothing_taken None = Ok None
+nothing_taken (Some key) = Err receiving.ExceedsMaxBorrows
+
+-- what is answered: the message that came, and else a refusal if some connection has data
+abbrev pub IsReceiveAnswer : Option Taken → (ℕ → Bool) → Result (Option Taken) ReceiveError → Type 0
+IsReceiveAnswer (Some taken) has_data answer = answer ≡ Ok (Some taken)
+IsReceiveAnswer None has_data answer = (unread : Option ℕ) × IsFirst has_data unread × (answer ≡ nothing_taken unread)
 
 -- A subscriber receives from the connections that it has.
 abbrev pub Receives : {T U : Type 0} → SubscriberPort → List (ℕ × PublisherPort T U) → Result (Option Taken) ReceiveError → SubscriberPort → List (ℕ × PublisherPort T U) → Type 0
 Receives port ports answer port_after ports_after =
     (taken : Option Taken) × Serves port ports taken port_after ports_after
-    × (unread : Option ℕ) × IsFirst (has_data port_after ports_after) unread × (answer ≡ receive_answer taken unread)
+    × IsReceiveAnswer taken (has_data port_after ports_after) answer
 
 -- nobody reads at a connection any longer; where its publisher left it ends
 abbrev pub left_at : {T U : Type 0} → Option Attached → List (ℕ × PublisherPort T U) → List (ℕ × PublisherPort T U)

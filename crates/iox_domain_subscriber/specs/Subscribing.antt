@@ -8,6 +8,7 @@ use Rattle.iox_domain_publisher.specs.declared.publisher_port.PublisherPort.{Pub
 use Rattle.iox_domain_subscriber.specs.Reading.{taken_at}
 use Rattle.iox_domain_subscriber.specs.Publishers.{connection_in, most_borrowed_in, changed, settled}
 use Rattle.iox_domain_subscriber.specs.declared.attached.Attached.{Attached}
+use Rattle.iox_domain_subscriber.specs.declared.attached.Seen.{Seen}
 use Rattle.iox_domain_subscriber.specs.declared.attached.Taken.{Taken}
 use Rattle.iox_domain_subscriber.specs.declared.subscriber_port.SubscriberPort.{SubscriberPort}
 
@@ -24,6 +25,14 @@ connection_by (Some attached) ports = connection_in attached.publisher attached.
 abbrev pub most_by : {T U : Type 0} → Option Attached → List (ℕ × PublisherPort T U) → ℕ
 most_by None ports = 0
 most_by (Some attached) ports = most_borrowed_in attached.publisher ports
+
+-- what is seen of a connection: how much waits there, how much is borrowed of it, and how much may be
+abbrev pub seen_of : {T U : Type 0} → Option Attached → List (ℕ × PublisherPort T U) → Seen
+seen_of attached ports = record {
+  waiting = length (connection_by attached ports).waiting;
+  borrowed = length (connection_by attached ports).borrowed;
+  most = most_by attached ports;
+}
 
 -- whether a message waits at the connection of a key
 abbrev pub has_data : {T U : Type 0} → SubscriberPort → List (ℕ × PublisherPort T U) → ℕ → Bool

@@ -19,3 +19,14 @@ pub struct Taken {
     /// The slot that it stands in.
     pub slot: usize,
 }
+
+/// What is seen of a connection.
+#[derive(Clone, Copy, Debug, PartialEq, Eq)]
+pub(crate) struct Seen {
+    /// How many messages wait there.
+    pub waiting: usize,
+    /// How many messages are borrowed of it.
+    pub borrowed: usize,
+    /// How many messages may be borrowed of it.
+    pub most: usize,
+}

@@ -5,47 +5,22 @@ ghost use Rattle.iox_domain_subscriber.specs.Receiving.{IsMet};
 ghost use Rattle.iox_domain_subscriber.specs.Following.{is_unborrowed, is_of, replaced_port, replaced_ports, within_reach, unplaced, Parts, PartsFull, KeepsReached, Connects, FollowsListed, FollowsFreed, FollowsNone, AttachesAtOnce};
 
 use crate::attached::Attached;
+use crate::expired::Sought;
 use crate::publishers::Publishers;
 use crate::subscriber_port::SubscriberPort;
 use iox_domain_values::ZeroCopyCreationError;
 use std::alloc::{AllocError, Global};
 
 impl SubscriberPort {
-    // How many of the expired connections are met before one is idle; all if none is.
-    fn first_idle<T: Copy, U: Copy>(&self, publishers: &Publishers<T, U>) -> usize
-        ensures { IsMet (is_idle self.now publishers.now) self.now.expired.items result }
-    {
-        let count = self.expired.len();
-        for place in 0..count {
-            if let Some(key) = self.expired.at(place) {
-                if self.is_idle(key, publishers) {
-                    return place;
-                }
-            }
-        }
-        count
-    }
-
     // Whether nothing is borrowed of the connection of a key.
-    fn is_unborrowed<T: Copy, U: Copy>(&self, key: usize, publishers: &Publishers<T, U>) -> bool
+    pub(crate) fn is_unborrowed<T: Copy, U: Copy>(
+        &self,
+        key: usize,
+        publishers: &Publishers<T, U>,
+    ) -> bool
         ensures { result ≡ is_unborrowed self.now publishers.now key }
     {
         self.borrowed(key, publishers) == 0
-    }
-
-    // How many of the expired connections are met before one has no borrows; all if none has.
-    fn first_unborrowed<T: Copy, U: Copy>(&self, publishers: &Publishers<T, U>) -> usize
-        ensures { IsMet (is_unborrowed self.now publishers.now) self.now.expired.items result }
-    {
-        let count = self.expired.len();
-        for place in 0..count {
-            if let Some(key) = self.expired.at(place) {
-                if self.is_unborrowed(key, publishers) {
-                    return place;
-                }
-            }
-        }
-        count
     }
 
     // An expired connection ends, and that of a key expires in its stead.
@@ -67,7 +42,7 @@ impl SubscriberPort {
     fn part_full<T: Copy, U: Copy>(&mut self, key: usize, publishers: &mut Publishers<T, U>) -> bool
         ensures { PartsFull key self.old publishers.old result self.new publishers.new }
     {
-        let idle = self.first_idle(publishers);
+        let idle = self.first_expired(Sought::Idle, publishers);
         if let Some(out) = self.expired.at(idle) {
             self.replace(idle, out, key, publishers);
             return true;
@@ -76,7 +51,7 @@ impl SubscriberPort {
             self.end_key(key, publishers);
             return true;
         }
-        let unborrowed = self.first_unborrowed(publishers);
+        let unborrowed = self.first_expired(Sought::Unborrowed, publishers);
         if let Some(out) = self.expired.at(unborrowed) {
             self.replace(unborrowed, out, key, publishers);
             return true;

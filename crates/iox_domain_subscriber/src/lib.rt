@@ -7,12 +7,14 @@
 //! - [`subscriber_port`]: a subscriber.
 //! - [`receiving`]: it receives.
 //! - [`publisher_entry`]: what the list of publishers tells of one.
+//! - `expired`: what it looks for among its expired connections.
 //! - [`following`]: it follows one place of that list.
 //! - [`updating`]: it follows all of them.
 //! - [`laws`]: what its steps come to, in other words.
 #![tactic(auto)]
 
 pub mod attached;
+mod expired;
 pub mod following;
 pub mod keys;
 pub mod laws;

@@ -1,11 +1,13 @@
 //! A subscriber receives.
 ghost use Rattle.std.specs.Prelude.{◌≡◌, ◌+◌, ◌<◌, ◌^◌, length, slice_get, IfSome, None, Some, true, false};
 ghost use Rattle.std.specs.Bool.{OnTrue, OnFalse};
-ghost use Rattle.iox_domain_subscriber.specs.Subscribing.{attached_at, connection_by, most_by, has_data, is_below, gives, is_idle, ended_key, ended_ports, taken_of, taken_ports};
-ghost use Rattle.iox_domain_subscriber.specs.Receiving.{IsFirst, IsMet, IsGiver, is_idle_at, dropped_port, dropped_ports, swept, given, given_ports, receive_answer, left_at, left_all, SweepsAt, Serves, Receives};
+ghost use Rattle.iox_domain_subscriber.specs.Subscribing.{attached_at, connection_by, seen_of, has_data, gives, is_idle, ended_key, ended_ports, taken_of, taken_ports};
+ghost use Rattle.iox_domain_subscriber.specs.Receiving.{IsFirst, IsMet, IsGiver, is_idle_at, dropped_port, dropped_ports, swept, given, given_ports, nothing_taken, left_at, left_all, SweepsAt, Serves, Receives};
 
-use crate::attached::{Attached, Taken};
+use crate::attached::{Attached, Seen, Taken};
+use crate::expired::Sought;
 use crate::publishers::Publishers;
+use crate::reading::{borrowed_at, waiting_at};
 use crate::subscriber_port::SubscriberPort;
 use iox_domain_values::ReceiveError;
 use iox_maps::SlotMapKey;
@@ -42,13 +44,13 @@ impl SubscriberPort {
         }
     }
 
-    // How many messages may be borrowed of the connection of a key.
-    fn most<T: Copy, U: Copy>(&self, key: usize, publishers: &Publishers<T, U>) -> usize
-        ensures { result ≡ most_by (attached_at key self.now) publishers.now }
+    // What is seen of the connection of a key: its publisher is looked up once.
+    fn seen<T: Copy, U: Copy>(&self, key: usize, publishers: &Publishers<T, U>) -> Seen
+        ensures { result ≡ seen_of (attached_at key self.now) publishers.now }
     {
         match self.attached(key) {
-            Some(attached) => publishers.most_borrowed(attached.publisher),
-            None => 0,
+            Some(attached) => seen_at(attached, publishers),
+            None => nothing_seen(),
         }
     }
 
@@ -59,18 +61,12 @@ impl SubscriberPort {
         0 < self.waiting(key, publishers)
     }
 
-    // Whether the connection of a key is below the limit of borrows.
-    fn is_below<T: Copy, U: Copy>(&self, key: usize, publishers: &Publishers<T, U>) -> bool
-        ensures { result ≡ is_below self.now publishers.now key }
-    {
-        self.borrowed(key, publishers) < self.most(key, publishers)
-    }
-
     // Whether the connection of a key is below the limit of borrows, and has data.
-    fn gives<T: Copy, U: Copy>(&self, key: usize, publishers: &Publishers<T, U>) -> bool
+    pub(crate) fn gives<T: Copy, U: Copy>(&self, key: usize, publishers: &Publishers<T, U>) -> bool
         ensures { result ≡ gives self.now publishers.now key }
     {
-        self.is_below(key, publishers) && self.has_data(key, publishers)
+        let seen = self.seen(key, publishers);
+        seen.borrowed < seen.most && 0 < seen.waiting
     }
 
     // Whether nothing waits and nothing is borrowed at the connection of a key.
@@ -81,7 +77,8 @@ impl SubscriberPort {
     ) -> bool
         ensures { result ≡ is_idle self.now publishers.now key }
     {
-        self.waiting(key, publishers) == 0 && self.borrowed(key, publishers) == 0
+        let seen = self.seen(key, publishers);
+        seen.waiting == 0 && seen.borrowed == 0
     }
 
     // Ends the connection of a key.
@@ -100,26 +97,11 @@ impl SubscriberPort {
         publishers.end(attached.publisher, attached.index);
     }
 
-    // How many of the expired connections are met before one gives; all if none does.
-    fn met<T: Copy, U: Copy>(&self, publishers: &Publishers<T, U>) -> usize
-        ensures { IsMet (gives self.now publishers.now) self.now.expired.items result }
-    {
-        let count = self.expired.len();
-        for place in 0..count {
-            if let Some(key) = self.expired.at(place) {
-                if self.gives(key, publishers) {
-                    return place;
-                }
-            }
-        }
-        count
-    }
-
     // The first key whose connection gives.
     fn first_giver<T: Copy, U: Copy>(&self, publishers: &Publishers<T, U>) -> Option<usize>
         ensures { IsFirst (gives self.now publishers.now) result }
     {
-        for key in 0..self.connections.capacity() {
+        for key in 0..self.connections.reached() {
             if self.gives(key, publishers) {
                 return Some(key);
             }
@@ -134,7 +116,7 @@ impl SubscriberPort {
     ) -> Option<usize>
         ensures { IsFirst (has_data self.now publishers.now) result }
     {
-        for key in 0..self.connections.capacity() {
+        for key in 0..self.connections.reached() {
             if self.has_data(key, publishers) {
                 return Some(key);
             }
@@ -249,7 +231,7 @@ impl SubscriberPort {
     fn serve<T: Copy, U: Copy>(&mut self, publishers: &mut Publishers<T, U>) -> Option<Taken>
         ensures { Serves self.old publishers.old result self.new publishers.new }
     {
-        let met = self.met(publishers);
+        let met = self.first_expired(Sought::Giving, publishers);
         let giver = self.giver(met, publishers);
         let taken = self.take_of(giver, publishers);
         self.sweep(met, publishers);
@@ -263,9 +245,10 @@ impl SubscriberPort {
     ) -> Result<Option<Taken>, ReceiveError>
         ensures { Receives self.old publishers.old result self.new publishers.new }
     {
-        let taken = self.serve(publishers);
-        let unread = self.first_data(publishers);
-        received(taken, unread)
+        match self.serve(publishers) {
+            Some(taken) => Ok(Some(taken)),
+            None => nothing_taken(self.first_data(publishers)),
+        }
     }
 
     // Nobody reads at the connection of a key any longer; where its publisher left it ends.
@@ -298,19 +281,43 @@ impl SubscriberPort {
     fn leave_all<T: Copy, U: Copy>(&self, publishers: &mut Publishers<T, U>)
         ensures { publishers.new ≡ left_all self.now.connections.values publishers.old }
     {
-        for key in 0..self.connections.capacity() {
+        for key in 0..self.connections.reached() {
             self.leave_key(key, publishers);
         }
     }
 }
 
-// What is answered where a message came, or some connection has data.
-fn received(taken: Option<Taken>, unread: Option<usize>) -> Result<Option<Taken>, ReceiveError>
-    ensures { result ≡ receive_answer taken unread }
+// What is seen of a connection.
+fn seen_at<T: Copy, U: Copy>(attached: Attached, publishers: &Publishers<T, U>) -> Seen
+    ensures { result ≡ seen_of (Some attached) publishers.now }
 {
-    match (taken, unread) {
-        (Some(taken), _) => Ok(Some(taken)),
-        (None, Some(_)) => Err(ReceiveError::ExceedsMaxBorrows),
-        (None, None) => Ok(None),
+    match publishers.get(attached.publisher) {
+        Some(port) => Seen {
+            waiting: waiting_at(port, attached.index),
+            borrowed: borrowed_at(port, attached.index),
+            most: port.sender.most_borrowed(),
+        },
+        None => nothing_seen(),
+    }
+}
+
+// What is seen where there is no connection.
+fn nothing_seen() -> Seen
+    ensures { result ≡ record { waiting = 0; borrowed = 0; most = 0 } }
+{
+    Seen {
+        waiting: 0,
+        borrowed: 0,
+        most: 0,
+    }
+}
+
+// What is answered where no message came, and this is the first key whose connection has data.
+fn nothing_taken(unread: Option<usize>) -> Result<Option<Taken>, ReceiveError>
+    ensures { result ≡ nothing_taken unread }
+{
+    match unread {
+        Some(_) => Err(ReceiveError::ExceedsMaxBorrows),
+        None => Ok(None),
     }
 }

@@ -1,13 +1,11 @@
-use Rattle.std.proofs.Common.{ℕ, zero, suc, ◌≡◌, ◌⊎◌, inl, inr, ◌+◌, ◌-◌, ◌<◌, ◌≤◌, List, [], ◌∷◌, length, get_or, Some, arith, refl, sym, ap, ◌∙◌, subst}
+use Rattle.std.proofs.Common.{ℕ, ◌≡◌, ◌⊎◌, inl, inr, ◌+◌, ◌-◌, ◌<◌, ◌≤◌, List, [], ◌∷◌, ◌++◌, length, get_or, Some, arith, refl, sym, ap, ◌∙◌, subst}
 use Rattle.std.specs.Prelude.{slice_get}
 use Rattle.std.proofs.Math.ListN.{set}
 use Rattle.std.proofs.lemmas.Bool.{cases_eq}
-use Rattle.std.proofs.lemmas.List.{get_or-set_same, get_or-set_other, length-set}
-use Rattle.std.proofs.lemmas.List.FromFn.{length-range_with_len}
-use Rattle.std.specs.List.{range_with_len}
+use Rattle.std.proofs.lemmas.List.{get_or-set_same, get_or-set_other, get_or_append_left, get_or_push, length-set, length_push}
 use Rattle.iox_maps.specs.SlotTable.{Among, Distinct, without}
 use Rattle.iox_maps.specs.Links.{Chain, ChainFrom, LinksKeys, walk}
-use Rattle.iox_maps.proofs.Keys.{Among-range, Among-without, Distinct-range, Distinct-without, length-without, without_absent, without_first, without_here, without_there}
+use Rattle.iox_maps.proofs.Keys.{Among-append, Among-without, Distinct-push, Distinct-without, length-without, without_absent, without_first, without_here, without_there}
 
 -- the walk along a chain meets its keys
 walk-chain : (n p : List ℕ) (at : ℕ) (ks : List ℕ) (end : ℕ) → Chain n p at ks end → walk n (length ks) (get_or n at 0) ≡ ks
@@ -26,20 +24,23 @@ walk-from n p first (k ∷ ks) end chain =
 pub walk-is : (n p : List ℕ) (f c m : ℕ) (ks : List ℕ) → LinksKeys n p f c m ks → walk n m f ≡ ks
 walk-is n p f c m ks links = ap (λ count. walk n count f) (sym links.counted) ∙ walk-from n p f ks c links.chain
 
-pub LinksKeys-walked : (n p : List ℕ) (f c m : ℕ) (ks : List ℕ) → LinksKeys n p f c m ks → LinksKeys n p f c m (walk n m f)
+-- and as many keys were made as the links have cells
+pub LinksKeys-walked : (n p : List ℕ) (f c m : ℕ) (ks : List ℕ) → LinksKeys n p f c m ks → LinksKeys n p f (length n) m (walk n m f)
 LinksKeys-walked n p f c m ks links =
-    let R : List ℕ → Type 0 = λ xs. LinksKeys n p f c m xs in subst R (sym (walk-is n p f c m ks links)) links
+    let R : List ℕ → Type 0 = λ xs. LinksKeys n p f c m xs in
+    let M : ℕ → Type 0 = λ made. LinksKeys n p f made m (walk n m f) in
+    subst M (sym links.forth) (subst R (sym (walk-is n p f c m ks links)) links)
 
 -- links that are the same at each place of a chain make the same chain
 Chain-frame : (n p n' p' : List ℕ) (at : ℕ) (ks : List ℕ) (end : ℕ) → Chain n p at ks end
     → get_or n' at 0 ≡ get_or n at 0 → ((k : ℕ) → Among k ks → get_or n' k 0 ≡ get_or n k 0)
-    → ((k : ℕ) → Among k ks → get_or p' k 0 ≡ get_or p k 0)
+    → ((k : ℕ) → Among k ks → get_or p' k 0 ≡ get_or p k 0) → get_or p' end 0 ≡ get_or p end 0
     → Chain n' p' at ks end
-Chain-frame n p n' p' at [] end chain first forth back = first ∙ chain
-Chain-frame n p n' p' at (k ∷ ks) end chain first forth back = (
+Chain-frame n p n' p' at [] end chain first forth back last = (first ∙ chain.0, last ∙ chain.1)
+Chain-frame n p n' p' at (k ∷ ks) end chain first forth back last = (
   first ∙ chain.0,
   back k (inl refl) ∙ chain.1,
-  Chain-frame n p n' p' k ks end chain.2 (forth k (inl refl)) (λ j there. forth j (inr there)) (λ j there. back j (inr there)),
+  Chain-frame n p n' p' k ks end chain.2 (forth k (inl refl)) (λ j there. forth j (inr there)) (λ j there. back j (inr there)) last,
 )
 
 -- what stands before and behind a key of a chain
@@ -53,7 +54,7 @@ before_key n p at (k ∷ ks) end key chain there =
     ]
 
 first_behind : (n p : List ℕ) (at : ℕ) (ks : List ℕ) (end : ℕ) → Chain n p at ks end → (get_or n at 0 ≡ end) ⊎ Among (get_or n at 0) ks
-first_behind n p at [] end chain = inl chain
+first_behind n p at [] end chain = inl chain.0
 first_behind n p at (k ∷ ks) end chain = inr (inl chain.0)
 
 behind_key : (n p : List ℕ) (at : ℕ) (ks : List ℕ) (end key : ℕ) → Chain n p at ks end → Among key ks
@@ -78,12 +79,15 @@ apart j k ks there absent e = let A : ℕ → Type 0 = λ x. Among x ks in absen
 
 -- a chain whose first key is taken out
 unlinked_first : (n p : List ℕ) (at k : ℕ) (ks : List ℕ) (end : ℕ) → Chain n p at (k ∷ ks) end → Distinct (k ∷ ks)
-    → (Among at (k ∷ ks) → ⊥) → at < length n → ((j : ℕ) → Among j (k ∷ ks) → j < length p)
+    → (Among at (k ∷ ks) → ⊥) → (Among end (k ∷ ks) → ⊥) → at < length n → end < length p → ((j : ℕ) → Among j (k ∷ ks) → j < length p)
     → (from to : ℕ) → from ≡ at → to ≡ get_or n k 0 → Chain (set n from to) (set p to from) at ks end
-unlinked_first n p at k [] end chain distinct far_at at_in within from to e f =
+unlinked_first n p at k [] end chain distinct far_at far_end at_in end_in within from to e f =
     let N : ℕ → Type 0 = λ i. get_or (set n i to) at 0 ≡ end in
-    subst N (sym e) (get_or-set_same n at to 0 at_in ∙ f ∙ chain.2)
-unlinked_first n p at k (y ∷ ys) end chain distinct far_at at_in within from to e f =
+    let P : ℕ → Type 0 = λ j. get_or (set p j from) end 0 ≡ at in (
+      subst N (sym e) (get_or-set_same n at to 0 at_in ∙ f ∙ chain.2.0),
+      subst P (sym (f ∙ chain.2.0)) (get_or-set_same p end from 0 end_in ∙ e),
+    )
+unlinked_first n p at k (y ∷ ys) end chain distinct far_at far_end at_in end_in within from to e f =
     let to_y : to ≡ y = f ∙ chain.2.0 in
     let not_at : (j : ℕ) → Among j (y ∷ ys) → j ≡ at → ⊥ = λ j there. apart j at (y ∷ ys) there (λ h. far_at (inr h)) in
     let F : ℕ → Type 0 = λ i. Chain (set n i to) (set p to i) at (y ∷ ys) end in
@@ -94,22 +98,23 @@ unlinked_first n p at k (y ∷ ys) end chain distinct far_at at_in within from t
       Chain-frame n p (set n at y) (set p y at) y ys end chain.2.2
           (get_or-set_other n at y y 0 (not_at y (inl refl)))
           (λ j there. get_or-set_other n at j y 0 (not_at j (inr there)))
-          (λ j there. get_or-set_other p y j at 0 (apart j y ys there distinct.1.0)),
+          (λ j there. get_or-set_other p y j at 0 (apart j y ys there distinct.1.0))
+          (get_or-set_other p y end at 0 (λ h. far_end (inr (inl h)))),
     ))
 
 -- a chain without one of its keys
 unlinked : (n p : List ℕ) (at : ℕ) (ks : List ℕ) (end key : ℕ) → Chain n p at ks end → Among key ks → Distinct ks
-    → (Among at ks → ⊥) → (Among end ks → ⊥) → at < length n → ((j : ℕ) → Among j ks → (j < length n) × (j < length p))
+    → (Among at ks → ⊥) → (Among end ks → ⊥) → at < length n → end < length p → ((j : ℕ) → Among j ks → (j < length n) × (j < length p))
     → Chain (set n (get_or p key 0) (get_or n key 0)) (set p (get_or n key 0) (get_or p key 0)) at (without key ks) end
-unlinked n p at [] end key chain there distinct far_at far_end at_in within = absurd there
-unlinked n p at (x ∷ xs) end key chain there distinct far_at far_end at_in within =
+unlinked n p at [] end key chain there distinct far_at far_end at_in end_in within = absurd there
+unlinked n p at (x ∷ xs) end key chain there distinct far_at far_end at_in end_in within =
     let from : ℕ = get_or p key 0 in
     let to : ℕ = get_or n key 0 in
     let C : List ℕ → Type 0 = λ ks. Chain (set n from to) (set p to from) at ks end in
     elim (cases_eq key x) as (λ _. Chain (set n from to) (set p to from) at (without key (x ∷ xs)) end) [
       | inl e ↦ let lacks : Among key xs → ⊥ = λ h. let A : ℕ → Type 0 = λ y. Among y xs in distinct.0 (subst A e h) in
           subst C (sym (without_here key x xs e ∙ without_absent key xs lacks))
-          (unlinked_first n p at x xs end chain distinct far_at at_in (λ j h. (within j h).1) from to
+          (unlinked_first n p at x xs end chain distinct far_at far_end at_in end_in (λ j h. (within j h).1) from to
           (ap (λ j. get_or p j 0) e ∙ chain.1) (ap (λ j. get_or n j 0) e))
       | inr other ↦
           let later : Among key xs = elim there as (λ _. Among key xs) [ inl e ↦ absurd (other e) | inr h ↦ h ] in
@@ -124,7 +129,7 @@ unlinked n p at (x ∷ xs) end key chain there distinct far_at far_end at_in wit
           subst C (sym (without_there key x xs other)) (
             get_or-set_other n from at to 0 not_from ∙ chain.0,
             get_or-set_other p to x from 0 not_to ∙ chain.1,
-            unlinked n p x xs end key chain.2 later distinct.1 distinct.0 (λ h. far_end (inr h)) (within x (inl refl)).0 (λ j h. within j (inr h)),
+            unlinked n p x xs end key chain.2 later distinct.1 distinct.0 (λ h. far_end (inr h)) (within x (inl refl)).0 end_in (λ j h. within j (inr h)),
           )
     ]
 
@@ -149,7 +154,7 @@ LinksKeys-removed n p f c m key (k ∷ ks) from to links there other e g =
     let C : ℕ → ℕ → Type 0 = λ a b. Chain (set n a b) (set p b a) k (without key ks) c in
     let chain : Chain (set n from to) (set p to from) k (without key ks) c =
     (let A : ℕ → Type 0 = λ a. C a to in let B : ℕ → Type 0 = λ b. C (get_or p key 0) b in
-    subst A (sym e) (subst B (sym g) (unlinked n p k ks c key links.chain.1 later links.distinct.1 links.distinct.0 far (omega (arith, links.forth, links.below k (inl refl)))
+    subst A (sym e) (subst B (sym g) (unlinked n p k ks c key links.chain.1 later links.distinct.1 links.distinct.0 far (omega (arith, links.forth, links.below k (inl refl))) (omega (arith, links.back))
     (λ j h. (omega (arith, links.forth, links.below j (inr h)), omega (arith, links.back, links.below j (inr h))))))) in
     let F : List ℕ → Type 0 = λ xs. ChainFrom (set n from to) (set p to from) f xs c in
     record {
@@ -163,7 +168,7 @@ LinksKeys-removed n p f c m key (k ∷ ks) from to links there other e g =
 
 -- the links without their first key
 ChainFrom-next : (n p : List ℕ) (k c : ℕ) (ks : List ℕ) → Chain n p k ks c → ChainFrom n p (get_or n k 0) ks c
-ChainFrom-next n p k c [] chain = chain
+ChainFrom-next n p k c [] chain = chain.0
 ChainFrom-next n p k c (y ∷ ys) chain = (chain.0, chain.2)
 
 pub LinksKeys-first_removed : (n p : List ℕ) (f c m key : ℕ) (ks : List ℕ) (to : ℕ) → LinksKeys n p f c m ks → Among key ks → key ≡ f
@@ -190,10 +195,12 @@ first_within n p f c m [] links = omega (arith, links.chain)
 first_within n p f c m (k ∷ ks) links = omega (arith, links.chain.0, links.below k (inl refl))
 
 -- a chain with a further first key
-linked : (n p : List ℕ) (f c key : ℕ) (ks : List ℕ) → ChainFrom n p f ks c → Distinct ks → (Among key ks → ⊥)
-    → key < length n → ((j : ℕ) → Among j ks → j < length p) → Chain (set n key f) (set p f key) key ks c
-linked n p f c key [] chain distinct fresh low within = get_or-set_same n key f 0 low ∙ chain
-linked n p f c key (y ∷ ys) chain distinct fresh low within =
+linked : (n p : List ℕ) (f c key : ℕ) (ks : List ℕ) → ChainFrom n p f ks c → Distinct ks → (Among key ks → ⊥) → (Among c ks → ⊥)
+    → key < length n → c < length p → ((j : ℕ) → Among j ks → j < length p) → Chain (set n key f) (set p f key) key ks c
+linked n p f c key [] chain distinct fresh far low end_in within =
+    let P : ℕ → Type 0 = λ j. get_or (set p j key) c 0 ≡ key in
+    (get_or-set_same n key f 0 low ∙ chain, subst P (sym chain) (get_or-set_same p c key 0 end_in))
+linked n p f c key (y ∷ ys) chain distinct fresh far low end_in within =
     let C : ℕ → Type 0 = λ j. Chain (set n key j) (set p j key) key (y ∷ ys) c in
     subst C (sym chain.0) (
       get_or-set_same n key y 0 low,
@@ -201,7 +208,8 @@ linked n p f c key (y ∷ ys) chain distinct fresh low within =
       Chain-frame n p (set n key y) (set p y key) y ys c chain.1
           (get_or-set_other n key y y 0 (λ e. fresh (inl (sym e))))
           (λ j there. get_or-set_other n key j y 0 (apart j key (y ∷ ys) (inr there) fresh))
-          (λ j there. get_or-set_other p y j key 0 (apart j y ys there distinct.0)),
+          (λ j there. get_or-set_other p y j key 0 (apart j y ys there distinct.0))
+          (get_or-set_other p y c key 0 (λ h. far (inl h))),
     )
 
 pub LinksKeys-added : (n p : List ℕ) (f c m key : ℕ) (ks : List ℕ) → LinksKeys n p f c m ks → key < c → (Among key ks → ⊥)
@@ -210,35 +218,48 @@ LinksKeys-added n p f c m key ks links low fresh = record {
   forth = length-set n key f ∙ links.forth;
   back = length-set p f key ∙ links.back;
   counted = omega (arith, links.counted);
-  chain = (refl, linked n p f c key ks links.chain links.distinct fresh (omega (arith, links.forth)) (λ j h. omega (arith, links.back, links.below j h)));
+  chain = (
+    refl,
+    linked n p f c key ks links.chain links.distinct fresh (λ h. absurd (omega (arith, links.below c h))) (omega (arith, links.forth)) (omega (arith, links.back))
+        (λ j h. omega (arith, links.back, links.below j h)),
+  );
   distinct = (fresh, links.distinct);
   below = λ j there. elim there as (λ _. j < c) [ inl e ↦ omega arith | inr h ↦ links.below j h ];
 }
 
--- links that each name the next place
-Chain-rising : (n p : List ℕ) (at count end : ℕ) → at + 1 + count ≡ end
-    → ((k : ℕ) → k < end → get_or n k 0 ≡ k + 1) → ((k : ℕ) → k < end → get_or p (k + 1) 0 ≡ k)
-    → Chain n p at (range_with_len (at + 1) count) end
-Chain-rising n p at zero end e forth back =
-    let next : at + 1 ≡ end = omega arith in forth at (omega arith) ∙ next
-Chain-rising n p at (suc count) end e forth back =
-    (forth at (omega arith), back at (omega arith), Chain-rising n p (at + 1) count end (omega arith) forth back)
+-- a chain with a further last key, the next one that is made
+Chain-grown : (n p : List ℕ) (at : ℕ) (ks : List ℕ) (c : ℕ) → Chain n p at ks c → length n ≡ c → length p ≡ c + 1
+    → at < c → ((k : ℕ) → Among k ks → k < c) → Chain (n ++ (c + 1) ∷ []) (p ++ c ∷ []) at (ks ++ c ∷ []) (c + 1)
+Chain-grown n p at [] c chain forth back low below = (
+  get_or_append_left n _ 0 at (omega arith) ∙ chain.0,
+  get_or_append_left p _ 0 c (omega arith) ∙ chain.1,
+  (get_or_push n (c + 1) 0 c forth, get_or_push p c 0 (c + 1) back),
+)
+Chain-grown n p at (k ∷ ks) c chain forth back low below = (
+  get_or_append_left n _ 0 at (omega arith) ∙ chain.0,
+  get_or_append_left p _ 0 k (omega (arith, below k (inl refl))) ∙ chain.1,
+  Chain-grown n p k ks c chain.2 forth back (below k (inl refl)) (λ j there. below j (inr there)),
+)
 
-ChainFrom-all : (n p : List ℕ) (c : ℕ) → ((k : ℕ) → k < c → get_or n k 0 ≡ k + 1) → ((k : ℕ) → k < c → get_or p (k + 1) 0 ≡ k)
-    → ChainFrom n p 0 (range_with_len 0 c) c
-ChainFrom-all n p zero forth back = refl
-ChainFrom-all n p (suc c) forth back = (refl, Chain-rising n p 0 c (suc c) (omega arith) forth back)
+ChainFrom-grown : (n p : List ℕ) (f : ℕ) (ks : List ℕ) (c : ℕ) → ChainFrom n p f ks c → length n ≡ c → length p ≡ c + 1
+    → ((k : ℕ) → Among k ks → k < c) → ChainFrom (n ++ (c + 1) ∷ []) (p ++ c ∷ []) f (ks ++ c ∷ []) (c + 1)
+ChainFrom-grown n p f [] c chain forth back below = (chain, (get_or_push n (c + 1) 0 c forth, get_or_push p c 0 (c + 1) back))
+ChainFrom-grown n p f (k ∷ ks) c chain forth back below =
+    (chain.0, Chain-grown n p k ks c chain.1 forth back (below k (inl refl)) (λ j there. below j (inr there)))
 
--- the links of all keys
-pub LinksKeys-made : (n p : List ℕ) (c : ℕ) → length n ≡ c → length p ≡ c + 1
-    → ((k : ℕ) → k < c → get_or n k 0 ≡ k + 1) → ((k : ℕ) → k < c → get_or p (k + 1) 0 ≡ k) → LinksKeys n p 0 c c (range_with_len 0 c)
-LinksKeys-made n p c n_long p_long forth back = record {
-  forth = n_long;
-  back = p_long;
-  counted = length-range_with_len 0 c;
-  chain = ChainFrom-all n p c forth back;
-  distinct = Distinct-range 0 c;
-  below = λ k there. let within : (0 ≤ k) × (k < 0 + c) = Among-range 0 c k there in omega (arith, within.1);
+-- the links with the next key made
+pub LinksKeys-grown : (n p : List ℕ) (f c m : ℕ) (ks : List ℕ) → LinksKeys n p f c m ks
+    → LinksKeys (n ++ (c + 1) ∷ []) (p ++ c ∷ []) f (c + 1) (m + 1) (ks ++ c ∷ [])
+LinksKeys-grown n p f c m ks links = record {
+  forth = omega (arith, length_push n (c + 1), links.forth);
+  back = omega (arith, length_push p c, links.back);
+  counted = omega (arith, length_push ks c, links.counted);
+  chain = ChainFrom-grown n p f ks c links.chain links.forth links.back links.below;
+  distinct = Distinct-push c ks links.distinct (λ there. absurd (omega (arith, links.below c there)));
+  below = λ j there. elim (Among-append j ks (c ∷ []) there) as (λ _. j < c + 1) [
+    | inl h ↦ omega (arith, links.below j h)
+    | inr h ↦ elim h as (λ _. j < c + 1) [ inl e ↦ omega arith | inr gone ↦ absurd gone ]
+  ];
 }
 
 -- the first key

@@ -1,4 +1,4 @@
-use Rattle.std.proofs.Common.{ℕ, zero, suc, ◌≡◌, inl, inr, ◌+◌, ◌<◌, ◌≤◌, List, [], ◌∷◌, length, arith, refl, sym, ap, ◌∙◌, subst}
+use Rattle.std.proofs.Common.{ℕ, zero, suc, ◌≡◌, ◌⊎◌, inl, inr, ◌+◌, ◌<◌, ◌≤◌, List, [], ◌∷◌, ◌++◌, length, arith, refl, sym, ap, ◌∙◌, subst}
 use Rattle.std.proofs.lemmas.Bool.{cases_eq}
 use Rattle.std.proofs.lemmas.Bool.Decides.{nat_tests}
 use Rattle.std.specs.List.{range_with_len}
@@ -94,3 +94,47 @@ Distinct-range from (suc count) = (
   λ there. let rest : (from + 1 ≤ from) × (from < from + 1 + count) = Among-range (from + 1) count from there in absurd (omega (arith, rest.0)),
   Distinct-range (from + 1) count,
 )
+
+-- the keys of one list behind another
+pub Among-append : (key : ℕ) (xs ys : List ℕ) → Among key (xs ++ ys) → Among key xs ⊎ Among key ys
+Among-append key [] ys there = inr there
+Among-append key (x ∷ xs) ys there =
+    elim there as (λ _. Among key (x ∷ xs) ⊎ Among key ys) [
+      | inl e ↦ inl (inl e)
+      | inr later ↦ elim (Among-append key xs ys later) as (λ _. Among key (x ∷ xs) ⊎ Among key ys) [
+        | inl h ↦ inl (inr h)
+        | inr h ↦ inr h
+      ]
+    ]
+
+pub Among-left : (key : ℕ) (xs ys : List ℕ) → Among key xs → Among key (xs ++ ys)
+Among-left key [] ys there = absurd there
+Among-left key (x ∷ xs) ys there =
+    elim there as (λ _. Among key (x ∷ xs ++ ys)) [
+      | inl e ↦ inl e
+      | inr later ↦ inr (Among-left key xs ys later)
+    ]
+
+pub Among-right : (key : ℕ) (xs ys : List ℕ) → Among key ys → Among key (xs ++ ys)
+Among-right key [] ys there = there
+Among-right key (x ∷ xs) ys there = inr (Among-right key xs ys there)
+
+-- a further key behind others
+pub Distinct-push : (key : ℕ) (ks : List ℕ) → Distinct ks → (Among key ks → ⊥) → Distinct (ks ++ key ∷ [])
+Distinct-push key [] distinct fresh = (λ there. there, tt)
+Distinct-push key (k ∷ ks) distinct fresh = (
+  λ there. elim (Among-append k ks (key ∷ []) there) as (λ _. ⊥) [
+    | inl h ↦ distinct.0 h
+    | inr h ↦ elim h as (λ _. ⊥) [ inl e ↦ fresh (inl (sym e)) | inr gone ↦ gone ]
+  ],
+  Distinct-push key ks distinct.1 (λ there. fresh (inr there)),
+)
+
+-- one list behind another without a key that the second lacks
+pub without-append : (key : ℕ) (xs ys : List ℕ) → (Among key ys → ⊥) → without key (xs ++ ys) ≡ without key xs ++ ys
+without-append key [] ys absent = without_absent key ys absent
+without-append key (x ∷ xs) ys absent =
+    elim (cases_eq key x) as (λ _. without key (x ∷ xs ++ ys) ≡ without key (x ∷ xs) ++ ys) [
+      | inl e ↦ without_here key x (xs ++ ys) e ∙ without-append key xs ys absent ∙ ap (λ rest. rest ++ ys) (sym (without_here key x xs e))
+      | inr n ↦ without_there key x (xs ++ ys) n ∙ ap (λ rest. x ∷ rest) (without-append key xs ys absent) ∙ ap (λ rest. rest ++ ys) (sym (without_there key x xs n))
+    ]

@@ -1,4 +1,6 @@
 pub mod Chains
 pub mod Keys
+pub mod Made
+pub mod Padding
 pub mod Pairs
 pub mod Tables

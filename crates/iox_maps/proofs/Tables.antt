@@ -156,15 +156,6 @@ pub held_from_some : {T : Type 0} (values : List (Option T)) (key : ℕ) → IsS
 held_from_some {T} values key some none =
     let S : Option T → Type 0 = λ o. IsSome o in let bad : false ≡ true = subst S none some in cc
 
--- the same, as a test of what is there says it
-pub held_from_test : {T : Type 0} (values : List (Option T)) (key : ℕ) (o : Option T) → o ≡ value_at values key → is_some o ≡ true → value_at values key ≡ None → ⊥
-held_from_test {T} values key None e test none = cc
-held_from_test {T} values key (Some x) e test none = cc
-
-pub none_from_test : {T : Type 0} (values : List (Option T)) (key : ℕ) (o : Option T) → o ≡ value_at values key → is_some o ≡ false → value_at values key ≡ None
-none_from_test {T} values key None e test = sym e
-none_from_test {T} values key (Some x) e test = absurd (cc)
-
 module _ {T : Type 0} where
   -- what stands in the walk from a key on is held at that key or behind it
   held_from-told : (at : ℕ) (xs : List (Option T)) (key : ℕ) (value : T) → HasItem key value (held_from at xs)

@@ -4,7 +4,10 @@ pub mod ErrorTexts
 pub mod FixedSizeFlatMapLends
 pub mod FixedSizeSlotMapLends
 pub mod FlatMapLends
+pub mod LinkedKeys
 pub mod Links
 pub mod PairTable
+pub mod Places
+pub mod PlacesLends
 pub mod SlotMapLends
 pub mod SlotTable

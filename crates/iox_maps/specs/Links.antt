@@ -9,7 +9,7 @@ walk next (suc count) key = key ∷ walk next count (slice_index_or next key 0)
 
 -- from one key the links lead through others in their order to the end, and lead back
 abbrev pub Chain : List ℕ → List ℕ → ℕ → List ℕ → ℕ → Type 0
-Chain next previous at [] end = slice_index_or next at 0 ≡ end
+Chain next previous at [] end = (slice_index_or next at 0 ≡ end) × (slice_index_or previous end 0 ≡ at)
 Chain next previous at (key ∷ keys) end =
     (slice_index_or next at 0 ≡ key) × (slice_index_or previous key 0 ≡ at) × Chain next previous key keys end
 
@@ -18,11 +18,11 @@ abbrev pub ChainFrom : List ℕ → List ℕ → ℕ → List ℕ → ℕ → Ty
 ChainFrom next previous first [] end = first ≡ end
 ChainFrom next previous first (key ∷ keys) end = (first ≡ key) × Chain next previous key keys end
 
--- the links hold these keys, from the first on, and end at the place past all keys
-pub record LinksKeys (next previous : List ℕ) (first capacity count : ℕ) (keys : List ℕ) : Type 0 where
-  pub forth : length next ≡ capacity
-  pub back : length previous ≡ capacity + 1
+-- the links hold these keys, from the first on, and end at the place past all keys that were made
+pub record LinksKeys (next previous : List ℕ) (first made count : ℕ) (keys : List ℕ) : Type 0 where
+  pub forth : length next ≡ made
+  pub back : length previous ≡ made + 1
   pub counted : length keys ≡ count
-  pub chain : ChainFrom next previous first keys capacity
+  pub chain : ChainFrom next previous first keys made
   pub distinct : Distinct keys
-  pub below : (key : ℕ) → Among key keys → key < capacity
+  pub below : (key : ℕ) → Among key keys → key < made

@@ -1,33 +1,31 @@
-//! The keys that a slot map has to give out, in their order: linked, so that none is searched for.
+//! The keys that a slot map has to give out, in their order.
 ghost use Rattle.std.specs.Prelude.{◌≡◌, ℕ, ◌+◌, ◌^◌, ◌<◌, ◌≤◌, [], ◌∷◌, length, IfOk, slice_get};
 ghost use Rattle.std.specs.List.{range_with_len};
 ghost use Rattle.iox_maps.specs.SlotTable.{Among, Distinct, without};
+ghost use Rattle.iox_maps.specs.LinkedKeys.{all_keys};
 
+use crate::linked_keys::LinkedKeys;
 use std::alloc::{AllocError, Global};
 use std::marker::Model;
 
-/// The free keys of a slot map in the order in which they will be given out, linked one to the next and back.
+/// The free keys of a slot map in the order in which they will be given out.
 ///
-/// The last key's link leads to the place past all keys. What stands before the first key isn't kept, so that taking
-/// the first key writes nothing.
+/// Those that were used before are linked. Behind them come those that were never used, rising: they need no link.
 #[derive(Drop)]
 pub(crate) struct FreeKeys {
-    next: Vec<usize>,
-    previous: Vec<usize>,
-    first: usize,
-    capacity: usize,
-    len: usize,
+    used: LinkedKeys,
 }
 
 impl Model for FreeKeys {
+    ghost use Rattle.std.specs.Prelude.{◌≤◌};
     ghost use Rattle.iox_maps.specs.BoundedKeys.{BoundedKeys};
-    ghost use Rattle.iox_maps.specs.Links.{LinksKeys, walk};
+    ghost use Rattle.iox_maps.specs.LinkedKeys.{all_keys};
 
     ghost Value = { BoundedKeys };
 
-    ghost view = { λ f. record { keys = walk f.next.items f.len f.first; capacity = f.capacity } };
+    ghost view = { λ f. record { keys = all_keys f.used; capacity = f.used.room } };
 
-    ghost invariant = { λ f. LinksKeys f.next.items f.previous.items f.first f.capacity f.len (walk f.next.items f.len f.first) };
+    ghost invariant = { λ f. f.used.made ≤ f.used.room };
 }
 
 impl FreeKeys {
@@ -37,19 +35,8 @@ impl FreeKeys {
         ensures keys { IfOk result (λ f. f.keys ≡ range_with_len 0 capacity) }
         ensures capacity { IfOk result (λ f. f.capacity ≡ capacity) }
     {
-        let mut next = Vec::with_capacity(alloc, capacity)?;
-        let mut previous = Vec::with_capacity(alloc, capacity + 1)?;
-        previous.push_reserved(0);
-        for key in 0..capacity {
-            next.push_reserved(key + 1);
-            previous.push_reserved(key);
-        }
         Ok(FreeKeys {
-            next,
-            previous,
-            first: 0,
-            capacity,
-            len: capacity,
+            used: LinkedKeys::new(alloc, capacity)?,
         })
     }
 
@@ -57,17 +44,21 @@ impl FreeKeys {
     pub(crate) fn len(&self) -> usize
         ensures { result ≡ length self.now.keys }
     {
-        self.len
+        self.used.len() + (self.used.room() - self.used.made())
     }
 
     /// The key that is given out next, if one is free.
     pub(crate) fn first(&self) -> Option<usize>
         ensures { result ≡ slice_get self.now.keys 0 }
     {
-        if self.len == 0 {
+        if let Some(key) = self.used.first() {
+            return Some(key);
+        }
+        let key = self.used.made();
+        if key == self.used.room() {
             None
         } else {
-            Some(self.first)
+            Some(key)
         }
     }
 
@@ -78,25 +69,29 @@ impl FreeKeys {
         requires fits { length self.old.keys < self.old.capacity }
         ensures { self.new ≡ record { keys = key ∷ self.old.keys; capacity = self.old.capacity } }
     {
-        self.next[key] = self.first;
-        self.previous[self.first] = key;
-        self.first = key;
-        self.len += 1;
+        self.used.add(key);
     }
 
-    /// Takes a key out.
+    /// Takes a key out. Where it was never used, it takes as many steps as there are such keys up to it.
     pub(crate) fn remove(&mut self, key: usize)
-        requires { Among key self.old.keys }
+        requires below { key < self.old.capacity }
+        requires free { Among key self.old.keys }
         ensures { self.new ≡ record { keys = without key self.old.keys; capacity = self.old.capacity } }
     {
-        let next = self.next[key];
-        self.len -= 1;
-        if key == self.first {
-            self.first = next;
-            return;
-        }
-        let previous = self.previous[key];
-        self.next[previous] = next;
-        self.previous[next] = previous;
+        make_up_to(key, &mut self.used);
+        self.used.remove(key);
+    }
+}
+
+// Makes the keys up to one, so that it is among those that were made.
+fn make_up_to(key: usize, keys: &mut LinkedKeys)
+    requires { key < keys.old.room }
+    ensures all { all_keys keys.new ≡ all_keys keys.old }
+    ensures made { key < keys.new.made }
+    ensures fits { keys.old.made ≤ keys.old.room → keys.new.made ≤ keys.new.room }
+    ensures room { keys.new.room ≡ keys.old.room }
+{
+    while keys.made() <= key {
+        keys.make_next();
     }
 }

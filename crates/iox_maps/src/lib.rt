@@ -7,11 +7,13 @@
 //! | (`iox_semantic`) | semantic strings: `Semantic` over `Rules` |
 //! | (`iox_byte_cells`) | values that are copied byte by byte: `FixedSizeByteAtomic`, `MaybeTorn`, `ByteMachine` |
 //!
-//! A map takes all its memory when it is made. A refused call changes nothing.
+//! A map takes all its memory when it is made, and touches it as it is used. A refused call changes nothing.
 #![tactic(auto)]
 
 pub mod flat_map;
 mod free_keys;
+mod linked_keys;
+mod places;
 pub mod slot_map;
 
 pub use flat_map::{FixedSizeFlatMap, FlatMap, FlatMapError};

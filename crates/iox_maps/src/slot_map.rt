@@ -4,9 +4,11 @@ ghost use Rattle.std.specs.Bool.{OnTrue, OnFalse};
 ghost use Rattle.std.specs.Borrow.{sem};
 ghost use Rattle.std.specs.List.{range_with_len};
 ghost use Rattle.std.specs.Option.{option_copied_mut};
+ghost use Rattle.iox_maps.specs.Places.{padded};
 ghost use Rattle.iox_maps.specs.SlotTable.{FreeKeysAreExact, ListsHeldKeys, held_count, held_from, released, stored, value_at};
 
 use crate::free_keys::FreeKeys;
+use crate::places::Places;
 use std::alloc::{AllocError, Global};
 use std::fmt;
 use std::marker::Model;
@@ -20,16 +22,18 @@ pub use iter::Iter;
 pub use key::SlotMapKey;
 
 /// Values under keys that the map gives out, at most `capacity` of them. `new` takes all its memory, and no other call
-/// takes any.
+/// takes any. It is touched as it is used: a key costs memory once it, or one above it, held a value, so a map of many
+/// keys that holds few values is small, and quickly made and gone over.
 ///
 /// Contracts see it as its `values`, one or none at each key below the capacity, and its `free` keys in the order in
 /// which they will be given out: rising at first, and a key whose value is removed goes to the front. `insert`,
-/// `insert_at` and `remove` touch at most 5 cells, whatever the capacity.
+/// `insert_at` and `remove` touch at most 5 cells, whatever the capacity; `insert_at` more only at a key that was not
+/// reached, and not the next one: then each key below it that was not reached is made ready, once.
 ///
 /// Ported from `iceoryx2_bb_container::slotmap::SlotMap`.
 #[derive(Drop)]
 pub struct SlotMap<T> {
-    values: Vec<Option<T>>,
+    values: Places<T>,
     free: FreeKeys,
 }
 
@@ -39,9 +43,9 @@ impl<T> Model for SlotMap<T> {
 
     ghost Value = { SlotTable T };
 
-    ghost view = { λ m. record { values = m.values.items; free = m.free.keys } };
+    ghost view = { λ m. record { values = m.values; free = m.free.keys } };
 
-    ghost invariant = { λ m. FreeKeysAreExact (record { values = m.values.items; free = m.free.keys }) × (m.free.capacity ≡ length m.values.items) };
+    ghost invariant = { λ m. FreeKeysAreExact (record { values = m.values; free = m.free.keys }) × (m.free.capacity ≡ length m.values) };
 }
 
 impl<T> SlotMap<T> {
@@ -56,10 +60,7 @@ impl<T> SlotMap<T> {
             return Err(AllocError);
         }
         let free = FreeKeys::new(alloc, capacity)?;
-        let mut values = Vec::with_capacity(alloc, capacity)?;
-        for _ in 0..capacity {
-            values.push_reserved(None);
-        }
+        let values = Places::new(alloc, capacity)?;
         Ok(SlotMap { values, free })
     }
 
@@ -116,10 +117,7 @@ impl<T> SlotMap<T> {
     pub fn get(&self, key: SlotMapKey) -> Option<&T>
         ensures { option_copied result ≡ value_at self.now.values key }
     {
-        match self.values.get(key.value()) {
-            Some(Some(value)) => Some(value),
-            _ => None,
-        }
+        self.values.get(key.value())
     }
 
     /// The value at the key, if it holds one, to be changed in its place.
@@ -139,7 +137,7 @@ impl<T> SlotMap<T> {
         ensures* writes_back { sem 𝓛 (LendsHeld T.row self.entry key result) }
         ensures value { value_at self.old.values key ≡ Some result.now }
     {
-        self.values[key.value()].as_mut().unwrap()
+        self.values.value_mut(key.value())
     }
 
     /// Stores the value under the key that `next_free_key` tells, and returns it. If the map is full, the value is
@@ -160,6 +158,8 @@ impl<T> SlotMap<T> {
 
     /// Stores the value under the key, in the place of the one that it held, which is dropped, and answers true. If the
     /// key is not below the capacity, the value is dropped, and the answer is false.
+    ///
+    /// At a key from `reached` on it takes as many steps as there are keys between them.
     pub fn insert_at(&mut self, key: SlotMapKey, value: T) -> bool
     where
         T: Drop,
@@ -171,8 +171,8 @@ impl<T> SlotMap<T> {
         if index >= self.values.len() {
             return false;
         }
-        let was_free = self.values[index].is_none();
-        self.values[index] = Some(value);
+        let was_free = self.values.get(index).is_none();
+        self.values.put(index, value);
         if was_free {
             self.free.remove(index);
         }
@@ -201,16 +201,28 @@ impl<T> SlotMap<T> {
             return None;
         }
         let index = key.value();
-        let value = self.values[index].take();
+        let value = self.values.take(index);
         self.free.add(index);
         value
     }
 
-    // What lies at each key.
-    pub(crate) fn places(&self) -> &[Option<T>]
-        ensures { result.now ≡ self.now.values }
+    /// How many keys, from the first on, were ever used: none from this one on holds a value, so who looks at each key
+    /// that may hold one stops there.
+    ///
+    /// New in this port.
+    pub fn reached(&self) -> usize
+        ensures bound { result ≤ length self.now.values }
+        ensures none { (key : ℕ) → result ≤ key → value_at self.now.values key ≡ None }
     {
-        self.values.as_slice()
+        self.values.used().len()
+    }
+
+    // What lies at each key that was reached.
+    pub(crate) fn places(&self) -> &[Option<T>]
+        ensures whole { padded (length self.now.values) result.now ≡ self.now.values }
+        ensures bound { length result.now ≤ length self.now.values }
+    {
+        self.values.used()
     }
 
     /// The keys that hold a value with it, each once, by rising key.
@@ -219,7 +231,7 @@ impl<T> SlotMap<T> {
         ensures each_once { ListsHeldKeys self.now.values result }
     {
         Iter {
-            values: self.values.as_slice(),
+            values: self.values.used(),
             key: 0,
         }
     }

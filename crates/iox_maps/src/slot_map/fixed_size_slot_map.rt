@@ -12,7 +12,7 @@ use std::fmt;
 use std::marker::Model;
 
 /// Values under keys that the map gives out, at most `CAPACITY` of them. `new` takes all its memory, and no other call
-/// takes any.
+/// takes any; it is touched as it is used.
 ///
 /// Contracts see it as they see a `SlotMap`, with `CAPACITY` places for `values`.
 ///

@@ -1,15 +1,14 @@
 use Rattle.std.proofs.Common.{arith}
-use Rattle.iox_maps.proofs.Chains.{LinksKeys-added, LinksKeys-walked, first_within, walk-is}
+use Rattle.iox_maps.proofs.Made.{length-all_keys, used-made, used-not_linked}
 use Rattle.iox_maps.proofs.free_keys.FreeKeys.add.Goals as goal
 
-pub invariant_of-self : goal.invariant_of-self
-invariant_of-self c =
-    LinksKeys-walked _ _ _ _ _ _ (LinksKeys-added _ _ _ _ _ c.args.key _ c.self.invariant (rw (← c.self.view_is) at c.requires.below) (rw (← c.self.view_is) at c.requires.held))
+pub add-requires-clause-below : goal.add-requires-clause-below
+add-requires-clause-below c =
+    used-made c.self.inside.used c.args.key (rw (← c.self.view_is) at c.requires.below) (rw (← c.self.view_is) at c.requires.held)
 
-pub returns : goal.returns
-returns c =
-    let is = walk-is _ _ _ _ _ _ (LinksKeys-added _ _ _ _ _ c.args.key _ c.self.invariant (rw (← c.self.view_is) at c.requires.below) (rw (← c.self.view_is) at c.requires.held)) in
-    rw (← c.self.view_is) (cc is)
+pub add-requires-clause-held : goal.add-requires-clause-held
+add-requires-clause-held c = used-not_linked c.self.inside.used c.args.key (rw (← c.self.view_is) at c.requires.held)
 
-pub index_mut-requires-2 : goal.index_mut-requires-2
-index_mut-requires-2 c = omega (arith, first_within _ _ _ _ _ _ c.self.invariant, c.self.invariant.back, c.self.inside.previous.ok.0)
+pub add-requires-clause-fits : goal.add-requires-clause-fits
+add-requires-clause-fits c =
+    omega (arith, length-all_keys c.self.inside.used, rw (← c.self.view_is) at c.requires.fits, c.self.invariant)

@@ -1,66 +1,14 @@
-use Rattle.std.proofs.Common.{arith}
-use Rattle.std.proofs.lemmas.List.{get_or_read}
-use Rattle.iox_maps.proofs.Chains.{LinksKeys-first_removed, LinksKeys-removed, LinksKeys-walked, links_within, walk-is}
+use Rattle.std.proofs.Common.{sym, ap, ◌∙◌}
+use Rattle.iox_maps.specs.SlotTable.{without}
+use Rattle.iox_maps.proofs.Made.{all_keys-without, made-linked}
 use Rattle.iox_maps.proofs.free_keys.FreeKeys.remove.Goals as goal
 
-pub index-next-requires : goal.index-next-requires
-index-next-requires c =
-    let f = c.self.inside in
-    omega (arith, c.self.invariant.forth, f.next.ok.0, c.self.invariant.below c.args.key (rw (← c.self.view_is) at c.requires))
-
-pub invariant_of-self : goal.invariant_of-self
-invariant_of-self c =
-    let f = c.self.inside in
-    let there = rw (← c.self.view_is) at c.requires in
-    let low = c.self.invariant.below c.args.key there in
-    let behind = get_or_read f.next.items _ _ (omega (arith, c.self.invariant.forth)) c.index-next.ensures 0 in
-    LinksKeys-walked _ _ _ _ _ _ (LinksKeys-first_removed _ _ _ _ _ c.args.key _ _ c.self.invariant there c.if-key-self.true behind)
-
-pub returns-then-key-self : goal.returns-then-key-self
-returns-then-key-self c =
-    let f = c.self.inside in
-    let there = rw (← c.self.view_is) at c.requires in
-    let low = c.self.invariant.below c.args.key there in
-    let behind = get_or_read f.next.items _ _ (omega (arith, c.self.invariant.forth)) c.index-next.ensures 0 in
-    let is = walk-is _ _ _ _ _ _ (LinksKeys-first_removed _ _ _ _ _ c.args.key _ _ c.self.invariant there c.if-key-self.true behind) in
-    rw (← c.self.view_is) (cc is)
-
-pub index-previous-requires : goal.index-previous-requires
-index-previous-requires c =
-    let f = c.self.inside in
-    omega (arith, c.self.invariant.back, f.previous.ok.0, c.self.invariant.below c.args.key (rw (← c.self.view_is) at c.requires))
-
-pub index_mut-requires : goal.index_mut-requires
-index_mut-requires c =
-    let f = c.self.inside in
-    let there = rw (← c.self.view_is) at c.requires in
-    let low = c.self.invariant.below c.args.key there in
-    let before = get_or_read f.previous.items _ _ (omega (arith, c.self.invariant.back)) c.index-previous.ensures 0 in
-    omega (arith, before, (links_within _ _ _ _ _ c.args.key _ c.self.invariant there c.if-key-self.false).1, c.self.invariant.forth, f.next.ok.0)
-
-pub index_mut-requires-2 : goal.index_mut-requires-2
-index_mut-requires-2 c =
-    let f = c.self.inside in
-    let there = rw (← c.self.view_is) at c.requires in
-    let low = c.self.invariant.below c.args.key there in
-    let behind = get_or_read f.next.items _ _ (omega (arith, c.self.invariant.forth)) c.index-next.ensures 0 in
-    omega (arith, behind, (links_within _ _ _ _ _ c.args.key _ c.self.invariant there c.if-key-self.false).0, c.self.invariant.back, f.previous.ok.0)
-
-pub invariant_of-self-2 : goal.invariant_of-self-2
-invariant_of-self-2 c =
-    let f = c.self.inside in
-    let there = rw (← c.self.view_is) at c.requires in
-    let low = c.self.invariant.below c.args.key there in
-    let before = get_or_read f.previous.items _ _ (omega (arith, c.self.invariant.back)) c.index-previous.ensures 0 in
-    let behind = get_or_read f.next.items _ _ (omega (arith, c.self.invariant.forth)) c.index-next.ensures 0 in
-    LinksKeys-walked _ _ _ _ _ _ (LinksKeys-removed _ _ _ _ _ c.args.key _ _ _ c.self.invariant there c.if-key-self.false before behind)
+pub remove-requires : goal.remove-requires
+remove-requires c =
+    made-linked c.make_up_to.new.keys c.args.key c.make_up_to.ensures.made (rw (← c.self.view_is, sym c.make_up_to.ensures.all) at c.requires.free)
 
 pub returns : goal.returns
 returns c =
-    let f = c.self.inside in
-    let there = rw (← c.self.view_is) at c.requires in
-    let low = c.self.invariant.below c.args.key there in
-    let before = get_or_read f.previous.items _ _ (omega (arith, c.self.invariant.back)) c.index-previous.ensures 0 in
-    let behind = get_or_read f.next.items _ _ (omega (arith, c.self.invariant.forth)) c.index-next.ensures 0 in
-    let is = walk-is _ _ _ _ _ _ (LinksKeys-removed _ _ _ _ _ c.args.key _ _ _ c.self.invariant there c.if-key-self.false before behind) in
-    rw (← c.self.view_is) (cc is)
+    let is = all_keys-without c.make_up_to.new.keys c.args.key c.make_up_to.ensures.made in
+    let same = ap (λ keys. without c.args.key keys) c.make_up_to.ensures.all in
+    rw (← c.self.view_is, c.remove.ensures) (cc (is ∙ same, c.make_up_to.ensures.room))
