@@ -4,3 +4,5 @@ pub mod Asked
 pub mod Parting
 pub mod Reaching
 pub mod Beginning
+pub mod Lent
+pub mod Finding

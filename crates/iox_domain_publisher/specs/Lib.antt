@@ -4,5 +4,8 @@ pub mod Answers
 pub mod Ports
 pub mod Updating
 pub mod Sending
+pub mod Loaning
+pub mod Writing
 pub mod Leaving
 pub mod Laws
+pub mod LoanLaws
