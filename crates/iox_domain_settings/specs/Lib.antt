@@ -1,0 +1,3 @@
+pub mod Sizes
+pub mod Fitting
+pub mod PortSettings
