@@ -1,3 +1,4 @@
 pub mod Sizes
 pub mod Fitting
 pub mod PortSettings
+pub mod Laws

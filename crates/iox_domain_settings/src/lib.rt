@@ -5,6 +5,7 @@
 //! | `sizes` | how much a description allows to its ports |
 //! | `fitting` | whether the messages that a description tells of can hold values of given types |
 //! | `custom` | the types that stand for any payload and any user header |
+//! | `laws` | what fitting comes to, in other words |
 //! | `publisher_settings`, `subscriber_settings` | what a publisher and a subscriber are made with |
 //!
 //! It names the header of a message and the types that can be sent again.
@@ -12,6 +13,7 @@
 
 pub mod custom;
 pub mod fitting;
+pub mod laws;
 pub mod publisher_settings;
 pub mod sizes;
 pub mod subscriber_settings;
