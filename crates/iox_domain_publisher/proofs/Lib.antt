@@ -6,3 +6,5 @@ pub mod Reaching
 pub mod Beginning
 pub mod Joining
 pub mod Enough
+pub mod Lent
+pub mod Finding

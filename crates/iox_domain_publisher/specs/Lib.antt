@@ -4,6 +4,9 @@ pub mod Answers
 pub mod Ports
 pub mod Updating
 pub mod Sending
+pub mod Loaning
+pub mod Writing
 pub mod Leaving
 pub mod Laws
 pub mod Memory
+pub mod LoanLaws

@@ -1,6 +1,7 @@
-//! Laws of the steps of a publisher, in other words than theirs. They stand on functions that do nothing.
+//! Laws of what a publisher does, in other words than its steps. They stand on functions that do nothing.
 ghost use Rattle.iox_domain_values.specs.DegradationAnswers.{Allowed};
 ghost use Rattle.iox_domain_values.specs.declared.degradation.DegradationCause.TheVariants as cause;
+ghost use Rattle.iox_domain_publisher.specs.LoanLaws.{LoanTells, NewSegmentIsFree};
 ghost use Rattle.iox_domain_publisher.specs.Memory.{NeedsNoMemory};
 
 use iox_domain_values::DegradationHandler;
@@ -10,4 +11,14 @@ use iox_domain_values::degradation_handler::DegradationFn;
 /// would answer: it takes no memory.
 pub fn needs_no_memory<T, U>(_handler: &DegradationHandler)
     ensures { NeedsNoMemory T U (Allowed (λ object. (⟦<dyn DegradationFn as DegradationFn>⟧ object.vtable).allows object.value) _handler.now cause.FailedToEstablishConnection) }
+{}
+
+/// What each answer of `PublisherPort::loan` tells: when each refusal comes, in which order, and what it leaves; and what a loan is.
+pub fn loan_tells<T, U>()
+    ensures { LoanTells T U }
+{}
+
+/// A segment that was just opened isn't full, where nothing in use stands past the segments before it.
+pub fn new_segment_is_free<T, U>()
+    ensures { NewSegmentIsFree T U }
 {}

@@ -8,8 +8,10 @@
 //! - [`handlers`]: who is asked at a full mailbox and where a connection failed.
 //! - [`publisher_port`]: a publisher.
 //! - [`connecting`]: its connections are made and ended.
-//! - [`laws`]: what its steps come to, in other words.
 //! - [`leaving`]: it comes and leaves.
+//! - [`loaning`]: it lends a slot to be written.
+//! - [`writing`]: what lies in a loan is written and read, and a loan is given up.
+//! - [`laws`]: what its steps come to, in other words.
 //! - [`updating`]: it follows the list of subscribers.
 //! - [`sending`]: it sends.
 #![tactic(auto)]
@@ -18,6 +20,7 @@ pub mod connecting;
 pub mod handlers;
 pub mod laws;
 pub mod leaving;
+pub mod loaning;
 pub mod meeting;
 pub mod places;
 pub mod progress;
@@ -26,6 +29,7 @@ pub mod reader;
 pub mod sending;
 pub mod subscriber_entry;
 pub mod updating;
+pub mod writing;
 
 pub use handlers::Handlers;
 pub use meeting::{Meeting, Sent};

@@ -5,3 +5,4 @@ pub mod ErrorTexts
 pub mod OverrideAnswers
 pub mod Strategy
 pub mod Sizes
+pub mod Segments

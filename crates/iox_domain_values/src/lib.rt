@@ -10,6 +10,7 @@
 //! | `port_owner` | whose port it is, and which one |
 //! | `service_sizes` | how much a service allows to its ports, and how many slots a publisher needs there |
 //! | `connection_failure`, `port_error`, `create_error` | why a connection fails, a loan, a send or a receive is refused, a port or a domain isn't made |
+//! | `laws` | what the definitions come to, in other words |
 //! | `backpressure_handler`, `degradation_handler`, `samples_override` | the objects that are handed in, or one fixed answer in their place |
 //!
 //! Each error displays as its type's name, `::` and the variant, an inner variant in parentheses, at any depth.
@@ -23,6 +24,7 @@ pub mod create_error;
 pub mod data_segment;
 pub mod degradation;
 pub mod degradation_handler;
+pub mod laws;
 pub mod port_error;
 pub mod port_owner;
 pub mod samples_override;

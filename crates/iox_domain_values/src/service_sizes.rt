@@ -27,8 +27,8 @@ impl ServiceSizes {
         ensures slots { result ≡ within (worst_case self.now max_loaned_samples) }
         ensures few { IfSome result (λ slots. slots < 2 ^ 32) }
     {
-        let of_one =
-            self.subscriber_max_buffer_size as u128 + self.subscriber_max_borrowed_samples as u128;
+        let of_one = self.subscriber_max_buffer_size as u128
+            + self.subscriber_max_borrowed_samples as u128;
         let slots = self.max_subscribers as u128 * of_one
             + self.history_size as u128
             + max_loaned_samples as u128;

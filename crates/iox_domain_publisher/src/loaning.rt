@@ -1,0 +1,121 @@
+//! A publisher lends a slot to be written.
+ghost use Rattle.std.specs.Prelude.{◌≡◌, ◌<◌, ◌≤◌, ℕ, length, false, None, Some, Ok, Err, IsOk, OnErr};
+ghost use Rattle.iox_domain_publisher.specs.LoanLaws.{IsAmple};
+ghost use Rattle.iox_domain_publisher.specs.Loaning.{is_too_long, first_refusal, LendsHere, LendsWhere, Lends, Loans};
+
+use crate::publisher_port::PublisherPort;
+use iox_domain_values::{AllocationStrategy, LoanError};
+use std::alloc::Global;
+
+impl<T: Copy, U: Copy> PublisherPort<T, U> {
+    /// Lends a slot for so many values, of which none is written, and answers the slot; the header of the message tells so many
+    /// elements. None, and nothing happens, while a send of this publisher waits.
+    ///
+    /// Refused, in this order, with `ExceedsMaxLoanSize` if the slice is longer than fits and the room stays as it was made; with
+    /// `ExceedsMaxLoans` if as many loans are out as may be; with `OutOfMemory` if each slot of the current segment is in use. Other
+    /// strategies open a new segment for a longer slice, and for nothing else; `OutOfMemory` is then that the segment would be longer
+    /// than 2^32 - 1, that there are as many segments as may be, or want of memory. A refusal changes nothing. A loan that fits takes
+    /// no memory, and with as many slots as the worst case needs one is always free. `blank` fills a new segment.
+    ///
+    /// Ported from `iceoryx2::port::publisher::Publisher::loan_slice_uninit`.
+    pub fn loan(
+        &mut self,
+        alloc: Global,
+        values: usize,
+        elements: u64,
+        allocation: AllocationStrategy,
+        blank: T,
+    ) -> Option<Result<usize, LoanError>>
+        ensures loans { Loans allocation values elements self.old result self.new }
+        ensures enough { IsAmple self.old → self.old.sender.uses.sending ≡ None → length self.old.sender.uses.loans < self.old.sender.uses.most_loans → values ≤ self.old.sender.room → (slot : ℕ) × (result ≡ Some (Ok slot)) }
+        ensures unchanged { IsAmple self.old → (error : LoanError) → result ≡ Some (Err error) → self.new ≡ self.old }
+    {
+        if self.sender.is_sending() {
+            return None;
+        }
+        Some(self.lend(alloc, values, elements, allocation, blank))
+    }
+
+    // Lends a slot, where no send waits.
+    fn lend(
+        &mut self,
+        alloc: Global,
+        values: usize,
+        elements: u64,
+        allocation: AllocationStrategy,
+        blank: T,
+    ) -> Result<usize, LoanError>
+        ensures lends { Lends allocation values elements self.old result self.new }
+        ensures enough { IsAmple self.old → self.old.sender.uses.sending ≡ None → length self.old.sender.uses.loans < self.old.sender.uses.most_loans → values ≤ self.old.sender.room → IsOk result }
+        ensures unchanged { IsAmple self.old → self.old.sender.uses.sending ≡ None → OnErr result (self.new ≡ self.old) }
+    {
+        if let Some(refusal) = self.refusal(values, allocation) {
+            return Err(refusal);
+        }
+        if values <= self.sender.room() {
+            return self.lend_here(values, elements);
+        }
+        self.lend_longer(alloc, values, elements, allocation, blank)
+    }
+
+    // Why nothing is lent, whichever slots are in use.
+    fn refusal(&self, values: usize, allocation: AllocationStrategy) -> Option<LoanError>
+        ensures { result ≡ first_refusal allocation values self.now }
+    {
+        if self.is_too_long(values, allocation) {
+            return Some(LoanError::ExceedsMaxLoanSize);
+        }
+        if !self.sender.may_loan() {
+            return Some(LoanError::ExceedsMaxLoans);
+        }
+        None
+    }
+
+    // Whether a slice is longer than loans may be, and no segment is opened for it.
+    fn is_too_long(&self, values: usize, allocation: AllocationStrategy) -> bool
+        ensures { result ≡ is_too_long allocation values self.now }
+    {
+        match allocation {
+            AllocationStrategy::BestFit | AllocationStrategy::PowerOfTwo => false,
+            AllocationStrategy::Static => self.sender.room() < values,
+        }
+    }
+
+    // Lends a slot of the current segment.
+    fn lend_here(&mut self, values: usize, elements: u64) -> Result<usize, LoanError>
+        requires room { values ≤ self.old.sender.room }
+        requires loans { length self.old.sender.uses.loans < self.old.sender.uses.most_loans }
+        ensures lends { LendsHere values elements self.old result self.new }
+        ensures enough { IsAmple self.old → self.old.sender.uses.sending ≡ None → IsOk result }
+    {
+        match self.sender.loan(values, elements) {
+            Some(slot) => Ok(slot),
+            None => Err(LoanError::OutOfMemory),
+        }
+    }
+
+    // Lends a slot of a new segment.
+    fn lend_longer(
+        &mut self,
+        alloc: Global,
+        values: usize,
+        elements: u64,
+        allocation: AllocationStrategy,
+        blank: T,
+    ) -> Result<usize, LoanError>
+        requires { length self.old.sender.uses.loans < self.old.sender.uses.most_loans }
+        ensures lends { LendsWhere false allocation values elements self.old result self.new }
+        ensures unchanged { IsAmple self.old → self.old.sender.uses.sending ≡ None → OnErr result (self.new ≡ self.old) }
+    {
+        let Some(room) = allocation.segment_length(values) else {
+            return Err(LoanError::OutOfMemory);
+        };
+        if self.sender.segments_left() == 0 {
+            return Err(LoanError::OutOfMemory);
+        }
+        if self.sender.open_segment(alloc, room, blank).is_err() {
+            return Err(LoanError::OutOfMemory);
+        }
+        self.lend_here(values, elements)
+    }
+}

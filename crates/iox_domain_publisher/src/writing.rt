@@ -1,0 +1,99 @@
+//! What lies in a loan is written and read, and a loan is given up. A loan goes by its slot; where none stands there nothing happens.
+ghost use Rattle.std.specs.Prelude.{◌≡◌, length, is_some, option_copied};
+ghost use Rattle.iox_domain_sender.specs.Messages.{write_value, write_all, write_user_header};
+ghost use Rattle.iox_domain_sender.specs.Sending.{has_loan, has_place, has_length, is_written_loan};
+ghost use Rattle.iox_domain_publisher.specs.Writing.{place_of, loan_of, changed_if, value_at, given_up};
+
+use crate::publisher_port::PublisherPort;
+
+impl<T: Copy, U: Copy> PublisherPort<T, U> {
+    /// Writes a value at a place of the loan in this slot; answers whether a loan stands there that has this place.
+    ///
+    /// Ported from writing through `iceoryx2::sample_mut_uninit::SampleMutUninit::payload_mut`.
+    pub fn write(&mut self, slot: usize, place: usize, value: T) -> bool
+        ensures answer { result ≡ has_place slot place self.old.sender.uses }
+        ensures after { self.new ≡ changed_if (has_place slot place self.old.sender.uses) slot (write_value place value) self.old }
+    {
+        if !self.sender.has_place(slot, place) {
+            return false;
+        }
+        self.sender.write(slot, place, value);
+        true
+    }
+
+    /// Writes all values of the loan in this slot at once; answers whether a loan of as many stands there.
+    ///
+    /// Ported from `iceoryx2::sample_mut_uninit::SampleMutUninit::write_from_slice`, which panics at another length.
+    pub fn write_from_slice(&mut self, slot: usize, values: &[T]) -> bool
+        ensures answer { result ≡ has_length slot (length values.now) self.old.sender.uses }
+        ensures after { self.new ≡ changed_if (has_length slot (length values.now) self.old.sender.uses) slot (write_all values.now) self.old }
+    {
+        if !self.sender.has_length(slot, values.len()) {
+            return false;
+        }
+        self.sender.write_from_slice(slot, values);
+        true
+    }
+
+    /// Writes the one value of the loan in this slot; answers whether a loan of one value stands there.
+    ///
+    /// Ported from `iceoryx2::sample_mut_uninit::SampleMutUninit::write_payload`.
+    pub fn write_payload(&mut self, slot: usize, value: T) -> bool
+        ensures answer { result ≡ has_length slot 1 self.old.sender.uses }
+        ensures after { self.new ≡ changed_if (has_length slot 1 self.old.sender.uses) slot (write_value 0 value) self.old }
+    {
+        if !self.sender.has_length(slot, 1) {
+            return false;
+        }
+        self.sender.write(slot, 0, value);
+        true
+    }
+
+    /// Writes the user header of the loan in this slot; answers whether one stands there.
+    ///
+    /// Ported from writing through `iceoryx2::sample_mut_uninit::SampleMutUninit::user_header_mut`.
+    pub fn write_user_header(&mut self, slot: usize, user_header: U) -> bool
+        ensures answer { result ≡ has_loan slot self.old.sender.uses }
+        ensures after { self.new ≡ changed_if (has_loan slot self.old.sender.uses) slot (write_user_header user_header) self.old }
+    {
+        if !self.sender.has_loan(slot) {
+            return false;
+        }
+        self.sender.write_user_header(slot, user_header);
+        true
+    }
+
+    /// The value at a place of the loan in this slot, if a loan stands there that has this place, and it is written.
+    pub fn value(&self, slot: usize, place: usize) -> Option<&T>
+        ensures { option_copied result ≡ value_at place (loan_of slot self.now) }
+    {
+        if !self.sender.has_place(slot, place) {
+            return None;
+        }
+        self.sender.value(slot, place)
+    }
+
+    /// Whether a loan stands in this slot of which each value is written: the condition of its send.
+    pub fn is_written(&self, slot: usize) -> bool
+        ensures { result ≡ is_written_loan (loan_of slot self.now) }
+    {
+        match self.sender.place_of_loan(slot) {
+            Some(at) => self.sender.is_written(at),
+            None => false,
+        }
+    }
+
+    /// Gives up the loan in this slot; answers whether one stood there.
+    ///
+    /// Ported from dropping an `iceoryx2::sample_mut::SampleMut`.
+    pub fn drop_loan_in(&mut self, slot: usize) -> bool
+        ensures answer { result ≡ is_some (place_of slot self.old) }
+        ensures after { self.new ≡ given_up slot self.old }
+    {
+        let Some(at) = self.sender.place_of_loan(slot) else {
+            return false;
+        };
+        self.sender.drop_loan(at);
+        true
+    }
+}

@@ -1,0 +1,4 @@
+pub mod Sizes
+pub mod Fitting
+pub mod PortSettings
+pub mod Laws
