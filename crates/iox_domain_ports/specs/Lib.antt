@@ -5,3 +5,5 @@ pub mod Ports
 pub mod Publishing
 pub mod Subscribing
 pub mod Making
+pub mod Lending
+pub mod Reading

@@ -4,14 +4,18 @@
 //! - [`subscribers`]: the subscribers of a service, by number.
 //! - [`service_ports`]: the ports of a service.
 //! - [`making`]: a publisher and a subscriber come.
+//! - [`lending`]: a publisher lends a slot, what is to be sent is written there, and a loan is given up.
 //! - [`publishing`]: a publisher follows the subscribers, sends and leaves.
 //! - [`subscribing`]: a subscriber follows the publishers, receives, releases and leaves.
+//! - [`reading`]: what is read of a sample.
 #![tactic(auto)]
 
 
 
+pub mod lending;
 pub mod making;
 pub mod publishing;
+pub mod reading;
 pub mod roll;
 pub mod service_ports;
 pub mod subscribers;

@@ -11,3 +11,4 @@ pub mod Reading
 pub mod Opening
 pub mod Fullness
 pub mod Holding
+pub mod Inside

@@ -1,5 +1,5 @@
 //! One publisher with its messages.
-ghost use Rattle.std.specs.Prelude.{◌≡◌, ℕ, ◌+◌, ◌<◌, ◌≤◌, length, get_or, set, map, is_some, option_copied, slice_get, position, nat_lt, IsSome, IfOk, OnErr, ◌-◌, ◌^◌, ◌==◌, [], true, false, None, Some};
+ghost use Rattle.std.specs.Prelude.{◌≡◌, ℕ, ◌+◌, ◌<◌, ◌≤◌, length, get_or, set, map, is_some, option_copied, slice_get, position, nat_lt, IsSome, IfSome, IfOk, OnErr, ◌-◌, ◌^◌, ◌==◌, [], true, false, None, Some};
 ghost use Rattle.iox_domain_slots.specs.declared.stage.Stage.TheVariants as stage;
 ghost use Rattle.iox_domain_slots.specs.Uses.{Uses, nobody, placed, connected, is_there, worst_case, accepts, offered, taken, given_back, ended, welcomed, dropped, begun, finished, connection_at, with_connection};
 ghost use Rattle.std.specs.Borrow.{sem};
@@ -376,7 +376,8 @@ impl<T: Copy, U: Copy> Sender<T, U> {
     /// Where in the connection's list of borrowed messages the first in this slot is; None if none is borrowed.
     pub fn place_of_borrowed(&self, index: usize, slot: usize) -> Option<usize>
         requires { is_there (connection_at index self.now.uses) ≡ true }
-        ensures { result ≡ position (λ message. message.slot == slot) (connection_at index self.now.uses).borrowed }
+        ensures place { result ≡ position (λ message. message.slot == slot) (connection_at index self.now.uses).borrowed }
+        ensures inside { IfSome result (λ _. slot < self.now.uses.first + self.now.uses.size) }
     {
         self.uses.place_of_borrowed(index, slot)
     }

@@ -5,3 +5,4 @@ pub mod First
 pub mod Sweeping
 pub mod Walking
 pub mod Serving
+pub mod Located

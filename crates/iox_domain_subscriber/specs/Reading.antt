@@ -1,6 +1,6 @@
 -- What a subscriber does at one publisher.
 use Rattle.std.specs.Prelude.{ℕ, ◌==◌, ◌&&◌, Bool, length, not, position, Option, None, Some}
-use Rattle.std.specs.List.{list_any}
+use Rattle.std.specs.List.{list_any, find}
 use Rattle.iox_domain_slots.specs.Uses.{Connection, is_there, taken, given_back}
 use Rattle.iox_domain_sender.specs.Messages.{Message}
 use Rattle.iox_domain_publisher.specs.Ports.{connection_of, with_connection_of}
@@ -9,6 +9,10 @@ use Rattle.iox_domain_publisher.specs.declared.publisher_port.PublisherPort.{Pub
 -- where in the list of what is borrowed the first message in this slot is
 abbrev pub place_of : {T U : Type 0} → ℕ → Connection (Message T U) → Option ℕ
 place_of slot connection = position (λ message. message.slot == slot) connection.borrowed
+
+-- the first message in this slot that is borrowed
+abbrev pub borrowed_in : {T U : Type 0} → ℕ → Connection (Message T U) → Option (Message T U)
+borrowed_in slot connection = find (λ message. message.slot == slot) connection.borrowed
 
 -- the oldest message that waits at the connection of this index is borrowed
 abbrev pub taken_at : {T U : Type 0} → ℕ → PublisherPort T U → PublisherPort T U

@@ -1,9 +1,9 @@
 //! What a subscriber does at one publisher.
-ghost use Rattle.std.specs.Prelude.{◌≡◌, ◌<◌, length, map, is_some, slice_get, Some};
+ghost use Rattle.std.specs.Prelude.{◌≡◌, ◌+◌, ◌<◌, length, map, is_some, option_copied, option_map, slice_get, Some, IfSome};
 ghost use Rattle.std.specs.List.{list_any};
 ghost use Rattle.iox_domain_slots.specs.Uses.{is_there};
 ghost use Rattle.iox_domain_publisher.specs.Ports.{connection_of};
-ghost use Rattle.iox_domain_subscriber.specs.Reading.{is_over, place_of, taken_at, given_back_at};
+ghost use Rattle.iox_domain_subscriber.specs.Reading.{borrowed_in, is_over, place_of, taken_at, given_back_at};
 
 use iox_domain_publisher::PublisherPort;
 use iox_domain_slots::Stage;
@@ -58,12 +58,49 @@ pub fn give_back_at<T: Copy, U: Copy>(
 
 // Where in the list of what is borrowed of the connection of this index the first message in this slot is.
 fn find<T: Copy, U: Copy>(port: &PublisherPort<T, U>, index: usize, slot: usize) -> Option<usize>
-    ensures { result ≡ place_of slot (connection_of index port.now) }
+    ensures place { result ≡ place_of slot (connection_of index port.now) }
+    ensures inside { IfSome result (λ _. slot < port.now.sender.uses.first + port.now.sender.uses.size) }
 {
     match port.sender.stage(index) {
         Stage::Vacant => None,
         Stage::Live | Stage::Ended => port.sender.place_of_borrowed(index, slot),
     }
+}
+
+/// The values of the first message in this slot that is borrowed of the connection of this index; None where none is.
+pub fn payload_at<T: Copy, U: Copy>(
+    port: &PublisherPort<T, U>,
+    index: usize,
+    slot: usize,
+) -> Option<&[T]>
+    ensures { option_copied result ≡ option_map (λ message. message.values) (borrowed_in slot (connection_of index port.now)) }
+{
+    find(port, index, slot)?;
+    Some(port.sender.payload(slot))
+}
+
+/// The user header of the first message in this slot that is borrowed of the connection of this index; None where none is.
+pub fn user_header_at<T: Copy, U: Copy>(
+    port: &PublisherPort<T, U>,
+    index: usize,
+    slot: usize,
+) -> Option<&U>
+    ensures { option_copied result ≡ option_map (λ message. message.user_header) (borrowed_in slot (connection_of index port.now)) }
+{
+    find(port, index, slot)?;
+    Some(port.sender.user_header(slot))
+}
+
+/// How many elements the first message in this slot has that is borrowed of the connection of this index; None where none is.
+pub fn elements_at<T: Copy, U: Copy>(
+    port: &PublisherPort<T, U>,
+    index: usize,
+    slot: usize,
+) -> Option<u64>
+    ensures { result ≡ option_map (λ message. message.elements) (borrowed_in slot (connection_of index port.now)) }
+{
+    find(port, index, slot)?;
+    Some(port.sender.elements(slot))
 }
 
 /// Whether the publisher left, and has neither loans nor connections.

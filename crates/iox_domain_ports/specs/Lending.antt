@@ -1,0 +1,44 @@
+-- A publisher lends a slot, what is to be sent is written there, and a loan is given up.
+use Rattle.std.specs.Prelude.{ℕ, ◌≡◌, Bool, true, false, Option, None, Some, Result}
+use Rattle.iox_domain_values.specs.declared.port_error.LoanError.{LoanError}
+use Rattle.iox_domain_sender.specs.Messages.{Loan}
+use Rattle.iox_domain_publisher.specs.Loaning.{Loans}
+use Rattle.iox_domain_publisher.specs.Writing.{loan_of, changed_if, given_up}
+use Rattle.iox_domain_publisher.specs.declared.publisher_port.PublisherPort.{PublisherPort}
+use Rattle.iox_domain_subscriber.specs.Publishers.{port_of, changed, settled}
+use Rattle.iox_domain_ports.specs.declared.service_ports.ServicePorts.{ServicePorts}
+
+-- a publisher that stands lends a slot; another doesn't
+abbrev pub LoansIf : {T U : Type 0} → Bool → ℕ → ℕ → PublisherPort T U → Option (Result ℕ LoanError) → PublisherPort T U → Type 0
+LoansIf false values elements port answer after = (answer ≡ None) × (after ≡ port)
+LoansIf true values elements port answer after = Loans port.allocation values elements port answer after
+
+-- A publisher lends a slot for so many values and elements.
+abbrev pub LoansOne : {T U : Type 0} → ℕ → ℕ → PublisherPort T U → Option (Result ℕ LoanError) → PublisherPort T U → Type 0
+LoansOne values elements port answer after = LoansIf port.stands values elements port answer after
+
+-- whether a publisher passes a test; none doesn't
+abbrev pub passes_port : {T U : Type 0} → (PublisherPort T U → Bool) → Option (PublisherPort T U) → Bool
+passes_port test None = false
+passes_port test (Some port) = test port
+
+-- whether the publisher of a number passes a test
+abbrev pub passes : {T U : Type 0} → ℕ → (PublisherPort T U → Bool) → ServicePorts T U → Bool
+passes number test ports = passes_port test (port_of number ports.publishers)
+
+-- the loan in a slot of the publisher of a number changes where that passes a test
+abbrev pub written_in : {T U : Type 0} → ℕ → (PublisherPort T U → Bool) → ℕ → (Loan T U → Loan T U) → ServicePorts T U → ServicePorts T U
+written_in number test slot change ports = record ports { publishers = changed number (λ port. changed_if (test port) slot change port) ports.publishers }
+
+-- the loan in a slot of a publisher; none without one
+abbrev pub loan_at_port : {T U : Type 0} → ℕ → Option (PublisherPort T U) → Option (Loan T U)
+loan_at_port slot None = None
+loan_at_port slot (Some port) = loan_of slot port
+
+-- the loan in a slot of the publisher of a number
+abbrev pub loan_in : {T U : Type 0} → ℕ → ℕ → ServicePorts T U → Option (Loan T U)
+loan_in number slot ports = loan_at_port slot (port_of number ports.publishers)
+
+-- the loan in a slot of the publisher of a number is given up, and a publisher that is over then is gone
+abbrev pub gave_up_in : {T U : Type 0} → ℕ → ℕ → ServicePorts T U → ServicePorts T U
+gave_up_in number slot ports = record ports { publishers = settled number (changed number (given_up slot) ports.publishers) }

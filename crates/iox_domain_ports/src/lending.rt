@@ -1,0 +1,150 @@
+//! A publisher lends a slot, what is to be sent is written there, and a loan is given up.
+ghost use Rattle.std.specs.Prelude.{◌≡◌, ℕ, length, is_some, None, option_copied};
+ghost use Rattle.iox_domain_sender.specs.Messages.{write_value, write_all, write_user_header};
+ghost use Rattle.iox_domain_sender.specs.Sending.{has_loan, has_place, has_length, is_written_loan};
+ghost use Rattle.iox_domain_publisher.specs.Writing.{changed_if, value_at, given_up};
+ghost use Rattle.iox_domain_subscriber.specs.Publishers.{port_of, changed, settled};
+ghost use Rattle.iox_domain_ports.specs.Lending.{LoansOne, passes, written_in, loan_in, gave_up_in};
+ghost use Rattle.iox_domain_ports.specs.Ports.{AtPublisher};
+
+use crate::service_ports::ServicePorts;
+use iox_domain_publisher::PublisherPort;
+use iox_domain_values::LoanError;
+use std::alloc::Global;
+
+impl<T: Copy, U: Copy> ServicePorts<T, U> {
+    /// The publisher lends a slot for so many values: `PublisherPort::loan` says when that is refused and what changes. The header of
+    /// the message tells so many elements, and `blank` fills a new segment. None, and nothing happens, where the number is none of a
+    /// publisher that stands, and while a send of it waits.
+    ///
+    /// Ported from `iceoryx2::port::publisher::Publisher::loan_slice_uninit`.
+    pub fn loan(
+        &mut self,
+        alloc: Global,
+        number: u64,
+        values: usize,
+        elements: u64,
+        blank: T,
+    ) -> Option<Result<usize, LoanError>>
+        ensures { AtPublisher number (LoansOne values elements) (port_of number self.old.publishers) self.old result self.new }
+    {
+        let port = self.publishers.get_mut(number)?;
+        let lent = loan_one(port, alloc, values, elements, blank)?;
+        self.publishers.settle(number);
+        Some(lent)
+    }
+
+    /// Writes a value at a place of the loan in a slot; answers whether a loan of the publisher stands there that has this place.
+    ///
+    /// Ported from writing through `iceoryx2::sample_mut_uninit::SampleMutUninit::payload_mut`.
+    pub fn write(&mut self, number: u64, slot: usize, place: usize, value: T) -> bool
+        ensures answer { result ≡ passes number (λ port. has_place slot place port.sender.uses) self.old }
+        ensures after { self.new ≡ written_in number (λ port. has_place slot place port.sender.uses) slot (write_value place value) self.old }
+    {
+        match self.publishers.get_mut(number) {
+            Some(port) => port.write(slot, place, value),
+            None => false,
+        }
+    }
+
+    /// Writes all values of the loan in a slot at once; answers whether a loan of the publisher of as many stands there.
+    ///
+    /// Ported from `iceoryx2::sample_mut_uninit::SampleMutUninit::write_from_slice`, which panics at another length.
+    pub fn write_from_slice(&mut self, number: u64, slot: usize, values: &[T]) -> bool
+        ensures answer { result ≡ passes number (λ port. has_length slot (length values.now) port.sender.uses) self.old }
+        ensures after { self.new ≡ written_in number (λ port. has_length slot (length values.now) port.sender.uses) slot (write_all values.now) self.old }
+    {
+        match self.publishers.get_mut(number) {
+            Some(port) => port.write_from_slice(slot, values),
+            None => false,
+        }
+    }
+
+    /// Writes the one value of the loan in a slot; answers whether a loan of the publisher of one value stands there.
+    ///
+    /// Ported from `iceoryx2::sample_mut_uninit::SampleMutUninit::write_payload`.
+    pub fn write_payload(&mut self, number: u64, slot: usize, value: T) -> bool
+        ensures answer { result ≡ passes number (λ port. has_length slot 1 port.sender.uses) self.old }
+        ensures after { self.new ≡ written_in number (λ port. has_length slot 1 port.sender.uses) slot (write_value 0 value) self.old }
+    {
+        match self.publishers.get_mut(number) {
+            Some(port) => port.write_payload(slot, value),
+            None => false,
+        }
+    }
+
+    /// Writes the user header of the loan in a slot; answers whether a loan of the publisher stands there.
+    ///
+    /// Ported from writing through `iceoryx2::sample_mut_uninit::SampleMutUninit::user_header_mut`.
+    pub fn write_user_header(&mut self, number: u64, slot: usize, user_header: U) -> bool
+        ensures answer { result ≡ passes number (λ port. has_loan slot port.sender.uses) self.old }
+        ensures after { self.new ≡ written_in number (λ port. has_loan slot port.sender.uses) slot (write_user_header user_header) self.old }
+    {
+        match self.publishers.get_mut(number) {
+            Some(port) => port.write_user_header(slot, user_header),
+            None => false,
+        }
+    }
+
+    /// The value at a place of the loan in a slot, if a loan of the publisher stands there that has this place, and it is written.
+    pub fn value(&self, number: u64, slot: usize, place: usize) -> Option<&T>
+        ensures { option_copied result ≡ value_at place (loan_in number slot self.now) }
+    {
+        match self.publishers.get(number) {
+            Some(port) => port.value(slot, place),
+            None => None,
+        }
+    }
+
+    /// Whether a loan of the publisher stands in a slot of which each value is written: the condition of its send.
+    pub fn is_written(&self, number: u64, slot: usize) -> bool
+        ensures { result ≡ is_written_loan (loan_in number slot self.now) }
+    {
+        match self.publishers.get(number) {
+            Some(port) => port.is_written(slot),
+            None => false,
+        }
+    }
+
+    /// Gives up the loan in a slot; answers whether a loan of the publisher stood there. A publisher that left is gone then if nothing
+    /// else of it is in use.
+    ///
+    /// Ported from dropping an `iceoryx2::sample_mut::SampleMut`.
+    pub fn drop_loan(&mut self, number: u64, slot: usize) -> bool
+        ensures answer { result ≡ is_some (loan_in number slot self.old) }
+        ensures after { self.new ≡ gave_up_in number slot self.old }
+    {
+        let was_there = self.give_up_loan(number, slot);
+        self.publishers.settle(number);
+        was_there
+    }
+
+    // Gives up the loan in a slot.
+    fn give_up_loan(&mut self, number: u64, slot: usize) -> bool
+        ensures answer { result ≡ is_some (loan_in number slot self.old) }
+        ensures after { self.new ≡ record self.old { publishers = changed number (given_up slot) self.old.publishers } }
+    {
+        match self.publishers.get_mut(number) {
+            Some(port) => port.drop_loan_in(slot),
+            None => false,
+        }
+    }
+}
+
+// A publisher that stands lends a slot.
+fn loan_one<T: Copy, U: Copy>(
+    port: &mut PublisherPort<T, U>,
+    alloc: Global,
+    values: usize,
+    elements: u64,
+    blank: T,
+) -> Option<Result<usize, LoanError>>
+    ensures loans { LoansOne values elements port.old result port.new }
+    ensures none { result ≡ None → port.new ≡ port.old }
+{
+    if !port.stands {
+        return None;
+    }
+    let allocation = port.allocation;
+    port.loan(alloc, values, elements, allocation, blank)
+}
