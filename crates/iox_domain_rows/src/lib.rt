@@ -1,5 +1,6 @@
 //! Tests of the ports' values, of the bookkeeping of slots and of messages: what no clause says.
 //!
+//! - `conversations`: whole conversations between the ports of a service.
 //! - `messages`: the way of a message by what it holds.
 //! - `publishers`: a publisher and the list of its subscribers.
 //! - `slots`: the way of a message through the slots of a publisher.
@@ -7,6 +8,8 @@
 //! - `values`: texts, and the objects that a caller hands in.
 #![tactic(auto)]
 
+#[cfg(test)]
+mod conversations;
 #[cfg(test)]
 mod messages;
 #[cfg(test)]
