@@ -2,7 +2,7 @@
 ghost use Rattle.std.specs.Prelude.{◌≡◌, ℕ, length, is_some, None, option_copied};
 ghost use Rattle.iox_domain_sender.specs.Messages.{write_value, write_all, write_user_header};
 ghost use Rattle.iox_domain_sender.specs.Sending.{has_loan, has_place, has_length, is_written_loan};
-ghost use Rattle.iox_domain_publisher.specs.Writing.{changed_if, value_at, given_up};
+ghost use Rattle.iox_domain_publisher.specs.Writing.{place_of, changed_if, value_at, given_up};
 ghost use Rattle.iox_domain_subscriber.specs.Publishers.{port_of, changed, settled};
 ghost use Rattle.iox_domain_ports.specs.Lending.{LoansOne, passes, written_in, loan_in, gave_up_in};
 ghost use Rattle.iox_domain_ports.specs.Ports.{AtPublisher};
@@ -111,7 +111,7 @@ impl<T: Copy, U: Copy> ServicePorts<T, U> {
     ///
     /// Ported from dropping an `iceoryx2::sample_mut::SampleMut`.
     pub fn drop_loan(&mut self, number: u64, slot: usize) -> bool
-        ensures answer { result ≡ is_some (loan_in number slot self.old) }
+        ensures answer { result ≡ passes number (λ port. is_some (place_of slot port)) self.old }
         ensures after { self.new ≡ gave_up_in number slot self.old }
     {
         let was_there = self.give_up_loan(number, slot);
@@ -121,7 +121,7 @@ impl<T: Copy, U: Copy> ServicePorts<T, U> {
 
     // Gives up the loan in a slot.
     fn give_up_loan(&mut self, number: u64, slot: usize) -> bool
-        ensures answer { result ≡ is_some (loan_in number slot self.old) }
+        ensures answer { result ≡ passes number (λ port. is_some (place_of slot port)) self.old }
         ensures after { self.new ≡ record self.old { publishers = changed number (given_up slot) self.old.publishers } }
     {
         match self.publishers.get_mut(number) {
