@@ -14,8 +14,9 @@ impl<T: Copy, U: Copy> PublisherPort<T, U> {
     /// Refused, in this order, with `ExceedsMaxLoanSize` if the slice is longer than fits and the room stays as it was made; with
     /// `ExceedsMaxLoans` if as many loans are out as may be; with `OutOfMemory` if each slot of the current segment is in use. Other
     /// strategies open a new segment for a longer slice, and for nothing else; `OutOfMemory` is then that the segment would be longer
-    /// than 2^32 - 1, that there are as many segments as may be, or want of memory. A refusal changes nothing. A loan that fits takes
-    /// no memory, and with as many slots as the worst case needs one is always free. `blank` fills a new segment.
+    /// than 2^32 - 1, that there are as many segments as may be, or want of memory. A loan that fits takes no memory. With as many slots
+    /// as the worst case needs one is always free, and a refusal changes nothing; with fewer a new segment may stay though nothing is
+    /// lent. `blank` fills a new segment.
     ///
     /// Ported from `iceoryx2::port::publisher::Publisher::loan_slice_uninit`.
     pub fn loan(

@@ -1,15 +1,20 @@
 //! Whole conversations between the ports of a service, call by call.
-use crate::messages::OWNER;
 use iox_domain_ports::{PublisherConfig, ServicePorts, SubscriberConfig};
 use iox_domain_publisher::{Handlers, Sent};
 use iox_domain_subscriber::Taken;
 use iox_domain_values::{
     AllocationStrategy, BackpressureStrategy, DegradationAction, DegradationHandler, LoanError,
-    PreallocatedSamplesOverride, PublisherCreateError, ReceiveError, SendError, ServiceSizes,
-    SubscriberCreateError,
+    PortOwner, PreallocatedSamplesOverride, PublisherCreateError, ReceiveError, SendError,
+    ServiceSizes, SubscriberCreateError,
 };
 use std::alloc::{AllocError, Global};
 use std::test::Fail;
+
+// Who the ports belong to.
+const OWNER: PortOwner = PortOwner {
+    number: 3,
+    node_id: 4,
+};
 
 // The ports of a service, who decides for its publishers, and the samples that are held, in the order in which they came.
 #[derive(Drop)]
