@@ -84,3 +84,25 @@ at_none test xs is = ⊎_elim
     (λ past. let over : length xs ≤ position_or_len test xs = grind (arith, past) in
     find_at test xs ∙ ⊎_elim (λ inside. absurd (omega (arith, over, inside.1))) (λ outside. outside.1) (slice_get_cases xs (position_or_len test xs)).1)
     (cases_Bool (nat_lt (position_or_len test xs) (length xs)))
+
+-- a loan stands in the slot: the first one there is at some place of the list
+pub found_loan : {T U : Type 0} (slot : ℕ) (loans : List (Loan T U)) → list_any (λ loan. eqb slot loan.slot) loans ≡ true
+    → (at : ℕ) × (loan : Loan T U) × (slice_get loans at ≡ Some loan) × (loan.slot ≡ slot) × (find (λ loan. loan.slot == slot) loans ≡ Some loan)
+found_loan slot [] any = absurd (not_true any)
+found_loan slot (loan ∷ loans) any = ⊎_elim
+    (λ same. (zero, loan, refl, same.1, rw same.0 refl))
+    (λ other.
+        let rest : list_any (λ one. eqb slot one.slot) loans ≡ true = rw (apart loan.slot slot other.1) at any in
+        let more = found_loan slot loans rest in
+        (suc more.0, more.1, more.2, more.3, rw other.0 more.4))
+    (eqb_tells loan.slot slot)
+
+-- no loan stands in the slot
+pub no_loan : {T U : Type 0} (slot : ℕ) (loans : List (Loan T U)) → list_any (λ loan. eqb slot loan.slot) loans ≡ false → find (λ loan. loan.slot == slot) loans ≡ None
+no_loan slot [] none = refl
+no_loan slot (loan ∷ loans) none = ⊎_elim
+    (λ same. absurd (not_true (let wrong : true ≡ false = rw (alike loan.slot slot same.1) at none in sym wrong)))
+    (λ other.
+        let rest : list_any (λ one. eqb slot one.slot) loans ≡ false = rw (apart loan.slot slot other.1) at none in
+        rw other.0 (no_loan slot loans rest))
+    (eqb_tells loan.slot slot)

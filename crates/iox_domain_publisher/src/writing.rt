@@ -1,5 +1,5 @@
 //! What lies in a loan is written and read, and a loan is given up. A loan goes by its slot; where none stands there nothing happens.
-ghost use Rattle.std.specs.Prelude.{◌≡◌, length, is_some, option_copied};
+ghost use Rattle.std.specs.Prelude.{◌≡◌, length, is_some, option_copied, option_map};
 ghost use Rattle.iox_domain_sender.specs.Messages.{write_value, write_all, write_user_header};
 ghost use Rattle.iox_domain_sender.specs.Sending.{has_loan, has_place, has_length, is_written_loan};
 ghost use Rattle.iox_domain_publisher.specs.Writing.{place_of, loan_of, changed_if, value_at, given_up};
@@ -71,6 +71,28 @@ impl<T: Copy, U: Copy> PublisherPort<T, U> {
             return None;
         }
         self.sender.value(slot, place)
+    }
+
+    /// How many elements the loan in this slot has, if one stands there.
+    pub fn elements(&self, slot: usize) -> Option<u64>
+        ensures { result ≡ option_map (λ loan. loan.elements) (loan_of slot self.now) }
+    {
+        if !self.sender.has_loan(slot) {
+            return None;
+        }
+        Some(self.sender.loan_elements(slot))
+    }
+
+    /// The user header of the loan in this slot, if one stands there.
+    ///
+    /// Ported from `iceoryx2::sample_mut_uninit::SampleMutUninit::user_header`.
+    pub fn user_header(&self, slot: usize) -> Option<&U>
+        ensures { option_copied result ≡ option_map (λ loan. loan.user_header) (loan_of slot self.now) }
+    {
+        if !self.sender.has_loan(slot) {
+            return None;
+        }
+        Some(self.sender.loan_user_header(slot))
     }
 
     /// Whether a loan stands in this slot of which each value is written: the condition of its send.

@@ -207,6 +207,22 @@ impl<T: Copy, U: Copy> Sender<T, U> {
         self.values.value_mut(slot, place)
     }
 
+    /// How many elements the loan in this slot has.
+    pub fn loan_elements(&self, slot: usize) -> u64
+        requires { has_loan slot self.now.uses ≡ true }
+        ensures { (at : ℕ) (loan : Loan T U) → slice_get self.now.uses.loans at ≡ Some loan → loan.slot ≡ slot → result ≡ loan.elements }
+    {
+        self.headers[slot].elements
+    }
+
+    /// The user header of the loan in this slot.
+    pub fn loan_user_header(&self, slot: usize) -> &U
+        requires { has_loan slot self.now.uses ≡ true }
+        ensures { (at : ℕ) (loan : Loan T U) → slice_get self.now.uses.loans at ≡ Some loan → loan.slot ≡ slot → result.now ≡ loan.user_header }
+    {
+        &self.headers[slot].user_header
+    }
+
     /// Begins the send of the written loan at this place of the list, and answers its slot: it is no loan any longer, but in use
     /// until the send is finished, and the newest of the history.
     pub fn begin_send(&mut self, at: usize) -> usize
