@@ -68,8 +68,12 @@ enum Call {
     Depart(u64),
 }
 
-// How much a service allows: two publishers and two subscribers, and so many waiting, borrowed and in the history.
-const fn sizes(buffer: u32, borrowed: u32, history: u32, overflows: bool) -> ServiceSizes {
+// How many messages may wait, be borrowed and be kept as history, and whether a full mailbox lets its oldest go.
+type Limits = (u32, u32, u32, bool);
+
+// How much a service of two publishers and two subscribers allows.
+fn sizes(limits: Limits) -> ServiceSizes {
+    let (buffer, borrowed, history, overflows) = limits;
     ServiceSizes {
         max_publishers: 2,
         max_subscribers: 2,
@@ -230,11 +234,11 @@ fn reads(world: &mut World, alloc: Global, call: Call) -> bool {
 }
 
 // A service, how many slots its publishers get where that is named, and its calls.
-type Row = (ServiceSizes, Option<usize>, &'static [Call]);
+type Row = (Limits, Option<usize>, &'static [Call]);
 
 // A mailbox that is full lets its oldest message go.
 const OVERFLOWS: Row = (
-    sizes(2, 2, 0, true),
+    (2, 2, 0, true),
     None,
     &[
         Call::Subscriber(1, 2),
@@ -252,7 +256,7 @@ const OVERFLOWS: Row = (
 
 // A subscriber that comes later gets as much of the history as may wait for it.
 const REMEMBERS: Row = (
-    sizes(3, 2, 3, true),
+    (3, 2, 3, true),
     None,
     &[
         Call::Publisher(1, 2),
@@ -275,7 +279,7 @@ const REMEMBERS: Row = (
 
 // A sample that is held reads the same while others overflow.
 const HOLDS: Row = (
-    sizes(1, 2, 0, true),
+    (1, 2, 0, true),
     None,
     &[
         Call::Subscriber(1, 1),
@@ -291,7 +295,7 @@ const HOLDS: Row = (
 
 // A publisher that left is read by a subscriber that had attached, and by no other.
 const LEAVES_UNHEARD: Row = (
-    sizes(2, 2, 0, true),
+    (2, 2, 0, true),
     None,
     &[
         Call::Subscriber(1, 2),
@@ -303,7 +307,7 @@ const LEAVES_UNHEARD: Row = (
 );
 
 const LEAVES_HEARD: Row = (
-    sizes(2, 2, 0, true),
+    (2, 2, 0, true),
     None,
     &[
         Call::Publisher(1, 2),
@@ -318,7 +322,7 @@ const LEAVES_HEARD: Row = (
 
 // A loan is refused where no slot is free, and before that where as many are out as may be.
 const LACKS_SLOTS: Row = (
-    sizes(2, 2, 0, true),
+    (2, 2, 0, true),
     Some(1),
     &[
         Call::Publisher(1, 2),
@@ -328,7 +332,7 @@ const LACKS_SLOTS: Row = (
 );
 
 const LACKS_LOANS: Row = (
-    sizes(2, 2, 0, true),
+    (2, 2, 0, true),
     Some(1),
     &[
         Call::Publisher(1, 1),
@@ -339,7 +343,7 @@ const LACKS_LOANS: Row = (
 
 // A send waits at a full mailbox until there is room, and meanwhile its publisher does nothing else.
 const WAITS: Row = (
-    sizes(1, 2, 0, false),
+    (1, 2, 0, false),
     None,
     &[
         Call::Subscriber(1, 1),
@@ -360,7 +364,7 @@ const WAITS: Row = (
 
 // As many publishers as may be, and one more once one left.
 const IS_FULL: Row = (
-    sizes(2, 2, 0, true),
+    (2, 2, 0, true),
     None,
     &[
         Call::Publisher(1, 2),
@@ -373,7 +377,7 @@ const IS_FULL: Row = (
 
 // A message is refused at the limit of borrows.
 const BORROWS_ONE: Row = (
-    sizes(2, 1, 0, true),
+    (2, 1, 0, true),
     None,
     &[
         Call::Subscriber(1, 2),
@@ -389,7 +393,7 @@ const BORROWS_ONE: Row = (
 
 // A sample outlives its subscriber, and keeps its slot.
 const OUTLIVES: Row = (
-    sizes(1, 1, 0, true),
+    (1, 1, 0, true),
     Some(3),
     &[
         Call::Publisher(1, 3),
@@ -432,8 +436,8 @@ fn holds(world: &mut World, alloc: Global, calls: &[Call]) -> bool {
 
 #[test]
 fn conversations_go_as_they_should(rt: HostRuntime) -> Result<(), Fail> {
-    for (sizes, slots, calls) in &ROWS {
-        let mut world = make_world(rt.alloc(), *sizes, *slots)?;
+    for (limits, slots, calls) in &ROWS {
+        let mut world = make_world(rt.alloc(), sizes(*limits), *slots)?;
         assert!(rt; holds(&mut world, rt.alloc(), calls));
     }
     Ok(())

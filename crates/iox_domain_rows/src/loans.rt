@@ -1,4 +1,5 @@
 //! Loans of a publisher with their refusals, and what is written into them.
+use crate::messages::identity;
 use iox_domain_publisher::PublisherPort;
 use iox_domain_sender::SenderConfig;
 use iox_domain_values::{AllocationStrategy, LoanError};
@@ -22,7 +23,14 @@ fn publisher(
         most_waiting: 1,
         most_borrowed: 1,
     };
-    PublisherPort::new(alloc, 5, 1, config, 0, 3)
+    PublisherPort::new(
+        alloc,
+        identity(5, 1),
+        AllocationStrategy::Static,
+        config,
+        0,
+        3,
+    )
 }
 
 type Lent = Option<Result<usize, LoanError>>;
