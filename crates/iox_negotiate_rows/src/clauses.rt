@@ -72,27 +72,17 @@ fn publish_subscribe(first: usize) -> Result<ServiceBuilder<PublishSubscribe>, L
     Ok(asked)
 }
 
-/// Whether each clause refuses an opener, over a table in which the service stands.
-fn refuses_publish_subscribe(alloc: Global, table: &mut Table) -> Result<bool, Fail> {
-    for (clause, refusal) in PUBLISH_SUBSCRIBE.iter().enumerate() {
-        if !is_refused(
-            alloc,
-            table,
-            publish_subscribe(clause)?,
-            clause < 2,
-            *refusal,
-        )? {
-            return Ok(false);
-        }
-    }
-    Ok(true)
-}
-
 #[test]
 fn clauses_of_publish_subscribe_refuse_in_order(rt: HostRuntime) -> Result<(), Fail> {
     let mut table = Table::new(rt.alloc(), 1);
     let _factory = publish_subscribe(9)?.create(rt.alloc(), &mut table)?;
-    assert!(rt; refuses_publish_subscribe(rt.alloc(), &mut table)?);
+    for (clause, refusal) in PUBLISH_SUBSCRIBE.iter().enumerate() {
+        let asked = publish_subscribe(clause)?;
+        assert!(rt;
+            is_refused(rt.alloc(), &mut table, asked, clause < 2, *refusal)?,
+            "{refusal:?}"
+        );
+    }
     Ok(())
 }
 
@@ -132,21 +122,17 @@ fn event(first: usize) -> Result<ServiceBuilder<Event>, LimitError> {
     Ok(asked)
 }
 
-/// Whether each clause refuses an opener, over a table in which the service stands.
-fn refuses_event(alloc: Global, table: &mut Table) -> Result<bool, Fail> {
-    for (clause, refusal) in EVENT.iter().enumerate() {
-        if !is_refused(alloc, table, event(clause)?, clause < 1, *refusal)? {
-            return Ok(false);
-        }
-    }
-    Ok(true)
-}
-
 #[test]
 fn clauses_of_event_refuse_in_order(rt: HostRuntime) -> Result<(), Fail> {
     let mut table = Table::new(rt.alloc(), 1);
     let _factory = event(9)?.create(rt.alloc(), &mut table)?;
-    assert!(rt; refuses_event(rt.alloc(), &mut table)?);
+    for (clause, refusal) in EVENT.iter().enumerate() {
+        let asked = event(clause)?;
+        assert!(rt;
+            is_refused(rt.alloc(), &mut table, asked, clause < 1, *refusal)?,
+            "{refusal:?}"
+        );
+    }
     Ok(())
 }
 
@@ -197,26 +183,16 @@ fn request_response(first: usize) -> Result<ServiceBuilder<RequestResponse>, Lim
     Ok(asked)
 }
 
-/// Whether each clause refuses an opener, over a table in which the service stands.
-fn refuses_request_response(alloc: Global, table: &mut Table) -> Result<bool, Fail> {
-    for (clause, refusal) in REQUEST_RESPONSE.iter().enumerate() {
-        if !is_refused(
-            alloc,
-            table,
-            request_response(clause)?,
-            clause < 3,
-            *refusal,
-        )? {
-            return Ok(false);
-        }
-    }
-    Ok(true)
-}
-
 #[test]
 fn clauses_of_request_response_refuse_in_order(rt: HostRuntime) -> Result<(), Fail> {
     let mut table = Table::new(rt.alloc(), 1);
     let _factory = request_response(13)?.create(rt.alloc(), &mut table)?;
-    assert!(rt; refuses_request_response(rt.alloc(), &mut table)?);
+    for (clause, refusal) in REQUEST_RESPONSE.iter().enumerate() {
+        let asked = request_response(clause)?;
+        assert!(rt;
+            is_refused(rt.alloc(), &mut table, asked, clause < 3, *refusal)?,
+            "{refusal:?}"
+        );
+    }
     Ok(())
 }

@@ -47,47 +47,45 @@ const LEAVE: Step = Step::Leave(1);
 type Row = (&'static [Step], Step, Phase);
 
 /// What is done, and the phase after it.
-const ROWS: [Row; 22] = [
-    (&[], LOCK, Phase::Locked),
-    (&[LOCK], Step::GiveUp(1), Phase::Absent),
-    (&[LOCK], TWO, Phase::Opens),
-    (&[LOCK, TWO], Step::Register(2), Phase::Full),
-    (&[LOCK, TWO, Step::Register(2)], LEAVE, Phase::Opens),
-    (&[LOCK, ONE], LEAVE, Phase::Emptied),
-    (&[LOCK, ONE, LEAVE], Step::Remove(1), Phase::Absent),
-    (&[LOCK, Step::Lock(2)], Step::GiveUp(1), Phase::Absent),
-    (&[LOCK, ONE], Step::Lock(2), Phase::Full),
-    (&[LOCK, ONE, LEAVE], Step::Lock(2), Phase::Emptied),
-    (&[], Step::GiveUp(1), Phase::Absent),
-    (&[LOCK], Step::GiveUp(2), Phase::Locked),
-    (&[], TWO, Phase::Absent),
-    (&[LOCK], Step::Publish(2, b"A", 2, 2), Phase::Locked),
-    (&[LOCK], Step::Publish(1, b"B", 2, 2), Phase::Locked),
-    (
-        &[LOCK],
-        Step::Publish(1, b"A", 2, 16_777_216),
-        Phase::Locked,
-    ),
-    (&[LOCK], Step::Register(2), Phase::Locked),
-    (&[LOCK, TWO], Step::Register(1), Phase::Opens),
-    (&[LOCK, ONE, Step::Register(2)], LEAVE, Phase::Emptied),
-    (&[LOCK, ONE], Step::Leave(2), Phase::Full),
-    (&[LOCK, ONE], Step::Remove(1), Phase::Full),
-    (&[LOCK, ONE, LEAVE], Step::Remove(2), Phase::Emptied),
-];
-
-/// Whether the table is in this phase after these steps and this one.
-fn is_changed(table: &mut Table, before: &[Step], step: Step, after: Phase) -> Result<bool, Fail> {
-    act(table, before)?;
-    act(table, &[step])?;
-    is_wanted(phase_of(table)?, after)
+fn rows() -> [Row; 22] {
+    [
+        (&[], LOCK, Phase::Locked),
+        (&[LOCK], Step::GiveUp(1), Phase::Absent),
+        (&[LOCK], TWO, Phase::Opens),
+        (&[LOCK, TWO], Step::Register(2), Phase::Full),
+        (&[LOCK, TWO, Step::Register(2)], LEAVE, Phase::Opens),
+        (&[LOCK, ONE], LEAVE, Phase::Emptied),
+        (&[LOCK, ONE, LEAVE], Step::Remove(1), Phase::Absent),
+        (&[LOCK, Step::Lock(2)], Step::GiveUp(1), Phase::Absent),
+        (&[LOCK, ONE], Step::Lock(2), Phase::Full),
+        (&[LOCK, ONE, LEAVE], Step::Lock(2), Phase::Emptied),
+        (&[], Step::GiveUp(1), Phase::Absent),
+        (&[LOCK], Step::GiveUp(2), Phase::Locked),
+        (&[], TWO, Phase::Absent),
+        (&[LOCK], Step::Publish(2, b"A", 2, 2), Phase::Locked),
+        (&[LOCK], Step::Publish(1, b"B", 2, 2), Phase::Locked),
+        (
+            &[LOCK],
+            Step::Publish(1, b"A", 2, 16_777_216),
+            Phase::Locked,
+        ),
+        (&[LOCK], Step::Register(2), Phase::Locked),
+        (&[LOCK, TWO], Step::Register(1), Phase::Opens),
+        (&[LOCK, ONE, Step::Register(2)], LEAVE, Phase::Emptied),
+        (&[LOCK, ONE], Step::Leave(2), Phase::Full),
+        (&[LOCK, ONE], Step::Remove(1), Phase::Full),
+        (&[LOCK, ONE, LEAVE], Step::Remove(2), Phase::Emptied),
+    ]
 }
 
 #[test]
 fn a_step_changes_a_phase_where_it_fits(rt: HostRuntime) -> Result<(), Fail> {
-    for (before, step, after) in &ROWS {
+    for (before, step, after) in rows() {
+        let mut table = Table::new(rt.alloc(), 1);
+        act(&mut table, before)?;
+        act(&mut table, &[step])?;
         assert!(rt;
-            is_changed(&mut Table::new(rt.alloc(), 1), before, *step, *after)?,
+            is_wanted(phase_of(&mut table)?, after)?,
             "{before:?}, then {step:?}"
         );
     }
