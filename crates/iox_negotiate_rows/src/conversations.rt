@@ -5,7 +5,8 @@ use iox_describe::LimitError;
 use iox_describe::pattern::PublishSubscribe;
 use iox_negotiate::ServiceBuilder;
 use iox_negotiate_table::{Stepped, Table};
-use std::alloc::Global;
+use std::alloc::{AllocError, Global};
+use std::fmt::Display;
 use std::test::Fail;
 
 #[derive(Clone, Copy)]
@@ -49,45 +50,43 @@ fn asked(node: u64, settings: &[Named]) -> Result<ServiceBuilder<PublishSubscrib
     Ok(asked)
 }
 
-// What the line is answered.
-fn answered(alloc: Global, line: Line, storage: &mut Stepped) -> Result<String, Fail> {
-    let asked = asked(line.0, line.2)?;
-    let refusal = match line.1 {
-        Call::Create => match asked.create(alloc, storage) {
-            Ok(_) => None,
-            Err(error) => Some(format!(in alloc; "{error}")?),
-        },
-        Call::Open => match asked.open(alloc, storage) {
-            Ok(_) => None,
-            Err(error) => Some(format!(in alloc; "{error}")?),
-        },
-        Call::OpenOrCreate => match asked.open_or_create(alloc, storage) {
-            Ok(_) => None,
-            Err(error) => Some(format!(in alloc; "{error}")?),
-        },
-    };
+// What a call came to, as text.
+fn told<E: Display + Drop>(alloc: Global, refusal: Option<E>) -> Result<String, AllocError> {
     match refusal {
-        Some(text) => Ok(text),
-        None => Ok(format!(in alloc; "ok")?),
+        Some(error) => format!(in alloc; "{error}"),
+        None => format!(in alloc; "ok"),
     }
 }
 
-// The first answer that isn't the wanted one, and the wanted one, in a talk over a table of its own.
-fn first_wrong(
-    alloc: Global,
-    talk: &[(Others, Line)],
-) -> Result<Option<(String, &'static str)>, Fail> {
+// What the line is answered.
+fn answered(alloc: Global, line: Line, storage: &mut Stepped) -> Result<String, Fail> {
+    let asked = asked(line.0, line.2)?;
+    Ok(match line.1 {
+        Call::Create => told(alloc, asked.create(alloc, storage).err())?,
+        Call::Open => told(alloc, asked.open(alloc, storage).err())?,
+        Call::OpenOrCreate => told(alloc, asked.open_or_create(alloc, storage).err())?,
+    })
+}
+
+// Whether the line is answered as it says. Another answer ends the test and is told.
+fn is_answered_so(alloc: Global, line: &Line, storage: &mut Stepped) -> Result<bool, Fail> {
+    let answer = answered(alloc, *line, storage)?;
+    if answer.as_str() != line.3 {
+        return Err(Fail::from(answer));
+    }
+    Ok(true)
+}
+
+// Whether each line of a talk is answered so, over a table of its own.
+fn is_answered(alloc: Global, talk: &[(Others, Line)]) -> Result<bool, Fail> {
     let mut table = Table::new(alloc, 1);
     for (others, line) in talk {
         act(&mut table, others.0)?;
         let mut storage = before_the_second(alloc, table, others.1)?;
-        let answer = answered(alloc, *line, &mut storage)?;
-        if answer.as_str() != line.3 {
-            return Ok(Some((answer, line.3)));
-        }
+        is_answered_so(alloc, line, &mut storage)?;
         table = storage.into_table();
     }
-    Ok(None)
+    Ok(true)
 }
 
 /// Six talks, each over a table of its own.
@@ -188,8 +187,8 @@ const TALKS: [&[(Others, Line)]; 6] = [
 
 #[test]
 fn nodes_talk_of_a_service(rt: HostRuntime) -> Result<(), Fail> {
-    for talk in TALKS {
-        assert_eq!(rt; first_wrong(rt.alloc(), talk)?, None);
+    for talk in &TALKS {
+        assert!(rt; is_answered(rt.alloc(), *talk)?);
     }
     Ok(())
 }

@@ -1,8 +1,8 @@
 //! The lines that builders publish, and what factories tell of them.
 use crate::shared::{Fixed, LINE, builder};
 use iox_describe::pattern::PublishSubscribe;
-use iox_describe::{AttributeError, AttributeSpecifier};
-use iox_negotiate::{PortFactory, Slice};
+use iox_describe::{AttributeError, AttributeSpecifier, LimitError};
+use iox_negotiate::{PortFactory, ServiceBuilder, Slice};
 use std::alloc::Global;
 use std::test::Fail;
 
@@ -15,16 +15,46 @@ fn is_factory_of_23(factory: &PortFactory<PublishSubscribe>) -> bool {
         && factory.node() == 5
 }
 
+/// Whether the service is created, and then stands with the wanted line.
+fn is_published(
+    alloc: Global,
+    asked: ServiceBuilder<PublishSubscribe>,
+    storage: &mut Fixed,
+) -> Result<bool, Fail> {
+    Ok(
+        is_factory_of_23(&asked.create(alloc, storage)?)
+            && storage.line.as_slice() == LINE.as_bytes(),
+    )
+}
+
+/// Whether the service is opened.
+fn is_found(
+    alloc: Global,
+    asked: ServiceBuilder<PublishSubscribe>,
+    storage: &mut Fixed,
+) -> Result<bool, Fail> {
+    Ok(is_factory_of_23(&asked.open(alloc, storage)?))
+}
+
+/// A builder of the service whose line is `LINE`.
+fn of_line() -> Result<ServiceBuilder<PublishSubscribe>, LimitError> {
+    Ok(
+        builder(b"23")?
+            .publish_subscribe::<Slice<u64>>()
+            .user_header::<u64>(),
+    )
+}
+
+/// Whether the service is created, and a clone of its builder opens it.
+fn are_published(alloc: Global, storage: &mut Fixed) -> Result<bool, Fail> {
+    let asked = of_line()?;
+    let again = asked.try_clone(alloc)?;
+    Ok(is_published(alloc, asked, storage)? && is_found(alloc, again, storage)?)
+}
+
 #[test]
 fn defaults_are_published(rt: HostRuntime) -> Result<(), Fail> {
-    let asked = builder(b"23")?
-        .publish_subscribe::<Slice<u64>>()
-        .user_header::<u64>();
-    let again = asked.try_clone(rt.alloc())?;
-    let mut storage = Fixed::new(rt.alloc(), "")?;
-    assert!(rt; is_factory_of_23(&asked.create(rt.alloc(), &mut storage)?));
-    assert!(rt; storage.line.as_slice() == LINE.as_bytes());
-    assert!(rt; is_factory_of_23(&again.open(rt.alloc(), &mut storage)?));
+    assert!(rt; are_published(rt.alloc(), &mut Fixed::new(rt.alloc(), "")?)?);
     Ok(())
 }
 
@@ -32,17 +62,21 @@ fn defaults_are_published(rt: HostRuntime) -> Result<(), Fail> {
 const EVENT: &str =
     "{\"attributes\":[],\"name\":\"E\",\"pattern\":\"event\",\"service_hash\":\"7151c7f46996d49977f91fc77e07abbc2c588465\",\"settings\":{\"deadline\":7,\"event_id_max_value\":4294967295,\"max_listeners\":16,\"max_nodes\":3,\"max_notifiers\":1,\"notifier_created_event\":null,\"notifier_dead_event\":9,\"notifier_dropped_event\":null},\"version\":1}";
 
-#[test]
-fn an_event_service_is_published(rt: HostRuntime) -> Result<(), Fail> {
-    let mut storage = Fixed::new(rt.alloc(), "")?;
+/// Whether an event service is published with its line.
+fn is_event_published(alloc: Global, storage: &mut Fixed) -> Result<bool, Fail> {
     let asked = builder(b"E")?
         .event()
         .deadline(7)
         .max_notifiers(0)
         .max_nodes(3)
         .notifier_dead_event(9);
-    asked.open_or_create(rt.alloc(), &mut storage)?;
-    assert!(rt; storage.line.as_slice() == EVENT.as_bytes());
+    asked.open_or_create(alloc, storage)?;
+    Ok(storage.line.as_slice() == EVENT.as_bytes())
+}
+
+#[test]
+fn an_event_service_is_published(rt: HostRuntime) -> Result<(), Fail> {
+    assert!(rt; is_event_published(rt.alloc(), &mut Fixed::new(rt.alloc(), "")?)?);
     Ok(())
 }
 
@@ -58,14 +92,24 @@ fn attributes(alloc: Global) -> Result<AttributeSpecifier, AttributeError> {
     Ok(attributes)
 }
 
-#[test]
-fn a_request_response_service_is_published(rt: HostRuntime) -> Result<(), Fail> {
-    let mut storage = Fixed::new(rt.alloc(), "")?;
+/// Whether a request-response service with these attributes is published with its line.
+fn is_request_response_published(
+    alloc: Global,
+    attributes: &AttributeSpecifier,
+    storage: &mut Fixed,
+) -> Result<bool, Fail> {
     let asked = builder(b"R")?
         .request_response::<u8, Slice<i64>>()
         .request_user_header::<u32>()
         .response_payload_alignment(32);
-    asked.create_with_attributes(rt.alloc(), &attributes(rt.alloc())?, &mut storage)?;
-    assert!(rt; storage.line.as_slice() == REQUEST_RESPONSE.as_bytes());
+    asked.create_with_attributes(alloc, attributes, storage)?;
+    Ok(storage.line.as_slice() == REQUEST_RESPONSE.as_bytes())
+}
+
+#[test]
+fn a_request_response_service_is_published(rt: HostRuntime) -> Result<(), Fail> {
+    let attributes = attributes(rt.alloc())?;
+    let mut storage = Fixed::new(rt.alloc(), "")?;
+    assert!(rt; is_request_response_published(rt.alloc(), &attributes, &mut storage)?);
     Ok(())
 }

@@ -65,20 +65,34 @@ const LOOKS: [(NoLook, EventOpenError, EventCreateError); 4] = [
     ),
 ];
 
+/// Whether each call is refused so by what the look shows.
+fn is_look_refused(
+    alloc: Global,
+    storage: &mut Fixed,
+    shown: NoLook,
+    opening: EventOpenError,
+    creating: EventCreateError,
+) -> Result<bool, Fail> {
+    storage.no_look = Some(shown);
+    Ok(
+        is_open_refused(alloc, storage, opening)?
+            && is_create_refused(alloc, storage, creating)?
+            && is_either_refused(alloc, storage, EventOpenOrCreateError::from(opening))?
+            && storage.counted(3, 0),
+    )
+}
+
 #[test]
 fn a_look_is_refused(rt: HostRuntime) -> Result<(), Fail> {
     for (shown, opening, creating) in &LOOKS {
-        let mut storage = Fixed::new(rt.alloc(), "")?;
-        storage.no_look = Some(*shown);
         assert!(rt;
-            is_open_refused(rt.alloc(), &mut storage, *opening)?
-                && is_create_refused(rt.alloc(), &mut storage, *creating)?
-                && is_either_refused(
-                    rt.alloc(),
-                    &mut storage,
-                    EventOpenOrCreateError::from(*opening)
-                )?
-                && storage.counted(3, 0),
+            is_look_refused(
+                rt.alloc(),
+                &mut Fixed::new(rt.alloc(), "")?,
+                *shown,
+                *opening,
+                *creating
+            )?,
             "{shown:?}"
         );
     }
@@ -95,19 +109,31 @@ const LOCKS: [(LockAnswer, EventCreateError); 3] = [
     (LockAnswer::OutOfMemory, EventCreateError::OutOfMemory),
 ];
 
+/// Whether creating is refused so by what the lock is answered.
+fn is_lock_refused(
+    alloc: Global,
+    storage: &mut Fixed,
+    lock: LockAnswer,
+    creating: EventCreateError,
+) -> Result<bool, Fail> {
+    storage.lock = lock;
+    Ok(
+        is_create_refused(alloc, storage, creating)?
+            && is_either_refused(alloc, storage, EventOpenOrCreateError::from(creating))?
+            && storage.counted(2, 2),
+    )
+}
+
 #[test]
 fn a_lock_is_refused(rt: HostRuntime) -> Result<(), Fail> {
     for (lock, creating) in &LOCKS {
-        let mut storage = Fixed::new(rt.alloc(), "")?;
-        storage.lock = *lock;
         assert!(rt;
-            is_create_refused(rt.alloc(), &mut storage, *creating)?
-                && is_either_refused(
-                    rt.alloc(),
-                    &mut storage,
-                    EventOpenOrCreateError::from(*creating)
-                )?
-                && storage.counted(2, 2),
+            is_lock_refused(
+                rt.alloc(),
+                &mut Fixed::new(rt.alloc(), "")?,
+                *lock,
+                *creating
+            )?,
             "{lock:?}"
         );
     }
@@ -132,20 +158,42 @@ const SEGMENTS: [(OpenSegmentAnswer, EventOpenError); 5] = [
     (OpenSegmentAnswer::OutOfMemory, EventOpenError::OutOfMemory),
 ];
 
+/// Whether opening is refused so by what opening the segment is answered.
+fn is_segment_refused(
+    alloc: Global,
+    storage: &mut Fixed,
+    segment: OpenSegmentAnswer,
+    opening: EventOpenError,
+) -> Result<bool, Fail> {
+    storage.segment = segment;
+    Ok(
+        is_open_refused(alloc, storage, opening)?
+            && is_either_refused(alloc, storage, EventOpenOrCreateError::from(opening))?
+            && storage.counted(3, 5),
+    )
+}
+
+/// The same once the service is created.
+fn is_then_refused(
+    alloc: Global,
+    storage: &mut Fixed,
+    segment: OpenSegmentAnswer,
+    opening: EventOpenError,
+) -> Result<bool, Fail> {
+    let _factory = builder(b"E")?.event().create(alloc, storage)?;
+    is_segment_refused(alloc, storage, segment, opening)
+}
+
 #[test]
 fn a_segment_is_refused(rt: HostRuntime) -> Result<(), Fail> {
     for (segment, opening) in &SEGMENTS {
-        let mut storage = Fixed::new(rt.alloc(), "")?;
-        let _factory = builder(b"E")?.event().create(rt.alloc(), &mut storage)?;
-        storage.segment = *segment;
         assert!(rt;
-            is_open_refused(rt.alloc(), &mut storage, *opening)?
-                && is_either_refused(
-                    rt.alloc(),
-                    &mut storage,
-                    EventOpenOrCreateError::from(*opening)
-                )?
-                && storage.counted(3, 5),
+            is_then_refused(
+                rt.alloc(),
+                &mut Fixed::new(rt.alloc(), "")?,
+                *segment,
+                *opening
+            )?,
             "{segment:?}"
         );
     }
