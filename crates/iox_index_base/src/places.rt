@@ -87,11 +87,11 @@ impl<C: Copy> Places<C> {
         if let Some(index) = lowest_empty(self.cells.as_slice()) {
             return Some(index);
         }
-        let index = self.cells.len();
-        if index == self.count {
+        let next = self.cells.len();
+        if next == self.count {
             return None;
         }
-        Some(index)
+        Some(next)
     }
 
     /// Fills the lowest place that is empty, and answers its index; `None` where each is filled.

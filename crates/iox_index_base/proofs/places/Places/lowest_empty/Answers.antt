@@ -14,5 +14,5 @@ pub returns : goal.returns
 returns g c =
     let none : lowest_empty c.self.inside.cells.items ≡ None =
     ap (λ cells. lowest_empty cells) (sym c.as_slice.ensures.value) ∙ sym c.lowest_empty.ensures ∙ c.in_default.is in
-    let at : c.len-index.result ≡ length c.self.inside.cells.items = omega (arith, c.len-index.ensures, c.self.inside.cells.ok.0) in
-    rw (← c.self.view_is, at) (sym (lowest-next c.self.inside.count c.self.inside.cells.items none (omega (arith, c.self.invariant.0, c.if-index-self.false, at))))
+    let at : c.len-next.result ≡ length c.self.inside.cells.items = omega (arith, c.len-next.ensures, c.self.inside.cells.ok.0) in
+    rw (← c.self.view_is, at) (sym (lowest-next c.self.inside.count c.self.inside.cells.items none (omega (arith, c.self.invariant.0, c.if-next-self.false, at))))
