@@ -107,11 +107,7 @@ fn make_world(
 }
 
 // Makes a publisher with so many loans.
-fn create(
-    world: &mut World,
-    alloc: Global,
-    loans: usize,
-) -> Result<u64, PublisherCreateError> {
+fn create(world: &mut World, alloc: Global, loans: usize) -> Result<u64, PublisherCreateError> {
     let config = PublisherConfig {
         owner: OWNER,
         max_loaned_samples: loans,
@@ -154,9 +150,7 @@ fn put(
 
 // Receives, and keeps the sample.
 fn receive(world: &mut World, alloc: Global, number: u64) -> Option<Taken> {
-    let answer = world
-        .ports
-        .receive(alloc, number, &world.by.degradation)?;
+    let answer = world.ports.receive(alloc, number, &world.by.degradation)?;
     let taken = answer.unwrap_or(None)?;
     let _ = world.held.push(taken);
     Some(taken)
@@ -186,15 +180,17 @@ fn publishes(world: &mut World, alloc: Global, call: Call) -> bool {
     match call {
         Call::Publisher(number, loans) => create(world, alloc, loans) == Ok(number),
         Call::NoPublisher(error) => create(world, alloc, 2) == Err(error),
-        Call::Put(number, value, to) =>
-            put(world, alloc, number, value) == Some(Ok(Sent::Delivered(to))),
+        Call::Put(number, value, to) => put(world, alloc, number, value)
+            == Some(Ok(Sent::Delivered(to))),
         Call::Blocks(number, value) => put(world, alloc, number, value) == Some(Ok(Sent::Blocked)),
         Call::Skips(number) => put(world, alloc, number, 0).is_none(),
-        Call::Retry(number, to) =>
-            world.ports.retry(number, 10, &world.by) == Some(Ok(Sent::Delivered(to))),
+        Call::Retry(number, to) => world.ports.retry(number, 10, &world.by)
+            == Some(Ok(Sent::Delivered(to))),
         Call::GiveUp(number, to) => world.ports.give_up(number) == Some(to),
-        Call::Update(number) =>
-            world.ports.update_publisher(alloc, number, &world.by.degradation) == Some(Ok(())),
+        Call::Update(number) => world
+            .ports
+            .update_publisher(alloc, number, &world.by.degradation)
+            == Some(Ok(())),
         Call::Leave(number) => world.ports.leave_publisher(number),
         _ => false,
     }
@@ -204,12 +200,14 @@ fn publishes(world: &mut World, alloc: Global, call: Call) -> bool {
 fn answers(world: &mut World, alloc: Global, call: Call) -> bool {
     match call {
         Call::Lend(number, None) => matches!(world.ports.loan(alloc, number, 1, 1, 0), Some(Ok(_))),
-        Call::Lend(number, Some(error)) =>
-            world.ports.loan(alloc, number, 1, 1, 0) == Some(Err(error)),
+        Call::Lend(number, Some(error)) => world.ports.loan(alloc, number, 1, 1, 0)
+            == Some(Err(error)),
         Call::Subscriber(number, size) => subscribe(world, alloc, size) == Ok(number),
         Call::NoSubscriber(size, error) => subscribe(world, alloc, size) == Err(error),
-        Call::Has(number, has) =>
-            world.ports.has_samples(alloc, number, &world.by.degradation) == Some(Ok(has)),
+        Call::Has(number, has) => world
+            .ports
+            .has_samples(alloc, number, &world.by.degradation)
+            == Some(Ok(has)),
         Call::Depart(number) => world.ports.leave_subscriber(number),
         _ => reads(world, alloc, call),
     }
@@ -222,11 +220,10 @@ fn reads(world: &mut World, alloc: Global, call: Call) -> bool {
             let taken = receive(world, alloc, number);
             value_of(world, taken) == value
         }
-        Call::Nothing(number) =>
-            world.ports.receive(alloc, number, &world.by.degradation) == Some(Ok(None)),
-        Call::Refused(number) =>
-            world.ports.receive(alloc, number, &world.by.degradation)
-                == Some(Err(ReceiveError::ExceedsMaxBorrows)),
+        Call::Nothing(number) => world.ports.receive(alloc, number, &world.by.degradation)
+            == Some(Ok(None)),
+        Call::Refused(number) => world.ports.receive(alloc, number, &world.by.degradation)
+            == Some(Err(ReceiveError::ExceedsMaxBorrows)),
         Call::Read(place, value) => value_of(world, world.held.get(place).copied()) == value,
         Call::Release(number, place) => release(world, number, place),
         _ => publishes(world, alloc, call),
