@@ -3,9 +3,9 @@ use iox_domain_ports::{PublisherConfig, ServicePorts, SubscriberConfig};
 use iox_domain_publisher::{Handlers, Sent};
 use iox_domain_subscriber::Taken;
 use iox_domain_values::{
-    AllocationStrategy, BackpressureStrategy, DegradationAction, DegradationHandler, LoanError,
-    PortOwner, PreallocatedSamplesOverride, PublisherCreateError, ReceiveError, SendError,
-    ServiceSizes, SubscriberCreateError,
+    AllocationStrategy, BackpressureStrategy, ConnectionFailure, DegradationAction,
+    DegradationHandler, LoanError, PortOwner, PreallocatedSamplesOverride, PublisherCreateError,
+    ReceiveError, SendError, ServiceSizes, SubscriberCreateError, ZeroCopyCreationError,
 };
 use std::alloc::{AllocError, Global};
 use std::test::Fail;
@@ -52,6 +52,8 @@ enum Call {
     Update(u64),
     // Whether a subscriber has samples.
     Has(u64, bool),
+    // A subscriber is refused a new publisher, for want of room among its expired connections.
+    Fails(u64),
     // A subscriber receives a value.
     Receive(u64, u64),
     // A subscriber receives nothing.
@@ -68,12 +70,13 @@ enum Call {
     Depart(u64),
 }
 
-// How many messages may wait, be borrowed and be kept as history, and whether a full mailbox lets its oldest go.
-type Limits = (u32, u32, u32, bool);
+// How many messages may wait, be borrowed and be kept as history, whether a full mailbox lets its oldest go, and how many connections may be
+// expired.
+type Limits = (u32, u32, u32, bool, u32);
 
 // How much a service of two publishers and two subscribers allows.
 fn sizes(limits: Limits) -> ServiceSizes {
-    let (buffer, borrowed, history, overflows) = limits;
+    let (buffer, borrowed, history, overflows, expired) = limits;
     ServiceSizes {
         max_publishers: 2,
         max_subscribers: 2,
@@ -81,7 +84,7 @@ fn sizes(limits: Limits) -> ServiceSizes {
         subscriber_max_borrowed_samples: borrowed,
         history_size: history,
         enable_safe_overflow: overflows,
-        expired_connections: 2,
+        expired_connections: expired,
     }
 }
 
@@ -208,6 +211,12 @@ fn answers(world: &mut World, alloc: Global, call: Call) -> bool {
             .ports
             .has_samples(alloc, number, &world.by.degradation)
             == Some(Ok(has)),
+        Call::Fails(number) => world
+            .ports
+            .has_samples(alloc, number, &world.by.degradation)
+            == Some(Err(ConnectionFailure::FailedToEstablishConnection(
+                ZeroCopyCreationError::ExpiredConnectionBufferFull,
+            ))),
         Call::Depart(number) => world.ports.leave_subscriber(number),
         _ => reads(world, alloc, call),
     }
@@ -235,7 +244,7 @@ type Row = (Limits, Option<usize>, &'static [Call]);
 
 // A mailbox that is full lets its oldest message go.
 const OVERFLOWS: Row = (
-    (2, 2, 0, true),
+    (2, 2, 0, true, 2),
     None,
     &[
         Call::Subscriber(1, 2),
@@ -253,7 +262,7 @@ const OVERFLOWS: Row = (
 
 // A subscriber that comes later gets as much of the history as may wait for it.
 const REMEMBERS: Row = (
-    (3, 2, 3, true),
+    (3, 2, 3, true, 2),
     None,
     &[
         Call::Publisher(1, 2),
@@ -276,7 +285,7 @@ const REMEMBERS: Row = (
 
 // A sample that is held reads the same while others overflow.
 const HOLDS: Row = (
-    (1, 2, 0, true),
+    (1, 2, 0, true, 2),
     None,
     &[
         Call::Subscriber(1, 1),
@@ -292,7 +301,7 @@ const HOLDS: Row = (
 
 // A publisher that left is read by a subscriber that had attached, and by no other.
 const LEAVES_UNHEARD: Row = (
-    (2, 2, 0, true),
+    (2, 2, 0, true, 2),
     None,
     &[
         Call::Subscriber(1, 2),
@@ -304,7 +313,7 @@ const LEAVES_UNHEARD: Row = (
 );
 
 const LEAVES_HEARD: Row = (
-    (2, 2, 0, true),
+    (2, 2, 0, true, 2),
     None,
     &[
         Call::Publisher(1, 2),
@@ -319,7 +328,7 @@ const LEAVES_HEARD: Row = (
 
 // A loan is refused where no slot is free, and before that where as many are out as may be.
 const LACKS_SLOTS: Row = (
-    (2, 2, 0, true),
+    (2, 2, 0, true, 2),
     Some(1),
     &[
         Call::Publisher(1, 2),
@@ -329,7 +338,7 @@ const LACKS_SLOTS: Row = (
 );
 
 const LACKS_LOANS: Row = (
-    (2, 2, 0, true),
+    (2, 2, 0, true, 2),
     Some(1),
     &[
         Call::Publisher(1, 1),
@@ -340,7 +349,7 @@ const LACKS_LOANS: Row = (
 
 // A send waits at a full mailbox until there is room, and meanwhile its publisher does nothing else.
 const WAITS: Row = (
-    (1, 2, 0, false),
+    (1, 2, 0, false, 2),
     None,
     &[
         Call::Subscriber(1, 1),
@@ -361,7 +370,7 @@ const WAITS: Row = (
 
 // As many publishers as may be, and one more once one left.
 const IS_FULL: Row = (
-    (2, 2, 0, true),
+    (2, 2, 0, true, 2),
     None,
     &[
         Call::Publisher(1, 2),
@@ -374,7 +383,7 @@ const IS_FULL: Row = (
 
 // A message is refused at the limit of borrows.
 const BORROWS_ONE: Row = (
-    (2, 1, 0, true),
+    (2, 1, 0, true, 2),
     None,
     &[
         Call::Subscriber(1, 2),
@@ -390,7 +399,7 @@ const BORROWS_ONE: Row = (
 
 // A sample outlives its subscriber, and keeps its slot.
 const OUTLIVES: Row = (
-    (1, 1, 0, true),
+    (1, 1, 0, true, 2),
     Some(3),
     &[
         Call::Publisher(1, 3),
@@ -411,8 +420,84 @@ const OUTLIVES: Row = (
     ],
 );
 
+// Where the list of expired connections is full of what is held, one that is held too stays at its place, and a new publisher there is refused
+// until a sample is released; the connection that is idle then makes room.
+const STAYS: Row = (
+    (2, 2, 0, true, 1),
+    None,
+    &[
+        Call::Subscriber(1, 2),
+        Call::Publisher(2, 2),
+        Call::Has(1, false),
+        Call::Put(2, 1, 1),
+        Call::Receive(1, 1),
+        Call::Leave(2),
+        Call::Publisher(3, 2),
+        Call::Has(1, false),
+        Call::Put(3, 5, 1),
+        Call::Receive(1, 5),
+        Call::Leave(3),
+        Call::Publisher(4, 2),
+        Call::Fails(1),
+        Call::Read(0, 1),
+        Call::Release(1, 0),
+        Call::Has(1, false),
+        Call::Put(4, 6, 1),
+        Call::Receive(1, 6),
+        Call::Read(1, 5),
+    ],
+);
+
+// Where it is full of one with data alone, that one makes room for one that is held.
+const GIVES_WAY: Row = (
+    (2, 1, 0, true, 1),
+    None,
+    &[
+        Call::Subscriber(1, 2),
+        Call::Publisher(2, 2),
+        Call::Has(1, false),
+        Call::Put(2, 1, 1),
+        Call::Put(2, 2, 1),
+        Call::Leave(2),
+        Call::Publisher(3, 2),
+        Call::Has(1, true),
+        Call::Put(3, 5, 1),
+        Call::Receive(1, 1),
+        Call::Receive(1, 5),
+        Call::Release(1, 0),
+        Call::Leave(3),
+        Call::Publisher(4, 2),
+        Call::Has(1, false),
+        Call::Nothing(1),
+        Call::Read(1, 5),
+    ],
+);
+
+// Where it is full of what is held, one with data alone is lost.
+const IS_LOST: Row = (
+    (2, 2, 0, true, 1),
+    None,
+    &[
+        Call::Subscriber(1, 2),
+        Call::Publisher(2, 2),
+        Call::Has(1, false),
+        Call::Put(2, 1, 1),
+        Call::Receive(1, 1),
+        Call::Leave(2),
+        Call::Publisher(3, 2),
+        Call::Has(1, false),
+        Call::Put(3, 5, 1),
+        Call::Leave(3),
+        Call::Publisher(4, 2),
+        Call::Has(1, false),
+        Call::Nothing(1),
+        Call::Read(0, 1),
+        Call::Release(1, 0),
+    ],
+);
+
 // All of them.
-const ROWS: [Row; 11] = [
+const ROWS: [Row; 14] = [
     OVERFLOWS,
     REMEMBERS,
     HOLDS,
@@ -424,6 +509,9 @@ const ROWS: [Row; 11] = [
     IS_FULL,
     BORROWS_ONE,
     OUTLIVES,
+    STAYS,
+    GIVES_WAY,
+    IS_LOST,
 ];
 
 // Whether each call answers as it should.

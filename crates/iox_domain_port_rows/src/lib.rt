@@ -1,7 +1,10 @@
 //! Tests of the ports of a service: what no clause says.
 //!
 //! - `conversations`: whole conversations between them, call by call.
+//! - `slices`: slices, and ports that come and go.
 #![tactic(auto)]
 
 #[cfg(test)]
 mod conversations;
+#[cfg(test)]
+mod slices;
