@@ -61,10 +61,16 @@ pub adds_publisher : {T U : Type 0} (may : DegradationInfo → DegradationAction
     → AddsPublisher may config user_header place slots old (Ok old.next_port) (record old { next_port = old.next_port + 1; publisher_list = list_after; publishers = publishers_after })
 adds_publisher {T} {U} may config user_header place slots old listed changes identity sender port after outcome publishers_after answered list_after whole changes_is identity_is sender_is port_is updates publishers_is place_is free entered_is =
     let there = entered-there answered place (record { publisher = old.next_port }) old.publisher_list list_after
-      (free ∙ place_of-numbered (nat_lt (old.next_port + 1) (2 ^ 64)) (free_place old.publisher_list) place place_is) entered_is in
-    (listed, whole, outcome, after, rw (changes_is, port_is, identity_is, sender_is) at updates, refl,
-     ap (λ list. record old { next_port = old.next_port + 1; publisher_list = list; publishers = publishers_after }) there
-     ∙ ap (λ publishers. record old { next_port = old.next_port + 1; publisher_list = entered place (record { publisher = old.next_port }) old.publisher_list; publishers = publishers }) publishers_is)
+    (free ∙ place_of-numbered (nat_lt (old.next_port + 1) (2 ^ 64)) (free_place old.publisher_list) place place_is) entered_is in (
+      listed,
+      whole,
+      outcome,
+      after,
+      rw (changes_is, port_is, identity_is, sender_is) at updates,
+      refl,
+      ap (λ list. record old { next_port = old.next_port + 1; publisher_list = list; publishers = publishers_after }) there
+          ∙ ap (λ publishers. record old { next_port = old.next_port + 1; publisher_list = entered place (record { publisher = old.next_port }) old.publisher_list; publishers = publishers }) publishers_is,
+    )
 
 pub creates_publisher : {T U : Type 0} (overrides : ℕ → ℕ → Type 0) (may : DegradationInfo → DegradationAction → Type 0) (config : PublisherConfig) (user_header : U) (old new : ServicePorts T U)
     (needed place most slots : ℕ) (outcome : Result ℕ AllocError)
@@ -93,7 +99,10 @@ adds_subscriber {T} {U} may owner place buffer_size old between identity port in
     let came : subscriber_of old.next_port inserted ≡ Some port =
     ap (λ subscribers. subscriber_of old.next_port subscribers) inserted_is ∙ lookup-came old.next_port port old.subscribers in
     let there = entered-there answered place (record { subscriber = old.next_port; buffer_size = buffer_size }) between.subscriber_list list_after
-      (free ∙ ap (λ list. free_place list) list_is ∙ place_of-numbered (nat_lt (old.next_port + 1) (2 ^ 64)) (free_place old.subscriber_list) place place_is) entered_is in
-    (between, rw (came, inserted_is, port_is, identity_is) at follows, refl,
-     ap (λ list. record between { next_port = old.next_port + 1; subscriber_list = list })
-       (there ∙ ap (λ list. entered place (record { subscriber = old.next_port; buffer_size = buffer_size }) list) list_is))
+    (free ∙ ap (λ list. free_place list) list_is ∙ place_of-numbered (nat_lt (old.next_port + 1) (2 ^ 64)) (free_place old.subscriber_list) place place_is) entered_is in (
+      between,
+      rw (came, inserted_is, port_is, identity_is) at follows,
+      refl,
+      ap (λ list. record between { next_port = old.next_port + 1; subscriber_list = list })
+          (there ∙ ap (λ list. entered place (record { subscriber = old.next_port; buffer_size = buffer_size }) list) list_is),
+    )

@@ -45,7 +45,7 @@ pub same_both : {T U : Type 0} (number : ℕ) (old : ServicePorts T U) (port aft
 same_both number old port after ports_after there same same_ports =
     ap (λ ports. with_both number after ports old) same_ports
     ∙ ap (λ subscribers. record old { subscribers = subscribers })
-      (ap (λ after. with_subscriber number old.subscribers after) same ∙ set_value_same (is_at (nat_cmp number)) old.subscribers port there)
+    (ap (λ after. with_subscriber number old.subscribers after) same ∙ set_value_same (is_at (nat_cmp number)) old.subscribers port there)
 
 -- where a call at a subscriber answers none nothing happened
 pub at_subscriber : {T U A : Type 0} (number : ℕ) (step : SubscriberPort → List (ℕ × PublisherPort T U) → Option A → SubscriberPort → List (ℕ × PublisherPort T U) → Type 0)

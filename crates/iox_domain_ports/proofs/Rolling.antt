@@ -36,13 +36,13 @@ goes false listed x y may is = cc
 pub left-none : {V : Type 0} (id place : ℕ) (roll : RollState V) → handle_at id place (member_of (slice_get roll.places place)) ≡ None → left place roll ≡ roll
 left-none id place roll h =
     stays (may_change roll) (is_listed place roll) (changed_to (slice_set roll.places place None) roll) roll
-      (ap is_some (member_of-read roll.places place) ∙ told-none id place (member_of (slice_get roll.places place)) h)
+    (ap is_some (member_of-read roll.places place) ∙ told-none id place (member_of (slice_get roll.places place)) h)
 
 pub left-some : {V : Type 0} (id place : ℕ) (roll : RollState V) (handle : ContainerHandle) → roll.changes + 1 < 2 ^ 64
     → handle_at id place (member_of (slice_get roll.places place)) ≡ Some handle → left place roll ≡ changed_to (slice_set roll.places place None) roll
 left-some id place roll handle room h =
     goes (may_change roll) (is_listed place roll) (changed_to (slice_set roll.places place None) roll) roll (lt-ltb _ _ room)
-      (ap is_some (member_of-read roll.places place) ∙ told-some id place (member_of (slice_get roll.places place)) handle h)
+    (ap is_some (member_of-read roll.places place) ∙ told-some id place (member_of (slice_get roll.places place)) handle h)
 
 both : (a b : Bool) → a ≡ true → b ≡ true → a && b ≡ true
 both true b ha hb = hb
@@ -53,10 +53,11 @@ owned : {V : Type 0} (id place : ℕ) (found : Option (Option (Member V))) (hand
     → (nat_eq handle.container id && is_numbered handle.number found ≡ true) × (handle.index ≡ place)
 owned id place None handle h = cc
 owned id place (Some None) handle h = cc
-owned id place (Some (Some member)) handle h =
-    (both (nat_eq handle.container id) (nat_eq member.number handle.number) (sym (ap (λ told. nat_eq (unwrap_or told handle).container id) h) ∙ eq-eqb id id refl)
-       (sym (ap (λ told. nat_eq member.number (unwrap_or told handle).number) h) ∙ eq-eqb member.number member.number refl),
-     sym (ap (λ told. (unwrap_or told handle).index) h))
+owned id place (Some (Some member)) handle h = (
+  both (nat_eq handle.container id) (nat_eq member.number handle.number) (sym (ap (λ told. nat_eq (unwrap_or told handle).container id) h) ∙ eq-eqb id id refl)
+      (sym (ap (λ told. nat_eq member.number (unwrap_or told handle).number) h) ∙ eq-eqb member.number member.number refl),
+  sym (ap (λ told. (unwrap_or told handle).index) h),
+)
 
 removed : {V : Type 0} (mode : ReleaseMode) (handle : ContainerHandle) (contents new : Contents V) (result : Result ReleaseState ContainerRemoveError)
     → (IsErr result ↔ (owns handle contents ≡ false)) → owns handle contents ≡ true
@@ -74,5 +75,5 @@ pub removed-left : {V : Type 0} (mode : ReleaseMode) (place : ℕ) (handle : Con
 removed-left mode place handle contents new result is refused ok =
     let there = owned contents.id place (slice_get contents.members place) handle is in
     ap (λ contents. roll_of contents) (removed mode handle contents new result refused
-      (subst (λ index. nat_eq handle.container contents.id && is_numbered handle.number (slice_get contents.members index) ≡ true) (sym there.1) there.0) ok)
+    (subst (λ index. nat_eq handle.container contents.id && is_numbered handle.number (slice_get contents.members index) ≡ true) (sym there.1) there.0) ok)
     ∙ ap (λ index. changed_to (slice_set contents.members index None) (roll_of contents)) there.1

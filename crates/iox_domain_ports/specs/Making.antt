@@ -119,7 +119,7 @@ AddsSubscriber may owner place buffer_size old (Err error) new = new ≡ old
 AddsSubscriber {T} {U} may owner place buffer_size old (Ok number) new =
     (between : ServicePorts T U)
     × FollowsFirst may old.next_port (Some (new_subscriber (identity_of owner place old) buffer_size old.sizes.max_publishers old.sizes.expired_connections))
-      (with_new (new_subscriber (identity_of owner place old) buffer_size old.sizes.max_publishers old.sizes.expired_connections) old) between
+    (with_new (new_subscriber (identity_of owner place old) buffer_size old.sizes.max_publishers old.sizes.expired_connections) old) between
     × (number ≡ old.next_port)
     × (new ≡ record between { next_port = old.next_port + 1; subscriber_list = entered place (record { subscriber = old.next_port; buffer_size = buffer_size }) old.subscriber_list })
 

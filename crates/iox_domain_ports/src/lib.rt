@@ -10,8 +10,6 @@
 //! - [`reading`]: what is read of a sample.
 #![tactic(auto)]
 
-
-
 pub mod lending;
 pub mod making;
 pub mod publishing;

@@ -60,8 +60,8 @@ impl<T: Copy, U: Copy> ServicePorts<T, U> {
         handler: &DegradationHandler,
     ) -> Result<u64, PublisherCreateError>
         ensures { CreatesPublisher (overriding_of.Allowed (λ object. (⟦<dyn PreallocatedSamplesFn as PreallocatedSamplesFn>⟧ object.vtable).allows object.value) overriding.now)
-          (Allowed (λ object. (⟦<dyn DegradationFn as DegradationFn>⟧ object.vtable).allows object.value) handler.now cause.FailedToEstablishConnection)
-          config user_header (slots_needed config self.old) (publisher_place self.old) self.old result self.new }
+            (Allowed (λ object. (⟦<dyn DegradationFn as DegradationFn>⟧ object.vtable).allows object.value) handler.now cause.FailedToEstablishConnection)
+            config user_header (slots_needed config self.old) (publisher_place self.old) self.old result self.new }
     {
         let Some(needed) = self.slots_needed(&config) else {
             return Err(PublisherCreateError::UnableToCreateDataSegment);
@@ -113,7 +113,7 @@ impl<T: Copy, U: Copy> ServicePorts<T, U> {
         requires place { publisher_place self.old ≡ Some place }
         requires number { self.old.next_port + 1 < 2 ^ 64 }
         ensures { AddsPublisher (Allowed (λ object. (⟦<dyn DegradationFn as DegradationFn>⟧ object.vtable).allows object.value) handler.now cause.FailedToEstablishConnection)
-          config user_header place slots self.old result self.new }
+            config user_header place slots self.old result self.new }
     {
         let number = self.next_port;
         let mut port = PublisherPort::new(
@@ -129,7 +129,9 @@ impl<T: Copy, U: Copy> ServicePorts<T, U> {
         // It comes also where it isn't connected.
         let _ = port.update(alloc, listed, changes, handler);
         self.publishers.insert(number, port)?;
-        let _ = self.publisher_list.enter(PublisherEntry { publisher: number });
+        let _ = self
+            .publisher_list
+            .enter(PublisherEntry { publisher: number });
         self.next_port = number + 1;
         Ok(number)
     }
@@ -179,7 +181,7 @@ impl<T: Copy, U: Copy> ServicePorts<T, U> {
         handler: &DegradationHandler,
     ) -> Result<u64, SubscriberCreateError>
         ensures { CreatesSubscriber (Allowed (λ object. (⟦<dyn DegradationFn as DegradationFn>⟧ object.vtable).allows object.value) handler.now cause.FailedToEstablishConnection)
-          config.owner (buffer_of config.buffer_size self.old) (subscriber_place self.old) self.old result self.new }
+            config.owner (buffer_of config.buffer_size self.old) (subscriber_place self.old) self.old result self.new }
     {
         let Some(buffer_size) = self.buffer_of(config.buffer_size) else {
             return Err(SubscriberCreateError::BufferSizeExceedsMaxSupportedBufferSizeOfService);
@@ -232,7 +234,7 @@ impl<T: Copy, U: Copy> ServicePorts<T, U> {
         requires place { subscriber_place self.old ≡ Some place }
         requires number { self.old.next_port + 1 < 2 ^ 64 }
         ensures { AddsSubscriber (Allowed (λ object. (⟦<dyn DegradationFn as DegradationFn>⟧ object.vtable).allows object.value) handler.now cause.FailedToEstablishConnection)
-          owner place buffer_size self.old result self.new }
+            owner place buffer_size self.old result self.new }
     {
         let number = self.next_port;
         let port = SubscriberPort::new(
@@ -256,7 +258,7 @@ impl<T: Copy, U: Copy> ServicePorts<T, U> {
     // A subscriber follows the list of publishers for the first time. It comes also where it isn't connected.
     fn follow_first(&mut self, alloc: Global, number: u64, handler: &DegradationHandler)
         ensures { FollowsFirst (Allowed (λ object. (⟦<dyn DegradationFn as DegradationFn>⟧ object.vtable).allows object.value) handler.now cause.FailedToEstablishConnection)
-          number (subscriber_of number self.old.subscribers) self.old self.new }
+            number (subscriber_of number self.old.subscribers) self.old self.new }
     {
         let Some(port) = self.subscribers.get_mut(number) else {
             return;

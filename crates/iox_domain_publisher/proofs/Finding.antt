@@ -92,9 +92,9 @@ found_loan slot [] any = absurd (not_true any)
 found_loan slot (loan ∷ loans) any = ⊎_elim
     (λ same. (zero, loan, refl, same.1, rw same.0 refl))
     (λ other.
-        let rest : list_any (λ one. eqb slot one.slot) loans ≡ true = rw (apart loan.slot slot other.1) at any in
-        let more = found_loan slot loans rest in
-        (suc more.0, more.1, more.2, more.3, rw other.0 more.4))
+    let rest : list_any (λ one. eqb slot one.slot) loans ≡ true = rw (apart loan.slot slot other.1) at any in
+    let more = found_loan slot loans rest in
+    (suc more.0, more.1, more.2, more.3, rw other.0 more.4))
     (eqb_tells loan.slot slot)
 
 -- no loan stands in the slot
@@ -103,6 +103,6 @@ no_loan slot [] none = refl
 no_loan slot (loan ∷ loans) none = ⊎_elim
     (λ same. absurd (not_true (let wrong : true ≡ false = rw (alike loan.slot slot same.1) at none in sym wrong)))
     (λ other.
-        let rest : list_any (λ one. eqb slot one.slot) loans ≡ false = rw (apart loan.slot slot other.1) at none in
-        rw other.0 (no_loan slot loans rest))
+    let rest : list_any (λ one. eqb slot one.slot) loans ≡ false = rw (apart loan.slot slot other.1) at none in
+    rw other.0 (no_loan slot loans rest))
     (eqb_tells loan.slot slot)

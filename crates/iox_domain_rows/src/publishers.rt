@@ -4,7 +4,8 @@ use iox_domain_publisher::{Handlers, PublisherPort, Sent, SubscriberEntry};
 use iox_domain_sender::SenderConfig;
 use iox_domain_slots::Stage;
 use iox_domain_values::{
-    AllocationStrategy, BackpressureAction, BackpressureHandler, BackpressureStrategy, DegradationHandler, SendError,
+    AllocationStrategy, BackpressureAction, BackpressureHandler, BackpressureStrategy,
+    DegradationHandler, SendError,
 };
 use iox_index_base::{Container, OwnerId, ReleaseMode};
 use std::alloc::{AllocError, Global};

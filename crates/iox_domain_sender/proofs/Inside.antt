@@ -24,8 +24,13 @@ borrowed_held slot (suc index) (connection ∷ connections) =
 -- what a connection has borrowed is in use
 borrowed_used : (slot index : ℕ) (uses : Uses ℕ ℕ) → times slot (connection_at index uses).borrowed ≤ times slot (in_use uses)
 borrowed_used slot index uses =
-    omega (arith, borrowed_held slot index uses.connections, times_append slot (option_to_list uses.sending) (uses.loans ++ (uses.history ++ held uses.connections)),
-      times_append slot uses.loans (uses.history ++ held uses.connections), times_append slot uses.history (held uses.connections))
+    omega (
+      arith,
+      borrowed_held slot index uses.connections,
+      times_append slot (option_to_list uses.sending) (uses.loans ++ (uses.history ++ held uses.connections)),
+      times_append slot uses.loans (uses.history ++ held uses.connections),
+      times_append slot uses.history (held uses.connections),
+    )
 
 -- the first that is borrowed in a slot stands in a slot that there is
 pub borrowed_inside : {T U : Type 0} (store : Store T U) (uses : Uses ℕ ℕ) (slot index : ℕ) (found : Option ℕ) → IsSender store uses

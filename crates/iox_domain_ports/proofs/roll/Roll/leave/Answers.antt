@@ -13,5 +13,5 @@ returns g c =
     let told = sym c.handle.ensures ∙ c.in-Some.is in
     rw (← c.self.view_is)
     (removed-left mode.Default c.args.place c.in-Some.handle c.self.inside.container c.remove.new.self c.remove.result told c.remove.ensures.answer c.remove.ensures.ok
-     ∙ sym (left-some c.self.inside.container.id c.args.place (record { places = c.self.inside.container.members; changes = c.self.inside.container.changes }) c.in-Some.handle
-       (c.has_room.ensures.0 c.if-not-has_room.false) told))
+    ∙ sym (left-some c.self.inside.container.id c.args.place (record { places = c.self.inside.container.members; changes = c.self.inside.container.changes }) c.in-Some.handle
+    (c.has_room.ensures.0 c.if-not-has_room.false) told))
