@@ -88,6 +88,12 @@ abbrev pub publisher_answer : Result ℕ AllocError → Result ℕ PublisherCrea
 publisher_answer (Ok number) = Ok number
 publisher_answer (Err error) = Err publishing.UnableToCreateDataSegment
 
+-- why a publisher isn't made that needs so many slots and gets this place: for want of memory, where there are such
+abbrev pub publisher_refusal : Option ℕ → Option ℕ → PublisherCreateError
+publisher_refusal None place = publishing.UnableToCreateDataSegment
+publisher_refusal (Some needed) None = publishing.ExceedsMaxSupportedPublishers
+publisher_refusal (Some needed) (Some place) = publishing.UnableToCreateDataSegment
+
 -- A publisher is made where it needs so many slots, and a place is free; it gets as many as an answer comes to that is allowed.
 abbrev pub CreatesPublisher : {T U : Type 0} → (ℕ → ℕ → Type 0) → (DegradationInfo → DegradationAction → Type 0) → PublisherConfig → U → Option ℕ → Option ℕ → ServicePorts T U → Result ℕ PublisherCreateError → ServicePorts T U → Type 0
 CreatesPublisher overrides may config user_header None place old answer new = (answer ≡ Err publishing.UnableToCreateDataSegment) × (new ≡ old)
@@ -127,6 +133,12 @@ AddsSubscriber {T} {U} may owner place buffer_size old (Ok number) new =
 abbrev pub subscriber_answer : Result ℕ AllocError → Result ℕ SubscriberCreateError
 subscriber_answer (Ok number) = Ok number
 subscriber_answer (Err error) = Err subscribing.OutOfMemory
+
+-- why a subscriber isn't made for whom so many messages may wait and that gets this place: for want of memory, where there are such
+abbrev pub subscriber_refusal : Option ℕ → Option ℕ → SubscriberCreateError
+subscriber_refusal None place = subscribing.BufferSizeExceedsMaxSupportedBufferSizeOfService
+subscriber_refusal (Some buffer_size) None = subscribing.ExceedsMaxSupportedSubscribers
+subscriber_refusal (Some buffer_size) (Some place) = subscribing.OutOfMemory
 
 -- A subscriber is made where so many messages may wait for it, and a place is free.
 abbrev pub CreatesSubscriber : {T U : Type 0} → (DegradationInfo → DegradationAction → Type 0) → PortOwner → Option ℕ → Option ℕ → ServicePorts T U → Result ℕ SubscriberCreateError → ServicePorts T U → Type 0

@@ -4,7 +4,7 @@ ghost use Rattle.iox_domain_values.specs.OverrideAnswers as overriding_of;
 ghost use Rattle.iox_domain_values.specs.DegradationAnswers.{Allowed};
 ghost use Rattle.iox_domain_values.specs.declared.degradation.DegradationCause.TheVariants as cause;
 ghost use Rattle.iox_domain_ports.specs.Subscribers.{subscriber_of};
-ghost use Rattle.iox_domain_ports.specs.Making.{slots_needed, publisher_place, subscriber_place, buffer_of, segments_of, sender_config, identity_of, AddsPublisher, CreatesPublisher, FollowsFirst, AddsSubscriber, CreatesSubscriber};
+ghost use Rattle.iox_domain_ports.specs.Making.{slots_needed, publisher_place, subscriber_place, buffer_of, segments_of, sender_config, identity_of, AddsPublisher, CreatesPublisher, FollowsFirst, AddsSubscriber, CreatesSubscriber, publisher_refusal, subscriber_refusal};
 
 use crate::service_ports::ServicePorts;
 use iox_domain_publisher::{PublisherPort, SubscriberEntry};
@@ -73,6 +73,17 @@ impl<T: Copy, U: Copy> ServicePorts<T, U> {
         match self.add_publisher(alloc, config, place, slots, blank, user_header, handler) {
             Ok(number) => Ok(number),
             Err(_) => Err(PublisherCreateError::UnableToCreateDataSegment),
+        }
+    }
+
+    /// Why a publisher of this config isn't made, if it isn't: for want of memory where nothing else forbids it.
+    pub fn publisher_refusal(&self, config: &PublisherConfig) -> PublisherCreateError
+        ensures { result ≡ publisher_refusal (slots_needed config.now self.now) (publisher_place self.now) }
+    {
+        if self.slots_needed(config).is_some() && self.publisher_place().is_none() {
+            PublisherCreateError::ExceedsMaxSupportedPublishers
+        } else {
+            PublisherCreateError::UnableToCreateDataSegment
         }
     }
 
@@ -192,6 +203,19 @@ impl<T: Copy, U: Copy> ServicePorts<T, U> {
         match self.add_subscriber(alloc, config.owner, place, buffer_size, handler) {
             Ok(number) => Ok(number),
             Err(_) => Err(SubscriberCreateError::OutOfMemory),
+        }
+    }
+
+    /// Why a subscriber that asks for such a buffer isn't made, if it isn't: for want of memory where nothing else forbids it.
+    pub fn subscriber_refusal(&self, buffer_size: Option<usize>) -> SubscriberCreateError
+        ensures { result ≡ subscriber_refusal (buffer_of buffer_size self.now) (subscriber_place self.now) }
+    {
+        if self.buffer_of(buffer_size).is_none() {
+            SubscriberCreateError::BufferSizeExceedsMaxSupportedBufferSizeOfService
+        } else if self.subscriber_place().is_none() {
+            SubscriberCreateError::ExceedsMaxSupportedSubscribers
+        } else {
+            SubscriberCreateError::OutOfMemory
         }
     }
 

@@ -1,0 +1,5 @@
+pub mod Kept
+pub mod Handling
+pub mod Domains
+pub mod Publishing
+pub mod Subscribing

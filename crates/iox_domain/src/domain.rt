@@ -1,0 +1,103 @@
+//! One publish-subscribe service with its ports.
+ghost use Rattle.std.specs.Prelude.{◌≡◌, ◌↔◌, IsTrue, IfOk};
+ghost use Rattle.iox_describe_base.specs.Detail.{detail};
+ghost use Rattle.iox_describe_base.specs.declared.type_detail.TypeVariant.TheVariants.{FixedSize};
+ghost use Rattle.iox_domain_settings.specs.Fitting.{Fits};
+
+use crate::kept::Kept;
+use iox_describe_base::{TypeVariant, ZeroCopySend};
+use iox_describe_settings::publish_subscribe::StaticConfig;
+use iox_describe_settings::{Description, Settings};
+use iox_domain_ports::ServicePorts;
+use iox_domain_publisher::Handlers;
+use iox_domain_settings::{fits, sizes_of};
+use iox_domain_values::{DegradationHandler, DomainError};
+use iox_queues_base::Words;
+use std::alloc::{AllocError, Global};
+
+/// Which domain it is.
+#[derive(Clone, Copy, Debug, PartialEq, Eq)]
+pub struct DomainId {
+    /// The number of its hub: 0 where it stands alone.
+    pub hub: u64,
+    /// The number of its service.
+    pub service: u64,
+}
+
+/// One publish-subscribe service: its ports, and who decides for them.
+///
+/// It is one owned value, which each call of a port is handed. Ported from what the ports of an `iceoryx2` service share.
+#[derive(Drop)]
+pub struct Domain<T, U> {
+    /// Which domain it is.
+    pub id: DomainId,
+    /// What its nodes agreed on.
+    pub agreed: StaticConfig,
+    /// The ports.
+    pub ports: ServicePorts<T, U>,
+    /// Who decides for each publisher that stands.
+    pub publisher_handlers: Kept<Handlers>,
+    /// Who decides for each subscriber that stands.
+    pub subscriber_handlers: Kept<DegradationHandler>,
+    /// What fills a slot that was never written. It is never read.
+    pub blank: T,
+}
+
+impl<T: Words + ZeroCopySend, U: Copy + ZeroCopySend> Domain<T, U> {
+    ghost use Rattle.iox_domain.specs.Domains.{IsNewDomain};
+
+    /// Whether a domain over values of `T`, or slices of them, with user headers of `U` can be made by a description: it is that of a
+    /// publish-subscribe service within the limits of a description, and a builder over `T` or `Slice<T>` and `U` finds its types
+    /// compatible.
+    pub fn fits(description: &Description) -> bool
+        ensures { IsTrue result ↔ Fits (detail FixedSize T.name T.size T.alignment) (detail FixedSize U.name U.size U.alignment) description.now.settings }
+    {
+        fits::<T, U>(description)
+    }
+
+    /// A domain without ports, by a description that fits. So many connections of a subscriber may wait to be read after their
+    /// publishers left, or as many as samples of one connection may be held, whichever is more.
+    ///
+    /// Refused with `OutOfMemory` where memory is wanting; its lists take none to speak of before a port comes.
+    pub fn new(
+        alloc: Global,
+        id: DomainId,
+        description: &Description,
+        expired_connection_buffer: u32,
+    ) -> Result<Self, DomainError>
+        requires { Fits (detail FixedSize T.name T.size T.alignment) (detail FixedSize U.name U.size U.alignment) description.now.settings }
+        ensures { IfOk result (λ domain. IsNewDomain id expired_connection_buffer description.now.settings domain) }
+    {
+        match Self::make(alloc, id, description, expired_connection_buffer) {
+            Ok(domain) => Ok(domain),
+            Err(_) => Err(DomainError::OutOfMemory),
+        }
+    }
+
+    // A domain without ports.
+    fn make(
+        alloc: Global,
+        id: DomainId,
+        description: &Description,
+        expired_connection_buffer: u32,
+    ) -> Result<Self, AllocError>
+        requires { Fits (detail FixedSize T.name T.size T.alignment) (detail FixedSize U.name U.size U.alignment) description.now.settings }
+        ensures { IfOk result (λ domain. IsNewDomain id expired_connection_buffer description.now.settings domain) }
+    {
+        let Settings::PublishSubscribe(agreed) = description.settings() else {
+            unreachable!();
+        };
+        let Some(sizes) = sizes_of(description, expired_connection_buffer) else {
+            unreachable!();
+        };
+        let zeros = vec![in alloc; 0; T::WORDS]?;
+        Ok(Domain {
+            id,
+            agreed: *agreed,
+            ports: ServicePorts::new(alloc, id.service, sizes)?,
+            publisher_handlers: Kept::new(alloc),
+            subscriber_handlers: Kept::new(alloc),
+            blank: T::of_words(&zeros),
+        })
+    }
+}

@@ -1,0 +1,74 @@
+//! What is kept for ports, by their numbers.
+ghost use Rattle.std.specs.Prelude.{◌≡◌, option_copied, is_some, IfOk, OnOk, OnErr, OnSome, Some, [], true};
+ghost use Rattle.iox_domain.specs.Kept.{kept_under, kept, forgotten, put_back};
+
+use std::alloc::{AllocError, Global};
+use std::collections::BTreeMap;
+use std::marker::Model;
+
+/// What is kept for ports, by their numbers: at most one value for each.
+///
+/// Contracts see each with its number, by rising number.
+#[derive(Drop)]
+pub struct Kept<H> {
+    values: BTreeMap<u64, H>,
+}
+
+impl<H> Model for Kept<H> {
+    ghost use Rattle.std.specs.Prelude.{ℕ, List};
+
+    ghost Value = { List (ℕ × H) };
+
+    ghost view = { λ k. k.values.entries };
+}
+
+impl<H: Drop> Kept<H> {
+    /// Nothing is kept.
+    pub fn new(alloc: Global) -> Self
+        ensures { result ≡ [] }
+    {
+        Kept {
+            values: BTreeMap::new(alloc),
+        }
+    }
+
+    /// What is kept under a number, if anything is.
+    pub fn get(&self, number: u64) -> Option<&H>
+        ensures { option_copied result ≡ kept_under number self.now }
+    {
+        self.values.get(&number)
+    }
+
+    /// Keeps a value under a number, and answers what was kept there before. It fails only where memory is wanting, and then nothing
+    /// has changed.
+    pub fn keep(&mut self, number: u64, value: H) -> Result<Option<H>, AllocError>
+        ensures before { IfOk result (λ before. before ≡ kept_under number self.old) }
+        ensures ok { OnOk result (self.new ≡ kept number value self.old) }
+        ensures err { OnErr result (self.new ≡ self.old) }
+        ensures undone { IfOk result (λ before. put_back number before self.new ≡ self.old) }
+        ensures there { OnOk result (kept_under number self.new ≡ Some value) }
+    {
+        Ok(self.values.insert(number, value)?)
+    }
+
+    /// Undoes a `keep` of this number, which answered `before`.
+    pub fn put_back(&mut self, number: u64, before: Option<H>)
+        requires { OnSome before (is_some (kept_under number self.old) ≡ true) }
+        ensures { self.new ≡ put_back number before self.old }
+    {
+        match before {
+            Some(value) => {
+                // A number that is there takes no memory.
+                let _ = self.values.insert(number, value);
+            }
+            None => self.forget(number),
+        }
+    }
+
+    /// Keeps nothing under a number any longer.
+    pub fn forget(&mut self, number: u64)
+        ensures { self.new ≡ forgotten number self.old }
+    {
+        let _ = self.values.remove(&number);
+    }
+}

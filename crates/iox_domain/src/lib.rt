@@ -1,0 +1,19 @@
+//! One publish-subscribe service with its ports, by their numbers, and who decides for them.
+//!
+//! | Module | What it has |
+//! |---|---|
+//! | `domain` | a domain: which service it is of, its ports and their handlers |
+//! | `kept` | what is kept for ports, by their numbers |
+//! | `publishing` | a publisher comes, follows the subscribers, sends and leaves |
+//! | `subscribing` | a subscriber comes, follows the publishers, receives and leaves |
+//!
+//! Lending, writing, reading and releasing ask nobody: these calls are those of the domain's `ports`.
+#![tactic(auto)]
+
+pub mod domain;
+pub mod kept;
+pub mod publishing;
+pub mod subscribing;
+
+pub use domain::{Domain, DomainId};
+pub use kept::Kept;

@@ -1,0 +1,112 @@
+//! A subscriber comes, follows the publishers, receives and leaves.
+ghost use Rattle.std.specs.Prelude.{◌≡◌};
+ghost use Rattle.iox_domain_values.specs.DegradationAnswers.{Allowed};
+ghost use Rattle.iox_domain_values.specs.declared.degradation.DegradationCause.TheVariants as cause;
+ghost use Rattle.iox_domain_ports.specs.Ports.{AtSubscriber};
+ghost use Rattle.iox_domain_ports.specs.Subscribers.{subscriber_of};
+ghost use Rattle.iox_domain_ports.specs.Subscribing.{UpdatesOne, HasSamplesOne, ReceivesOne, LeavesAt};
+ghost use Rattle.iox_domain.specs.Domains.{with_ports};
+ghost use Rattle.iox_domain.specs.Handling.{Asked};
+ghost use Rattle.iox_domain.specs.Kept.{kept_under};
+ghost use Rattle.iox_domain.specs.Publishing.{kept_unless};
+ghost use Rattle.iox_domain.specs.Subscribing.{MakesSubscriber};
+
+use crate::domain::Domain;
+use iox_domain_ports::SubscriberConfig;
+use iox_domain_subscriber::Taken;
+use iox_domain_values::degradation_handler::DegradationFn;
+use iox_domain_values::{
+    ConnectionFailure, DegradationHandler, ReceiveError, SubscriberCreateError,
+};
+use std::alloc::Global;
+
+impl<T: Copy, U: Copy> Domain<T, U> {
+    /// A subscriber comes, and its number is the answer: `ServicePorts::create_subscriber` says what it gets, and when it is refused. Who
+    /// decides for it is kept until it leaves.
+    ///
+    /// Ported from `iceoryx2::service::port_factory::subscriber::PortFactorySubscriber::create`.
+    pub fn create_subscriber(
+        &mut self,
+        alloc: Global,
+        config: SubscriberConfig,
+        handler: DegradationHandler,
+    ) -> Result<u64, SubscriberCreateError>
+        ensures { MakesSubscriber (Allowed (λ object. (⟦<dyn DegradationFn as DegradationFn>⟧ object.vtable).allows object.value) handler cause.FailedToEstablishConnection)
+            config handler self.old result self.new }
+    {
+        let number = self.ports.next_port;
+        let Ok(before) = self.subscriber_handlers.keep(number, handler) else {
+            return Err(self.ports.subscriber_refusal(config.buffer_size));
+        };
+        let outcome = match self.subscriber_handlers.get(number) {
+            Some(handler) => self.ports.create_subscriber(alloc, config, handler),
+            None => unreachable!(),
+        };
+        match outcome {
+            Ok(number) => Ok(number),
+            Err(error) => {
+                self.subscriber_handlers.put_back(number, before);
+                Err(error)
+            }
+        }
+    }
+
+    /// The subscriber follows the list of publishers: `ServicePorts::update_subscriber` says what that does.
+    ///
+    /// Ported from `iceoryx2::port::subscriber::Subscriber::update_connections`.
+    pub fn update_subscriber(
+        &mut self,
+        alloc: Global,
+        number: u64,
+    ) -> Option<Result<(), ConnectionFailure>>
+        ensures updates { Asked (kept_under number self.old.subscriber_handlers) (λ kept. AtSubscriber number (UpdatesOne (Allowed (λ object. (⟦<dyn DegradationFn as DegradationFn>⟧ object.vtable).allows object.value) kept cause.FailedToEstablishConnection) self.old.ports.publisher_list) (subscriber_of number self.old.ports.subscribers)) self.old.ports result self.new.ports }
+        ensures rest { self.new ≡ with_ports self.new.ports self.old }
+    {
+        let kept = self.subscriber_handlers.get(number)?;
+        self.ports.update_subscriber(alloc, number, kept)
+    }
+
+    /// Whether some connection of the subscriber has data: `ServicePorts::has_samples` says what that does.
+    ///
+    /// Ported from `iceoryx2::port::subscriber::Subscriber::has_samples`.
+    pub fn has_samples(
+        &mut self,
+        alloc: Global,
+        number: u64,
+    ) -> Option<Result<bool, ConnectionFailure>>
+        ensures has { Asked (kept_under number self.old.subscriber_handlers) (λ kept. AtSubscriber number (HasSamplesOne (Allowed (λ object. (⟦<dyn DegradationFn as DegradationFn>⟧ object.vtable).allows object.value) kept cause.FailedToEstablishConnection) self.old.ports.publisher_list) (subscriber_of number self.old.ports.subscribers)) self.old.ports result self.new.ports }
+        ensures rest { self.new ≡ with_ports self.new.ports self.old }
+    {
+        let kept = self.subscriber_handlers.get(number)?;
+        self.ports.has_samples(alloc, number, kept)
+    }
+
+    /// The subscriber receives: `ServicePorts::receive` says which message comes, and when it is refused.
+    ///
+    /// Ported from `iceoryx2::port::subscriber::Subscriber::receive`.
+    pub fn receive(
+        &mut self,
+        alloc: Global,
+        number: u64,
+    ) -> Option<Result<Option<Taken>, ReceiveError>>
+        ensures receives { Asked (kept_under number self.old.subscriber_handlers) (λ kept. AtSubscriber number (ReceivesOne (Allowed (λ object. (⟦<dyn DegradationFn as DegradationFn>⟧ object.vtable).allows object.value) kept cause.FailedToEstablishConnection) self.old.ports.publisher_list) (subscriber_of number self.old.ports.subscribers)) self.old.ports result self.new.ports }
+        ensures rest { self.new ≡ with_ports self.new.ports self.old }
+    {
+        let kept = self.subscriber_handlers.get(number)?;
+        self.ports.receive(alloc, number, kept)
+    }
+
+    /// The subscriber leaves: `ServicePorts::leave_subscriber` says what that does. Who decided for it is dropped.
+    ///
+    /// Ported from dropping an `iceoryx2::port::subscriber::Subscriber`.
+    pub fn leave_subscriber(&mut self, number: u64) -> bool
+        ensures leaves { LeavesAt number (subscriber_of number self.old.ports.subscribers) self.old.ports result self.new.ports }
+        ensures rest { self.new ≡ record (with_ports self.new.ports self.old) { subscriber_handlers = kept_unless result number self.old.subscriber_handlers } }
+    {
+        let left = self.ports.leave_subscriber(number);
+        if left {
+            self.subscriber_handlers.forget(number);
+        }
+        left
+    }
+}
