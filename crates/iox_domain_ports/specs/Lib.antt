@@ -10,3 +10,4 @@ pub mod LendingLends
 pub mod Reading
 pub mod Living
 pub mod LivingLaws
+pub mod LivingSteps
