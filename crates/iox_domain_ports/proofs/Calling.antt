@@ -43,10 +43,10 @@ use Rattle.iox_domain_ports.proofs.Outliving.{not_true, counts, as_much, one_mor
 abbrev count_of : Life → ℕ
 count_of life = (if life.stands then 1 else 0) + (life.loans + (if life.sending then 1 else 0))
 
-same_value : {A : Type 0} (one other : A) → Some one ≡ Some other → one ≡ other
+pub same_value : {A : Type 0} (one other : A) → Some one ≡ Some other → one ≡ other
 same_value one other same = search (rules, same)
 
-no_value : {A : Type 0} (one : A) → Some one ≡ None → ⊥
+pub no_value : {A : Type 0} (one : A) → Some one ≡ None → ⊥
 no_value one is = none-some one (sym is)
 
 loan_made : {T U : Type 0} (stands : Bool) (values elements : ℕ) (port : PublisherPort T U) (lent : Result ℕ LoanError) (after : PublisherPort T U)

@@ -5,3 +5,5 @@ pub mod Counting
 pub mod Lives
 pub mod Outliving
 pub mod Calling
+pub mod Keeping
+pub mod Received

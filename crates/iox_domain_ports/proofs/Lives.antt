@@ -42,7 +42,7 @@ either : {T U : Type 0} (b : Bool) (x y : PublisherPort T U) (life : Life) → l
 either true x y life one other = one
 either false x y life one other = other
 
-ended_life : {T U : Type 0} (index : ℕ) (port : PublisherPort T U) → life_of (ended_at index port) ≡ life_of port
+pub ended_life : {T U : Type 0} (index : ℕ) (port : PublisherPort T U) → life_of (ended_at index port) ≡ life_of port
 ended_life index port = either (is_live index port) _ _ (life_of port) refl refl
 
 let_go_life : {T U : Type 0} (place : ℕ) (tie : Option ℕ) (port : PublisherPort T U) → life_of (let_go_of place tie port) ≡ life_of port
@@ -52,7 +52,7 @@ let_go_life place (Some index) port = ended_life index (record port { ties = set
 untied_life : {T U : Type 0} (place : ℕ) (port : PublisherPort T U) → life_of (untied place port) ≡ life_of port
 untied_life place port = let_go_life place (get_or port.ties place None) port
 
-joins_life : {T U : Type 0} (subscriber limit : ℕ) (found : Option ℕ) (old : PublisherPort T U) (answer : Result ℕ AllocError) (new : PublisherPort T U)
+pub joins_life : {T U : Type 0} (subscriber limit : ℕ) (found : Option ℕ) (old : PublisherPort T U) (answer : Result ℕ AllocError) (new : PublisherPort T U)
     → Joins subscriber limit found old answer new → life_of new ≡ life_of old
 joins_life subscriber limit (Some index) old answer new joins = ap life_of joins.1
 joins_life subscriber limit None old (Err error) new joins = ap life_of joins

@@ -48,7 +48,7 @@ over_counts : {T U : Type 0} (port : PublisherPort T U) → is_over port ≡ tru
 over_counts port over = nothing_over port.stands port.sender.uses.loans port.sender.uses.sending (not (list_any is_there port.sender.uses.connections)) over
 
 -- nothing counts of nothing
-nothing_counted : (owner : Option ℕ) (number : ℕ) → counted owner number 0 ≡ 0
+pub nothing_counted : (owner : Option ℕ) (number : ℕ) → counted owner number 0 ≡ 0
 nothing_counted None number = refl
 nothing_counted (Some owner) number = at (owner == number)
   where
@@ -81,7 +81,11 @@ moved owner number ports port after there =
     ap (λ n. n + counts owner port) (settled_lives owner number (with_port number ports after))
     ∙ sum_by-set_value (λ one. counts owner one) (is_at (nat_cmp number)) ports port after there
 
-counted_more : (owner : Option ℕ) (number one other : ℕ) → counted owner number (one + other) ≡ counted owner number one + counted owner number other
+-- of two of which as much lives as much counts
+pub count_of_life : {T U : Type 0} (owner : Option ℕ) (port after : PublisherPort T U) → life_of after ≡ life_of port → counts owner after ≡ counts owner port
+count_of_life owner port after alike = ap (λ life. counted owner life.number ((if life.stands then 1 else 0) + (life.loans + (if life.sending then 1 else 0)))) alike
+
+pub counted_more : (owner : Option ℕ) (number one other : ℕ) → counted owner number (one + other) ≡ counted owner number one + counted owner number other
 counted_more None number one other = refl
 counted_more (Some owner) number one other = at (owner == number)
   where
