@@ -11,6 +11,7 @@ use Rattle.std.proofs.lemmas.List.Sums.{sum_by-cons}
 use Rattle.std.proofs.lemmas.Map.Entries.{sum_by-set_value, sum_by-remove_entry}
 use Rattle.iox_domain_values.specs.OverrideAnswers.{places}
 use Rattle.iox_domain_values.specs.declared.connection_failure.ConnectionFailure.{ConnectionFailure}
+use Rattle.iox_domain_values.specs.declared.create_error.SubscriberCreateError.{SubscriberCreateError}
 use Rattle.iox_domain_values.specs.declared.degradation.DegradationAction.{DegradationAction}
 use Rattle.iox_domain_values.specs.declared.degradation.DegradationInfo.{DegradationInfo}
 use Rattle.iox_domain_values.specs.declared.port_error.ReceiveError.{ReceiveError}
@@ -203,12 +204,12 @@ publisher_adds {T} {U} overrides may config user_header (Some needed) (Some plac
     let life = updates_life may listed old.subscriber_list.changes first outcome port updates in
     omega (arith, ap (living owner) made, summed_came (λ one. counts owner one) old.next_port port old.publishers fresh, count_of_life owner first port life)
 
-subscriber_adds : {T U : Type 0} (may : DegradationInfo → DegradationAction → Type 0) (owner : PortOwner) (buffer_size place : Option ℕ) (number : ℕ)
+subscriber_adds : {T U : Type 0} (may : DegradationInfo → DegradationAction → Type 0) (owner : PortOwner) (buffer_size : Result ℕ SubscriberCreateError) (place : Option ℕ) (number : ℕ)
     (old new : ServicePorts T U) → subscriber_of old.next_port old.subscribers ≡ None → CreatesSubscriber may owner buffer_size place old (Ok number) new → OneMoreLives owner.number old new
-subscriber_adds may owner None place number old new fresh creates = absurd (came number _ creates.0)
-subscriber_adds may owner (Some buffer_size) None number old new fresh creates = absurd (came number _ creates.0)
-subscriber_adds may owner (Some buffer_size) (Some place) number old new fresh (Err error, adds, is) = absurd (came number _ is)
-subscriber_adds {T} {U} may owner (Some buffer_size) (Some place) number old new fresh (Ok other, (between, (listed, is_list, outcome, after, ports_after, updates, followed), next, made), is) = λ counted_owner.
+subscriber_adds may owner (Err refusal) place number old new fresh creates = absurd (came number _ creates.0)
+subscriber_adds may owner (Ok buffer_size) None number old new fresh creates = absurd (came number _ creates.0)
+subscriber_adds may owner (Ok buffer_size) (Some place) number old new fresh (Err error, adds, is) = absurd (came number _ is)
+subscriber_adds {T} {U} may owner (Ok buffer_size) (Some place) number old new fresh (Ok other, (between, (listed, is_list, outcome, after, ports_after, updates, followed), next, made), is) = λ counted_owner.
     let port : SubscriberPort = new_subscriber (identity_of owner place old) buffer_size old.sizes.max_publishers old.sizes.expired_connections in
     let keeps = updates_keeps may listed old.publisher_list.changes port old.publishers outcome after ports_after updates in
     let there : subscriber_of old.next_port (subscriber_added old.next_port port old.subscribers) ≡ Some port = lookup-came old.next_port port old.subscribers in

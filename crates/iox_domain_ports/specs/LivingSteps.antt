@@ -3,6 +3,7 @@ use Rattle.std.specs.Prelude.{ℕ, ◌+◌, ◌^◌, ◌<◌, ◌≡◌, Bool, t
 use Rattle.iox_domain_values.specs.declared.backpressure.BackpressureDecision.{BackpressureDecision}
 use Rattle.iox_domain_values.specs.declared.backpressure.BackpressureInfo.{BackpressureInfo}
 use Rattle.iox_domain_values.specs.declared.connection_failure.ConnectionFailure.{ConnectionFailure}
+use Rattle.iox_domain_values.specs.declared.create_error.SubscriberCreateError.{SubscriberCreateError}
 use Rattle.iox_domain_values.specs.declared.degradation.DegradationAction.{DegradationAction}
 use Rattle.iox_domain_values.specs.declared.degradation.DegradationInfo.{DegradationInfo}
 use Rattle.iox_domain_values.specs.declared.port_error.LoanError.{LoanError}
@@ -101,5 +102,5 @@ pub record SubscriberSteps (T U : Type 0) (may : DegradationInfo → Degradation
 pub record CreatingSteps (T U : Type 0) (overrides : ℕ → ℕ → Type 0) (may : DegradationInfo → DegradationAction → Type 0) : Type 0 where
   pub publisher : (config : PublisherConfig) (user_header : U) (needed place : Option ℕ) (number : ℕ) (old new : ServicePorts T U) → port_of old.next_port old.publishers ≡ None
       → CreatesPublisher overrides may config user_header needed place old (Ok number) new → OneMoreLives config.owner.number old new
-  pub subscriber : (owner : PortOwner) (buffer_size place : Option ℕ) (number : ℕ) (old new : ServicePorts T U) → subscriber_of old.next_port old.subscribers ≡ None
+  pub subscriber : (owner : PortOwner) (buffer_size : Result ℕ SubscriberCreateError) (place : Option ℕ) (number : ℕ) (old new : ServicePorts T U) → subscriber_of old.next_port old.subscribers ≡ None
       → CreatesSubscriber may owner buffer_size place old (Ok number) new → OneMoreLives owner.number old new

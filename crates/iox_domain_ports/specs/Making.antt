@@ -96,11 +96,6 @@ CreatesPublisher overrides may config user_header (Some needed) (Some place) old
     (slots : ℕ) × overrides (max needed 1) slots × (outcome : Result ℕ AllocError)
     × AddsPublisher may config user_header place (places (max needed 1) slots) old outcome new × (answer ≡ publisher_answer outcome)
 
--- how many messages may wait for a subscriber at a connection: as many as it asks for, at least 1, and at most as many as the service allows
-abbrev pub buffer_of : {T U : Type 0} → Option ℕ → ServicePorts T U → Option ℕ
-buffer_of None ports = Some ports.sizes.subscriber_max_buffer_size
-buffer_of (Some asked) ports = if nat_lt ports.sizes.subscriber_max_buffer_size (max asked 1) then None else Some (max asked 1)
-
 -- the subscriber of a number follows the list of publishers, if there is one
 abbrev pub FollowsFirst : {T U : Type 0} → (DegradationInfo → DegradationAction → Type 0) → ℕ → Option SubscriberPort → ServicePorts T U → ServicePorts T U → Type 0
 FollowsFirst may number None old new = new ≡ old
@@ -128,9 +123,9 @@ abbrev pub subscriber_answer : Result ℕ AllocError → Result ℕ SubscriberCr
 subscriber_answer (Ok number) = Ok number
 subscriber_answer (Err error) = Err subscribing.OutOfMemory
 
--- A subscriber is made where so many messages may wait for it, and a place is free.
-abbrev pub CreatesSubscriber : {T U : Type 0} → (DegradationInfo → DegradationAction → Type 0) → PortOwner → Option ℕ → Option ℕ → ServicePorts T U → Result ℕ SubscriberCreateError → ServicePorts T U → Type 0
-CreatesSubscriber may owner None place old answer new = (answer ≡ Err subscribing.BufferSizeExceedsMaxSupportedBufferSizeOfService) × (new ≡ old)
-CreatesSubscriber may owner (Some buffer_size) None old answer new = (answer ≡ Err subscribing.ExceedsMaxSupportedSubscribers) × (new ≡ old)
-CreatesSubscriber may owner (Some buffer_size) (Some place) old answer new =
+-- A subscriber is made where as many messages may wait for it as it names, and a place is free.
+abbrev pub CreatesSubscriber : {T U : Type 0} → (DegradationInfo → DegradationAction → Type 0) → PortOwner → Result ℕ SubscriberCreateError → Option ℕ → ServicePorts T U → Result ℕ SubscriberCreateError → ServicePorts T U → Type 0
+CreatesSubscriber may owner (Err refusal) place old answer new = (answer ≡ Err refusal) × (new ≡ old)
+CreatesSubscriber may owner (Ok buffer_size) None old answer new = (answer ≡ Err subscribing.ExceedsMaxSupportedSubscribers) × (new ≡ old)
+CreatesSubscriber may owner (Ok buffer_size) (Some place) old answer new =
     (outcome : Result ℕ AllocError) × AddsSubscriber may owner place buffer_size old outcome new × (answer ≡ subscriber_answer outcome)

@@ -3,8 +3,9 @@ ghost use Rattle.std.specs.Prelude.{◌≡◌, ◌+◌, ◌<◌, ◌^◌, Some, 
 ghost use Rattle.iox_domain_values.specs.OverrideAnswers as overriding_of;
 ghost use Rattle.iox_domain_values.specs.DegradationAnswers.{Allowed};
 ghost use Rattle.iox_domain_values.specs.declared.degradation.DegradationCause.TheVariants as cause;
+ghost use Rattle.iox_domain_values.specs.Sizes.{buffer_of};
 ghost use Rattle.iox_domain_ports.specs.Subscribers.{subscriber_of};
-ghost use Rattle.iox_domain_ports.specs.Making.{slots_needed, publisher_place, subscriber_place, buffer_of, segments_of, sender_config, identity_of, AddsPublisher, CreatesPublisher, FollowsFirst, AddsSubscriber, CreatesSubscriber};
+ghost use Rattle.iox_domain_ports.specs.Making.{slots_needed, publisher_place, subscriber_place, segments_of, sender_config, identity_of, AddsPublisher, CreatesPublisher, FollowsFirst, AddsSubscriber, CreatesSubscriber};
 
 use crate::service_ports::ServicePorts;
 use iox_domain_publisher::{PublisherPort, SubscriberEntry};
@@ -181,33 +182,15 @@ impl<T: Copy, U: Copy> ServicePorts<T, U> {
         handler: &DegradationHandler,
     ) -> Result<u64, SubscriberCreateError>
         ensures { CreatesSubscriber (Allowed (λ object. (⟦<dyn DegradationFn as DegradationFn>⟧ object.vtable).allows object.value) handler.now cause.FailedToEstablishConnection)
-            config.owner (buffer_of config.buffer_size self.old) (subscriber_place self.old) self.old result self.new }
+            config.owner (buffer_of config.buffer_size self.old.sizes) (subscriber_place self.old) self.old result self.new }
     {
-        let Some(buffer_size) = self.buffer_of(config.buffer_size) else {
-            return Err(SubscriberCreateError::BufferSizeExceedsMaxSupportedBufferSizeOfService);
-        };
+        let buffer_size = self.sizes.buffer_size(config.buffer_size)?;
         let Some(place) = self.subscriber_place() else {
             return Err(SubscriberCreateError::ExceedsMaxSupportedSubscribers);
         };
         match self.add_subscriber(alloc, config.owner, place, buffer_size, handler) {
             Ok(number) => Ok(number),
             Err(_) => Err(SubscriberCreateError::OutOfMemory),
-        }
-    }
-
-    // How many messages may wait for a subscriber that asks for so many, unless it asks for too many.
-    fn buffer_of(&self, asked: Option<usize>) -> Option<usize>
-        ensures { result ≡ buffer_of asked self.now }
-    {
-        let most = self.sizes.subscriber_max_buffer_size as usize;
-        let buffer_size = match asked {
-            Some(size) => size.max(1),
-            None => most,
-        };
-        if most < buffer_size {
-            None
-        } else {
-            Some(buffer_size)
         }
     }
 
