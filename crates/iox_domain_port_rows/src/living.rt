@@ -77,10 +77,9 @@ fn publish(world: &mut World, alloc: Global) -> bool {
         allocation: AllocationStrategy::Static,
     };
     let slots = PreallocatedSamplesOverride::WorstCase;
-    let made =
-        world
-            .ports
-            .create_publisher(alloc, config, 0, 7, &slots, &world.by.degradation);
+    let made = world
+        .ports
+        .create_publisher(alloc, config, 0, 7, &slots, &world.by.degradation);
     made == Ok(2)
 }
 
@@ -220,7 +219,9 @@ fn is_changed_in_place(world: &mut World, alloc: Global) -> bool {
             number_of_elements: 2,
         });
     let unwritten = !change(world, slot, 0) && world.ports.values(2, slot).is_none();
-    let half = world.ports.write(2, slot, 1, 5) && change(world, slot, 1) && !change(world, slot, 0);
+    let half = world.ports.write(2, slot, 1, 5)
+        && change(world, slot, 1)
+        && !change(world, slot, 0);
     let whole = world.ports.write(2, slot, 0, 3) && !change(world, slot, 2);
     let first = world.ports.loan_user_header(2, slot) == Some(&7) && head(world, slot);
     let read = world.ports.values(2, slot) == Some(&[3, 6])
@@ -231,7 +232,9 @@ fn is_changed_in_place(world: &mut World, alloc: Global) -> bool {
 // Whether nothing is lent of a loan that was given up, and of another publisher's.
 fn drops(world: &mut World, slot: usize) -> bool {
     let dropped = world.ports.drop_loan(2, slot);
-    let gone = !change(world, slot, 0) && !head(world, slot) && world.ports.values(2, slot).is_none();
+    let gone = !change(world, slot, 0)
+        && !head(world, slot)
+        && world.ports.values(2, slot).is_none();
     dropped && gone && world.ports.loan_header(2, slot).is_none()
 }
 

@@ -1,5 +1,5 @@
 -- What each call at a publisher does to how much lives.
-use Rattle.std.proofs.Common.{rules, arith, ◌≡◌, ◌+◌, ◌==◌, ◌&&◌, ◌||◌, ◌<◌, ◌∙◌, ℕ, zero, suc, Bool, true, false, not, List, [], ◌∷◌, length, map, position, remove, slice_get, is_some, Option, None, Some, Result, Ok, Err, if◌then◌else◌, refl, sym, ap}
+use Rattle.std.proofs.Common.{rules, arith, ◌≡◌, ◌+◌, ◌==◌, ◌&&◌, ◌||◌, ◌<◌, ◌∙◌, ℕ, Bool, true, false, not, List, [], ◌∷◌, length, position, remove, is_some, Option, None, Some, Result, Ok, Err, if◌then◌else◌, refl, sym, ap}
 use Rattle.std.specs.BTreeMap.{is_at}
 use Rattle.std.specs.Ordering.{nat_cmp}
 use Rattle.std.proofs.Math.Logic.{⊎_elim}
@@ -21,15 +21,14 @@ use Rattle.iox_domain_sender.specs.Sending.{is_written_at}
 use Rattle.iox_domain_publisher.specs.Leaving.{departed}
 use Rattle.iox_domain_publisher.specs.Loaning as lending
 use Rattle.iox_domain_publisher.specs.Progress.{tried_again}
-use Rattle.iox_domain_publisher.specs.Sending.{ready_at, ready_loan, begun_at, begun_by, dropped_at, with_progress, Finishes, SendsAfter, SendsIf, Sends}
-use Rattle.iox_domain_publisher.specs.Updating.{Updates}
-use Rattle.iox_domain_publisher.specs.Writing.{place_of, changed_if, changed_there, given_up, given_up_at}
+use Rattle.iox_domain_publisher.specs.Sending.{ready_at, ready_loan, begun_at, begun_by, dropped_at, with_progress, SendsAfter, SendsIf, Sends}
+use Rattle.iox_domain_publisher.specs.Writing.{place_of, changed_if, given_up, given_up_at}
 use Rattle.iox_domain_publisher.specs.declared.meeting.Sent.{Sent}
 use Rattle.iox_domain_publisher.specs.declared.meeting.Sent.TheVariants as sent
 use Rattle.iox_domain_publisher.specs.declared.publisher_port.PublisherPort.{PublisherPort}
 use Rattle.iox_domain_publisher.specs.declared.subscriber_entry.SubscriberEntry.{SubscriberEntry}
-use Rattle.iox_domain_subscriber.specs.Living.{living_of_publisher, counted, living_publishers}
-use Rattle.iox_domain_subscriber.specs.Publishers.{port_of, with_port, changed_at_port, settled}
+use Rattle.iox_domain_subscriber.specs.Living.{living_of_publisher, counted}
+use Rattle.iox_domain_subscriber.specs.Publishers.{port_of, changed_at_port, settled}
 use Rattle.iox_domain_ports.specs.Lending.{LoansIf, LoansOne, written_in, gave_up_in}
 use Rattle.iox_domain_ports.specs.Living.{living}
 use Rattle.iox_domain_ports.specs.LivingSteps.{AsMuchLives, OneLessLives, LoanAdds, SendTakes, GivingUpTakes}
@@ -163,8 +162,7 @@ sends_after may at (Ok done) port updated outcome after below alone same (finish
     let lent : Life = record (life_of updated) { loans = length (remove updated.sender.uses.loans at); sending = true } in
     let count = ended_count (is_ended finished) lent refl in
     let answer : took outcome ≡ took finished = ap took (same_value outcome finished is) in
-    let off : ◌≡◌ {A = ℕ} (if is_some port.sender.uses.sending then 1 else 0) 0 = ap {B = ℕ} (λ b. if b then 1 else 0) alone in
-    (
+    let off : ◌≡◌ {A = ℕ} (if is_some port.sender.uses.sending then 1 else 0) 0 = ap {B = ℕ} (λ b. if b then 1 else 0) alone in (
       ap (λ l. l.number) life ∙ ended_number (is_ended finished) lent ∙ ap (λ l. l.number) same,
       omega (arith, ap count_of life, count, answer, length-remove updated.sender.uses.loans at within, ap count_of same, ap (λ l. l.loans) same, off, ap {B = ℕ} (λ l. if l.stands then 1 else 0) same),
     )

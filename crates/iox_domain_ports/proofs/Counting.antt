@@ -1,12 +1,11 @@
 -- What counts as living.
-use Rattle.std.proofs.Common.{arith, ◌≡◌, ◌+◌, ◌==◌, ◌≤◌, ◌<◌, ℕ, zero, suc, Bool, true, false, List, [], ◌∷◌, length, get_or, is_some, Option, None, Some, if◌then◌else◌, refl}
-use Rattle.std.specs.Prelude.{sum_by, All}
+use Rattle.std.proofs.Common.{arith, ◌≡◌, ◌==◌, ◌≤◌, ℕ, Bool, true, false, List, [], ◌∷◌, length, get_or, is_some, Option, None, Some, if◌then◌else◌, refl}
 use Rattle.std.specs.Map.{values_of}
 use Rattle.std.proofs.lemmas.List.Sums.{sum_by-le, sum_by-le-sum_by, get_or-le-sum_by}
 use Rattle.iox_domain_publisher.specs.declared.publisher_port.PublisherPort.{PublisherPort}
-use Rattle.iox_domain_subscriber.specs.Living.{living_of_publisher, living_of_subscriber, counted, living_publishers}
+use Rattle.iox_domain_subscriber.specs.Living.{living_of_publisher, living_of_subscriber, counted}
 use Rattle.iox_domain_subscriber.specs.declared.subscriber_port.SubscriberPort.{SubscriberPort}
-use Rattle.iox_domain_ports.specs.Living.{living, living_subscribers}
+use Rattle.iox_domain_ports.specs.Living.{living}
 use Rattle.iox_domain_ports.specs.LivingLaws.{IsSilent, IsEmptied, NothingLives}
 use Rattle.iox_domain_ports.specs.declared.service_ports.ServicePorts.{ServicePorts}
 

@@ -1,5 +1,5 @@
 -- What a subscriber's steps leave as it was: what lives of itself, and of the publishers.
-use Rattle.std.proofs.Common.{rules, arith, ◌≡◌, ◌+◌, ◌==◌, ◌&&◌, ◌∙◌, ℕ, zero, suc, Bool, true, false, not, List, [], ◌∷◌, length, get_or, set, remove, slice_get, Option, None, Some, Result, Ok, Err, if◌then◌else◌, refl, sym, ap}
+use Rattle.std.proofs.Common.{arith, ◌≡◌, ◌+◌, ◌==◌, ◌&&◌, ◌∙◌, ℕ, zero, suc, Bool, true, false, not, List, [], ◌∷◌, length, get_or, set, slice_get, Option, None, Some, Result, Ok, Err, if◌then◌else◌, refl, ap}
 use Rattle.std.specs.declared.alloc.AllocError.{AllocError}
 use Rattle.std.specs.BTreeMap.{is_at}
 use Rattle.std.specs.Ordering.{nat_cmp}
@@ -10,15 +10,15 @@ use Rattle.iox_domain_values.specs.declared.connection_failure.ZeroCopyCreationE
 use Rattle.iox_domain_values.specs.declared.degradation.DegradationAction.{DegradationAction}
 use Rattle.iox_domain_values.specs.declared.degradation.DegradationInfo.{DegradationInfo}
 use Rattle.iox_domain_values.specs.declared.port_error.ReceiveError.{ReceiveError}
-use Rattle.iox_domain_publisher.specs.Ports.{Attaches, connection_to, ended_at, detached_at}
+use Rattle.iox_domain_publisher.specs.Ports.{connection_to, ended_at, detached_at}
 use Rattle.iox_domain_publisher.specs.declared.publisher_port.PublisherPort.{PublisherPort}
-use Rattle.iox_domain_subscriber.specs.Following.{PartsFor, PartsBorrowed, PartsOver, PartsIf, Parts, ConnectsBy, Connects, FollowsFreed, FollowsKey, FollowsAt, FollowsListed, freed_if, FollowsNoneAt, FollowsNone, is_of, is_unborrowed}
+use Rattle.iox_domain_subscriber.specs.Following.{PartsFor, PartsBorrowed, PartsOver, PartsIf, Parts, ConnectsBy, Connects, FollowsFreed, FollowsKey, FollowsAt, freed_if, FollowsNoneAt, is_of, is_unborrowed}
 use Rattle.iox_domain_subscriber.specs.Living.{living_publishers}
-use Rattle.iox_domain_subscriber.specs.Publishers.{port_of, with_port, changed, changed_at_port, released, stands_in, AttachesAtPort, AttachesTo}
+use Rattle.iox_domain_subscriber.specs.Publishers.{port_of, with_port, changed, changed_at_port, released, stands_in, AttachesAtPort}
 use Rattle.iox_domain_subscriber.specs.Reading.{taken_at, given_back_at}
-use Rattle.iox_domain_subscriber.specs.Receiving.{is_idle_at, dropped_port, dropped_ports, swept, given_ports, Serves, Receives, left_at, left_all}
+use Rattle.iox_domain_subscriber.specs.Receiving.{is_idle_at, dropped_port, dropped_ports, swept, given_ports, Receives, left_at, left_all}
 use Rattle.iox_domain_subscriber.specs.Subscribing.{attached_at, is_idle, without_key, ended_key, ended_ports, taken_ports}
-use Rattle.iox_domain_subscriber.specs.Updating.{FollowsOne, FollowsFrom, is_listed, FollowsNoneIf, FollowsNones, FollowsList, UpdatesIf, Updates, HasSamples, ReceivesAfter, ReceivesNext}
+use Rattle.iox_domain_subscriber.specs.Updating.{FollowsOne, FollowsFrom, is_listed, FollowsNoneIf, FollowsNones, UpdatesIf, Updates, HasSamples, ReceivesAfter, ReceivesNext}
 use Rattle.iox_domain_subscriber.specs.declared.attached.Attached.{Attached}
 use Rattle.iox_domain_subscriber.specs.declared.attached.Taken.{Taken}
 use Rattle.iox_domain_subscriber.specs.declared.publisher_entry.PublisherEntry.{PublisherEntry}

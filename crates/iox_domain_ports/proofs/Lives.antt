@@ -1,9 +1,6 @@
 -- What a publisher's steps do to what lives of it: whether it stands, whose it is, its loans, and whether a send waits.
-use Rattle.std.proofs.Common.{rules, arith, ◌≡◌, ◌+◌, ◌-◌, ◌<◌, ◌≤◌, ◌==◌, ◌&&◌, ◌∙◌, ℕ, zero, suc, Bool, true, false, not, List, [], ◌∷◌, length, get_or, set, map, remove, slice_get, is_some, Option, None, Some, Result, Ok, Err, if◌then◌else◌, refl, sym, ap}
+use Rattle.std.proofs.Common.{◌≡◌, ◌+◌, ◌-◌, ◌==◌, ◌∙◌, ℕ, zero, suc, Bool, true, false, List, [], ◌∷◌, length, get_or, set, is_some, Option, None, Some, Result, Ok, Err, if◌then◌else◌, refl, sym, ap}
 use Rattle.std.specs.declared.alloc.AllocError.{AllocError}
-use Rattle.std.proofs.lemmas.List.{length-map}
-use Rattle.std.proofs.lemmas.List.Edits.{length-remove}
-use Rattle.std.proofs.lemmas.Option.{slice_get_within}
 use Rattle.iox_index_base.specs.declared.container.Member.{Member}
 use Rattle.iox_domain_values.specs.declared.backpressure.BackpressureDecision.{BackpressureDecision}
 use Rattle.iox_domain_values.specs.declared.backpressure.BackpressureDecision.TheVariants as decided
@@ -13,13 +10,12 @@ use Rattle.iox_domain_values.specs.declared.degradation.DegradationAction.{Degra
 use Rattle.iox_domain_values.specs.declared.degradation.DegradationInfo.{DegradationInfo}
 use Rattle.iox_domain_values.specs.declared.port_error.SendError.{SendError}
 use Rattle.iox_domain_values.specs.declared.port_error.SendError.TheVariants as sending
-use Rattle.iox_domain_sender.specs.Messages.{Message, Loan}
+use Rattle.iox_domain_sender.specs.Messages.{Message}
 use Rattle.iox_domain_publisher.specs.Leaving.{parted_at, parted_from, departed}
 use Rattle.iox_domain_publisher.specs.Places.{is_attached}
-use Rattle.iox_domain_publisher.specs.Ports.{Joins, Connects, connection_to, connection_of, is_live, ended_at, welcomed_at, greeted_at}
-use Rattle.iox_domain_publisher.specs.Progress.{ProgressState}
-use Rattle.iox_domain_publisher.specs.Sending.{meeting_at, put_at, met, met_by, with_message, with_progress, decided_by, concluded, sent_answer, Steps, Delivers, Finishes}
-use Rattle.iox_domain_publisher.specs.Updating.{is_tie_to, let_go_of, untied, within_reach, tied, Ties, FollowsTo, Follows, FollowsAll, UpdatesIf, Updates}
+use Rattle.iox_domain_publisher.specs.Ports.{Joins, connection_to, connection_of, is_live, ended_at, welcomed_at, greeted_at}
+use Rattle.iox_domain_publisher.specs.Sending.{meeting_at, met, met_by, with_message, decided_by, concluded, sent_answer, Steps, Delivers, Finishes}
+use Rattle.iox_domain_publisher.specs.Updating.{is_tie_to, let_go_of, untied, within_reach, Ties, FollowsTo, Follows, FollowsAll, UpdatesIf, Updates}
 use Rattle.iox_domain_publisher.specs.declared.meeting.Meeting.{Meeting}
 use Rattle.iox_domain_publisher.specs.declared.meeting.Meeting.TheVariants as meeting
 use Rattle.iox_domain_publisher.specs.declared.meeting.Sent.{Sent}

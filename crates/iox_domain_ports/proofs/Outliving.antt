@@ -1,24 +1,17 @@
 -- What a step of a publisher does to how much lives.
-use Rattle.std.proofs.Common.{rules, arith, ◌≡◌, ◌+◌, ◌==◌, ◌&&◌, ◌||◌, ◌<◌, ◌∙◌, ℕ, zero, suc, Bool, true, false, not, List, [], ◌∷◌, ◌++◌, length, length-append, map, position, remove, slice_get, is_some, Option, None, Some, Result, Ok, Err, if◌then◌else◌, refl, sym, ap, subst}
-use Rattle.std.specs.Prelude.{sum_by}
+use Rattle.std.proofs.Common.{arith, ◌≡◌, ◌+◌, ◌==◌, ◌&&◌, ◌∙◌, ℕ, suc, Bool, true, false, not, List, [], ◌∷◌, length, length-append, is_some, Option, None, Some, Result, Ok, Err, if◌then◌else◌, refl, sym, ap}
 use Rattle.std.specs.BTreeMap.{is_at}
-use Rattle.std.specs.Map.{values_of, lookup}
 use Rattle.std.specs.Ordering.{nat_cmp}
 use Rattle.std.specs.List.{list_any}
 use Rattle.std.proofs.Math.Logic.{⊎_elim}
 use Rattle.std.proofs.lemmas.Bool.{cases_Bool}
-use Rattle.std.proofs.lemmas.List.{length-map}
-use Rattle.std.proofs.lemmas.List.Edits.{length-remove}
-use Rattle.std.proofs.lemmas.List.Quantifiers.{position-Some}
 use Rattle.std.proofs.lemmas.Map.Entries.{sum_by-set_value, sum_by-remove_entry}
-use Rattle.std.proofs.lemmas.Option.{slice_get_cases}
 use Rattle.iox_domain_values.specs.declared.data_segment.AllocationStrategy.{AllocationStrategy}
 use Rattle.iox_domain_values.specs.declared.port_error.LoanError.{LoanError}
 use Rattle.iox_domain_slots.specs.Uses.{is_there}
-use Rattle.iox_domain_sender.specs.Messages.{Loan, new_loan}
+use Rattle.iox_domain_sender.specs.Messages.{new_loan}
 use Rattle.iox_domain_sender.specs.Sending.{opened_for}
 use Rattle.iox_domain_publisher.specs.Loaning.{with_sender, LendsHere, LendsBeyond, LendsWhere, LendsUnless, Lends, first_refusal, LacksMemory}
-use Rattle.iox_domain_publisher.specs.Loaning as lending
 use Rattle.iox_domain_publisher.specs.declared.publisher_port.PublisherPort.{PublisherPort}
 use Rattle.iox_domain_subscriber.specs.Living.{living_of_publisher, counted, living_publishers}
 use Rattle.iox_domain_subscriber.specs.Publishers.{port_of, with_port, removed, is_over_port, is_over_in, settled}
@@ -109,7 +102,7 @@ one_more number old new port after there is same count owner =
     let step = moved owner number old.publishers port after there in
     let made = ap (living owner) is in
     let more : counts owner after ≡ counts owner port + counted owner port.owner.number 1 =
-        ap (λ n. counted owner n (living_of_publisher after)) same ∙ ap (counted owner port.owner.number) count ∙ counted_more owner port.owner.number (living_of_publisher port) 1 in
+    ap (λ n. counted owner n (living_of_publisher after)) same ∙ ap (counted owner port.owner.number) count ∙ counted_more owner port.owner.number (living_of_publisher port) 1 in
     omega (arith, step, made, more)
 
 -- one less lives
@@ -119,8 +112,8 @@ one_less number old new port after there is same count owner =
     let step = moved owner number old.publishers port after there in
     let made = ap (living owner) is in
     let less : counts owner after + counted owner port.owner.number 1 ≡ counts owner port =
-        ap (λ n. counted owner n (living_of_publisher after) + counted owner port.owner.number 1) same
-        ∙ sym (counted_more owner port.owner.number (living_of_publisher after) 1) ∙ ap (counted owner port.owner.number) count in
+    ap (λ n. counted owner n (living_of_publisher after) + counted owner port.owner.number 1) same
+    ∙ sym (counted_more owner port.owner.number (living_of_publisher after) 1) ∙ ap (counted owner port.owner.number) count in
     omega (arith, step, made, less)
 
 -- how many loans an answer adds

@@ -1,10 +1,9 @@
 -- What each call at a subscriber, and each port that comes, does to how much lives.
-use Rattle.std.proofs.Common.{rules, arith, ◌≡◌, ◌+◌, ◌-◌, ◌^◌, ◌==◌, ◌&&◌, ◌<◌, ◌∙◌, ℕ, zero, suc, max, min, Bool, true, false, not, List, [], ◌∷◌, length, Option, None, Some, Result, Ok, Err, if◌then◌else◌, cond, refl, sym, ap}
+use Rattle.std.proofs.Common.{arith, ◌≡◌, ◌+◌, ◌-◌, ◌^◌, ◌==◌, ◌&&◌, ◌<◌, ◌∙◌, ℕ, max, min, Bool, true, false, not, List, [], ◌∷◌, Option, None, Some, Result, Ok, Err, if◌then◌else◌, cond, refl, sym, ap}
 use Rattle.std.specs.Prelude.{sum_by}
 use Rattle.std.specs.BTreeMap.{insert_entry, is_at}
 use Rattle.std.specs.Map.{lookup, values_of}
 use Rattle.std.specs.Ordering.{nat_cmp, is_eq, match_ordering}
-use Rattle.std.specs.declared.alloc.AllocError.{AllocError}
 use Rattle.std.specs.declared.cmp.Ordering.{Ordering}
 use Rattle.std.specs.declared.cmp.Ordering.TheVariants.{Less, Equal, Greater}
 use Rattle.std.proofs.lemmas.List.Sums.{sum_by-cons}
@@ -19,26 +18,25 @@ use Rattle.iox_domain_values.specs.declared.port_owner.PortOwner.{PortOwner}
 use Rattle.iox_domain_publisher.specs.Leaving.{new_port}
 use Rattle.iox_domain_publisher.specs.declared.publisher_port.PublisherPort.{PublisherPort}
 use Rattle.iox_domain_subscriber.specs.Arriving.{new_subscriber}
-use Rattle.iox_domain_subscriber.specs.Living.{living_of_subscriber, living_of_publisher, counted, living_publishers}
-use Rattle.iox_domain_subscriber.specs.Publishers.{port_of, connection_in, released}
+use Rattle.iox_domain_subscriber.specs.Living.{living_of_subscriber, counted, living_publishers}
+use Rattle.iox_domain_subscriber.specs.Publishers.{port_of, connection_in}
 use Rattle.iox_domain_subscriber.specs.Reading.{place_of}
-use Rattle.iox_domain_subscriber.specs.Receiving.{left_all}
 use Rattle.iox_domain_subscriber.specs.declared.attached.Taken.{Taken}
 use Rattle.iox_domain_subscriber.specs.declared.publisher_entry.PublisherEntry.{PublisherEntry}
 use Rattle.iox_domain_subscriber.specs.declared.subscriber_port.SubscriberPort.{SubscriberPort}
 use Rattle.iox_domain_ports.specs.Living.{living, living_subscribers}
 use Rattle.iox_domain_ports.specs.LivingSteps.{AsMuchLives, OneMoreLives, OneLessLives, ReceivingAdds, SubscriberSteps, CreatingSteps}
-use Rattle.iox_domain_ports.specs.Making.{identity_of, sender_config, AddsPublisher, CreatesPublisher, publisher_answer, with_new, FollowsFirst, AddsSubscriber, CreatesSubscriber, subscriber_answer}
+use Rattle.iox_domain_ports.specs.Making.{identity_of, sender_config, CreatesPublisher, CreatesSubscriber}
 use Rattle.iox_domain_ports.specs.Ports.{AtSubscriber, with_both}
 use Rattle.iox_domain_ports.specs.Rolls.{RollState}
 use Rattle.iox_domain_ports.specs.Subscribers.{subscriber_of, with_subscriber, subscriber_added, subscriber_removed, is_over, is_over_in, settled}
-use Rattle.iox_domain_ports.specs.Subscribing.{UpdatesIf, UpdatesOne, HasSamplesIf, HasSamplesOne, counted_by, ReceivesIf, ReceivesOne, let_go_at, ReleasesAt, ReleasesOf, Releases, LeavesPortIf, LeavesAt}
+use Rattle.iox_domain_ports.specs.Subscribing.{UpdatesIf, UpdatesOne, HasSamplesIf, HasSamplesOne, counted_by, ReceivesIf, ReceivesOne, let_go_at, ReleasesAt, Releases, LeavesPortIf, LeavesAt}
 use Rattle.iox_domain_ports.specs.declared.making.PublisherConfig.{PublisherConfig}
 use Rattle.iox_domain_ports.specs.declared.service_ports.ServicePorts.{ServicePorts}
 use Rattle.iox_domain_ports.proofs.Calling.{no_value, same_value}
 use Rattle.iox_domain_ports.proofs.Coming.{lookup-came}
-use Rattle.iox_domain_ports.proofs.Keeping.{holding_of, KeepsPorts, Keeps, updates_keeps, receives_next_keeps, has_samples_keeps, left_all_keeps, released_keeps}
-use Rattle.iox_domain_ports.proofs.Lives.{life_of, updates_life}
+use Rattle.iox_domain_ports.proofs.Keeping.{holding_of, Keeps, updates_keeps, receives_next_keeps, has_samples_keeps, left_all_keeps, released_keeps}
+use Rattle.iox_domain_ports.proofs.Lives.{updates_life}
 use Rattle.iox_domain_ports.proofs.Outliving.{not_true, counts, count_of_life, counted_more, nothing_counted}
 
 -- what is told of a subscriber counts of an owner
@@ -143,8 +141,8 @@ one_less : {T U : Type 0} (number : ℕ) (old new : ServicePorts T U) (port afte
     → after.owner.number ≡ port.owner.number → living_of_subscriber after + 1 ≡ living_of_subscriber port → living owner new + counted owner port.owner.number 1 ≡ living owner old
 one_less number old new port after owner there is publishers same count =
     let less : held_counts owner after + counted owner port.owner.number 1 ≡ held_counts owner port =
-        ap (λ n. counted owner n (living_of_subscriber after) + counted owner port.owner.number 1) same
-        ∙ sym (counted_more owner port.owner.number (living_of_subscriber after) 1) ∙ ap (counted owner port.owner.number) count in
+    ap (λ n. counted owner n (living_of_subscriber after) + counted owner port.owner.number 1) same
+    ∙ sym (counted_more owner port.owner.number (living_of_subscriber after) 1) ∙ ap (counted owner port.owner.number) count in
     omega (arith, is, publishers, settled_lives owner number (with_subscriber number old.subscribers after), moved owner number old.subscribers port after there, less)
 
 release_takes : {T U : Type 0} (number : ℕ) (sample : Taken) (port : SubscriberPort) (old new : ServicePorts T U) → subscriber_of number old.subscribers ≡ Some port → 0 < port.held
@@ -214,13 +212,13 @@ subscriber_adds {T} {U} may owner (Ok buffer_size) (Some place) number old new f
     let keeps = updates_keeps may listed old.publisher_list.changes port old.publishers outcome after ports_after updates in
     let there : subscriber_of old.next_port (subscriber_added old.next_port port old.subscribers) ≡ Some port = lookup-came old.next_port port old.subscribers in
     omega (
-    arith,
-    ap (living counted_owner) made,
-    ap (living counted_owner) followed,
-    moved counted_owner old.next_port (subscriber_added old.next_port port old.subscribers) port after there,
-    summed_came (λ one. held_counts counted_owner one) old.next_port port old.subscribers fresh,
-    keeps.1 counted_owner,
-    holds_as_much counted_owner port after keeps.0,
+      arith,
+      ap (living counted_owner) made,
+      ap (living counted_owner) followed,
+      moved counted_owner old.next_port (subscriber_added old.next_port port old.subscribers) port after there,
+      summed_came (λ one. held_counts counted_owner one) old.next_port port old.subscribers fresh,
+      keeps.1 counted_owner,
+      holds_as_much counted_owner port after keeps.0,
     )
 
 -- what each call at a subscriber does

@@ -1,5 +1,5 @@
 -- Counts that are added up to a limit.
-use Rattle.std.proofs.Common.{arith, ◌≡◌, ◌+◌, ◌==◌, ◌≤◌, ◌∙◌, ℕ, min, List, [], ◌∷◌, Option, None, Some, Bool, true, false, fold, map, refl, ap, sym}
+use Rattle.std.proofs.Common.{arith, ◌≡◌, ◌+◌, ◌==◌, ◌≤◌, ◌∙◌, ℕ, min, List, [], ◌∷◌, Option, None, Some, Bool, true, false, fold, map, refl, ap}
 use Rattle.std.specs.Prelude.{sum_by, if◌then◌else◌}
 use Rattle.std.proofs.lemmas.List.Sums.{sum_by-cons}
 use Rattle.iox_domain_subscriber.specs.Living.{counted}

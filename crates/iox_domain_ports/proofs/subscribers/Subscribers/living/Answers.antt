@@ -1,4 +1,4 @@
-use Rattle.std.proofs.Common.{rules, ◌≡◌, ◌+◌, ◌∙◌, ℕ, min, fold, map}
+use Rattle.std.proofs.Common.{rules, ◌≡◌, ◌+◌, ◌∙◌, min, fold, map}
 use Rattle.std.specs.Map.{values_of}
 use Rattle.iox_domain_subscriber.specs.Living.{living_of_subscriber, counted}
 use Rattle.iox_domain_subscriber.proofs.Adding.{living_owned}

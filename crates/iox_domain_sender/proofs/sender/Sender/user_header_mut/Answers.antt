@@ -1,4 +1,4 @@
-use Rattle.std.proofs.Common.{rules, arith, ◌≡◌, ◌<◌, ◌∙◌, length, get_or, refl, set, sym, ap}
+use Rattle.std.proofs.Common.{rules, arith, ◌≡◌, ◌<◌, ◌∙◌, length, get_or, refl, set, ap}
 use Rattle.std.proofs.lemmas.List.{get_or_default}
 use Rattle.iox_domain_sender.specs.Messages.{write_user_header}
 use Rattle.iox_domain_sender.proofs.Reading.{loan_in_is}
