@@ -7,3 +7,4 @@ pub mod Outliving
 pub mod Calling
 pub mod Keeping
 pub mod Received
+pub mod Numbered

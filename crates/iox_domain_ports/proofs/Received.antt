@@ -73,9 +73,9 @@ holds_as_much owner port after alike = ap (λ h. counted owner h.number ((if h.s
 keeps_both : {T U : Type 0} (number : ℕ) (old new : ServicePorts T U) (port after : SubscriberPort) (ports_after : List (ℕ × PublisherPort T U)) → subscriber_of number old.subscribers ≡ Some port
     → new ≡ with_both number after ports_after old → Keeps port old.publishers after ports_after → AsMuchLives old new
 keeps_both number old new port after ports_after there is keeps owner =
-    omega (arith, ap (living owner) is, moved owner number old.subscribers port after there, keeps.1 owner, holds_as_much owner port after keeps.0)
+    omega (arith, ap (living owner) is, moved owner number old.subscribers port after there, keeps.1.lives owner, holds_as_much owner port after keeps.0)
 
-update_made : {T U : Type 0} (stands : Bool) (may : DegradationInfo → DegradationAction → Type 0) (list : RollState PublisherEntry) (port : SubscriberPort) (ports : List (ℕ × PublisherPort T U))
+pub update_made : {T U : Type 0} (stands : Bool) (may : DegradationInfo → DegradationAction → Type 0) (list : RollState PublisherEntry) (port : SubscriberPort) (ports : List (ℕ × PublisherPort T U))
     (value : Result (Unit {0}) ConnectionFailure) (after : SubscriberPort) (ports_after : List (ℕ × PublisherPort T U)) → UpdatesIf stands may list port ports (Some value) after ports_after
     → Keeps port ports after ports_after
 update_made false may list port ports value after ports_after updates = absurd (no_value value updates.0)
@@ -88,7 +88,7 @@ update_keeps may number port old new None there (after, ports_after, step, is) =
 update_keeps may number port old new (Some value) there (after, ports_after, step, is) =
     keeps_both number old new port after ports_after there is (update_made port.stands may old.publisher_list port old.publishers value after ports_after step)
 
-looked : {T U : Type 0} (stands : Bool) (may : DegradationInfo → DegradationAction → Type 0) (list : RollState PublisherEntry) (port : SubscriberPort) (ports : List (ℕ × PublisherPort T U))
+pub looked : {T U : Type 0} (stands : Bool) (may : DegradationInfo → DegradationAction → Type 0) (list : RollState PublisherEntry) (port : SubscriberPort) (ports : List (ℕ × PublisherPort T U))
     (value : Result Bool ConnectionFailure) (after : SubscriberPort) (ports_after : List (ℕ × PublisherPort T U)) → HasSamplesIf stands may list port ports (Some value) after ports_after
     → Keeps port ports after ports_after
 looked false may list port ports value after ports_after has = absurd (no_value value has.0)
@@ -105,7 +105,7 @@ look_keeps may number port old new (Some value) there (after, ports_after, step,
 abbrev CameOf : {T U : Type 0} → SubscriberPort → List (ℕ × PublisherPort T U) → Result (Option Taken) ReceiveError → SubscriberPort → List (ℕ × PublisherPort T U) → Type 0
 CameOf port ports value after ports_after = (received : SubscriberPort) × Keeps port ports received ports_after × (after ≡ counted_by value received)
 
-received_by : {T U : Type 0} (stands : Bool) (may : DegradationInfo → DegradationAction → Type 0) (list : RollState PublisherEntry) (port : SubscriberPort) (ports : List (ℕ × PublisherPort T U))
+pub received_by : {T U : Type 0} (stands : Bool) (may : DegradationInfo → DegradationAction → Type 0) (list : RollState PublisherEntry) (port : SubscriberPort) (ports : List (ℕ × PublisherPort T U))
     (value : Result (Option Taken) ReceiveError) (after : SubscriberPort) (ports_after : List (ℕ × PublisherPort T U)) → ReceivesIf stands may list port ports (Some value) after ports_after
     → CameOf port ports value after ports_after
 received_by false may list port ports value after ports_after receives = absurd (no_value value receives.0)
@@ -133,7 +133,7 @@ receive_adds may number port old new (Some (Ok (Some taken))) there few (after, 
     let came = received_by port.stands may old.publisher_list port old.publishers (Ok (Some taken)) after ports_after step in
     let held : min (came.0.held + 1) (2 ^ 64 - 1) ≡ port.held + 1 = omega (arith, few, ap (λ h. h.held) came.1.0) in
     let more = ap (held_counts owner) came.2 ∙ one_held owner port came.0 (min (came.0.held + 1) (2 ^ 64 - 1)) came.1.0 held in
-    omega (arith, ap (living owner) is, moved owner number old.subscribers port after there, came.1.1 owner, more)
+    omega (arith, ap (living owner) is, moved owner number old.subscribers port after there, came.1.1.lives owner, more)
 
 -- one less is held, or stands, and a subscriber that is over then is gone
 one_less : {T U : Type 0} (number : ℕ) (old new : ServicePorts T U) (port after : SubscriberPort) (owner : Option ℕ) → subscriber_of number old.subscribers ≡ Some port
@@ -154,7 +154,7 @@ release_takes {T} {U} number sample port old new there some releases = at (place
     at (Some place) releases = λ owner.
         one_less number old new port (record port { held = port.held - 1 }) owner there
         (ap (λ ports. living_subscribers owner ports.subscribers) releases.1 ∙ ap (λ found. living_subscribers owner (settled number (let_go_at number found old.subscribers))) there)
-        (ap (λ ports. living_publishers owner ports.publishers) releases.1 ∙ released_keeps sample.publisher sample.index (Some place) old.publishers owner)
+        (ap (λ ports. living_publishers owner ports.publishers) releases.1 ∙ (released_keeps sample.publisher sample.index (Some place) old.publishers).lives owner)
         refl (omega (arith, some))
 
 leave_takes : {T U : Type 0} (number : ℕ) (port : SubscriberPort) (old new : ServicePorts T U) → subscriber_of number old.subscribers ≡ Some port
@@ -167,7 +167,7 @@ leave_takes {T} {U} number port old new there leaves = at port.stands refl leave
         let on : ◌≡◌ {A = ℕ} (if port.stands then 1 else 0) 1 = ap {B = ℕ} (λ b. if b then 1 else 0) stands in
         one_less number old new port (record port { stands = false }) owner there
         (ap (λ ports. living_subscribers owner ports.subscribers) leaves.1)
-        (ap (λ ports. living_publishers owner ports.publishers) leaves.1 ∙ left_all_keeps port.connections.values old.publishers owner)
+        (ap (λ ports. living_publishers owner ports.publishers) leaves.1 ∙ (left_all_keeps port.connections.values old.publishers).lives owner)
         refl (omega (arith, on))
 
 -- what comes under a new number is added to a sum
@@ -217,7 +217,7 @@ subscriber_adds {T} {U} may owner (Ok buffer_size) (Some place) number old new f
       ap (living counted_owner) followed,
       moved counted_owner old.next_port (subscriber_added old.next_port port old.subscribers) port after there,
       summed_came (λ one. held_counts counted_owner one) old.next_port port old.subscribers fresh,
-      keeps.1 counted_owner,
+      keeps.1.lives counted_owner,
       holds_as_much counted_owner port after keeps.0,
     )
 

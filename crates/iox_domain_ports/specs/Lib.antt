@@ -11,3 +11,4 @@ pub mod Reading
 pub mod Living
 pub mod LivingLaws
 pub mod LivingSteps
+pub mod NumberLaws
