@@ -1,3 +1,10 @@
 pub mod Rolling
 pub mod Lifting
 pub mod Coming
+pub mod Counting
+pub mod Lives
+pub mod Outliving
+pub mod Calling
+pub mod Keeping
+pub mod Received
+pub mod Numbered

@@ -1,5 +1,5 @@
 -- What a call does at one port is what it does at the ports of a service.
-use Rattle.std.proofs.Common.{ℕ, ◌≡◌, List, Bool, true, false, Option, None, Some, Result, refl, sym, ap, ◌∙◌}
+use Rattle.std.proofs.Common.{ℕ, ◌≡◌, List, Bool, true, false, Option, None, Some, Result, refl, ap, ◌∙◌}
 use Rattle.std.proofs.lemmas.Map.Steps.{set_value_same}
 use Rattle.std.specs.BTreeMap.{is_at}
 use Rattle.std.specs.Ordering.{nat_cmp}

@@ -1,5 +1,5 @@
 -- A port leaves its list.
-use Rattle.std.proofs.Common.{ℕ, ◌≡◌, ◌+◌, ◌<◌, ◌^◌, ◌&&◌, ◌↔◌, List, get_or, slice_get, slice_set, nat_lt, nat_eq, Bool, true, false, Option, None, Some, Result, Ok, Err, IfOk, IsErr, is_some, refl, sym, ap, ◌∙◌, if◌then◌else◌, subst}
+use Rattle.std.proofs.Common.{ℕ, ◌≡◌, ◌+◌, ◌<◌, ◌^◌, ◌&&◌, ◌↔◌, slice_get, slice_set, nat_eq, Bool, true, false, Option, None, Some, Result, Ok, Err, IfOk, IsErr, is_some, refl, sym, ap, ◌∙◌, if◌then◌else◌, subst}
 use Rattle.std.specs.Option.{unwrap_or}
 use Rattle.std.proofs.lemmas.Bool.{lt-ltb, eq-eqb}
 use Rattle.iox_index_base.proofs.Told.{member_of-read}

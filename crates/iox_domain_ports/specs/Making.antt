@@ -1,5 +1,5 @@
 -- A publisher and a subscriber come.
-use Rattle.std.specs.Prelude.{ℕ, ◌≡◌, ◌+◌, ◌<◌, ◌^◌, max, nat_lt, List, Option, None, Some, Result, Ok, Err, if◌then◌else◌}
+use Rattle.std.specs.Prelude.{ℕ, ◌≡◌, ◌+◌, ◌^◌, max, nat_lt, List, Option, None, Some, Result, Ok, Err, if◌then◌else◌}
 use Rattle.std.specs.declared.alloc.AllocError.{AllocError}
 use Rattle.iox_index_base.specs.declared.container.Member.{Member}
 use Rattle.iox_domain_values.specs.OverrideAnswers.{places}
@@ -27,7 +27,7 @@ use Rattle.iox_domain_subscriber.specs.declared.publisher_entry.PublisherEntry.{
 use Rattle.iox_domain_subscriber.specs.declared.subscriber_port.SubscriberPort.{SubscriberPort}
 use Rattle.iox_domain_ports.specs.Ports.{with_both}
 use Rattle.iox_domain_ports.specs.Rolls.{IsListOf, free_place, entered}
-use Rattle.iox_domain_ports.specs.Subscribers.{subscriber_of, subscriber_added}
+use Rattle.iox_domain_ports.specs.Subscribers.{subscriber_added}
 use Rattle.iox_domain_ports.specs.declared.making.PublisherConfig.{PublisherConfig}
 use Rattle.iox_domain_ports.specs.declared.service_ports.ServicePorts.{ServicePorts}
 
@@ -102,11 +102,6 @@ CreatesPublisher overrides may config user_header (Some needed) (Some place) old
     (slots : ℕ) × overrides (max needed 1) slots × (outcome : Result ℕ AllocError)
     × AddsPublisher may config user_header place (places (max needed 1) slots) old outcome new × (answer ≡ publisher_answer outcome)
 
--- how many messages may wait for a subscriber at a connection: as many as it asks for, at least 1, and at most as many as the service allows
-abbrev pub buffer_of : {T U : Type 0} → Option ℕ → ServicePorts T U → Option ℕ
-buffer_of None ports = Some ports.sizes.subscriber_max_buffer_size
-buffer_of (Some asked) ports = if nat_lt ports.sizes.subscriber_max_buffer_size (max asked 1) then None else Some (max asked 1)
-
 -- the subscriber of a number follows the list of publishers, if there is one
 abbrev pub FollowsFirst : {T U : Type 0} → (DegradationInfo → DegradationAction → Type 0) → ℕ → Option SubscriberPort → ServicePorts T U → ServicePorts T U → Type 0
 FollowsFirst may number None old new = new ≡ old
@@ -134,15 +129,16 @@ abbrev pub subscriber_answer : Result ℕ AllocError → Result ℕ SubscriberCr
 subscriber_answer (Ok number) = Ok number
 subscriber_answer (Err error) = Err subscribing.OutOfMemory
 
--- why a subscriber isn't made for whom so many messages may wait and that gets this place: for want of memory, where there are such
-abbrev pub subscriber_refusal : Option ℕ → Option ℕ → SubscriberCreateError
-subscriber_refusal None place = subscribing.BufferSizeExceedsMaxSupportedBufferSizeOfService
-subscriber_refusal (Some buffer_size) None = subscribing.ExceedsMaxSupportedSubscribers
-subscriber_refusal (Some buffer_size) (Some place) = subscribing.OutOfMemory
+-- why a subscriber isn't made for whom so many messages may wait, or that is refused for it, and that gets this place: for want of memory, where
+-- there are such
+abbrev pub subscriber_refusal : Result ℕ SubscriberCreateError → Option ℕ → SubscriberCreateError
+subscriber_refusal (Err refusal) place = refusal
+subscriber_refusal (Ok buffer_size) None = subscribing.ExceedsMaxSupportedSubscribers
+subscriber_refusal (Ok buffer_size) (Some place) = subscribing.OutOfMemory
 
--- A subscriber is made where so many messages may wait for it, and a place is free.
-abbrev pub CreatesSubscriber : {T U : Type 0} → (DegradationInfo → DegradationAction → Type 0) → PortOwner → Option ℕ → Option ℕ → ServicePorts T U → Result ℕ SubscriberCreateError → ServicePorts T U → Type 0
-CreatesSubscriber may owner None place old answer new = (answer ≡ Err subscribing.BufferSizeExceedsMaxSupportedBufferSizeOfService) × (new ≡ old)
-CreatesSubscriber may owner (Some buffer_size) None old answer new = (answer ≡ Err subscribing.ExceedsMaxSupportedSubscribers) × (new ≡ old)
-CreatesSubscriber may owner (Some buffer_size) (Some place) old answer new =
+-- A subscriber is made where as many messages may wait for it as it names, and a place is free.
+abbrev pub CreatesSubscriber : {T U : Type 0} → (DegradationInfo → DegradationAction → Type 0) → PortOwner → Result ℕ SubscriberCreateError → Option ℕ → ServicePorts T U → Result ℕ SubscriberCreateError → ServicePorts T U → Type 0
+CreatesSubscriber may owner (Err refusal) place old answer new = (answer ≡ Err refusal) × (new ≡ old)
+CreatesSubscriber may owner (Ok buffer_size) None old answer new = (answer ≡ Err subscribing.ExceedsMaxSupportedSubscribers) × (new ≡ old)
+CreatesSubscriber may owner (Ok buffer_size) (Some place) old answer new =
     (outcome : Result ℕ AllocError) × AddsSubscriber may owner place buffer_size old outcome new × (answer ≡ subscriber_answer outcome)

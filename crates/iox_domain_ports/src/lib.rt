@@ -8,10 +8,14 @@
 //! - [`publishing`]: a publisher follows the subscribers, sends and leaves.
 //! - [`subscribing`]: a subscriber follows the publishers, receives, releases and leaves.
 //! - [`reading`]: what is read of a sample.
+//! - [`living`]: how much lives.
+//! - [`numbering`]: each number is given to one port.
 #![tactic(auto)]
 
 pub mod lending;
+pub mod living;
 pub mod making;
+pub mod numbering;
 pub mod publishing;
 pub mod reading;
 pub mod roll;

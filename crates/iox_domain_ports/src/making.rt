@@ -3,8 +3,9 @@ ghost use Rattle.std.specs.Prelude.{◌≡◌, ◌+◌, ◌<◌, ◌^◌, Some, 
 ghost use Rattle.iox_domain_values.specs.OverrideAnswers as overriding_of;
 ghost use Rattle.iox_domain_values.specs.DegradationAnswers.{Allowed};
 ghost use Rattle.iox_domain_values.specs.declared.degradation.DegradationCause.TheVariants as cause;
+ghost use Rattle.iox_domain_values.specs.Sizes.{buffer_of};
 ghost use Rattle.iox_domain_ports.specs.Subscribers.{subscriber_of};
-ghost use Rattle.iox_domain_ports.specs.Making.{slots_needed, publisher_place, subscriber_place, buffer_of, segments_of, sender_config, identity_of, AddsPublisher, CreatesPublisher, FollowsFirst, AddsSubscriber, CreatesSubscriber, publisher_refusal, subscriber_refusal};
+ghost use Rattle.iox_domain_ports.specs.Making.{slots_needed, publisher_place, subscriber_place, publisher_refusal, subscriber_refusal, segments_of, sender_config, identity_of, AddsPublisher, CreatesPublisher, FollowsFirst, AddsSubscriber, CreatesSubscriber};
 
 use crate::service_ports::ServicePorts;
 use iox_domain_publisher::{PublisherPort, SubscriberEntry};
@@ -192,11 +193,9 @@ impl<T: Copy, U: Copy> ServicePorts<T, U> {
         handler: &DegradationHandler,
     ) -> Result<u64, SubscriberCreateError>
         ensures { CreatesSubscriber (Allowed (λ object. (⟦<dyn DegradationFn as DegradationFn>⟧ object.vtable).allows object.value) handler.now cause.FailedToEstablishConnection)
-            config.owner (buffer_of config.buffer_size self.old) (subscriber_place self.old) self.old result self.new }
+            config.owner (buffer_of config.buffer_size self.old.sizes) (subscriber_place self.old) self.old result self.new }
     {
-        let Some(buffer_size) = self.buffer_of(config.buffer_size) else {
-            return Err(SubscriberCreateError::BufferSizeExceedsMaxSupportedBufferSizeOfService);
-        };
+        let buffer_size = self.sizes.buffer_size(config.buffer_size)?;
         let Some(place) = self.subscriber_place() else {
             return Err(SubscriberCreateError::ExceedsMaxSupportedSubscribers);
         };
@@ -208,30 +207,12 @@ impl<T: Copy, U: Copy> ServicePorts<T, U> {
 
     /// Why a subscriber that asks for such a buffer isn't made, if it isn't: for want of memory where nothing else forbids it.
     pub fn subscriber_refusal(&self, buffer_size: Option<usize>) -> SubscriberCreateError
-        ensures { result ≡ subscriber_refusal (buffer_of buffer_size self.now) (subscriber_place self.now) }
+        ensures { result ≡ subscriber_refusal (buffer_of buffer_size self.now.sizes.subscriber_max_buffer_size) (subscriber_place self.now) }
     {
-        if self.buffer_of(buffer_size).is_none() {
-            SubscriberCreateError::BufferSizeExceedsMaxSupportedBufferSizeOfService
-        } else if self.subscriber_place().is_none() {
-            SubscriberCreateError::ExceedsMaxSupportedSubscribers
-        } else {
-            SubscriberCreateError::OutOfMemory
-        }
-    }
-
-    // How many messages may wait for a subscriber that asks for so many, unless it asks for too many.
-    fn buffer_of(&self, asked: Option<usize>) -> Option<usize>
-        ensures { result ≡ buffer_of asked self.now }
-    {
-        let most = self.sizes.subscriber_max_buffer_size as usize;
-        let buffer_size = match asked {
-            Some(size) => size.max(1),
-            None => most,
-        };
-        if most < buffer_size {
-            None
-        } else {
-            Some(buffer_size)
+        match self.sizes.buffer_size(buffer_size) {
+            Err(refusal) => refusal,
+            Ok(_) if self.subscriber_place().is_none() => SubscriberCreateError::ExceedsMaxSupportedSubscribers,
+            Ok(_) => SubscriberCreateError::OutOfMemory,
         }
     }
 

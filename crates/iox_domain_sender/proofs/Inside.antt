@@ -1,5 +1,5 @@
 -- What is borrowed stands in a slot that there is.
-use Rattle.std.proofs.Common.{arith, ℕ, zero, suc, ◌≡◌, ◌+◌, ◌<◌, ◌≤◌, ◌==◌, ◌∷◌, [], ◌++◌, true, List, length, get_or, option_to_list, Option, None, Some, position, IfSome, sym, ap, subst}
+use Rattle.std.proofs.Common.{arith, ℕ, zero, suc, ◌≡◌, ◌+◌, ◌<◌, ◌≤◌, ◌==◌, ◌∷◌, [], ◌++◌, List, length, get_or, option_to_list, Option, None, Some, position, IfSome, sym, subst}
 use Rattle.std.proofs.lemmas.Bool.{eqb-true}
 use Rattle.std.proofs.lemmas.List.Quantifiers.{position-Some}
 use Rattle.iox_domain_slots.specs.Counting.{times}

@@ -1,9 +1,7 @@
 -- What a publisher and a subscriber are made with.
-use Rattle.std.specs.Prelude.{ℕ, max, nat_le, Option, None, Some, Result, Ok, Err, if◌then◌else◌}
+use Rattle.std.specs.Prelude.{None}
 use Rattle.iox_domain_values.specs.declared.backpressure_strategy.BackpressureStrategy.TheVariants.{RetryUntilDelivered}
 use Rattle.iox_domain_values.specs.declared.data_segment.AllocationStrategy.TheVariants.{Static}
-use Rattle.iox_domain_values.specs.declared.create_error.SubscriberCreateError.{SubscriberCreateError}
-use Rattle.iox_domain_values.specs.declared.create_error.SubscriberCreateError.TheVariants.{BufferSizeExceedsMaxSupportedBufferSizeOfService}
 use Rattle.iox_domain_settings.specs.declared.publisher_settings.PublisherSettings.{PublisherSettings}
 use Rattle.iox_domain_settings.specs.declared.subscriber_settings.SubscriberSettings.{SubscriberSettings}
 
@@ -14,9 +12,3 @@ publisher_defaults = record { max_loaned_samples = 2; strategy = RetryUntilDeliv
 -- no buffer size is named
 abbrev pub subscriber_defaults : SubscriberSettings
 subscriber_defaults = record { buffer_size = None }
-
--- How many messages of a publisher may wait for a subscriber: as many as it names, at least 1, and at most as many as the service
--- allows; just those where it names none.
-abbrev pub buffer_of : Option ℕ → ℕ → Result ℕ SubscriberCreateError
-buffer_of None most = Ok most
-buffer_of (Some named) most = if nat_le (max named 1) most then Ok (max named 1) else Err BufferSizeExceedsMaxSupportedBufferSizeOfService

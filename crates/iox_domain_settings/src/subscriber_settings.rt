@@ -1,6 +1,7 @@
 //! What a subscriber is made with.
 ghost use Rattle.std.specs.Prelude.{◌≡◌, Some};
-ghost use Rattle.iox_domain_settings.specs.PortSettings.{subscriber_defaults, buffer_of};
+ghost use Rattle.iox_domain_values.specs.Sizes.{buffer_of};
+ghost use Rattle.iox_domain_settings.specs.PortSettings.{subscriber_defaults};
 
 use iox_domain_values::{ServiceSizes, SubscriberCreateError};
 
@@ -38,16 +39,8 @@ impl SubscriberSettings {
     ///
     /// Refused with `BufferSizeExceedsMaxSupportedBufferSizeOfService` if more are named than the service allows.
     pub fn buffer_size_within(&self, sizes: &ServiceSizes) -> Result<usize, SubscriberCreateError>
-        ensures { result ≡ buffer_of self.now.buffer_size sizes.now.subscriber_max_buffer_size }
+        ensures { result ≡ buffer_of self.now.buffer_size sizes.now }
     {
-        let most = sizes.subscriber_max_buffer_size as usize;
-        let Some(named) = self.buffer_size else {
-            return Ok(most);
-        };
-        let asked = named.max(1);
-        if asked > most {
-            return Err(SubscriberCreateError::BufferSizeExceedsMaxSupportedBufferSizeOfService);
-        }
-        Ok(asked)
+        sizes.buffer_size(self.buffer_size)
     }
 }

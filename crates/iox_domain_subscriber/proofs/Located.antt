@@ -1,11 +1,11 @@
 -- The message in a slot is found where it is borrowed.
-use Rattle.std.proofs.Common.{arith, ℕ, ◌≡◌, ◌<◌, ◌≤◌, ◌==◌, ◌∷◌, [], true, List, length, slice_get, get_or, Option, None, Some, position, option_map, sym, ap, ◌∙◌}
+use Rattle.std.proofs.Common.{arith, ℕ, ◌≡◌, ◌<◌, ◌==◌, ◌∷◌, [], List, length, slice_get, None, Some, position, option_map, sym, ap, ◌∙◌}
 use Rattle.std.proofs.Math.Logic.{⊎_elim}
 use Rattle.std.proofs.lemmas.Bool.{eqb-true}
 use Rattle.std.proofs.lemmas.List.Quantifiers.{position-Some}
 use Rattle.std.proofs.lemmas.Option.{slice_get_cases}
 use Rattle.std.specs.List.{find}
-use Rattle.iox_domain_slots.specs.Uses.{Connection, connection_at}
+use Rattle.iox_domain_slots.specs.Uses.{connection_at}
 use Rattle.iox_domain_sender.specs.Messages.{Message}
 use Rattle.iox_domain_publisher.proofs.Finding.{at_place, at_none}
 use Rattle.iox_domain_publisher.specs.Ports.{connection_of}

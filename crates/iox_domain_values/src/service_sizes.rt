@@ -1,6 +1,8 @@
 //! How much a service allows to its ports.
 ghost use Rattle.std.specs.Prelude.{◌≡◌, ◌<◌, ◌^◌, IfSome};
-ghost use Rattle.iox_domain_values.specs.Sizes.{worst_case, within};
+ghost use Rattle.iox_domain_values.specs.Sizes.{worst_case, within, buffer_of};
+
+use crate::create_error::SubscriberCreateError;
 
 /// How much a service allows to its ports. All ports of a service go by the same numbers.
 #[derive(Clone, Copy, Debug, PartialEq, Eq)]
@@ -37,5 +39,23 @@ impl ServiceSizes {
         } else {
             None
         }
+    }
+
+    /// How many messages of one publisher may wait for a subscriber: as many as it names, at least 1, or as many as the service allows where
+    /// it names none.
+    ///
+    /// Refused with `BufferSizeExceedsMaxSupportedBufferSizeOfService` if it names more than the service allows.
+    pub fn buffer_size(&self, named: Option<usize>) -> Result<usize, SubscriberCreateError>
+        ensures { result ≡ buffer_of named self.now }
+    {
+        let most = self.subscriber_max_buffer_size as usize;
+        let Some(named) = named else {
+            return Ok(most);
+        };
+        let asked = named.max(1);
+        if asked > most {
+            return Err(SubscriberCreateError::BufferSizeExceedsMaxSupportedBufferSizeOfService);
+        }
+        Ok(asked)
     }
 }
