@@ -7,7 +7,7 @@ use Rattle.iox_domain_settings.specs.Sizes.{sizes}
 use Rattle.iox_domain_ports.specs.Ports.{no_ports}
 use Rattle.iox_domain_ports.specs.declared.service_ports.ServicePorts.{ServicePorts}
 use Rattle.iox_domain.specs.declared.domain.Domain.{Domain}
-use Rattle.iox_domain.specs.declared.domain.DomainId.{DomainId}
+use Rattle.iox_domain_home.specs.declared.domain_id.DomainId.{DomainId}
 
 -- A domain without ports, of the sizes that are agreed in the settings of a publish-subscribe service.
 pub record IsNewDomain {T U X Y : Type 0} {F : X → Type 0} {G : Y → Type 0} (which : DomainId) (expired_connection_buffer : ℕ) (settings : Settings) (domain : Domain T U X Y F G) : Type 0 where

@@ -1,19 +1,25 @@
 -- Who decides for a port.
-use Rattle.std.specs.Prelude.{ℕ, ◌≡◌, Option, None, Some, Result, Err, option_map}
-use Rattle.iox_domain_values.specs.declared.port_error.SendError.{SendError}
-use Rattle.iox_domain_publisher.specs.declared.meeting.Sent.{Sent}
-use Rattle.iox_domain_subscriber.specs.Publishers.{port_of}
-use Rattle.iox_domain_ports.specs.Ports.{AtPublisher}
-use Rattle.iox_domain_ports.specs.Publishing.{RefusesOne}
-use Rattle.iox_domain_ports.specs.declared.service_ports.ServicePorts.{ServicePorts}
+use Rattle.std.specs.Prelude.{ℕ, List, Option, None, Some}
+use Rattle.iox_domain_values.specs.declared.backpressure_strategy.BackpressureStrategy.TheVariants.{RetryUntilDelivered}
+use Rattle.iox_domain_values.specs.declared.degradation.DegradationAction.TheVariants.{Warn}
+use Rattle.iox_domain_values.specs.declared.degradation_handler.DegradationHandler.{DegradationHandler}
+use Rattle.iox_domain_values.specs.declared.degradation_handler.DegradationHandler.TheVariants.{Fixed}
+use Rattle.iox_domain_publisher.specs.declared.handlers.Handlers.{Handlers}
+use Rattle.iox_domain.specs.Kept.{kept_under}
 
--- What a call does that asks who decides for a port: nothing where nobody does.
-abbrev pub Asked : {H S A : Type 0} → Option H → (H → S → Option A → S → Type 0) → S → Option A → S → Type 0
-Asked None step old answer new = (answer ≡ None) × (new ≡ old)
-Asked (Some kept) step old answer new = step kept old answer new
+-- a value, or what stands for none
+abbrev pub or_else : {H : Type 0} → H → Option H → H
+or_else default None = default
+or_else default (Some value) = value
 
--- A send asks who decides for its publisher; where nobody does, since it left, the send is refused.
-abbrev pub SendAsked : {H T U : Type 0} → ℕ → ℕ → Option H → (H → ServicePorts T U → Option (Result Sent SendError) → ServicePorts T U → Type 0) → ServicePorts T U → Option (Result Sent SendError) → ServicePorts T U → Type 0
-SendAsked number slot None step old answer new =
-    (refused : Option SendError) × AtPublisher number (RefusesOne slot) (port_of number old.publishers) old refused new × (answer ≡ option_map Err refused)
-SendAsked number slot (Some kept) step old answer new = step kept old answer new
+-- who decides for a publisher where nobody is named: a send waits at a full mailbox, and a connection that fails is passed over with a warning
+abbrev pub default_handlers : {X Y : Type 0} {F : X → Type 0} {G : Y → Type 0} → Handlers X Y F G
+default_handlers = record { strategy = RetryUntilDelivered; backpressure = None; degradation = Fixed Warn }
+
+-- who decides for the publisher of a number
+abbrev pub handlers_of : {X Y : Type 0} {F : X → Type 0} {G : Y → Type 0} → ℕ → List (ℕ × Handlers X Y F G) → Handlers X Y F G
+handlers_of number handlers = or_else default_handlers (kept_under number handlers)
+
+-- who decides for the subscriber of a number
+abbrev pub handler_of : {X : Type 0} {F : X → Type 0} → ℕ → List (ℕ × DegradationHandler X F) → DegradationHandler X F
+handler_of number handlers = or_else (Fixed Warn) (kept_under number handlers)

@@ -3,3 +3,5 @@ pub mod Handling
 pub mod Domains
 pub mod Publishing
 pub mod Subscribing
+pub mod Homes
+pub mod HomeLaws

@@ -8,21 +8,13 @@ use crate::kept::Kept;
 use iox_describe_base::{TypeVariant, ZeroCopySend};
 use iox_describe_settings::publish_subscribe::StaticConfig;
 use iox_describe_settings::{Description, Settings};
+use iox_domain_home::DomainId;
 use iox_domain_ports::ServicePorts;
 use iox_domain_publisher::Handlers;
 use iox_domain_settings::{fits, sizes_of};
 use iox_domain_values::{DegradationHandler, DomainError};
 use iox_queues_base::Words;
 use std::alloc::{AllocError, Global};
-
-/// Which domain it is.
-#[derive(Clone, Copy, Debug, PartialEq, Eq)]
-pub struct DomainId {
-    /// The number of its hub: 0 where it stands alone.
-    pub hub: u64,
-    /// The number of its service.
-    pub service: u64,
-}
 
 /// One publish-subscribe service: its ports, and who decides for them.
 ///

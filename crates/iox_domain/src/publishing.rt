@@ -5,11 +5,11 @@ ghost use Rattle.iox_domain_values.specs.DegradationAnswers.{Allowed};
 ghost use Rattle.iox_domain_values.specs.declared.degradation.DegradationCause.TheVariants as cause;
 ghost use Rattle.iox_domain_publisher.specs.Answers.{MayDecide};
 ghost use Rattle.iox_domain_subscriber.specs.Publishers.{port_of};
+ghost use Rattle.iox_domain_ports.specs.Lending.{LoansOne};
 ghost use Rattle.iox_domain_ports.specs.Ports.{AtPublisher};
 ghost use Rattle.iox_domain_ports.specs.Publishing.{UpdatesOne, SendsOne, RetriesOne, LeavesAt};
 ghost use Rattle.iox_domain.specs.Domains.{with_ports};
-ghost use Rattle.iox_domain.specs.Handling.{Asked, SendAsked};
-ghost use Rattle.iox_domain.specs.Kept.{kept_under};
+ghost use Rattle.iox_domain.specs.Handling.{handlers_of, default_handlers};
 ghost use Rattle.iox_domain.specs.Publishing.{MakesPublisher, kept_unless};
 
 use crate::domain::Domain;
@@ -19,7 +19,8 @@ use iox_domain_values::backpressure_handler::BackpressureFn;
 use iox_domain_values::degradation_handler::DegradationFn;
 use iox_domain_values::samples_override::PreallocatedSamplesFn;
 use iox_domain_values::{
-    ConnectionFailure, PreallocatedSamplesOverride, PublisherCreateError, SendError,
+    BackpressureStrategy, ConnectionFailure, DegradationAction, DegradationHandler, LoanError,
+    PreallocatedSamplesOverride, PublisherCreateError, SendError,
 };
 use std::alloc::Global;
 
@@ -64,6 +65,22 @@ impl<T: Copy, U: Copy> Domain<T, U> {
         }
     }
 
+    /// The publisher lends a slot for so many values and elements: `ServicePorts::loan` says what that does.
+    ///
+    /// Ported from `iceoryx2::port::publisher::Publisher::loan_slice_uninit`.
+    pub fn loan(
+        &mut self,
+        alloc: Global,
+        number: u64,
+        values: usize,
+        elements: u64,
+    ) -> Option<Result<usize, LoanError>>
+        ensures loans { AtPublisher number (LoansOne values elements) (port_of number self.old.ports.publishers) self.old.ports result self.new.ports }
+        ensures rest { self.new ≡ with_ports self.new.ports self.old }
+    {
+        self.ports.loan(alloc, number, values, elements, self.blank)
+    }
+
     /// The publisher follows the list of subscribers: `ServicePorts::update_publisher` says what that does.
     ///
     /// Ported from `iceoryx2::port::publisher::Publisher::update_connections`.
@@ -72,12 +89,19 @@ impl<T: Copy, U: Copy> Domain<T, U> {
         alloc: Global,
         number: u64,
     ) -> Option<Result<(), ConnectionFailure>>
-        ensures updates { Asked (kept_under number self.old.publisher_handlers) (λ kept. AtPublisher number (UpdatesOne (Allowed (λ object. (⟦<dyn DegradationFn as DegradationFn>⟧ object.vtable).allows object.value) kept.degradation cause.FailedToEstablishConnection) self.old.ports.subscriber_list) (port_of number self.old.ports.publishers)) self.old.ports result self.new.ports }
+        ensures updates { AtPublisher number (UpdatesOne (Allowed (λ object. (⟦<dyn DegradationFn as DegradationFn>⟧ object.vtable).allows object.value) (handlers_of number self.old.publisher_handlers).degradation cause.FailedToEstablishConnection) self.old.ports.subscriber_list) (port_of number self.old.ports.publishers) self.old.ports result self.new.ports }
         ensures rest { self.new ≡ with_ports self.new.ports self.old }
     {
-        let kept = self.publisher_handlers.get(number)?;
-        self.ports
-            .update_publisher(alloc, number, &kept.degradation)
+        match self.publisher_handlers.get(number) {
+            Some(kept) => self
+                .ports
+                .update_publisher(alloc, number, &kept.degradation),
+            None => self.ports.update_publisher(
+                alloc,
+                number,
+                &DegradationHandler::Fixed(DegradationAction::Warn),
+            ),
+        }
     }
 
     /// The publisher sends the written loan in a slot: `ServicePorts::send` says what that does and answers.
@@ -89,24 +113,26 @@ impl<T: Copy, U: Copy> Domain<T, U> {
         number: u64,
         slot: usize,
     ) -> Option<Result<Sent, SendError>>
-        ensures sends { SendAsked number slot (kept_under number self.old.publisher_handlers) (λ kept. AtPublisher number (SendsOne (Allowed (λ object. (⟦<dyn DegradationFn as DegradationFn>⟧ object.vtable).allows object.value) kept.degradation cause.FailedToEstablishConnection) (MayDecide (λ object. (⟦<dyn BackpressureFn as BackpressureFn>⟧ object.vtable).allows object.value) kept.strategy kept.backpressure) self.old.ports.subscriber_list slot) (port_of number self.old.ports.publishers)) self.old.ports result self.new.ports }
+        ensures sends { AtPublisher number (SendsOne (Allowed (λ object. (⟦<dyn DegradationFn as DegradationFn>⟧ object.vtable).allows object.value) (handlers_of number self.old.publisher_handlers).degradation cause.FailedToEstablishConnection) (MayDecide (λ object. (⟦<dyn BackpressureFn as BackpressureFn>⟧ object.vtable).allows object.value) (handlers_of number self.old.publisher_handlers).strategy (handlers_of number self.old.publisher_handlers).backpressure) self.old.ports.subscriber_list slot) (port_of number self.old.ports.publishers) self.old.ports result self.new.ports }
         ensures rest { self.new ≡ with_ports self.new.ports self.old }
     {
-        let Some(kept) = self.publisher_handlers.get(number) else {
-            return self.ports.refuse_send(number, slot).map(Err);
-        };
-        self.ports.send(alloc, number, slot, kept)
+        match self.publisher_handlers.get(number) {
+            Some(kept) => self.ports.send(alloc, number, slot, kept),
+            None => self.ports.send(alloc, number, slot, &default_handlers()),
+        }
     }
 
     /// Tries the place again at which the publisher's send waits, after so many nanoseconds: `ServicePorts::retry` says what that does.
     ///
     /// This port's own: `iceoryx2::port::publisher::Publisher::send` waits itself.
     pub fn retry(&mut self, number: u64, elapsed: u64) -> Option<Result<Sent, SendError>>
-        ensures retries { Asked (kept_under number self.old.publisher_handlers) (λ kept. AtPublisher number (RetriesOne (MayDecide (λ object. (⟦<dyn BackpressureFn as BackpressureFn>⟧ object.vtable).allows object.value) kept.strategy kept.backpressure) elapsed) (port_of number self.old.ports.publishers)) self.old.ports result self.new.ports }
+        ensures retries { AtPublisher number (RetriesOne (MayDecide (λ object. (⟦<dyn BackpressureFn as BackpressureFn>⟧ object.vtable).allows object.value) (handlers_of number self.old.publisher_handlers).strategy (handlers_of number self.old.publisher_handlers).backpressure) elapsed) (port_of number self.old.ports.publishers) self.old.ports result self.new.ports }
         ensures rest { self.new ≡ with_ports self.new.ports self.old }
     {
-        let kept = self.publisher_handlers.get(number)?;
-        self.ports.retry(number, elapsed, kept)
+        match self.publisher_handlers.get(number) {
+            Some(kept) => self.ports.retry(number, elapsed, kept),
+            None => self.ports.retry(number, elapsed, &default_handlers()),
+        }
     }
 
     /// The publisher leaves: `ServicePorts::leave_publisher` says what that does. Who decided for it is dropped.
@@ -121,5 +147,16 @@ impl<T: Copy, U: Copy> Domain<T, U> {
             self.publisher_handlers.forget(number);
         }
         left
+    }
+}
+
+// Who decides for a publisher where nobody is named. Its variants are named here: to call what makes them would count as making an object.
+fn default_handlers() -> Handlers
+    ensures { result ≡ default_handlers }
+{
+    Handlers {
+        strategy: BackpressureStrategy::RetryUntilDelivered,
+        backpressure: None,
+        degradation: DegradationHandler::Fixed(DegradationAction::Warn),
     }
 }

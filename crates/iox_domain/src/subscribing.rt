@@ -6,8 +6,7 @@ ghost use Rattle.iox_domain_ports.specs.Ports.{AtSubscriber};
 ghost use Rattle.iox_domain_ports.specs.Subscribers.{subscriber_of};
 ghost use Rattle.iox_domain_ports.specs.Subscribing.{UpdatesOne, HasSamplesOne, ReceivesOne, LeavesAt};
 ghost use Rattle.iox_domain.specs.Domains.{with_ports};
-ghost use Rattle.iox_domain.specs.Handling.{Asked};
-ghost use Rattle.iox_domain.specs.Kept.{kept_under};
+ghost use Rattle.iox_domain.specs.Handling.{handler_of};
 ghost use Rattle.iox_domain.specs.Publishing.{kept_unless};
 ghost use Rattle.iox_domain.specs.Subscribing.{MakesSubscriber};
 
@@ -16,7 +15,7 @@ use iox_domain_ports::SubscriberConfig;
 use iox_domain_subscriber::Taken;
 use iox_domain_values::degradation_handler::DegradationFn;
 use iox_domain_values::{
-    ConnectionFailure, DegradationHandler, ReceiveError, SubscriberCreateError,
+    ConnectionFailure, DegradationAction, DegradationHandler, ReceiveError, SubscriberCreateError,
 };
 use std::alloc::Global;
 
@@ -59,11 +58,17 @@ impl<T: Copy, U: Copy> Domain<T, U> {
         alloc: Global,
         number: u64,
     ) -> Option<Result<(), ConnectionFailure>>
-        ensures updates { Asked (kept_under number self.old.subscriber_handlers) (λ kept. AtSubscriber number (UpdatesOne (Allowed (λ object. (⟦<dyn DegradationFn as DegradationFn>⟧ object.vtable).allows object.value) kept cause.FailedToEstablishConnection) self.old.ports.publisher_list) (subscriber_of number self.old.ports.subscribers)) self.old.ports result self.new.ports }
+        ensures updates { AtSubscriber number (UpdatesOne (Allowed (λ object. (⟦<dyn DegradationFn as DegradationFn>⟧ object.vtable).allows object.value) (handler_of number self.old.subscriber_handlers) cause.FailedToEstablishConnection) self.old.ports.publisher_list) (subscriber_of number self.old.ports.subscribers) self.old.ports result self.new.ports }
         ensures rest { self.new ≡ with_ports self.new.ports self.old }
     {
-        let kept = self.subscriber_handlers.get(number)?;
-        self.ports.update_subscriber(alloc, number, kept)
+        match self.subscriber_handlers.get(number) {
+            Some(kept) => self.ports.update_subscriber(alloc, number, kept),
+            None => self.ports.update_subscriber(
+                alloc,
+                number,
+                &DegradationHandler::Fixed(DegradationAction::Warn),
+            ),
+        }
     }
 
     /// Whether some connection of the subscriber has data: `ServicePorts::has_samples` says what that does.
@@ -74,11 +79,17 @@ impl<T: Copy, U: Copy> Domain<T, U> {
         alloc: Global,
         number: u64,
     ) -> Option<Result<bool, ConnectionFailure>>
-        ensures has { Asked (kept_under number self.old.subscriber_handlers) (λ kept. AtSubscriber number (HasSamplesOne (Allowed (λ object. (⟦<dyn DegradationFn as DegradationFn>⟧ object.vtable).allows object.value) kept cause.FailedToEstablishConnection) self.old.ports.publisher_list) (subscriber_of number self.old.ports.subscribers)) self.old.ports result self.new.ports }
+        ensures has { AtSubscriber number (HasSamplesOne (Allowed (λ object. (⟦<dyn DegradationFn as DegradationFn>⟧ object.vtable).allows object.value) (handler_of number self.old.subscriber_handlers) cause.FailedToEstablishConnection) self.old.ports.publisher_list) (subscriber_of number self.old.ports.subscribers) self.old.ports result self.new.ports }
         ensures rest { self.new ≡ with_ports self.new.ports self.old }
     {
-        let kept = self.subscriber_handlers.get(number)?;
-        self.ports.has_samples(alloc, number, kept)
+        match self.subscriber_handlers.get(number) {
+            Some(kept) => self.ports.has_samples(alloc, number, kept),
+            None => self.ports.has_samples(
+                alloc,
+                number,
+                &DegradationHandler::Fixed(DegradationAction::Warn),
+            ),
+        }
     }
 
     /// The subscriber receives: `ServicePorts::receive` says which message comes, and when it is refused.
@@ -89,11 +100,17 @@ impl<T: Copy, U: Copy> Domain<T, U> {
         alloc: Global,
         number: u64,
     ) -> Option<Result<Option<Taken>, ReceiveError>>
-        ensures receives { Asked (kept_under number self.old.subscriber_handlers) (λ kept. AtSubscriber number (ReceivesOne (Allowed (λ object. (⟦<dyn DegradationFn as DegradationFn>⟧ object.vtable).allows object.value) kept cause.FailedToEstablishConnection) self.old.ports.publisher_list) (subscriber_of number self.old.ports.subscribers)) self.old.ports result self.new.ports }
+        ensures receives { AtSubscriber number (ReceivesOne (Allowed (λ object. (⟦<dyn DegradationFn as DegradationFn>⟧ object.vtable).allows object.value) (handler_of number self.old.subscriber_handlers) cause.FailedToEstablishConnection) self.old.ports.publisher_list) (subscriber_of number self.old.ports.subscribers) self.old.ports result self.new.ports }
         ensures rest { self.new ≡ with_ports self.new.ports self.old }
     {
-        let kept = self.subscriber_handlers.get(number)?;
-        self.ports.receive(alloc, number, kept)
+        match self.subscriber_handlers.get(number) {
+            Some(kept) => self.ports.receive(alloc, number, kept),
+            None => self.ports.receive(
+                alloc,
+                number,
+                &DegradationHandler::Fixed(DegradationAction::Warn),
+            ),
+        }
     }
 
     /// The subscriber leaves: `ServicePorts::leave_subscriber` says what that does. Who decided for it is dropped.

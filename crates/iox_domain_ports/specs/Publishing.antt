@@ -7,13 +7,10 @@ use Rattle.iox_domain_values.specs.declared.connection_failure.ConnectionFailure
 use Rattle.iox_domain_values.specs.declared.degradation.DegradationAction.{DegradationAction}
 use Rattle.iox_domain_values.specs.declared.degradation.DegradationInfo.{DegradationInfo}
 use Rattle.iox_domain_values.specs.declared.port_error.SendError.{SendError}
-use Rattle.iox_domain_values.specs.declared.port_error.SendError.TheVariants as sending
-use Rattle.iox_domain_sender.specs.Sending.{is_written_loan}
 use Rattle.iox_domain_publisher.specs.Leaving.{departed}
 use Rattle.iox_domain_publisher.specs.Progress.{tried_again}
 use Rattle.iox_domain_publisher.specs.Sending.{ready_loan, with_progress, concluded, Sends, Finishes}
 use Rattle.iox_domain_publisher.specs.Updating.{Updates}
-use Rattle.iox_domain_publisher.specs.Writing.{loan_of, given_up}
 use Rattle.iox_domain_publisher.specs.declared.meeting.Sent.{Sent}
 use Rattle.iox_domain_publisher.specs.declared.publisher_port.PublisherPort.{PublisherPort}
 use Rattle.iox_domain_publisher.specs.declared.subscriber_entry.SubscriberEntry.{SubscriberEntry}
@@ -44,15 +41,6 @@ UpdatesOne may list port answer after = UpdatesIf (is_free port) may list port a
 abbrev pub SendsOne : {T U : Type 0} → (DegradationInfo → DegradationAction → Type 0) → (BackpressureInfo → BackpressureDecision → Type 0) → RollState SubscriberEntry → ℕ → PublisherPort T U → Option (Result Sent SendError) → PublisherPort T U → Type 0
 SendsOne may_degrade may list slot port answer after =
     (listed : List (Option (Member SubscriberEntry))) × IsListOf listed list × Sends may_degrade may listed list.changes (ready_loan slot port) port answer after
-
--- a publisher that left gives up the written loan in a slot, and another does nothing
-abbrev pub RefusesIf : {T U : Type 0} → Bool → ℕ → PublisherPort T U → Option SendError → PublisherPort T U → Type 0
-RefusesIf false slot port answer after = (answer ≡ None) × (after ≡ port)
-RefusesIf true slot port answer after = (answer ≡ Some sending.ConnectionBrokenSinceSenderNoLongerExists) × (after ≡ given_up slot port)
-
--- The send of the written loan in a slot is refused, by a publisher that left.
-abbrev pub RefusesOne : {T U : Type 0} → ℕ → PublisherPort T U → Option SendError → PublisherPort T U → Type 0
-RefusesOne slot port answer after = RefusesIf (not port.stands && is_written_loan (loan_of slot port)) slot port answer after
 
 -- the send that waits is tried again, if one waits
 abbrev pub RetriesIf : {T U : Type 0} → Bool → (BackpressureInfo → BackpressureDecision → Type 0) → ℕ → PublisherPort T U → Option (Result Sent SendError) → PublisherPort T U → Type 0

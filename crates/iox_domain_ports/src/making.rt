@@ -207,7 +207,7 @@ impl<T: Copy, U: Copy> ServicePorts<T, U> {
 
     /// Why a subscriber that asks for such a buffer isn't made, if it isn't: for want of memory where nothing else forbids it.
     pub fn subscriber_refusal(&self, buffer_size: Option<usize>) -> SubscriberCreateError
-        ensures { result ≡ subscriber_refusal (buffer_of buffer_size self.now.sizes.subscriber_max_buffer_size) (subscriber_place self.now) }
+        ensures { result ≡ subscriber_refusal (buffer_of buffer_size self.now.sizes) (subscriber_place self.now) }
     {
         match self.sizes.buffer_size(buffer_size) {
             Err(refusal) => refusal,

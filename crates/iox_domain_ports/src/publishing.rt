@@ -5,7 +5,7 @@ ghost use Rattle.iox_domain_values.specs.declared.degradation.DegradationCause.T
 ghost use Rattle.iox_domain_publisher.specs.Answers.{MayDecide};
 ghost use Rattle.iox_domain_subscriber.specs.Publishers.{port_of};
 ghost use Rattle.iox_domain_ports.specs.Ports.{AtPublisher};
-ghost use Rattle.iox_domain_ports.specs.Publishing.{UpdatesOne, SendsOne, RetriesOne, GivesUpOne, LeavesOne, LeavesAt, RefusesOne};
+ghost use Rattle.iox_domain_ports.specs.Publishing.{UpdatesOne, SendsOne, RetriesOne, GivesUpOne, LeavesOne, LeavesAt};
 
 use crate::roll::Roll;
 use crate::service_ports::ServicePorts;
@@ -51,18 +51,6 @@ impl<T: Copy, U: Copy> ServicePorts<T, U> {
         let outcome = send_one(port, alloc, slot, &self.subscriber_list, handlers)?;
         self.publishers.settle(number);
         Some(outcome)
-    }
-
-    /// Refuses the send of the written loan in a slot of a publisher that left, and gives the loan up: what `send` does there, which asks
-    /// nobody. None, and nothing happens, where the number is none of a publisher that left, and where no written loan of it stands in the
-    /// slot.
-    pub fn refuse_send(&mut self, number: u64, slot: usize) -> Option<SendError>
-        ensures { AtPublisher number (RefusesOne slot) (port_of number self.old.publishers) self.old result self.new }
-    {
-        let port = self.publishers.get_mut(number)?;
-        let refused = refuse_one(port, slot)?;
-        self.publishers.settle(number);
-        Some(refused)
     }
 
     /// Tries the place again at which the publisher's send waits, after so many nanoseconds, and goes on. Answers as `send` does. None,
@@ -144,18 +132,6 @@ fn send_one<T: Copy, U: Copy>(
     ensures none { result ≡ None → port.new ≡ port.old }
 {
     port.send(alloc, slot, list.listed(), list.changes(), handlers)
-}
-
-// A publisher that left gives the written loan in a slot up.
-fn refuse_one<T: Copy, U: Copy>(port: &mut PublisherPort<T, U>, slot: usize) -> Option<SendError>
-    ensures refuses { RefusesOne slot port.old result port.new }
-    ensures none { result ≡ None → port.new ≡ port.old }
-{
-    if port.stands || !port.is_written(slot) {
-        return None;
-    }
-    port.drop_loan_in(slot);
-    Some(SendError::ConnectionBrokenSinceSenderNoLongerExists)
 }
 
 // A publisher tries its send again, if one waits.
