@@ -93,7 +93,7 @@ nones zero i = refl
 nones (suc n) zero = refl
 nones (suc n) (suc i) = nones n i
 
-still : (ties : List (Option ℕ)) (n i : ℕ) → get_or (ties ++ replicate n None) i None ≡ get_or ties i None
+pub still : (ties : List (Option ℕ)) (n i : ℕ) → get_or (ties ++ replicate n None) i None ≡ get_or ties i None
 still [] n i = nones n i
 still (tie ∷ ties) n zero = refl
 still (tie ∷ ties) n (suc i) = still ties n i
@@ -110,7 +110,7 @@ leaves_tied place tie old between new leaves ties readers = record {
 }
 
 -- greeting a subscriber changes neither ties nor readers
-greeted_same : {T U : Type 0} (index : ℕ) (live : Bool) (waiting : List (Message T U)) (port : PublisherPort T U)
+pub greeted_same : {T U : Type 0} (index : ℕ) (live : Bool) (waiting : List (Message T U)) (port : PublisherPort T U)
     → ((if live then greeted_at index waiting port else port).ties ≡ port.ties) × ((if live then greeted_at index waiting port else port).readers ≡ port.readers)
 greeted_same index false waiting port = (refl, refl)
 greeted_same index true [] port = (refl, refl)

@@ -5,6 +5,7 @@ pub mod Parting
 pub mod Reaching
 pub mod Beginning
 pub mod Joining
+pub mod Listing
 pub mod Enough
 pub mod Lent
 pub mod Finding

@@ -8,5 +8,6 @@ pub mod Loaning
 pub mod Writing
 pub mod Leaving
 pub mod Laws
+pub mod UpdateLaws
 pub mod Memory
 pub mod LoanLaws

@@ -1,5 +1,5 @@
 -- A publisher follows the list of subscribers.
-use Rattle.std.specs.Prelude.{ℕ, ◌+◌, ◌==◌, ◌≡◌, ◌||◌, min, nat_le, is_ok, is_none, Bool, true, false, List, [], ◌∷◌, length, get_or, set, Option, None, Some, Result, Ok, Err}
+use Rattle.std.specs.Prelude.{zero, suc, ℕ, ◌+◌, ◌-◌, ◌==◌, ◌≡◌, ◌||◌, min, nat_le, is_ok, is_none, Bool, true, false, List, [], ◌∷◌, length, get_or, set, Option, None, Some, Result, Ok, Err}
 use Rattle.std.specs.declared.alloc.AllocError.{AllocError}
 use Rattle.iox_domain_values.specs.declared.connection_failure.ConnectionFailure.{ConnectionFailure}
 use Rattle.iox_domain_values.specs.declared.connection_failure.ConnectionFailure.TheVariants.{FailedToEstablishConnection}
@@ -26,6 +26,11 @@ let_go_of place (Some index) port = ended_at index (record port { ties = set por
 -- the subscriber of a place left: its connection ends
 abbrev pub untied : {T U : Type 0} → ℕ → PublisherPort T U → PublisherPort T U
 untied place port = let_go_of place (get_or port.ties place None) port
+
+-- so many places from one on list nobody: their connections end
+abbrev pub untied_from : {T U : Type 0} → ℕ → ℕ → PublisherPort T U → PublisherPort T U
+untied_from zero place port = port
+untied_from (suc count) place port = untied_from count (place + 1) (untied place port)
 
 -- the place is one of those that may be tied
 abbrev pub within_reach : {T U : Type 0} → ℕ → PublisherPort T U → PublisherPort T U
@@ -86,9 +91,10 @@ Asks may None port found false after = after ≡ found
 Asks may (Some member) port found false after =
     (action : DegradationAction) × may (told_of member.value port) action × (after ≡ first_failure found no_memory action)
 
--- The places from one on are followed, one after the other; the answer is the first failure that is to fail the call.
+-- The places from one on are followed, one after the other, and those behind the end of the list as places that list nobody; the
+-- answer is the first failure that is to fail the call.
 abbrev pub FollowsAll : {T U : Type 0} → (DegradationInfo → DegradationAction → Type 0) → ℕ → List (Option (Member SubscriberEntry)) → Option ConnectionFailure → PublisherPort T U → Result (Unit {0}) ConnectionFailure → PublisherPort T U → Type 0
-FollowsAll may place [] found old answer new = (answer ≡ update_answer found) × (new ≡ old)
+FollowsAll may place [] found old answer new = (answer ≡ update_answer found) × (new ≡ untied_from (length old.ties - place) place old)
 FollowsAll {T} {U} may place (listed ∷ rest) found old answer new =
     (outcome : Result (Unit {0}) AllocError) × (next : PublisherPort T U) × (after : Option ConnectionFailure)
     × Follows place listed old outcome next × Asks may listed next found (is_ok outcome) after

@@ -1,11 +1,11 @@
 //! A publisher follows the list of subscribers.
-ghost use Rattle.std.specs.Prelude.{◌≡◌, ℕ, ◌+◌, ◌<◌, ◌≤◌, ◌^◌, Ok, IfOk, OnErr, length, get_or, None, Some};
+ghost use Rattle.std.specs.Prelude.{◌≡◌, ℕ, ◌+◌, ◌-◌, ◌<◌, ◌≤◌, ◌^◌, Ok, IfOk, OnErr, length, get_or, None, Some};
 ghost use Rattle.iox_domain_values.specs.DegradationAnswers.{Allowed};
 ghost use Rattle.iox_domain_values.specs.declared.degradation.DegradationCause.TheVariants as cause;
 ghost use Rattle.iox_domain_publisher.specs.Places.{leads_to};
 ghost use Rattle.iox_domain_publisher.specs.Ports.{with_connections};
 ghost use Rattle.iox_domain_publisher.specs.Memory.{HasRoom};
-ghost use Rattle.iox_domain_publisher.specs.Updating.{is_tie_to, untied, within_reach, Ties, Follows, first_failure, update_answer, told_of, Updates, FollowsAll, Asks, OnlyConnections};
+ghost use Rattle.iox_domain_publisher.specs.Updating.{is_tie_to, untied, untied_from, within_reach, Ties, Follows, first_failure, update_answer, told_of, Updates, FollowsAll, Asks, OnlyConnections};
 
 use crate::publisher_port::PublisherPort;
 use crate::reader::Reader;
@@ -39,6 +39,16 @@ impl<T: Copy, U: Copy> PublisherPort<T, U> {
         };
         self.ties.put(place, None);
         self.end(index);
+    }
+
+    // Lets go of the connections that the places from one on are tied to.
+    fn untie_from(&mut self, first: usize)
+        ensures untied { self.new ≡ untied_from (length self.old.ties - first) first self.old }
+        ensures same { OnlyConnections self.old self.new }
+    {
+        for place in first..self.ties.len() {
+            self.untie(place);
+        }
     }
 
     /// Reaches a place of the list of subscribers, so that following a subscriber there takes no memory where its connection is
@@ -135,7 +145,7 @@ impl<T: Copy, U: Copy> PublisherPort<T, U> {
         )
     }
 
-    // Follows each place of the list.
+    // Follows each place of the list, and lets go of what places behind its end are tied to.
     fn follow_all(
         &mut self,
         alloc: Global,
@@ -150,11 +160,12 @@ impl<T: Copy, U: Copy> PublisherPort<T, U> {
             let outcome = self.follow(alloc, place, listed[place]);
             found = self.ask(&listed[place], outcome.is_ok(), found, handler);
         }
+        self.untie_from(listed.len());
         answer_of(found)
     }
 
     /// Follows the list of subscribers, if it changed since it was last followed: the connections of those that left end, and those
-    /// that came are connected, and get what they may of the history. Where a connection isn't made the handler is asked; the answer is
+    /// that came are connected, and get what they may of the history. A place behind the end of the list lists nobody. Where a connection isn't made the handler is asked; the answer is
     /// the first failure that it degrades and fails, after all places were tried. A connection fails only where memory is wanting, and
     /// takes none where it is there already and its place is reached.
     ///
