@@ -1,5 +1,6 @@
 -- A further segment of slots.
-use Rattle.std.proofs.Common.{rules, arith, ◌≡◌, ◌≤◌, ◌+◌, ◌-◌, ◌∷◌, [], ◌++◌, ℕ, zero, suc, Bool, if◌then◌else◌, List, length, length-append, get_or, take, replicate, Result, Ok, Err, IsOk, is_ok, refl, sym, subst, ap, ◌∙◌}
+use Rattle.std.proofs.Common.{rules, arith, ◌≡◌, ◌≤◌, ◌+◌, ◌-◌, ◌∷◌, [], ◌++◌, ℕ, zero, suc, Bool, if◌then◌else◌, List, length, length-append, get_or, take, replicate, Result, Ok, Err, IsOk, is_ok, refl, sym, subst, ap, ◌∙◌, inl, inr}
+use Rattle.std.proofs.lemmas.Bool.{cases_lt}
 use Rattle.std.specs.declared.alloc.AllocError.{AllocError}
 use Rattle.std.proofs.lemmas.List.{length-replicate, take_all}
 use Rattle.iox_domain_slots.specs.Uses.{Uses, in_use, segment_opened}
@@ -86,7 +87,10 @@ open_kept {T = T} {U = U} old new uses later room is opened put = subst (IsSende
 pub opened_free : {T U : Type 0} (old new : Store T U) (uses later : Uses ℕ ℕ) → IsSender old uses → later ≡ segment_opened uses
     → (slot : ℕ) → later.first ≤ slot → times slot (in_use (slots_of (seen_sender new later))) ≡ 0
 opened_free old new uses later is opened slot above =
-    let none : times slot (in_use uses) ≡ 0 = omega (arith, is.within slot, above, ap (λ u. u.first) opened) in
+    let none : times slot (in_use uses) ≡ 0 = elim (cases_lt 0 (times slot (in_use uses))) [
+      inl used ↦ absurd (omega (arith, is.within slot used, above, ap (λ u. u.first) opened))
+    | inr unused ↦ omega (arith, unused)
+    ] in
     ap (λ u. times slot (in_use u)) (slots_seen new later) ∙ ap (λ u. times slot (in_use u)) opened ∙ none
 
 -- a list that is filled up to as many more
