@@ -16,7 +16,7 @@ use Rattle.iox_domain_publisher.specs.declared.subscriber_entry.SubscriberEntry.
 pub only_still : {T U : Type 0} (first now next : PublisherPort T U) → OnlyConnections first now → OnlyConnections now next → OnlyConnections first next
 only_still {T} {U} first now next one two = two ∙ ap (changed next) one where
   changed : PublisherPort T U → PublisherPort T U → PublisherPort T U
-  changed after before = record (with_connections after.sender.uses.connections before) { seen = after.seen; ties = after.ties; readers = after.readers }
+  changed after before = record (with_connections after.sender.uses.connections before) { seen = after.seen; ties = after.ties.items; readers = after.readers }
 
 -- Where an update stands before a place: whatever comes of the places that are left comes of all of them.
 pub record Following {T U : Type 0} (may : DegradationInfo → DegradationAction → Type 0) (listed : List (Option (Member SubscriberEntry))) (first : PublisherPort T U)
@@ -47,7 +47,7 @@ following_on may listed first now next place member asked found after outcome is
 pub followed : {T U : Type 0} (may : DegradationInfo → DegradationAction → Type 0) (listed : List (Option (Member SubscriberEntry))) (first now new : PublisherPort T U) (place : ℕ) (found : Option ConnectionFailure)
     (answer : Result (Unit {0}) ConnectionFailure)
     → Following may listed first found now place → place ≤ length listed → length listed ≤ place → answer ≡ update_answer found
-    → new ≡ untied_from (length now.ties - length listed) (length listed) now → FollowsAll may 0 listed None first answer new
+    → new ≡ untied_from (length now.ties.items - length listed) (length listed) now → FollowsAll may 0 listed None first answer new
 followed may listed first now new place found answer so_far within over is_answer is_new =
     let same : length listed ≡ place = omega (arith, within, over) in
     so_far.rest answer new (rw (drop_all place listed over) (is_answer, rw same at is_new))

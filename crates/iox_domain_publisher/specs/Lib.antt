@@ -1,4 +1,5 @@
 pub mod Places
+pub mod Ties
 pub mod Progress
 pub mod Answers
 pub mod Ports
