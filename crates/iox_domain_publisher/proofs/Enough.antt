@@ -1,5 +1,5 @@
 -- An update that finds all that it needs takes no memory.
-use Rattle.std.proofs.Common.{arith, ◌≡◌, ◌≢◌, ◌+◌, ◌-◌, ◌<◌, ◌≤◌, ◌==◌, ◌||◌, ◌++◌, ℕ, zero, suc, Bool, true, false, cond, List, [], ◌∷◌, length, get_or, set, replicate, is_some, is_none, nat_lt, nat_le, Result, Ok, Err, Option, None, Some, refl, sym, ap, ◌∙◌, zero-add, length-append, if◌then◌else◌}
+use Rattle.std.proofs.Common.{arith, ◌≡◌, ◌≢◌, ◌+◌, ◌-◌, ◌<◌, ◌≤◌, ◌==◌, ◌||◌, ◌++◌, ℕ, zero, suc, Bool, true, false, cond, List, [], ◌∷◌, length, get_or, set, replicate, is_some, is_none, nat_lt, nat_le, Result, Ok, Err, Option, None, Some, refl, sym, ap, ◌∙◌, zero-add, if◌then◌else◌}
 use Rattle.std.proofs.lemmas.List.{get_or-set_other, length-set}
 use Rattle.std.proofs.lemmas.List.Folds.{position_or_len-set}
 use Rattle.std.specs.List.{position, position_or_len}

@@ -16,7 +16,7 @@ use Rattle.iox_domain_publisher.specs.declared.subscriber_entry.SubscriberEntry.
 pub only_still : {T U : Type 0} (first now next : PublisherPort T U) → OnlyConnections first now → OnlyConnections now next → OnlyConnections first next
 only_still {T} {U} first now next one two = two ∙ ap (changed next) one where
   changed : PublisherPort T U → PublisherPort T U → PublisherPort T U
-  changed after before = record (with_connections after.sender.uses.connections before) { seen = after.seen; ties = after.ties.items; readers = after.readers }
+  changed after before = record (with_connections after.sender.uses.connections before) { seen = after.seen; ties = after.ties; readers = after.readers }
 
 -- Where an update stands before a place: whatever comes of the places that are left comes of all of them.
 pub record Following {T U : Type 0} (may : DegradationInfo → DegradationAction → Type 0) (listed : List (Option (Member SubscriberEntry))) (first : PublisherPort T U)

@@ -1,7 +1,7 @@
 -- An update goes by who is listed where, wherever its list ends.
-use Rattle.std.proofs.Common.{arith, ◌≡◌, ◌≢◌, ◌+◌, ◌-◌, ◌<◌, ◌≤◌, ◌==◌, ◌++◌, ℕ, zero, suc, Bool, true, false, List, [], ◌∷◌, length, get_or, set, replicate, is_ok, Result, Ok, Err, Option, None, Some, refl, sym, ap, ◌∙◌, if◌then◌else◌, inl, inr}
+use Rattle.std.proofs.Common.{arith, ◌≡◌, ◌≢◌, ◌+◌, ◌-◌, ◌<◌, ◌≤◌, ◌==◌, ℕ, zero, suc, Bool, true, false, List, [], ◌∷◌, length, get_or, set, Result, Ok, Err, Option, None, Some, refl, sym, ap, ◌∙◌, if◌then◌else◌, inl, inr}
 use Rattle.std.proofs.lemmas.Bool.{cases_lt, eqb-true}
-use Rattle.std.proofs.lemmas.List.{get_or-set_other, get_or-set_same, get_or_past, length-set}
+use Rattle.std.proofs.lemmas.List.{get_or-set_other, get_or_past, length-set}
 use Rattle.std.specs.declared.alloc.AllocError.{AllocError}
 use Rattle.iox_index_base.specs.declared.container.Member.{Member}
 use Rattle.iox_domain_values.specs.declared.connection_failure.ConnectionFailure.{ConnectionFailure}
@@ -10,7 +10,7 @@ use Rattle.iox_domain_values.specs.declared.degradation.DegradationInfo.{Degrada
 use Rattle.iox_domain_publisher.specs.Places.{reached}
 use Rattle.iox_domain_publisher.specs.Ties.{tie_put}
 use Rattle.iox_domain_publisher.specs.Ports.{connection_of, connection_to, is_live, Joins}
-use Rattle.iox_domain_publisher.specs.Updating.{is_tie_to, let_go_of, untied, untied_from, within_reach, tied, Ties, Follows, FollowsTo, FollowsAll, UpdatesIf, Updates}
+use Rattle.iox_domain_publisher.specs.Updating.{is_tie_to, let_go_of, untied, untied_from, within_reach, tied, Ties, FollowsTo, FollowsAll, UpdatesIf}
 use Rattle.iox_domain_publisher.specs.UpdateLaws.{TellTheSame, FollowsWhoIsListed}
 use Rattle.iox_domain_publisher.specs.declared.publisher_port.PublisherPort.{PublisherPort}
 use Rattle.iox_domain_publisher.specs.declared.subscriber_entry.SubscriberEntry.{SubscriberEntry}
@@ -107,7 +107,7 @@ ties_others : {T U : Type 0} (place other : ℕ) (entry : SubscriberEntry) (old 
 ties_others place other entry old new (Err error) not ties = ap (λ port. get_or port.ties.items other None) ties.1
 ties_others {T} {U} place other entry old new (Ok done) not ties =
     let (index, joined, joins, is) = ties in
-    let same : joined.ties.items ≡ reached (place + 1) old.ties = joined_ties entry.subscriber _ index (connection_to entry.subscriber old) (within_reach place old) joined joins in
+    let same : joined.ties.items ≡ reached (place + 1) old.ties.items = joined_ties entry.subscriber _ index (connection_to entry.subscriber old) (within_reach place old) joined joins in
     ap (λ port. get_or port.ties.items other None) is ∙ ap (λ all. get_or all other None) (tied_ties place index joined) ∙ get_or-set_other joined.ties.items place other (Some index) None not
     ∙ ap (λ all. get_or all other None) same ∙ still old.ties.items (place + 1 - length old.ties.items) other
 

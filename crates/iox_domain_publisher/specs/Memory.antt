@@ -1,5 +1,5 @@
 -- When an update of a publisher takes no memory.
-use Rattle.std.specs.Prelude.{ℕ, ◌<◌, ◌≡◌, ◌≢◌, is_some, true, false, List, length, get_or, Option, None, Some, Result, Ok}
+use Rattle.std.specs.Prelude.{ℕ, ◌<◌, ◌≡◌, ◌≢◌, is_some, true, false, List, get_or, Option, None, Some, Result, Ok}
 use Rattle.std.specs.declared.alloc.AllocError.{AllocError}
 use Rattle.iox_index_base.specs.declared.container.Member.{Member}
 use Rattle.iox_domain_values.specs.declared.connection_failure.ConnectionFailure.{ConnectionFailure}

@@ -1,5 +1,5 @@
 -- A publisher follows the list of subscribers.
-use Rattle.std.specs.Prelude.{zero, suc, ℕ, ◌+◌, ◌-◌, ◌==◌, ◌≡◌, ◌||◌, min, nat_le, is_ok, is_none, Bool, true, false, List, [], ◌∷◌, length, get_or, set, Option, None, Some, Result, Ok, Err}
+use Rattle.std.specs.Prelude.{zero, suc, ℕ, ◌+◌, ◌-◌, ◌==◌, ◌≡◌, ◌||◌, min, nat_le, is_ok, is_none, Bool, true, false, List, [], ◌∷◌, length, get_or, Option, None, Some, Result, Ok, Err}
 use Rattle.std.specs.declared.alloc.AllocError.{AllocError}
 use Rattle.iox_domain_values.specs.declared.connection_failure.ConnectionFailure.{ConnectionFailure}
 use Rattle.iox_domain_values.specs.declared.connection_failure.ConnectionFailure.TheVariants.{FailedToEstablishConnection}

@@ -14,4 +14,4 @@ pub returns-clause-follows : goal.returns-clause-follows
 returns-clause-follows g c = followed _ _ _ _ _ c.loop-place.place c.loop-place.found _ c.loop-place.invariant (omega (arith, c.loop-place.auto.place-end)) (omega (arith, c.loop-place-test.false)) c.answer_of.ensures c.untie_from.ensures.untied
 
 pub returns-clause-only : goal.returns-clause-only
-returns-clause-only g c = only_still _ _ _ c.loop-place.invariant.only c.untie_from.ensures.same
+returns-clause-only g c = only_still c.args.self.now c.loop-place.self c.untie_from.new.self c.loop-place.invariant.only c.untie_from.ensures.same
