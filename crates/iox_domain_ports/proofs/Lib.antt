@@ -1,3 +1,10 @@
 pub mod Rolling
 pub mod Lifting
 pub mod Coming
+pub mod Keeping
+pub mod PublisherKeeps
+pub mod Numbered
+pub mod Walks
+pub mod ListKeeps
+pub mod Releasing
+pub mod Held

@@ -7,3 +7,5 @@ pub mod Subscribing
 pub mod Making
 pub mod Lending
 pub mod Reading
+pub mod Calls
+pub mod Laws

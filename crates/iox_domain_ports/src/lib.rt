@@ -8,8 +8,10 @@
 //! - [`publishing`]: a publisher follows the subscribers, sends and leaves.
 //! - [`subscribing`]: a subscriber follows the publishers, receives, releases and leaves.
 //! - [`reading`]: what is read of a sample.
+//! - [`laws`]: what the calls come to, in other words.
 #![tactic(auto)]
 
+pub mod laws;
 pub mod lending;
 pub mod making;
 pub mod publishing;

@@ -1,0 +1,139 @@
+-- What a step of a publisher leaves held.
+use Rattle.std.proofs.Common.{arith, ◌≡◌, ◌≢◌, ◌+◌, ◌==◌, ◌∷◌, [], ◌++◌, ℕ, zero, suc, Bool, true, false, List, get_or, set, length, drop, take, position, Option, None, Some, Result, Ok, Err, refl, sym, ap, ◌∙◌, if◌then◌else◌}
+use Rattle.std.specs.List.{find}
+use Rattle.std.specs.Option.{option_or}
+use Rattle.std.proofs.lemmas.List.Folds.{find-append}
+use Rattle.iox_domain_slots.specs.Uses.{Connection, nobody, connected, placed, ended, settled, taken, offered, welcomed}
+use Rattle.iox_domain_slots.specs.declared.stage.Stage.{Stage}
+use Rattle.iox_domain_slots.specs.declared.stage.Stage.TheVariants as stage
+use Rattle.iox_domain_sender.specs.Messages.{Message}
+use Rattle.iox_domain_publisher.specs.Ports.{connection_of, goes_on, is_live, ended_at}
+use Rattle.iox_domain_publisher.specs.declared.publisher_port.PublisherPort.{PublisherPort}
+use Rattle.iox_domain_subscriber.specs.Reading.{borrowed_in}
+
+-- what is held of a connection stays so, and one that there isn't holds nothing if that was so before
+pub record Keeps {T U : Type 0} (old new : Connection (Message T U)) : Type 0 where
+  pub held : (slot : ℕ) (message : Message T U) → borrowed_in slot old ≡ Some message → borrowed_in slot new ≡ Some message
+  pub tidy : (old.stage ≡ stage.Vacant → old ≡ nobody) → new.stage ≡ stage.Vacant → new ≡ nobody
+
+-- so it is at each connection of a publisher
+pub record PortKeeps {T U : Type 0} (old new : PublisherPort T U) : Type 0 where
+  pub each : (index : ℕ) → Keeps (connection_of index old) (connection_of index new)
+
+pub keeps_same : {T U : Type 0} (old new : Connection (Message T U)) → new ≡ old → Keeps old new
+keeps_same old new is = record {
+  held = λ slot message held. ap (λ connection. borrowed_in slot connection) is ∙ held;
+  tidy = λ tidy vacant. is ∙ tidy (ap (λ connection. connection.stage) (sym is) ∙ vacant);
+}
+
+pub port_stays : {T U : Type 0} (port : PublisherPort T U) → PortKeeps port port
+port_stays port = record { each = λ index. keeps_same (connection_of index port) (connection_of index port) refl }
+
+-- the connections are the same
+pub port_same : {T U : Type 0} (old new : PublisherPort T U) → new.sender.uses.connections ≡ old.sender.uses.connections → PortKeeps old new
+port_same old new is = record { each = λ index. keeps_same (connection_of index old) (connection_of index new) (ap (λ all. get_or all index nobody) is) }
+
+pub port_is : {T U : Type 0} (old new : PublisherPort T U) → new ≡ old → PortKeeps old new
+port_is old new is = port_same old new (ap (λ port. port.sender.uses.connections) is)
+
+pub port_on : {T U : Type 0} (old between new : PublisherPort T U) → PortKeeps old between → PortKeeps between new → PortKeeps old new
+port_on old between new one two = record {
+  each = λ index. record {
+    held = λ slot message held. (two.each index).held slot message ((one.each index).held slot message held);
+    tidy = λ tidy. (two.each index).tidy ((one.each index).tidy tidy);
+  };
+}
+
+-- and then it is this one
+pub port_to : {T U : Type 0} (old new other : PublisherPort T U) → other ≡ new → PortKeeps old new → PortKeeps old other
+port_to old new other is keeps = port_on old new other keeps (port_is new other is)
+
+set_keeps : {T U : Type 0} (connections : List (Connection (Message T U))) (index : ℕ) (connection : Connection (Message T U)) → Keeps (get_or connections index nobody) connection → (other : ℕ)
+    → Keeps (get_or connections other nobody) (get_or (set connections index connection) other nobody)
+set_keeps [] index connection keeps other = keeps_same _ _ refl
+set_keeps (x ∷ xs) zero connection keeps zero = keeps
+set_keeps (x ∷ xs) zero connection keeps (suc other) = keeps_same _ _ refl
+set_keeps (x ∷ xs) (suc index) connection keeps zero = keeps_same _ _ refl
+set_keeps (x ∷ xs) (suc index) connection keeps (suc other) = set_keeps xs index connection keeps other
+
+-- one connection changes
+pub port_set : {T U : Type 0} (old new : PublisherPort T U) (index : ℕ) (connection : Connection (Message T U)) → new.sender.uses.connections ≡ set old.sender.uses.connections index connection
+    → Keeps (connection_of index old) connection → PortKeeps old new
+port_set {T} {U} old new index connection is keeps =
+    let changed : PublisherPort T U = record old { sender = record old.sender { uses = record old.sender.uses { connections = set old.sender.uses.connections index connection } } } in
+    port_on old changed new (record { each = set_keeps old.sender.uses.connections index connection keeps }) (port_same changed new is)
+
+-- one that ends keeps what is borrowed
+ended_by : {T U : Type 0} (connection : Connection (Message T U)) (borrowed : List (Message T U)) → connection.borrowed ≡ borrowed → Keeps connection (settled stage.Ended connection.limit [] borrowed)
+ended_by connection [] is = record {
+  held = λ slot message held. let no : None ≡ Some message = ap (λ all. find (λ one. one.slot == slot) all) (sym is) ∙ held in cc;
+  tidy = λ tidy vacant. refl;
+}
+ended_by connection (x ∷ xs) is = record {
+  held = λ slot message held. ap (λ all. find (λ one. one.slot == slot) all) (sym is) ∙ held;
+  tidy = λ tidy vacant. let no : stage.Ended ≡ stage.Vacant = vacant in cc;
+}
+
+pub keeps_ended : {T U : Type 0} (connection : Connection (Message T U)) → Keeps connection (ended connection)
+keeps_ended connection = ended_by connection connection.borrowed refl
+
+-- the oldest that waits is borrowed besides
+still_found : {X : Type 0} (found other : Option X) (x : X) → found ≡ Some x → option_or found other ≡ Some x
+still_found None other x is = cc
+still_found (Some y) other x is = is
+
+pub keeps_taken : {T U : Type 0} (connection : Connection (Message T U)) → Keeps connection (taken connection)
+keeps_taken connection = record {
+  held = λ slot message held. find-append (λ one. one.slot == slot) connection.borrowed (take 1 connection.waiting)
+      ∙ still_found (find (λ one. one.slot == slot) connection.borrowed) (find (λ one. one.slot == slot) (take 1 connection.waiting)) message held;
+  tidy = λ tidy vacant. ap (λ one. taken one) (tidy vacant);
+}
+
+-- a connection that goes on isn't vacant
+not_vacant : (now : Stage) → goes_on now ≡ true → now ≡ stage.Vacant → ⊥
+not_vacant stage.Vacant live vacant = cc
+not_vacant stage.Live live vacant = cc
+not_vacant stage.Ended live vacant = cc
+
+-- only what waits changes, where it goes on
+pub keeps_waiting : {T U : Type 0} (connection : Connection (Message T U)) (waiting : List (Message T U)) → goes_on connection.stage ≡ true → Keeps connection (record connection { waiting = waiting })
+keeps_waiting connection waiting live = record {
+  held = λ slot message held. held;
+  tidy = λ tidy vacant. absurd (not_vacant connection.stage live vacant);
+}
+
+-- a new one comes where there was none
+keeps_new : {T U : Type 0} (old : Connection (Message T U)) (limit : ℕ) → old ≡ nobody → Keeps old (connected limit)
+keeps_new old limit none = record {
+  held = λ slot message held. let no : None ≡ Some message = ap (λ connection. borrowed_in slot connection) (sym none) ∙ held in cc;
+  tidy = λ tidy vacant. let no : stage.Live ≡ stage.Vacant = vacant in cc;
+}
+
+append_keeps : {T U : Type 0} (connections : List (Connection (Message T U))) (limit other : ℕ) → Keeps (get_or connections other nobody) (get_or (connections ++ connected limit ∷ []) other nobody)
+append_keeps [] limit zero = keeps_new nobody limit refl
+append_keeps [] limit (suc other) = keeps_same _ _ refl
+append_keeps (x ∷ xs) limit zero = keeps_same _ _ refl
+append_keeps (x ∷ xs) limit (suc other) = append_keeps xs limit other
+
+placed_by : {T U : Type 0} (behind : Bool) (connections : List (Connection (Message T U))) (index limit other : ℕ) → get_or connections index nobody ≡ nobody
+    → Keeps (get_or connections other nobody) (get_or (if behind then connections ++ connected limit ∷ [] else set connections index (connected limit)) other nobody)
+placed_by true connections index limit other none = append_keeps connections limit other
+placed_by false connections index limit other none = set_keeps connections index (connected limit) (keeps_new (get_or connections index nobody) limit none) other
+
+pub port_placed : {T U : Type 0} (old new : PublisherPort T U) (index limit : ℕ) → connection_of index old ≡ nobody → new.sender.uses.connections ≡ placed index (connected limit) old.sender.uses.connections → PortKeeps old new
+port_placed {T} {U} old new index limit none is =
+    let changed : PublisherPort T U = record old { sender = record old.sender { uses = record old.sender.uses { connections = placed index (connected limit) old.sender.uses.connections } } } in
+    port_on old changed new
+    (record { each = λ other. placed_by (index == length old.sender.uses.connections) old.sender.uses.connections index limit other none }) (port_same changed new is)
+
+either_keeps : {T U : Type 0} (live : Bool) (old one other : PublisherPort T U) → PortKeeps old one → PortKeeps old other → PortKeeps old (if live then one else other)
+either_keeps true old one other keeps_one keeps_other = keeps_one
+either_keeps false old one other keeps_one keeps_other = keeps_other
+
+pub port_if : {T U : Type 0} (live : Bool) (old one other : PublisherPort T U) → (live ≡ true → PortKeeps old one) → (live ≡ false → PortKeeps old other) → PortKeeps old (if live then one else other)
+port_if true old one other keeps_one keeps_other = keeps_one refl
+port_if false old one other keeps_one keeps_other = keeps_other refl
+
+pub port_ended : {T U : Type 0} (index : ℕ) (port : PublisherPort T U) → PortKeeps port (ended_at index port)
+port_ended index port =
+    either_keeps (is_live index port) port _ port (port_set port _ index (ended (connection_of index port)) refl (keeps_ended (connection_of index port))) (port_stays port)
