@@ -8,3 +8,4 @@ pub mod Walks
 pub mod ListKeeps
 pub mod Releasing
 pub mod Held
+pub mod TiedWell
