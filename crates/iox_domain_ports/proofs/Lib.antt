@@ -2,6 +2,7 @@ pub mod Rolling
 pub mod Lifting
 pub mod Coming
 pub mod Keeping
+pub mod Carrying
 pub mod PublisherKeeps
 pub mod Numbered
 pub mod Walks
@@ -9,3 +10,8 @@ pub mod ListKeeps
 pub mod Releasing
 pub mod Held
 pub mod TiedWell
+pub mod WellKept
+pub mod Apart
+pub mod Roomy
+pub mod Once
+pub mod AtMostOnce

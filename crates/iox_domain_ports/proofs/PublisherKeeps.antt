@@ -35,6 +35,7 @@ use Rattle.iox_domain_ports.specs.Lending as lending
 use Rattle.iox_domain_ports.specs.Publishing.{is_blocked, is_free, UpdatesOne, SendsOne, RetriesOne, GivesUpOne}
 use Rattle.iox_domain_ports.specs.Publishing as publishing
 use Rattle.iox_domain_ports.specs.Rolls.{RollState}
+use Rattle.iox_domain_ports.proofs.Carrying.{Carries, carry_loans, carry_changed, carry_given_up, carry_retries, carry_gives_up, carry_sends}
 use Rattle.iox_domain_ports.proofs.Keeping.{PortKeeps, port_stays, port_same, port_is, port_on, port_to, port_set, port_placed, port_if, port_ended, keeps_taken, keeps_waiting}
 
 -- a place is untied
@@ -110,122 +111,29 @@ pub port_updates : {T U : Type 0} (may : DegradationInfo → DegradationAction �
     → Updates may listed changes old answer new → PortKeeps old new
 port_updates may listed changes old new answer updates = port_updates_if (old.seen == changes) may listed changes old new answer updates
 
--- a message comes to a mailbox
-port_message : {T U : Type 0} (index : ℕ) (message : Option (Message T U)) (port : PublisherPort T U) → is_live index port ≡ true → PortKeeps port (with_message index message port)
-port_message index None port live = port_stays port
-port_message index (Some message) port live =
-    port_set port _ index (offered port.sender.uses.overflows message (connection_of index port)) refl (keeps_waiting (connection_of index port) _ live)
-
-port_met : {T U : Type 0} (tie : Option ℕ) (port : PublisherPort T U) → PortKeeps port (met_by tie port)
-port_met None port = port_stays port
-port_met (Some index) port =
-    port_if (is_live index port) port _ port (λ live. port_message index port.sender.uses.sending port live) (λ dead. port_stays port)
-
--- a place is gone over
-port_decided : {T U : Type 0} (decision : BackpressureDecision) (port : PublisherPort T U) → PortKeeps port (decided_by decision port)
-port_decided decided.Retry port = port_stays port
-port_decided decided.DiscardData port = port_same port _ refl
-port_decided decided.DiscardDataAndFail port = port_same port _ refl
-
-port_steps : {T U : Type 0} (may : BackpressureInfo → BackpressureDecision → Type 0) (came : Meeting) (old new : PublisherPort T U) (went : Bool) → Steps may came old went new → PortKeeps old new
-port_steps may meeting.Over old new went steps = port_is old new steps.1
-port_steps may meeting.Passed old new went steps = port_to old _ new steps.1 (port_same old _ refl)
-port_steps may meeting.Delivered old new went steps = port_to old _ new steps.1 (port_same old _ refl)
-port_steps may (meeting.Full subscriber) old new went steps = port_to old _ new steps.3 (port_decided steps.0 old)
-
-port_goes_on : {T U : Type 0} (went arrived : Bool) (next new : PublisherPort T U) (further : Type 0) → (further → PortKeeps next new) → GoesOn went arrived next new further → PortKeeps next new
-port_goes_on false arrived next new further keeps goes = port_is next new goes.1
-port_goes_on true arrived next new further keeps goes = keeps goes
-
-port_delivers : {T U : Type 0} (may : BackpressureInfo → BackpressureDecision → Type 0) (places : ℕ) (old new : PublisherPort T U) (arrived : Bool) → Delivers may places old arrived new → PortKeeps old new
-port_delivers may zero old new arrived delivers = port_is old new delivers.1
-port_delivers {T} {U} may (suc places) old new arrived delivers =
-    let (went, next, steps, goes) = delivers in
-    port_on old next new
-    (port_on old (met old.progress.place old) next (port_met (get_or old.ties.items old.progress.place None) old) (port_steps may (meeting_at old.progress.place old) (met old.progress.place old) next went steps))
-    (port_goes_on went arrived next new (Delivers may places next arrived new) (λ further. port_delivers may places next new arrived further) goes)
-
-pub port_concluded : {T U : Type 0} (arrived : Bool) (port : PublisherPort T U) → PortKeeps port (concluded arrived port)
-port_concluded true port = port_same port _ refl
-port_concluded false port = port_stays port
-
-port_finishes : {T U : Type 0} (may : BackpressureInfo → BackpressureDecision → Type 0) (old new : PublisherPort T U) (answer : Result Sent SendError) → Finishes may old answer new → PortKeeps old new
-port_finishes {T} {U} may old new answer finishes =
-    let (arrived, gone, delivers, is_answer, is_new) = finishes in
-    port_on old gone new (port_delivers may (length old.ties.items - old.progress.place) old gone arrived delivers) (port_to gone (concluded arrived gone) new is_new (port_concluded arrived gone))
-
-port_begun : {T U : Type 0} (at : ℕ) (loan : Option (Loan T U)) (port : PublisherPort T U) → PortKeeps port (begun_by at loan port)
-port_begun at None port = port_stays port
-port_begun at (Some loan) port = port_same port _ refl
-
--- a send
-port_sends_after : {T U : Type 0} (may : BackpressureInfo → BackpressureDecision → Type 0) (at : ℕ) (outcome : Result (Unit {0}) ConnectionFailure) (updated new : PublisherPort T U) (answer : Option (Result Sent SendError))
-    → SendsAfter may at outcome updated answer new → PortKeeps updated new
-port_sends_after may at (Err failure) updated new answer sends = port_to updated (dropped_at at updated) new sends.1 (port_same updated _ refl)
-port_sends_after may at (Ok done) updated new answer sends =
-    port_on updated (begun_at at updated) new (port_begun at (slice_get updated.sender.uses.loans at) updated) (port_finishes may (begun_at at updated) new sends.0 sends.1)
-
-port_sends_if : {T U : Type 0} (stands : Bool) (may_degrade : DegradationInfo → DegradationAction → Type 0) (may : BackpressureInfo → BackpressureDecision → Type 0) (listed : List (Option (Member SubscriberEntry))) (changes at : ℕ)
-    (old new : PublisherPort T U) (answer : Option (Result Sent SendError)) → SendsIf stands may_degrade may listed changes at old answer new → PortKeeps old new
-port_sends_if false may_degrade may listed changes at old new answer sends = port_to old (dropped_at at old) new sends.1 (port_same old _ refl)
-port_sends_if {T} {U} true may_degrade may listed changes at old new answer sends =
-    let (outcome, updated, updates, after) = sends in
-    port_on old updated new (port_updates may_degrade listed changes old updated outcome updates) (port_sends_after may at outcome updated new answer after)
-
-port_sends : {T U : Type 0} (may_degrade : DegradationInfo → DegradationAction → Type 0) (may : BackpressureInfo → BackpressureDecision → Type 0) (listed : List (Option (Member SubscriberEntry))) (changes : ℕ) (ready : Option ℕ)
-    (old new : PublisherPort T U) (answer : Option (Result Sent SendError)) → Sends may_degrade may listed changes ready old answer new → PortKeeps old new
-port_sends may_degrade may listed changes None old new answer sends = port_is old new sends.1
-port_sends may_degrade may listed changes (Some at) old new answer sends = port_sends_if old.stands may_degrade may listed changes at old new answer sends
-
--- a loan
-port_lends_here : {T U : Type 0} (values elements : ℕ) (old new : PublisherPort T U) (answer : Result ℕ LoanError) → LendsHere values elements old answer new → PortKeeps old new
-port_lends_here values elements old new (Ok slot) lends = port_same old new
-    (ap (λ port. port.sender.uses.connections) lends.1 ∙ ap (λ sender. sender.uses.connections) lends.0.3)
-port_lends_here values elements old new (Err error) lends = port_same old new
-    (ap (λ port. port.sender.uses.connections) lends.2 ∙ ap (λ sender. sender.uses.connections) lends.1.1)
-
-port_lends_new : {T U : Type 0} (room values elements : ℕ) (old new : PublisherPort T U) (answer : Result ℕ LoanError) → LendsInNew room values elements old answer new → PortKeeps old new
-port_lends_new {T} {U} room values elements old new answer (inl lends) =
-    let opened : PublisherPort T U = with_sender (opened_for room old.sender) old in
-    port_on old opened new (port_same old opened refl) (port_lends_here values elements opened new answer lends)
-port_lends_new room values elements old new answer (inr lacks) = port_is old new lacks.1
-
-port_lends_beyond : {T U : Type 0} (room : Option ℕ) (more : Bool) (values elements : ℕ) (old new : PublisherPort T U) (answer : Result ℕ LoanError) → LendsBeyond room more values elements old answer new → PortKeeps old new
-port_lends_beyond None more values elements old new answer lends = port_is old new lends.1
-port_lends_beyond (Some room) false values elements old new answer lends = port_is old new lends.1
-port_lends_beyond (Some room) true values elements old new answer lends = port_lends_new room values elements old new answer lends
-
-port_lends_where : {T U : Type 0} (fits : Bool) (allocation : AllocationStrategy) (values elements : ℕ) (old new : PublisherPort T U) (answer : Result ℕ LoanError) → LendsWhere fits allocation values elements old answer new → PortKeeps old new
-port_lends_where true allocation values elements old new answer lends = port_lends_here values elements old new answer lends
-port_lends_where false allocation values elements old new answer lends =
-    port_lends_beyond lends.0 (nat_lt old.sender.segments old.sender.most_segments) values elements old new answer lends.2
-
-port_lends_unless : {T U : Type 0} (refused : Option LoanError) (allocation : AllocationStrategy) (values elements : ℕ) (old new : PublisherPort T U) (answer : Result ℕ LoanError) → LendsUnless refused allocation values elements old answer new → PortKeeps old new
-port_lends_unless (Some error) allocation values elements old new answer lends = port_is old new lends.1
-port_lends_unless None allocation values elements old new answer lends = port_lends_where (nat_le values old.sender.room) allocation values elements old new answer lends
-
-port_loans_if : {T U : Type 0} (sending : Bool) (allocation : AllocationStrategy) (values elements : ℕ) (old new : PublisherPort T U) (answer : Option (Result ℕ LoanError)) → LoansIf sending allocation values elements old answer new → PortKeeps old new
-port_loans_if true allocation values elements old new answer loans = port_is old new loans.1
-port_loans_if false allocation values elements old new answer loans = port_lends_unless (first_refusal allocation values old) allocation values elements old new loans.0 loans.2
-
-port_loans_one : {T U : Type 0} (stands : Bool) (values elements : ℕ) (old new : PublisherPort T U) (answer : Option (Result ℕ LoanError)) → lending.LoansIf stands values elements old answer new → PortKeeps old new
-port_loans_one false values elements old new answer loans = port_is old new loans.1
-port_loans_one true values elements old new answer loans = port_loans_if (is_some old.sender.uses.sending) old.allocation values elements old new answer loans
+-- it is so with each step of a publisher that follows no list
+port_carries : {T U : Type 0} → Carries (λ (old : PublisherPort T U) (new : PublisherPort T U). PortKeeps old new)
+port_carries = record {
+  is = port_is;
+  on = port_on;
+  still = λ old new connections ties readers stands. port_same old new connections;
+  waiting = λ index waiting port live. port_set port _ index (record (connection_of index port) { waiting = waiting }) refl (keeps_waiting (connection_of index port) waiting live);
+}
 
 pub port_loans : {T U : Type 0} (values elements : ℕ) (old new : PublisherPort T U) (answer : Option (Result ℕ LoanError)) → LoansOne values elements old answer new → PortKeeps old new
-port_loans values elements old new answer loans = port_loans_one old.stands values elements old new answer loans
+port_loans values elements old new answer loans = carry_loans port_carries values elements old new answer loans
 
--- what lies in a loan is written, or it is given up
 pub port_changed : {T U : Type 0} (allowed : Bool) (slot : ℕ) (change : Loan T U → Loan T U) (port : PublisherPort T U) → PortKeeps port (changed_if allowed slot change port)
-port_changed true slot change port = port_same port _ refl
-port_changed false slot change port = port_stays port
-
-port_given_up_at : {T U : Type 0} (at : Option ℕ) (port : PublisherPort T U) → PortKeeps port (given_up_at at port)
-port_given_up_at None port = port_stays port
-port_given_up_at (Some at) port = port_same port _ refl
+port_changed allowed slot change port = carry_changed port_carries allowed slot change port
 
 pub port_given_up : {T U : Type 0} (slot : ℕ) (port : PublisherPort T U) → PortKeeps port (given_up slot port)
-port_given_up slot port = port_given_up_at (place_of slot port) port
+port_given_up slot port = carry_given_up port_carries slot port
+
+pub port_retries : {T U : Type 0} (may : BackpressureInfo → BackpressureDecision → Type 0) (elapsed : ℕ) (old new : PublisherPort T U) (answer : Option (Result Sent SendError)) → RetriesOne may elapsed old answer new → PortKeeps old new
+port_retries may elapsed old new answer retries = carry_retries port_carries may elapsed old new answer retries
+
+pub port_gives_up : {T U : Type 0} (old new : PublisherPort T U) (answer : Option ℕ) → GivesUpOne old answer new → PortKeeps old new
+port_gives_up old new answer gives = carry_gives_up port_carries old new answer gives
 
 -- it leaves
 port_parted : {T U : Type 0} (index : ℕ) (port : PublisherPort T U) → PortKeeps port (parted_at index port)
@@ -258,20 +166,5 @@ port_updates_one may list old new answer updates = updates_one (is_free old) may
 
 pub port_sends_one : {T U : Type 0} (may_degrade : DegradationInfo → DegradationAction → Type 0) (may : BackpressureInfo → BackpressureDecision → Type 0) (list : RollState SubscriberEntry) (slot : ℕ) (old new : PublisherPort T U)
     (answer : Option (Result Sent SendError)) → SendsOne may_degrade may list slot old answer new → PortKeeps old new
-port_sends_one may_degrade may list slot old new answer sends = port_sends may_degrade may sends.0 list.changes (ready_loan slot old) old new answer sends.2
-
-retries_one : {T U : Type 0} (blocked : Bool) (may : BackpressureInfo → BackpressureDecision → Type 0) (elapsed : ℕ) (old new : PublisherPort T U) (answer : Option (Result Sent SendError)) → publishing.RetriesIf blocked may elapsed old answer new → PortKeeps old new
-retries_one false may elapsed old new answer retries = port_is old new retries.1
-retries_one {T} {U} true may elapsed old new answer retries =
-    let again : PublisherPort T U = with_progress (tried_again elapsed old.progress) old in
-    port_on old again new (port_same old again refl) (port_finishes may again new retries.0 retries.1)
-
-pub port_retries : {T U : Type 0} (may : BackpressureInfo → BackpressureDecision → Type 0) (elapsed : ℕ) (old new : PublisherPort T U) (answer : Option (Result Sent SendError)) → RetriesOne may elapsed old answer new → PortKeeps old new
-port_retries may elapsed old new answer retries = retries_one (is_blocked old) may elapsed old new answer retries
-
-gives_up_one : {T U : Type 0} (blocked : Bool) (old new : PublisherPort T U) (answer : Option ℕ) → publishing.GivesUpIf blocked old answer new → PortKeeps old new
-gives_up_one false old new answer gives = port_is old new gives.1
-gives_up_one true old new answer gives = port_to old _ new gives.1 (port_concluded true old)
-
-pub port_gives_up : {T U : Type 0} (old new : PublisherPort T U) (answer : Option ℕ) → GivesUpOne old answer new → PortKeeps old new
-port_gives_up old new answer gives = gives_up_one (is_blocked old) old new answer gives
+port_sends_one may_degrade may list slot old new answer sends =
+    carry_sends port_carries may_degrade may sends.0 list.changes (ready_loan slot old) old new answer (λ stands outcome updated updates. port_updates may_degrade sends.0 list.changes old updated outcome updates) sends.2

@@ -70,9 +70,9 @@ long_enough {A} xs count =
     let none : Option A = None in
     omega (arith, length-append xs (replicate (count - length xs) none), length-replicate {A = Option A} (count - length xs) none)
 
--- a connection as far as the one before goes on if that did
-live_set : {T U : Type 0} (connections : List (Connection (Message T U))) (index : ℕ) (connection : Connection (Message T U)) → connection.stage ≡ (get_or connections index nobody).stage → (other : ℕ)
-    → (get_or (set connections index connection) other nobody).stage ≡ (get_or connections other nobody).stage
+-- where one connection goes on if the one before did, so does each
+live_set : {T U : Type 0} (connections : List (Connection (Message T U))) (index : ℕ) (connection : Connection (Message T U)) → goes_on connection.stage ≡ goes_on (get_or connections index nobody).stage → (other : ℕ)
+    → goes_on (get_or (set connections index connection) other nobody).stage ≡ goes_on (get_or connections other nobody).stage
 live_set [] index connection same other = refl
 live_set (x ∷ xs) zero connection same zero = same
 live_set (x ∷ xs) zero connection same (suc other) = refl
@@ -86,12 +86,12 @@ pub record Alike {T U : Type 0} (old new : PublisherPort T U) : Type 0 where
   pub stands : new.stands ≡ old.stands
   pub live : (index : ℕ) → is_live index new ≡ is_live index old
 
-pub alike_waiting : {T U : Type 0} (index : ℕ) (connection : Connection (Message T U)) (port : PublisherPort T U) → connection.stage ≡ (connection_of index port).stage → Alike port (with_connection_of index connection port)
+pub alike_waiting : {T U : Type 0} (index : ℕ) (connection : Connection (Message T U)) (port : PublisherPort T U) → goes_on connection.stage ≡ is_live index port → Alike port (with_connection_of index connection port)
 alike_waiting index connection port same = record {
   ties = refl;
   readers = refl;
   stands = refl;
-  live = λ other. ap (λ one. goes_on one) (live_set port.sender.uses.connections index connection same other);
+  live = λ other. live_set port.sender.uses.connections index connection same other;
 }
 
 pub alike_is : {T U : Type 0} (old new : PublisherPort T U) → new ≡ old → Alike old new
@@ -364,13 +364,16 @@ connects_made {T} {U} subscriber limit index attached old new connects =
       leads_there = ap (λ one. leads_to subscriber one) there ∙ eq-eqb subscriber subscriber refl;
     }
 
+ok_same : (one other : ℕ) (answer : Result ℕ AllocError) → answer ≡ Ok one → answer ≡ Ok other → other ≡ one
+ok_same one other answer first second = cc
+
 -- a place is tied to the connection of the subscriber that it lists
 tied_joined : {T U : Type 0} (next : ℕ) (places : List (Option (Member SubscriberEntry))) (place index limit : ℕ) (member : Member SubscriberEntry) (found : Option ℕ) (old joined new : PublisherPort T U)
     → IsTiedWell next places old → get_or places place None ≡ Some member → connection_to member.value.subscriber old ≡ found
     → Joins member.value.subscriber limit found (within_reach place old) (Ok index) joined → new ≡ tied place index joined → TiedTo place member.value.subscriber index old new
 tied_joined {T} {U} next places place index limit member found old joined new well listed is_found joins is = elim found as (λ found. connection_to member.value.subscriber old ≡ found → Joins member.value.subscriber limit found (within_reach place old) (Ok index) joined → TiedTo place member.value.subscriber index old new) [
     Some there ↦ λ is_there joined_is.
-    let same : there ≡ index = let both : Ok {T = ℕ} {E = AllocError} index ≡ Ok there = joined_is.0 in cc in
+    let same : there ≡ index = ok_same index there (Ok index) refl joined_is.0 in
     let leads : leads_to member.value.subscriber (get_or old.readers index None) ≡ true = found_leads member.value.subscriber index old (is_there ∙ ap (λ i. Some i) same) in
     finish (ap (λ port. port.ties) joined_is.1) (ap (λ port. port.stands) joined_is.1)
     (λ at live. ap (λ port. is_live at port) joined_is.1 ∙ live)
@@ -480,7 +483,7 @@ updates_well next places may listed changes old new answer list same well update
 attaches_kept : {T U : Type 0} (subscriber limit index : ℕ) (found : Option ℕ) (old joined new : PublisherPort T U) → ((one at : ℕ) → leads_to one (get_or old.readers at None) ≡ true → is_live at old ≡ true) → connection_to subscriber old ≡ found
     → Joins subscriber limit found old (Ok index) joined → new ≡ attached_at subscriber index joined → (new.stands ≡ old.stands) × Kept old new
 attaches_kept {T} {U} subscriber limit index (Some there) old joined new read is_found joins is =
-    let same : there ≡ index = let both : Ok {T = ℕ} {E = AllocError} index ≡ Ok there = joins.0 in cc in
+    let same : there ≡ index = ok_same index there (Ok index) refl joins.0 in
     let leads : leads_to subscriber (get_or old.readers index None) ≡ true = found_leads subscriber index old (is_found ∙ ap (λ i. Some i) same) in
     let reader : Reader = record { subscriber = subscriber; attached = true } in
     let readers : new.readers ≡ set old.readers index (Some reader) = ap (λ port. port.readers) is ∙ ap (λ port. set port.readers index (Some reader)) joins.1 in
