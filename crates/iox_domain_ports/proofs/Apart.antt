@@ -1,9 +1,8 @@
 -- The list of subscribers and the ties of publishers stay apart through each call.
-use Rattle.std.proofs.Common.{arith, ◌≡◌, ◌≢◌, ◌+◌, ◌<◌, ◌≤◌, ◌&&◌, ◌==◌, ◌⊎◌, ◌∷◌, [], ℕ, zero, suc, Bool, true, false, not, List, get_or, set, length, length-append, replicate, is_some, Option, None, Some, Result, Ok, Err, refl, sym, ap, ◌∙◌, subst, if◌then◌else◌, inl, inr}
+use Rattle.std.proofs.Common.{arith, ◌≡◌, ◌≢◌, ◌+◌, ◌≤◌, ◌⊎◌, [], ℕ, zero, suc, Bool, true, false, not, List, get_or, set, length, replicate, Option, None, Some, Result, Ok, Err, refl, sym, ap, ◌∙◌, if◌then◌else◌, inl, inr}
 use Rattle.std.proofs.lemmas.Bool.{cases_eq, cases_lt}
-use Rattle.std.proofs.lemmas.List.{get_or-set_other, get_or-set_same, get_or_past, get_or-replicate, length-set, length-replicate}
+use Rattle.std.proofs.lemmas.List.{get_or-set_other, get_or-set_same, get_or_past, length-set, length-replicate}
 use Rattle.std.proofs.lemmas.List.Elements.{All-nil}
-use Rattle.std.specs.List.{All}
 use Rattle.std.specs.declared.alloc.AllocError.{AllocError}
 use Rattle.iox_index_base.specs.declared.container.Member.{Member}
 use Rattle.iox_domain_values.specs.declared.backpressure.BackpressureDecision.{BackpressureDecision}
@@ -17,7 +16,6 @@ use Rattle.iox_domain_values.specs.declared.port_error.ReceiveError.{ReceiveErro
 use Rattle.iox_domain_values.specs.declared.port_owner.PortOwner.{PortOwner}
 use Rattle.iox_domain_values.specs.declared.service_sizes.ServiceSizes.{ServiceSizes}
 use Rattle.iox_domain_publisher.specs.Leaving.{new_port, departed}
-use Rattle.iox_domain_publisher.specs.Updating as updating
 use Rattle.iox_domain_publisher.specs.Updating.{is_tie_to}
 use Rattle.iox_domain_publisher.specs.Writing.{changed_if, given_up}
 use Rattle.iox_domain_publisher.specs.declared.publisher_port.PublisherPort.{PublisherPort}
@@ -34,7 +32,7 @@ use Rattle.iox_domain_ports.specs.Making.{slots_needed, publisher_place, subscri
 use Rattle.iox_domain_ports.specs.Ports.{AtPublisher, AtSubscriber, no_ports, with_publisher}
 use Rattle.iox_domain_ports.specs.Publishing.{is_free}
 use Rattle.iox_domain_ports.specs.Publishing as publishing
-use Rattle.iox_domain_ports.specs.Rolls.{RollState, IsListOf, changed_to, is_listed, may_change, left}
+use Rattle.iox_domain_ports.specs.Rolls.{RollState, changed_to, is_listed, may_change, left}
 use Rattle.iox_domain_ports.specs.Subscribers.{subscriber_of}
 use Rattle.iox_domain_ports.specs.Subscribing as subscribing
 use Rattle.iox_domain_ports.specs.declared.making.PublisherConfig.{PublisherConfig}
@@ -172,35 +170,35 @@ creates_apart overrides may config user_header (Some needed) (Some place) old ne
 listed_cases : (places : List (Option (Member SubscriberEntry))) (place other : ℕ) (entry : Option (Member SubscriberEntry)) (member : Member SubscriberEntry) → get_or (set places place entry) other None ≡ Some member
     → ((other ≡ place) × (entry ≡ Some member)) ⊎ ((other ≢ place) × (get_or places other None ≡ Some member))
 listed_cases places place other entry member listed = elim (cases_eq other place) [
-    inl same ↦ elim (cases_lt place (length places)) [
-      inl within ↦ inl (same, sym (get_or-set_same places place entry None within) ∙ ap (λ at. get_or (set places place entry) at None) (sym same) ∙ listed)
+  | inl same ↦ elim (cases_lt place (length places)) [
+    | inl within ↦ inl (same, sym (get_or-set_same places place entry None within) ∙ ap (λ at. get_or (set places place entry) at None) (sym same) ∙ listed)
     | inr past ↦
-      let no : None ≡ Some member = sym (get_or_past (set places place entry) other None (omega (arith, past, same, length-set places place entry))) ∙ listed in absurd (cc)
-    ]
-  | inr not ↦ inr (not, sym (get_or-set_other places place other entry None not) ∙ listed)
+        let no : None ≡ Some member = sym (get_or_past (set places place entry) other None (omega (arith, past, same, length-set places place entry))) ∙ listed in absurd (cc)
   ]
+  | inr not ↦ inr (not, sym (get_or-set_other places place other entry None not) ∙ listed)
+]
 
 -- a subscriber is listed under the next number
 entry_listed : (next place : ℕ) (places : List (Option (Member SubscriberEntry))) (entry : Member SubscriberEntry) → entry.value.subscriber ≡ next → IsListApart next places → IsListApart (next + 1) (set places place (Some entry))
 entry_listed next place places entry named list = record {
   apart = λ one other first second is_first is_second same. elim (listed_cases places place one (Some entry) first is_first) [
-      inl here ↦ elim (listed_cases places place other (Some entry) second is_second) [
-        inl there ↦ here.0 ∙ sym there.0
+    | inl here ↦ elim (listed_cases places place other (Some entry) second is_second) [
+      | inl there ↦ here.0 ∙ sym there.0
       | inr elsewhere ↦
-        let is_entry : entry ≡ first = cc in
-        absurd (omega (arith, list.below other second elsewhere.1, same, named, ap (λ one. one.value.subscriber) is_entry))
-      ]
+          let is_entry : entry ≡ first = cc in
+          absurd (omega (arith, list.below other second elsewhere.1, same, named, ap (λ one. one.value.subscriber) is_entry))
+    ]
     | inr elsewhere ↦ elim (listed_cases places place other (Some entry) second is_second) [
-        inl there ↦
-        let is_entry : entry ≡ second = cc in
-        absurd (omega (arith, list.below one first elsewhere.1, same, named, ap (λ one. one.value.subscriber) is_entry))
+      | inl there ↦
+          let is_entry : entry ≡ second = cc in
+          absurd (omega (arith, list.below one first elsewhere.1, same, named, ap (λ one. one.value.subscriber) is_entry))
       | inr also ↦ list.apart one other first second elsewhere.1 also.1 same
-      ]
-    ];
+    ]
+  ];
   below = λ at member listed. elim (listed_cases places place at (Some entry) member listed) [
-      inl here ↦ let is_entry : entry ≡ member = cc in omega (arith, named, ap (λ one. one.value.subscriber) is_entry)
+    | inl here ↦ let is_entry : entry ≡ member = cc in omega (arith, named, ap (λ one. one.value.subscriber) is_entry)
     | inr elsewhere ↦ omega (arith, list.below at member elsewhere.1)
-    ];
+  ];
 }
 
 well_listed : {T U : Type 0} (next place : ℕ) (places : List (Option (Member SubscriberEntry))) (entry : Member SubscriberEntry) (port : PublisherPort T U) → entry.value.subscriber ≡ next → IsTiedWell next places port
@@ -210,11 +208,11 @@ well_listed next place places entry port named well = record {
   live = well.live;
   read = well.read;
   alone = λ one other member listed not. elim (listed_cases places place one (Some entry) member listed) [
-      inl here ↦ bool_false _ (λ is.
-      let is_entry : entry ≡ member = cc in
-      absurd (omega (arith, well.below other member.value.subscriber is, named, ap (λ one. one.value.subscriber) is_entry)))
+    | inl here ↦ bool_false _ (λ is.
+        let is_entry : entry ≡ member = cc in
+        absurd (omega (arith, well.below other member.value.subscriber is, named, ap (λ one. one.value.subscriber) is_entry)))
     | inr elsewhere ↦ well.alone one other member elsewhere.1 not
-    ];
+  ];
   below = λ one subscriber is. omega (arith, well.below one subscriber is);
   room = omega (arith, well.room, length-set places place (Some entry));
 }
@@ -277,9 +275,9 @@ left_fewer_by true false place list = fewer_same list.places
 left_fewer_by true true place list = record {
   long = length-set list.places place None;
   fewer = λ other member is. elim (listed_cases list.places place other None member is) [
-      inl here ↦ let no : None ≡ Some member = here.1 in absurd (cc)
+    | inl here ↦ let no : None ≡ Some member = here.1 in absurd (cc)
     | inr elsewhere ↦ elsewhere.1
-    ];
+  ];
 }
 
 left_fewer : (place : ℕ) (list : RollState SubscriberEntry) → Fewer list.places (left place list).places
@@ -301,15 +299,15 @@ subscriber_leaves_apart {T} {U} true number port old new answer leaves =
           below = λ place member is. apart.list.below place member (fewer.fewer place member is);
         };
         well = all_then (IsWellEntry next places) (IsWellEntry next (left port.place old.subscriber_list).places) _ (λ one is stands.
-        let well : IsTiedWell next places one.1 = is stands in
-        record {
-          apart = well.apart;
-          live = well.live;
-          read = well.read;
-          alone = λ place other member listed not. well.alone place other member (fewer.fewer place member listed) not;
-          below = well.below;
-          room = omega (arith, well.room, fewer.long);
-        }) (walked.well apart.well);
+            let well : IsTiedWell next places one.1 = is stands in
+            record {
+              apart = well.apart;
+              live = well.live;
+              read = well.read;
+              alone = λ place other member listed not. well.alone place other member (fewer.fewer place member listed) not;
+              below = well.below;
+              room = omega (arith, well.room, fewer.long);
+            }) (walked.well apart.well);
       };
     })
 

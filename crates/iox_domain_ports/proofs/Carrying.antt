@@ -1,6 +1,5 @@
 -- What each step of a publisher that follows no list does to it, put together to what a call does.
-use Rattle.std.proofs.Common.{arith, ◌≡◌, ◌≢◌, ◌+◌, ◌-◌, ◌==◌, ◌∷◌, [], ◌⊎◌, ℕ, zero, suc, Bool, true, false, List, get_or, set, length, min, nat_lt, nat_le, slice_get, is_some, position, Option, None, Some, Result, Ok, Err, refl, sym, ap, ◌∙◌, if◌then◌else◌, inl, inr}
-use Rattle.std.specs.declared.alloc.AllocError.{AllocError}
+use Rattle.std.proofs.Common.{◌≡◌, ◌-◌, ℕ, zero, suc, Bool, true, false, List, get_or, length, nat_lt, nat_le, slice_get, is_some, Option, None, Some, Result, Ok, Err, refl, ap, ◌∙◌, if◌then◌else◌, inl, inr}
 use Rattle.iox_index_base.specs.declared.container.Member.{Member}
 use Rattle.iox_domain_values.specs.declared.backpressure.BackpressureDecision.{BackpressureDecision}
 use Rattle.iox_domain_values.specs.declared.backpressure.BackpressureDecision.TheVariants as decided
@@ -11,30 +10,24 @@ use Rattle.iox_domain_values.specs.declared.degradation.DegradationAction.{Degra
 use Rattle.iox_domain_values.specs.declared.degradation.DegradationInfo.{DegradationInfo}
 use Rattle.iox_domain_values.specs.declared.port_error.LoanError.{LoanError}
 use Rattle.iox_domain_values.specs.declared.port_error.SendError.{SendError}
-use Rattle.iox_domain_slots.specs.Uses.{welcomed, offered}
+use Rattle.iox_domain_slots.specs.Uses.{offered}
 use Rattle.iox_domain_sender.specs.Messages.{Message, Loan}
-use Rattle.iox_domain_sender.specs.Sending.{LoanMade}
-use Rattle.iox_domain_publisher.specs.Leaving.{parted_at, parted_from, departed}
-use Rattle.iox_domain_publisher.specs.Places.{is_attached}
-use Rattle.iox_domain_publisher.specs.Loaning.{with_sender, LendsHere, LendsInNew, LendsBeyond, LendsWhere, LendsUnless, LoansIf, Loans, first_refusal}
+use Rattle.iox_domain_publisher.specs.Loaning.{with_sender, LendsHere, LendsInNew, LendsBeyond, LendsWhere, LendsUnless, LoansIf, first_refusal}
 use Rattle.iox_domain_sender.specs.Sending.{opened_for}
-use Rattle.iox_domain_publisher.specs.Ports.{connection_of, with_connection_of, connection_to, is_live, ended_at, greeted_at, welcomed_at, Connects, Joins, Attaches, attached_at, detached_at}
+use Rattle.iox_domain_publisher.specs.Ports.{connection_of, with_connection_of, is_live}
 use Rattle.iox_domain_publisher.specs.Progress.{tried_again}
-use Rattle.iox_domain_publisher.specs.Sending.{with_message, put_at, met_by, met, meeting_at, with_progress, decided_by, Steps, GoesOn, Delivers, concluded, Finishes, begun_by, begun_at, dropped_at, ready_loan, SendsAfter, SendsIf, Sends}
-use Rattle.iox_domain_publisher.specs.Ties.{tie_put}
-use Rattle.iox_domain_publisher.specs.Updating.{let_go_of, untied, untied_from, within_reach, tied, is_tie_to, Ties, Follows, FollowsTo, FollowsAll, UpdatesIf, Updates}
+use Rattle.iox_domain_publisher.specs.Sending.{with_message, met_by, met, meeting_at, with_progress, decided_by, Steps, GoesOn, Delivers, concluded, Finishes, begun_by, begun_at, dropped_at, SendsAfter, SendsIf, Sends}
+use Rattle.iox_domain_publisher.specs.Updating.{Updates}
 use Rattle.iox_domain_publisher.specs.Writing.{changed_if, place_of, given_up_at, given_up}
 use Rattle.iox_domain_publisher.specs.declared.meeting.Meeting.{Meeting}
 use Rattle.iox_domain_publisher.specs.declared.meeting.Meeting.TheVariants as meeting
 use Rattle.iox_domain_publisher.specs.declared.meeting.Sent.{Sent}
 use Rattle.iox_domain_publisher.specs.declared.publisher_port.PublisherPort.{PublisherPort}
 use Rattle.iox_domain_publisher.specs.declared.subscriber_entry.SubscriberEntry.{SubscriberEntry}
-use Rattle.iox_domain_subscriber.specs.Reading.{taken_at}
 use Rattle.iox_domain_ports.specs.Lending.{LoansOne}
 use Rattle.iox_domain_ports.specs.Lending as lending
 use Rattle.iox_domain_ports.specs.Publishing.{is_blocked, is_free, UpdatesOne, SendsOne, RetriesOne, GivesUpOne}
 use Rattle.iox_domain_ports.specs.Publishing as publishing
-use Rattle.iox_domain_ports.specs.Rolls.{RollState}
 
 -- What holds from a publisher before each such step to it after the step, and from step to step: where no connection, tie or reader changes,
 -- and where other messages wait at a connection that goes on.
@@ -116,7 +109,7 @@ carry_sends_if {T} {U} w true may_degrade may listed changes at old new answer i
     w.on old updated new (follows is outcome updated updates) (carry_sends_after w may at outcome updated new answer after)
 
 pub carry_sends : {T U : Type 0} {R : PublisherPort T U → PublisherPort T U → Type 0} (w : Carries R) (may_degrade : DegradationInfo → DegradationAction → Type 0) (may : BackpressureInfo → BackpressureDecision → Type 0) (listed : List (Option (Member SubscriberEntry))) (changes : ℕ) (ready : Option ℕ)
-    (old new : PublisherPort T U) (answer : Option (Result Sent SendError)) 
+    (old new : PublisherPort T U) (answer : Option (Result Sent SendError))
     → (old.stands ≡ true → (outcome : Result (Unit {0}) ConnectionFailure) (updated : PublisherPort T U) → Updates may_degrade listed changes old outcome updated → R old updated)
     → Sends may_degrade may listed changes ready old answer new → R old new
 carry_sends w may_degrade may listed changes None old new answer follows sends = w.is old new sends.1

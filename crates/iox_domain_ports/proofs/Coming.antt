@@ -1,5 +1,5 @@
 -- What is found of a port that came.
-use Rattle.std.proofs.Common.{ℕ, ◌≡◌, ◌+◌, ◌^◌, ◌∷◌, [], max, nat_lt, List, Bool, true, false, Option, None, Some, Result, Ok, Err, IfSome, refl, sym, ap, subst, ◌∙◌, cond, if◌then◌else◌}
+use Rattle.std.proofs.Common.{ℕ, ◌≡◌, ◌+◌, ◌^◌, ◌∷◌, [], max, nat_lt, List, Bool, true, false, Option, None, Some, Result, Ok, IfSome, refl, sym, ap, subst, ◌∙◌, cond, if◌then◌else◌}
 use Rattle.std.specs.BTreeMap.{insert_entry, is_at}
 use Rattle.std.specs.Cmp.{nat_cmp_is}
 use Rattle.std.specs.Map.{lookup}

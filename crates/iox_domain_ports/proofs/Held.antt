@@ -1,5 +1,5 @@
 -- What each call of a port leaves held.
-use Rattle.std.proofs.Common.{arith, ◌≡◌, ◌≢◌, ◌+◌, ◌<◌, ◌==◌, ◌&&◌, ◌∷◌, [], ℕ, Bool, true, false, List, Option, None, Some, Result, Ok, Err, refl, sym, ap, ◌∙◌, subst}
+use Rattle.std.proofs.Common.{arith, ◌≡◌, ◌≢◌, ◌+◌, ◌==◌, ◌&&◌, [], ℕ, Bool, true, false, List, Option, None, Some, Result, Ok, Err, refl, sym, ap, ◌∙◌, subst}
 use Rattle.std.proofs.lemmas.Bool.{eq-eqb}
 use Rattle.std.proofs.lemmas.List.Elements.{All-nil}
 use Rattle.std.specs.List.{All}
@@ -13,7 +13,6 @@ use Rattle.iox_domain_values.specs.declared.degradation.DegradationAction.{Degra
 use Rattle.iox_domain_values.specs.declared.degradation.DegradationInfo.{DegradationInfo}
 use Rattle.iox_domain_values.specs.declared.port_error.ReceiveError.{ReceiveError}
 use Rattle.iox_domain_values.specs.declared.port_owner.PortOwner.{PortOwner}
-use Rattle.iox_domain_values.specs.declared.service_sizes.ServiceSizes.{ServiceSizes}
 use Rattle.iox_domain_sender.specs.Messages.{Message}
 use Rattle.iox_domain_publisher.specs.Leaving.{new_port, departed}
 use Rattle.iox_domain_publisher.specs.Writing.{changed_if, given_up}
@@ -26,7 +25,7 @@ use Rattle.iox_domain_subscriber.specs.declared.subscriber_port.SubscriberPort.{
 use Rattle.iox_domain_ports.specs.Calls.{PortCall, PublisherComes, SubscriberComes, Lends, Writes, GivesLoanUp, PublisherUpdates, Sends, Retries, GivesSendUp, PublisherLeaves, SubscriberUpdates, AsksForSamples, Receives, Releases, SubscriberLeaves, Happens}
 use Rattle.iox_domain_ports.specs.Laws.{IsTidy, IsSoundEntry, IsSound, gives_back, HeldStays}
 use Rattle.iox_domain_ports.specs.Making.{slots_needed, publisher_place, subscriber_place, buffer_of, identity_of, sender_config, AddsPublisher, CreatesPublisher, AddsSubscriber, CreatesSubscriber}
-use Rattle.iox_domain_ports.specs.Ports.{AtPublisher, AtSubscriber, no_ports, with_publisher}
+use Rattle.iox_domain_ports.specs.Ports.{AtPublisher, AtSubscriber, with_publisher}
 use Rattle.iox_domain_ports.specs.Publishing.{is_free}
 use Rattle.iox_domain_ports.specs.Publishing as publishing
 use Rattle.iox_domain_ports.specs.Reading.{sample_in, sample_at_port}
@@ -38,9 +37,9 @@ use Rattle.iox_domain_ports.specs.declared.service_ports.ServicePorts.{ServicePo
 use Rattle.iox_domain_subscriber.specs.declared.publisher_entry.PublisherEntry.{PublisherEntry}
 use Rattle.iox_domain_ports.proofs.Keeping.{PortKeeps}
 use Rattle.iox_domain_ports.proofs.ListKeeps.{ListKeeps, list_stays, list_on, list_with, list_changed, list_settled, tidy_after, number_found, held_walks}
-use Rattle.iox_domain_ports.proofs.Numbered.{at_number, other_came, all_came, all_then}
+use Rattle.iox_domain_ports.proofs.Numbered.{other_came, all_came, all_then}
 use Rattle.iox_domain_ports.proofs.PublisherKeeps.{port_updates, port_loans, port_changed, port_given_up, port_departed, port_updates_one, port_sends_one, port_retries, port_gives_up}
-use Rattle.iox_domain_ports.proofs.Releasing.{BackKeeps, back_keeps}
+use Rattle.iox_domain_ports.proofs.Releasing.{back_keeps}
 use Rattle.iox_domain_ports.proofs.Walks.{walked_updates, walked_receives, left_all_walk}
 
 -- a call leaves a service sound, and what is held stays, of all samples or of all but one

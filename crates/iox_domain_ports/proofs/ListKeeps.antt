@@ -1,7 +1,7 @@
 -- What a change of the publishers of a service leaves held.
-use Rattle.std.proofs.Common.{arith, ◌≡◌, ◌≢◌, ◌+◌, ◌<◌, ◌&&◌, ◌||◌, ◌==◌, ◌∷◌, [], ℕ, zero, suc, Bool, true, false, not, List, get_or, length, Option, None, Some, Result, Ok, Err, refl, sym, ap, ◌∙◌, subst, if◌then◌else◌, inl, inr}
+use Rattle.std.proofs.Common.{arith, ◌≡◌, ◌<◌, ◌&&◌, ◌||◌, ◌==◌, ◌∷◌, [], ℕ, zero, suc, Bool, true, false, not, List, get_or, length, Option, None, Some, Result, Ok, Err, refl, sym, ap, ◌∙◌, if◌then◌else◌, inl, inr}
 use Rattle.std.proofs.lemmas.Bool.{cases_eq}
-use Rattle.std.specs.List.{All, find, list_any}
+use Rattle.std.specs.List.{All, list_any}
 use Rattle.std.specs.declared.alloc.AllocError.{AllocError}
 use Rattle.iox_domain_slots.specs.Uses.{Connection, nobody, is_open, is_there}
 use Rattle.iox_domain_slots.specs.declared.stage.Stage.{Stage}
@@ -9,7 +9,7 @@ use Rattle.iox_domain_slots.specs.declared.stage.Stage.TheVariants as stage
 use Rattle.iox_domain_sender.specs.Messages.{Message}
 use Rattle.iox_domain_publisher.specs.Ports.{connection_of, detached_at, ended_at}
 use Rattle.iox_domain_publisher.specs.declared.publisher_port.PublisherPort.{PublisherPort}
-use Rattle.iox_domain_subscriber.specs.Publishers.{port_of, with_port, changed, changed_at_port, is_over_port, is_over_in, removed, settled, ended_if_left, AttachesAtPort, AttachesTo}
+use Rattle.iox_domain_subscriber.specs.Publishers.{port_of, with_port, changed, changed_at_port, is_over_port, is_over_in, removed, settled, ended_if_left, AttachesAtPort}
 use Rattle.iox_domain_subscriber.specs.Reading.{borrowed_in, is_over}
 use Rattle.iox_domain_subscriber.specs.declared.attached.Taken.{Taken}
 use Rattle.iox_domain_ports.specs.Laws.{IsTidy, IsSoundEntry}
@@ -56,13 +56,13 @@ pub list_with : {T U : Type 0} (number : ℕ) (ports : List (ℕ × PublisherPor
 list_with number ports port after there keeps = record {
   sound = λ next all. all_set (IsSoundEntry next) (at_number number) ports after (λ one sound. (sound.0, tidy_after port after keeps (tidy_found next number ports port all there))) all;
   held = λ next all sample message held. elim (cases_eq sample.publisher number) [
-      inl same ↦
-      let before : sample_at_port sample (Some port) ≡ Some message = ap (λ found. sample_at_port sample found) (sym (ap (λ n. port_of n ports) same ∙ there)) ∙ held in
-      ap (λ found. sample_at_port sample found) (ap (λ n. port_of n (with_port number ports after)) same ∙ same_set (at_number number) ports after port there)
-      ∙ held_after port after sample message keeps before
+    | inl same ↦
+        let before : sample_at_port sample (Some port) ≡ Some message = ap (λ found. sample_at_port sample found) (sym (ap (λ n. port_of n ports) same ∙ there)) ∙ held in
+        ap (λ found. sample_at_port sample found) (ap (λ n. port_of n (with_port number ports after)) same ∙ same_set (at_number number) ports after port there)
+        ∙ held_after port after sample message keeps before
     | inr other ↦
-      ap (λ found. sample_at_port sample found) (other_set (at_number number) (at_number sample.publisher) ports after (other_fails sample.publisher number other)) ∙ held
-    ];
+        ap (λ found. sample_at_port sample found) (other_set (at_number number) (at_number sample.publisher) ports after (other_fails sample.publisher number other)) ∙ held
+  ];
 }
 
 changed_found : {T U : Type 0} (number : ℕ) (step : PublisherPort T U → PublisherPort T U) (found : Option (PublisherPort T U)) (ports : List (ℕ × PublisherPort T U)) → ((port : PublisherPort T U) → PortKeeps port (step port))
@@ -111,10 +111,10 @@ gone_keeps : {T U : Type 0} (number : ℕ) (ports : List (ℕ × PublisherPort T
 gone_keeps number ports over = record {
   sound = λ next all. all_gone (IsSoundEntry next) (at_number number) ports all;
   held = λ next all sample message held. elim (cases_eq sample.publisher number) [
-      inl same ↦ absurd (over_found next number ports (port_of number ports) sample message all refl over (ap (λ n. sample_at_port sample (port_of n ports)) (sym same) ∙ held))
+    | inl same ↦ absurd (over_found next number ports (port_of number ports) sample message all refl over (ap (λ n. sample_at_port sample (port_of n ports)) (sym same) ∙ held))
     | inr other ↦
-      ap (λ found. sample_at_port sample found) (other_gone (at_number number) (at_number sample.publisher) ports (other_fails sample.publisher number other)) ∙ held
-    ];
+        ap (λ found. sample_at_port sample found) (other_gone (at_number number) (at_number sample.publisher) ports (other_fails sample.publisher number other)) ∙ held
+  ];
 }
 
 list_if : {T U : Type 0} (test : Bool) (ports one other : List (ℕ × PublisherPort T U)) → (test ≡ true → ListKeeps ports one) → ListKeeps ports other → ListKeeps ports (if test then one else other)

@@ -1,6 +1,6 @@
 -- A send comes to each mailbox at most once.
-use Rattle.std.proofs.Common.{arith, ◌≡◌, ◌≢◌, ◌+◌, ◌-◌, ◌<◌, ◌≤◌, ◌&&◌, ◌||◌, ◌⊎◌, ◌++◌, ◌∷◌, [], ℕ, zero, suc, Bool, true, false, List, get_or, set, length, drop, nat_lt, is_some, Option, None, Some, Result, Ok, Err, refl, sym, ap, ◌∙◌, if◌then◌else◌, inl, inr}
-use Rattle.std.proofs.lemmas.Bool.{cases_eq, cases_lt, cases_Bool}
+use Rattle.std.proofs.Common.{arith, ◌≡◌, ◌+◌, ◌-◌, ◌<◌, ◌≤◌, ◌||◌, ◌⊎◌, ℕ, zero, suc, Bool, true, false, get_or, length, nat_lt, Option, None, Some, Result, refl, sym, ap, ◌∙◌, if◌then◌else◌, inl, inr}
+use Rattle.std.proofs.lemmas.Bool.{cases_eq, cases_lt}
 use Rattle.std.proofs.lemmas.List.{get_or-set_other, get_or-set_same, get_or_past}
 use Rattle.iox_domain_values.specs.declared.backpressure.BackpressureDecision.{BackpressureDecision}
 use Rattle.iox_domain_values.specs.declared.backpressure.BackpressureDecision.TheVariants as decided
@@ -10,7 +10,7 @@ use Rattle.iox_domain_slots.specs.Uses.{Connection, accepts, nobody, offered}
 use Rattle.iox_domain_sender.specs.Messages.{Message}
 use Rattle.iox_domain_publisher.specs.Places.{unheard}
 use Rattle.iox_domain_publisher.specs.Ports.{connection_of, goes_on, is_live}
-use Rattle.iox_domain_publisher.specs.Sending.{with_message, put_at, met_by, met, meeting_at, meeting_by, meeting_of, is_ready, decided_by, goes_on_by, Steps, GoesOn, Delivers, concluded, Finishes}
+use Rattle.iox_domain_publisher.specs.Sending.{with_message, met_by, met, meeting_at, meeting_by, is_ready, decided_by, goes_on_by, Steps, GoesOn, Delivers, concluded, Finishes}
 use Rattle.iox_domain_publisher.specs.declared.meeting.Meeting.{Meeting}
 use Rattle.iox_domain_publisher.specs.declared.meeting.Meeting.TheVariants as meeting
 use Rattle.iox_domain_publisher.specs.declared.meeting.Sent.{Sent}
@@ -45,20 +45,24 @@ met_same (Some index) port = put_same (is_live index port) index port
 -- a connection that goes on is there
 live_within : {T U : Type 0} (index : ℕ) (port : PublisherPort T U) → is_live index port ≡ true → index < length port.sender.uses.connections
 live_within index port live = elim (cases_lt index (length port.sender.uses.connections)) [
-    inl within ↦ within
+  | inl within ↦ within
   | inr past ↦
-    let no : false ≡ true = sym (ap (λ one. goes_on one.stage) (get_or_past port.sender.uses.connections index nobody past)) ∙ live in absurd (cc)
-  ]
+      let no : false ≡ true = sym (ap (λ one. goes_on one.stage) (get_or_past port.sender.uses.connections index nobody past)) ∙ live in absurd (cc)
+]
 
 message_got : {T U : Type 0} (at index : ℕ) (message : Option (Message T U)) (port : PublisherPort T U) → port.sender.uses.sending ≡ message → is_live at port ≡ true → GotThere (Some at) index port (with_message at message port)
 message_got at index None port sending live = inl refl
 message_got at index (Some message) port sending live = elim (cases_eq index at) [
-    inl same ↦ inr (message, ap (λ n. Some n) (sym same), sending,
-      ap (λ n. connection_of n (with_message at (Some message) port)) same
-      ∙ get_or-set_same port.sender.uses.connections at (offered port.sender.uses.overflows message (connection_of at port)) nobody (live_within at port live)
-      ∙ ap (λ n. offered port.sender.uses.overflows message (connection_of n port)) (sym same))
+  | inl same ↦ inr (
+    message,
+    ap (λ n. Some n) (sym same),
+    sending,
+    ap (λ n. connection_of n (with_message at (Some message) port)) same
+        ∙ get_or-set_same port.sender.uses.connections at (offered port.sender.uses.overflows message (connection_of at port)) nobody (live_within at port live)
+        ∙ ap (λ n. offered port.sender.uses.overflows message (connection_of n port)) (sym same),
+  )
   | inr not ↦ inl (get_or-set_other port.sender.uses.connections at index (offered port.sender.uses.overflows message (connection_of at port)) nobody not)
-  ]
+]
 
 put_got : {T U : Type 0} (live : Bool) (at index : ℕ) (port : PublisherPort T U) → is_live at port ≡ live → GotThere (Some at) index port (if live then with_message at port.sender.uses.sending port else port)
 put_got true at index port is = message_got at index port.sender.uses.sending port refl is
@@ -199,8 +203,15 @@ joined {T} {U} old next new apart step gone = record {
         inr (old.progress.place, message, omega arith, omega (arith, step.goes refl, gone.forward), tie, sending, second ∙ is)
     both index (inl first) (inr second) =
         let (place, message, from, to, tie, sending, is) = second in
-        inr (place, message, omega (arith, from, step.goes refl), to, sym (ap (λ ties. get_or ties.items place None) step.same.ties) ∙ tie, sym (step.same.sending) ∙ sending,
-        is ∙ ap (λ overflows. offered overflows message (connection_of index next)) step.same.overflows ∙ ap (λ one. offered old.sender.uses.overflows message one) first)
+        inr (
+          place,
+          message,
+          omega (arith, from, step.goes refl),
+          to,
+          sym (ap (λ ties. get_or ties.items place None) step.same.ties) ∙ tie,
+          sym (step.same.sending) ∙ sending,
+          is ∙ ap (λ overflows. offered overflows message (connection_of index next)) step.same.overflows ∙ ap (λ one. offered old.sender.uses.overflows message one) first,
+        )
     both index (inr first) (inr second) =
         let (place, message, from, to, tie, sending, is) = second in
         let there : get_or old.ties.items place None ≡ Some index = sym (ap (λ ties. get_or ties.items place None) step.same.ties) ∙ tie in

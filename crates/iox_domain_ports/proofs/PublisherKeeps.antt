@@ -1,37 +1,28 @@
 -- What each call of a publisher leaves held.
-use Rattle.std.proofs.Common.{arith, ◌≡◌, ◌≢◌, ◌+◌, ◌-◌, ◌==◌, ◌∷◌, [], ◌⊎◌, ℕ, zero, suc, Bool, true, false, List, get_or, set, length, min, nat_lt, nat_le, slice_get, is_some, position, Option, None, Some, Result, Ok, Err, refl, sym, ap, ◌∙◌, if◌then◌else◌, inl, inr}
+use Rattle.std.proofs.Common.{◌≡◌, ◌+◌, ◌-◌, ◌==◌, ◌∷◌, [], ℕ, zero, suc, Bool, true, false, List, get_or, length, Option, None, Some, Result, Ok, Err, refl, ap}
 use Rattle.std.specs.declared.alloc.AllocError.{AllocError}
 use Rattle.iox_index_base.specs.declared.container.Member.{Member}
 use Rattle.iox_domain_values.specs.declared.backpressure.BackpressureDecision.{BackpressureDecision}
-use Rattle.iox_domain_values.specs.declared.backpressure.BackpressureDecision.TheVariants as decided
 use Rattle.iox_domain_values.specs.declared.backpressure.BackpressureInfo.{BackpressureInfo}
 use Rattle.iox_domain_values.specs.declared.connection_failure.ConnectionFailure.{ConnectionFailure}
-use Rattle.iox_domain_values.specs.declared.data_segment.AllocationStrategy.{AllocationStrategy}
 use Rattle.iox_domain_values.specs.declared.degradation.DegradationAction.{DegradationAction}
 use Rattle.iox_domain_values.specs.declared.degradation.DegradationInfo.{DegradationInfo}
 use Rattle.iox_domain_values.specs.declared.port_error.LoanError.{LoanError}
 use Rattle.iox_domain_values.specs.declared.port_error.SendError.{SendError}
-use Rattle.iox_domain_slots.specs.Uses.{welcomed, offered}
+use Rattle.iox_domain_slots.specs.Uses.{welcomed}
 use Rattle.iox_domain_sender.specs.Messages.{Message, Loan}
-use Rattle.iox_domain_sender.specs.Sending.{LoanMade}
 use Rattle.iox_domain_publisher.specs.Leaving.{parted_at, parted_from, departed}
 use Rattle.iox_domain_publisher.specs.Places.{is_attached}
-use Rattle.iox_domain_publisher.specs.Loaning.{with_sender, LendsHere, LendsInNew, LendsBeyond, LendsWhere, LendsUnless, LoansIf, Loans, first_refusal}
-use Rattle.iox_domain_sender.specs.Sending.{opened_for}
-use Rattle.iox_domain_publisher.specs.Ports.{connection_of, connection_to, is_live, ended_at, greeted_at, welcomed_at, Connects, Joins, Attaches, attached_at, detached_at}
-use Rattle.iox_domain_publisher.specs.Progress.{tried_again}
-use Rattle.iox_domain_publisher.specs.Sending.{with_message, put_at, met_by, met, meeting_at, with_progress, decided_by, Steps, GoesOn, Delivers, concluded, Finishes, begun_by, begun_at, dropped_at, ready_loan, SendsAfter, SendsIf, Sends}
+use Rattle.iox_domain_publisher.specs.Ports.{connection_of, connection_to, is_live, greeted_at, welcomed_at, Joins, Attaches, detached_at}
+use Rattle.iox_domain_publisher.specs.Sending.{ready_loan}
 use Rattle.iox_domain_publisher.specs.Ties.{tie_put}
 use Rattle.iox_domain_publisher.specs.Updating.{let_go_of, untied, untied_from, within_reach, tied, is_tie_to, Ties, Follows, FollowsTo, FollowsAll, UpdatesIf, Updates}
-use Rattle.iox_domain_publisher.specs.Writing.{changed_if, place_of, given_up_at, given_up}
-use Rattle.iox_domain_publisher.specs.declared.meeting.Meeting.{Meeting}
-use Rattle.iox_domain_publisher.specs.declared.meeting.Meeting.TheVariants as meeting
+use Rattle.iox_domain_publisher.specs.Writing.{changed_if, given_up}
 use Rattle.iox_domain_publisher.specs.declared.meeting.Sent.{Sent}
 use Rattle.iox_domain_publisher.specs.declared.publisher_port.PublisherPort.{PublisherPort}
 use Rattle.iox_domain_publisher.specs.declared.subscriber_entry.SubscriberEntry.{SubscriberEntry}
 use Rattle.iox_domain_subscriber.specs.Reading.{taken_at}
 use Rattle.iox_domain_ports.specs.Lending.{LoansOne}
-use Rattle.iox_domain_ports.specs.Lending as lending
 use Rattle.iox_domain_ports.specs.Publishing.{is_blocked, is_free, UpdatesOne, SendsOne, RetriesOne, GivesUpOne}
 use Rattle.iox_domain_ports.specs.Publishing as publishing
 use Rattle.iox_domain_ports.specs.Rolls.{RollState}

@@ -1,5 +1,5 @@
 -- What a release leaves held.
-use Rattle.std.proofs.Common.{arith, ◌≡◌, ◌≢◌, ◌<◌, ◌==◌, ◌∷◌, [], ℕ, zero, suc, Bool, true, false, cond, List, get_or, set, length, position, Option, None, Some, refl, sym, ap, ◌∙◌, subst, inl, inr}
+use Rattle.std.proofs.Common.{arith, ◌≡◌, ◌≢◌, ◌<◌, ◌==◌, ◌∷◌, [], ℕ, zero, suc, Bool, false, cond, List, get_or, set, length, Option, None, Some, refl, sym, ap, ◌∙◌, inl, inr}
 use Rattle.std.proofs.lemmas.Bool.{cases_eq, cases_lt, eqb-true}
 use Rattle.std.proofs.lemmas.List.{get_or-set_other, get_or-set_same, get_or_past}
 use Rattle.std.proofs.lemmas.List.Quantifiers.{position-Some}
@@ -68,26 +68,26 @@ back_tidy {T} {U} index at port tidy other =
 back_held : {T U : Type 0} (index at slot other_index other_slot : ℕ) (message : Message T U) (port : PublisherPort T U) → place_of slot (connection_of index port) ≡ Some at → (other_index ≡ index → other_slot ≢ slot)
     → borrowed_in other_slot (connection_of other_index port) ≡ Some message → borrowed_in other_slot (connection_of other_index (given_back_at index (Some at) port)) ≡ Some message
 back_held {T} {U} index at slot other_index other_slot message port there apart held = elim (cases_eq other_index index) [
-    inl same ↦
-    let old : Connection (Message T U) = connection_of index port in
-    let found = position-Some (λ one. one.slot == slot) old.borrowed at message there in
-    let is_there : index < length port.sender.uses.connections = elim (cases_lt index (length port.sender.uses.connections)) [
-      inl within ↦ within
-    | inr past ↦
-      let none : old ≡ nobody = get_or_past port.sender.uses.connections index nobody past in
-      absurd (omega (arith, found.0, ap (λ one. length one.borrowed) none))
-    ] in
-    let fails : ((get_or old.borrowed at message).slot == other_slot) ≡ false =
-    bool_false ((get_or old.borrowed at message).slot == other_slot) (λ is. apart same (sym (eqb-true _ other_slot is) ∙ eqb-true _ slot found.1)) in
-    let here : connection_of index (given_back_at index (Some at) port) ≡ given_back at old = get_or-set_same port.sender.uses.connections index (given_back at old) nobody is_there in
-    ap (λ i. borrowed_in other_slot (connection_of i (given_back_at index (Some at) port))) same
-    ∙ ap (λ one. borrowed_in other_slot one) here
-    ∙ ap (λ all. find (λ one. one.slot == other_slot) all) (settled_borrowed old.stage old.limit old.waiting (remove old.borrowed at))
-    ∙ find_removed (λ one. one.slot == other_slot) old.borrowed at message found.0 fails
-    ∙ ap (λ i. borrowed_in other_slot (connection_of i port)) (sym same) ∙ held
+  | inl same ↦
+      let old : Connection (Message T U) = connection_of index port in
+      let found = position-Some (λ one. one.slot == slot) old.borrowed at message there in
+      let is_there : index < length port.sender.uses.connections = elim (cases_lt index (length port.sender.uses.connections)) [
+        | inl within ↦ within
+        | inr past ↦
+            let none : old ≡ nobody = get_or_past port.sender.uses.connections index nobody past in
+            absurd (omega (arith, found.0, ap (λ one. length one.borrowed) none))
+      ] in
+      let fails : ((get_or old.borrowed at message).slot == other_slot) ≡ false =
+      bool_false ((get_or old.borrowed at message).slot == other_slot) (λ is. apart same (sym (eqb-true _ other_slot is) ∙ eqb-true _ slot found.1)) in
+      let here : connection_of index (given_back_at index (Some at) port) ≡ given_back at old = get_or-set_same port.sender.uses.connections index (given_back at old) nobody is_there in
+      ap (λ i. borrowed_in other_slot (connection_of i (given_back_at index (Some at) port))) same
+      ∙ ap (λ one. borrowed_in other_slot one) here
+      ∙ ap (λ all. find (λ one. one.slot == other_slot) all) (settled_borrowed old.stage old.limit old.waiting (remove old.borrowed at))
+      ∙ find_removed (λ one. one.slot == other_slot) old.borrowed at message found.0 fails
+      ∙ ap (λ i. borrowed_in other_slot (connection_of i port)) (sym same) ∙ held
   | inr other ↦
-    ap (λ one. borrowed_in other_slot one) (get_or-set_other port.sender.uses.connections index other_index (given_back at (connection_of index port)) nobody other) ∙ held
-  ]
+      ap (λ one. borrowed_in other_slot one) (get_or-set_other port.sender.uses.connections index other_index (given_back at (connection_of index port)) nobody other) ∙ held
+]
 
 -- a publisher is given a message back
 pub record BackKeeps {T U : Type 0} (given : Taken) (old new : List (ℕ × PublisherPort T U)) : Type 0 where
@@ -103,13 +103,13 @@ back_found {T} {U} given at (Some port) ports found there =
     record {
       sound = λ next all. all_set (IsSoundEntry next) (at_number given.publisher) ports after (λ one sound. (sound.0, back_tidy given.index at port (tidy_found next given.publisher ports port all found))) all;
       held = λ next all sample message apart held. elim (cases_eq sample.publisher given.publisher) [
-          inl same ↦
-          let before : sample_at_port sample (Some port) ≡ Some message = ap (λ one. sample_at_port sample one) (sym (ap (λ n. port_of n ports) same ∙ found)) ∙ held in
-          ap (λ one. sample_at_port sample one) (ap (λ n. port_of n (with_port given.publisher ports after)) same ∙ same_set (at_number given.publisher) ports after port found)
-          ∙ back_held given.index at given.slot sample.index sample.slot message port there (apart same) before
+        | inl same ↦
+            let before : sample_at_port sample (Some port) ≡ Some message = ap (λ one. sample_at_port sample one) (sym (ap (λ n. port_of n ports) same ∙ found)) ∙ held in
+            ap (λ one. sample_at_port sample one) (ap (λ n. port_of n (with_port given.publisher ports after)) same ∙ same_set (at_number given.publisher) ports after port found)
+            ∙ back_held given.index at given.slot sample.index sample.slot message port there (apart same) before
         | inr other ↦
-          ap (λ one. sample_at_port sample one) (other_set (at_number given.publisher) (at_number sample.publisher) ports after (other_fails sample.publisher given.publisher other)) ∙ held
-        ];
+            ap (λ one. sample_at_port sample one) (other_set (at_number given.publisher) (at_number sample.publisher) ports after (other_fails sample.publisher given.publisher other)) ∙ held
+      ];
     }
 
 pub back_keeps : {T U : Type 0} (given : Taken) (at : ℕ) (ports : List (ℕ × PublisherPort T U)) → place_of given.slot (connection_in given.publisher given.index ports) ≡ Some at

@@ -1,5 +1,5 @@
 -- A publisher that is tied well, and has a connection to each listed subscriber, follows the list without memory.
-use Rattle.std.proofs.Common.{arith, ◌≡◌, ◌≢◌, ◌<◌, ◌&&◌, ℕ, Bool, true, false, not, List, get_or, length, is_some, Option, None, Some, Result, Ok, Err, refl, sym, ap, ◌∙◌, inl, inr}
+use Rattle.std.proofs.Common.{arith, ◌≡◌, ◌≢◌, ◌<◌, ◌&&◌, ℕ, Bool, true, false, not, List, get_or, length, Option, None, Some, Result, Ok, Err, refl, sym, ap, ◌∙◌, inl, inr}
 use Rattle.std.proofs.lemmas.Bool.{cases_lt}
 use Rattle.std.proofs.lemmas.List.{get_or_past}
 use Rattle.iox_index_base.specs.declared.container.Member.{Member}
@@ -35,9 +35,9 @@ well_of {T} {U} ports number port apart there stands =
 
 within : (places : List (Option (Member SubscriberEntry))) (place : ℕ) (member : Member SubscriberEntry) → get_or places place None ≡ Some member → place < length places
 within places place member listed = elim (cases_lt place (length places)) [
-    inl below ↦ below
+  | inl below ↦ below
   | inr past ↦ let no : None ≡ Some member = sym (get_or_past places place None past) ∙ listed in absurd (cc)
-  ]
+]
 
 -- all that the list needs is there
 room_of : {T U : Type 0} (ports : ServicePorts T U) (listed : List (Option (Member SubscriberEntry))) (port : PublisherPort T U) → IsTiedWell ports.next_port ports.subscriber_list.places port → ConnectsAll ports port

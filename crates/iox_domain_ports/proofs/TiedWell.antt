@@ -1,25 +1,23 @@
 -- The ties of a publisher stay apart through its own steps.
-use Rattle.std.proofs.Common.{arith, ◌≡◌, ◌≢◌, ◌+◌, ◌-◌, ◌<◌, ◌≤◌, ◌==◌, ◌∷◌, [], ◌++◌, ℕ, zero, suc, Bool, true, false, cond, List, get_or, set, length, length-append, replicate, nat_lt, min, Option, None, Some, Result, Ok, Err, refl, sym, ap, ◌∙◌, subst, if◌then◌else◌, inl, inr}
-use Rattle.std.proofs.lemmas.Bool.{cases_eq, cases_lt, eqb-true, eq-eqb}
-use Rattle.std.proofs.lemmas.List.{get_or-set_other, get_or-set_same, get_or_past, get_or_push, length-set, length-replicate}
+use Rattle.std.proofs.Common.{arith, ◌≡◌, ◌≢◌, ◌+◌, ◌-◌, ◌<◌, ◌≤◌, ◌==◌, ◌∷◌, [], ◌++◌, ℕ, zero, suc, Bool, true, false, List, get_or, set, length, length-append, replicate, Option, None, Some, Result, Ok, Err, refl, sym, ap, ◌∙◌, if◌then◌else◌, inl, inr}
+use Rattle.std.proofs.lemmas.Bool.{cases_eq, eqb-true, eq-eqb}
+use Rattle.std.proofs.lemmas.List.{get_or-set_other, get_or-set_same, get_or_push, length-replicate}
 use Rattle.std.proofs.lemmas.List.Quantifiers.{position-Some}
 use Rattle.std.specs.declared.alloc.AllocError.{AllocError}
 use Rattle.iox_index_base.specs.declared.container.Member.{Member}
 use Rattle.iox_domain_values.specs.declared.connection_failure.ConnectionFailure.{ConnectionFailure}
 use Rattle.iox_domain_values.specs.declared.degradation.DegradationAction.{DegradationAction}
 use Rattle.iox_domain_values.specs.declared.degradation.DegradationInfo.{DegradationInfo}
-use Rattle.iox_domain_slots.specs.Uses.{Connection, nobody, connected, placed, ended, welcomed}
-use Rattle.iox_domain_slots.specs.declared.stage.Stage.{Stage}
-use Rattle.iox_domain_slots.specs.declared.stage.Stage.TheVariants as stage
+use Rattle.iox_domain_slots.specs.Uses.{Connection, nobody, connected, ended, welcomed}
 use Rattle.iox_domain_sender.specs.Messages.{Message}
 use Rattle.iox_domain_publisher.specs.Places.{reached, leads_to}
-use Rattle.iox_domain_publisher.specs.Ports.{connection_of, connection_to, goes_on, is_live, ended_at, greeted_at, welcomed_at, with_connection_of, Connects, Joins, Attaches, attached_at, detached_at}
+use Rattle.iox_domain_publisher.specs.Ports.{connection_of, connection_to, goes_on, is_live, greeted_at, with_connection_of, Connects, Joins, Attaches, attached_at}
 use Rattle.iox_domain_publisher.specs.Ties.{tie_put}
 use Rattle.iox_domain_publisher.specs.Updating.{is_tie_to, let_go_of, untied, untied_from, within_reach, tied, Ties, Follows, FollowsTo, FollowsAll, UpdatesIf, Updates}
 use Rattle.iox_domain_publisher.specs.declared.publisher_port.PublisherPort.{PublisherPort}
 use Rattle.iox_domain_publisher.specs.declared.reader.Reader.{Reader}
 use Rattle.iox_domain_publisher.specs.declared.subscriber_entry.SubscriberEntry.{SubscriberEntry}
-use Rattle.iox_domain_ports.specs.Laws.{AreTiesApart, IsListApart, IsTiedWell}
+use Rattle.iox_domain_ports.specs.Laws.{IsListApart, IsTiedWell}
 use Rattle.iox_domain_ports.proofs.Numbered.{bool_false}
 
 -- Ties are as before, connections that go on still do, and lead to whom they did.
@@ -141,14 +139,14 @@ well_ended {T} {U} next places place index old new tie ended well = record {
   live = λ one at is. ended.live at (apart one at is) ∙ well.live one at (before one at is).1;
   read = λ subscriber at leads. let there = still_leads subscriber at leads in ended.live at there.0 ∙ well.read subscriber at there.1;
   alone = λ one other member listed not. elim (cases_eq other place) [
-      inl same ↦ ap (λ at. is_tie_to member.value.subscriber (get_or new.ties.items at None) new) same ∙ ap (λ t. is_tie_to member.value.subscriber t new) gone
+    | inl same ↦ ap (λ at. is_tie_to member.value.subscriber (get_or new.ties.items at None) new) same ∙ ap (λ t. is_tie_to member.value.subscriber t new) gone
     | inr apart ↦ tie_other member.value.subscriber other apart ∙ well.alone one other member listed not
-    ];
+  ];
   below = λ one subscriber is. elim (cases_eq one place) [
-      inl same ↦
-      let no : false ≡ true = sym (ap (λ at. is_tie_to subscriber (get_or new.ties.items at None) new) same ∙ ap (λ t. is_tie_to subscriber t new) gone) ∙ is in cc
+    | inl same ↦
+        let no : false ≡ true = sym (ap (λ at. is_tie_to subscriber (get_or new.ties.items at None) new) same ∙ ap (λ t. is_tie_to subscriber t new) gone) ∙ is in cc
     | inr apart ↦ well.below one subscriber (sym (tie_other subscriber one apart) ∙ is)
-    ];
+  ];
   room = omega (arith, well.room, ended.room);
 }
   where
@@ -169,7 +167,7 @@ well_ended {T} {U} next places place index old new tie ended well = record {
     still_leads subscriber at leads =
         let not : at ≢ index = λ same.
         let none : leads_to subscriber (get_or new.readers at None) ≡ false = ap (λ i. leads_to subscriber (get_or new.readers i None)) same
-            ∙ ap (λ readers. leads_to subscriber (get_or readers index None)) ended.readers ∙ ap (λ reader. leads_to subscriber reader) (gone_there old.readers index) in
+        ∙ ap (λ readers. leads_to subscriber (get_or readers index None)) ended.readers ∙ ap (λ reader. leads_to subscriber reader) (gone_there old.readers index) in
         let no : false ≡ true = sym none ∙ leads in cc in
         (not, sym (ap (λ readers. leads_to subscriber (get_or readers at None)) ended.readers ∙ ap (λ reader. leads_to subscriber reader) (get_or-set_other old.readers index at None None not)) ∙ leads)
 
@@ -260,24 +258,24 @@ well_tied : {T U : Type 0} (next : ℕ) (places : List (Option (Member Subscribe
 well_tied {T} {U} next places place index member old new list listed tied well = record {
   apart = apart;
   live = λ one at is. elim (cases_eq one place) [
-      inl same ↦ let is_index : index ≡ at = here_is one at same is in ap (λ i. is_live i new) (sym is_index) ∙ tied.goes
+    | inl same ↦ let is_index : index ≡ at = here_is one at same is in ap (λ i. is_live i new) (sym is_index) ∙ tied.goes
     | inr not ↦ tied.live at (well.live one at (sym (tied.others one not) ∙ is))
-    ];
+  ];
   read = tied.read;
   alone = λ one other second second_listed not. bool_false _ (λ is. elim (cases_eq other place) [
-      inl same ↦
-      let leads : leads_to second.value.subscriber (get_or new.readers index None) ≡ true = sym (tie_here second.value.subscriber other same) ∙ is in
-      not (same ∙ sym (list.apart one place second member second_listed listed (leads_both second.value.subscriber member.value.subscriber (get_or new.readers index None) leads tied.leads_there)))
+    | inl same ↦
+        let leads : leads_to second.value.subscriber (get_or new.readers index None) ≡ true = sym (tie_here second.value.subscriber other same) ∙ is in
+        not (same ∙ sym (list.apart one place second member second_listed listed (leads_both second.value.subscriber member.value.subscriber (get_or new.readers index None) leads tied.leads_there)))
     | inr apart_from ↦
-      let no : false ≡ true = sym (tie_other second.value.subscriber other apart_from ∙ well.alone one other second second_listed not) ∙ is in cc
-    ]);
+        let no : false ≡ true = sym (tie_other second.value.subscriber other apart_from ∙ well.alone one other second second_listed not) ∙ is in cc
+  ]);
   below = λ one subscriber is. elim (cases_eq one place) [
-      inl same ↦
-      let leads : leads_to subscriber (get_or new.readers index None) ≡ true = sym (tie_here subscriber one same) ∙ is in
-      let is_member : subscriber ≡ member.value.subscriber = leads_both subscriber member.value.subscriber (get_or new.readers index None) leads tied.leads_there in
-      omega (arith, is_member, list.below place member listed)
+    | inl same ↦
+        let leads : leads_to subscriber (get_or new.readers index None) ≡ true = sym (tie_here subscriber one same) ∙ is in
+        let is_member : subscriber ≡ member.value.subscriber = leads_both subscriber member.value.subscriber (get_or new.readers index None) leads tied.leads_there in
+        omega (arith, is_member, list.below place member listed)
     | inr not ↦ well.below one subscriber (sym (tie_other subscriber one not) ∙ is)
-    ];
+  ];
   room = omega (arith, well.room, tied.room);
 }
   where
@@ -286,15 +284,15 @@ well_tied {T} {U} next places place index member old new list listed tied well =
 
     apart : (one other at : ℕ) → get_or new.ties.items one None ≡ Some at → get_or new.ties.items other None ≡ Some at → one ≡ other
     apart one other at is_one is_other = elim (cases_eq one place) [
-        inl one_here ↦ elim (cases_eq other place) [
-          inl other_here ↦ one_here ∙ sym other_here
+      | inl one_here ↦ elim (cases_eq other place) [
+        | inl other_here ↦ one_here ∙ sym other_here
         | inr other_not ↦ absurd (tied.free other other_not (sym (tied.others other other_not) ∙ is_other ∙ ap (λ i. Some i) (sym (here_is one at one_here is_one))))
-        ]
-      | inr one_not ↦ elim (cases_eq other place) [
-          inl other_here ↦ absurd (tied.free one one_not (sym (tied.others one one_not) ∙ is_one ∙ ap (λ i. Some i) (sym (here_is other at other_here is_other))))
-        | inr other_not ↦ well.apart one other at (sym (tied.others one one_not) ∙ is_one) (sym (tied.others other other_not) ∙ is_other)
-        ]
       ]
+      | inr one_not ↦ elim (cases_eq other place) [
+        | inl other_here ↦ absurd (tied.free one one_not (sym (tied.others one one_not) ∙ is_one ∙ ap (λ i. Some i) (sym (here_is other at other_here is_other))))
+        | inr other_not ↦ well.apart one other at (sym (tied.others one one_not) ∙ is_one) (sym (tied.others other other_not) ∙ is_other)
+      ]
+    ]
 
     tie_here : (subscriber other : ℕ) → other ≡ place → is_tie_to subscriber (get_or new.ties.items other None) new ≡ leads_to subscriber (get_or new.readers index None)
     tie_here subscriber other same = ap (λ p. is_tie_to subscriber (get_or new.ties.items p None) new) same ∙ ap (λ t. is_tie_to subscriber t new) tied.here
@@ -325,9 +323,9 @@ placed_here : {T U : Type 0} (behind : Bool) (connections : List (Connection (Me
     → get_or (if behind then connections ++ connection ∷ [] else set connections index connection) index nobody ≡ connection
 placed_here true connections index connection is within = get_or_push connections connection nobody index (sym (eqb-true index (length connections) is))
 placed_here false connections index connection is within = elim (cases_eq index (length connections)) [
-    inl same ↦ let no : true ≡ false = sym (eq-eqb index (length connections) same) ∙ is in absurd (cc)
+  | inl same ↦ let no : true ≡ false = sym (eq-eqb index (length connections) same) ∙ is in absurd (cc)
   | inr not ↦ get_or-set_same connections index connection nobody (omega (arith, within, not))
-  ]
+]
 
 placed_other : {T U : Type 0} (behind : Bool) (connections : List (Connection (Message T U))) (index at : ℕ) (connection : Connection (Message T U)) → (index == length connections) ≡ behind → at ≢ index
     → get_or (if behind then connections ++ connection ∷ [] else set connections index connection) at nobody ≡ get_or connections at nobody
@@ -372,29 +370,29 @@ tied_joined : {T U : Type 0} (next : ℕ) (places : List (Option (Member Subscri
     → IsTiedWell next places old → get_or places place None ≡ Some member → connection_to member.value.subscriber old ≡ found
     → Joins member.value.subscriber limit found (within_reach place old) (Ok index) joined → new ≡ tied place index joined → TiedTo place member.value.subscriber index old new
 tied_joined {T} {U} next places place index limit member found old joined new well listed is_found joins is = elim found as (λ found. connection_to member.value.subscriber old ≡ found → Joins member.value.subscriber limit found (within_reach place old) (Ok index) joined → TiedTo place member.value.subscriber index old new) [
-    Some there ↦ λ is_there joined_is.
-    let same : there ≡ index = ok_same index there (Ok index) refl joined_is.0 in
-    let leads : leads_to member.value.subscriber (get_or old.readers index None) ≡ true = found_leads member.value.subscriber index old (is_there ∙ ap (λ i. Some i) same) in
-    finish (ap (λ port. port.ties) joined_is.1) (ap (λ port. port.stands) joined_is.1)
-    (λ at live. ap (λ port. is_live at port) joined_is.1 ∙ live)
-    (λ one at live. ap (λ port. leads_to one (get_or port.readers at None)) joined_is.1)
-    (ap (λ port. is_live index port) joined_is.1 ∙ well.read member.value.subscriber index leads)
-    (ap (λ port. leads_to member.value.subscriber (get_or port.readers index None)) joined_is.1 ∙ leads)
-    (λ one at lead. ap (λ port. is_live at port) joined_is.1 ∙ well.read one at (ap (λ port. leads_to one (get_or port.readers at None)) (sym joined_is.1) ∙ lead))
-    (λ other not tie. let no : true ≡ false = sym leads ∙ ap (λ t. is_tie_to member.value.subscriber t old) (sym tie) ∙ well.alone place other member listed not in cc)
+  | Some there ↦ λ is_there joined_is.
+      let same : there ≡ index = ok_same index there (Ok index) refl joined_is.0 in
+      let leads : leads_to member.value.subscriber (get_or old.readers index None) ≡ true = found_leads member.value.subscriber index old (is_there ∙ ap (λ i. Some i) same) in
+      finish (ap (λ port. port.ties) joined_is.1) (ap (λ port. port.stands) joined_is.1)
+      (λ at live. ap (λ port. is_live at port) joined_is.1 ∙ live)
+      (λ one at live. ap (λ port. leads_to one (get_or port.readers at None)) joined_is.1)
+      (ap (λ port. is_live index port) joined_is.1 ∙ well.read member.value.subscriber index leads)
+      (ap (λ port. leads_to member.value.subscriber (get_or port.readers index None)) joined_is.1 ∙ leads)
+      (λ one at lead. ap (λ port. is_live at port) joined_is.1 ∙ well.read one at (ap (λ port. leads_to one (get_or port.readers at None)) (sym joined_is.1) ∙ lead))
+      (λ other not tie. let no : true ≡ false = sym leads ∙ ap (λ t. is_tie_to member.value.subscriber t old) (sym tie) ∙ well.alone place other member listed not in cc)
   | None ↦ λ is_none made_is.
-    let made : MadeAt member.value.subscriber index (within_reach place old) joined = connects_made member.value.subscriber limit index false (within_reach place old) joined made_is in
-    let apart : (at : ℕ) → is_live at old ≡ true → at ≢ index = λ at live same. let no : true ≡ false = sym live ∙ ap (λ i. is_live i old) same ∙ made.none in cc in
-    finish made.ties made.stands
-    (λ at live. made.live at (apart at live) ∙ live)
-    (λ one at live. ap (λ reader. leads_to one reader) (made.readers at (apart at live)))
-    made.goes made.leads_there
-    (λ one at lead. elim (cases_eq at index) [
-      inl same ↦ ap (λ i. is_live i joined) same ∙ made.goes
-    | inr not ↦ made.live at not ∙ well.read one at (ap (λ reader. leads_to one reader) (sym (made.readers at not)) ∙ lead)
-    ])
-    (λ other not tie. let no : true ≡ false = sym (well.live other index tie) ∙ made.none in cc)
-  ] is_found joins
+      let made : MadeAt member.value.subscriber index (within_reach place old) joined = connects_made member.value.subscriber limit index false (within_reach place old) joined made_is in
+      let apart : (at : ℕ) → is_live at old ≡ true → at ≢ index = λ at live same. let no : true ≡ false = sym live ∙ ap (λ i. is_live i old) same ∙ made.none in cc in
+      finish made.ties made.stands
+      (λ at live. made.live at (apart at live) ∙ live)
+      (λ one at live. ap (λ reader. leads_to one reader) (made.readers at (apart at live)))
+      made.goes made.leads_there
+      (λ one at lead. elim (cases_eq at index) [
+        | inl same ↦ ap (λ i. is_live i joined) same ∙ made.goes
+        | inr not ↦ made.live at not ∙ well.read one at (ap (λ reader. leads_to one reader) (sym (made.readers at not)) ∙ lead)
+      ])
+      (λ other not tie. let no : true ≡ false = sym (well.live other index tie) ∙ made.none in cc)
+] is_found joins
   where
     finish : joined.ties ≡ (within_reach place old).ties → joined.stands ≡ old.stands → ((at : ℕ) → is_live at old ≡ true → is_live at joined ≡ true)
         → ((one at : ℕ) → is_live at old ≡ true → leads_to one (get_or joined.readers at None) ≡ leads_to one (get_or old.readers at None)) → is_live index joined ≡ true
@@ -490,17 +488,19 @@ attaches_kept {T} {U} subscriber limit index (Some there) old joined new read is
     let live_same : (at : ℕ) → is_live at new ≡ is_live at old = λ at. ap (λ port. is_live at port) is ∙ ap (λ port. is_live at port) joins.1 in
     let within = (position-Some (leads_to subscriber) old.readers index None (is_found ∙ ap (λ i. Some i) same)).0 in
     let leads_same : (one at : ℕ) → leads_to one (get_or new.readers at None) ≡ leads_to one (get_or old.readers at None) = λ one at. elim (cases_eq at index) [
-      inl here ↦
-      ap (λ i. leads_to one (get_or new.readers i None)) here ∙ ap (λ all. leads_to one (get_or all index None)) readers
-      ∙ ap (λ r. leads_to one r) (get_or-set_same old.readers index (Some reader) None within) ∙ same_leads one (get_or old.readers index None) leads ∙ ap (λ i. leads_to one (get_or old.readers i None)) (sym here)
-    | inr not ↦ ap (λ all. leads_to one (get_or all at None)) readers ∙ ap (λ r. leads_to one r) (get_or-set_other old.readers index at (Some reader) None not)
-    ] in
-    (ap (λ port. port.stands) is ∙ ap (λ port. port.stands) joins.1, record {
-      ties = ap (λ port. port.ties) is ∙ ap (λ port. port.ties) joins.1;
-      live = λ at live. live_same at ∙ live;
-      leads = λ one at live. leads_same one at;
-      read = λ one at lead. live_same at ∙ read one at (sym (leads_same one at) ∙ lead);
-    })
+      | inl here ↦
+          ap (λ i. leads_to one (get_or new.readers i None)) here ∙ ap (λ all. leads_to one (get_or all index None)) readers
+          ∙ ap (λ r. leads_to one r) (get_or-set_same old.readers index (Some reader) None within) ∙ same_leads one (get_or old.readers index None) leads ∙ ap (λ i. leads_to one (get_or old.readers i None)) (sym here)
+      | inr not ↦ ap (λ all. leads_to one (get_or all at None)) readers ∙ ap (λ r. leads_to one r) (get_or-set_other old.readers index at (Some reader) None not)
+    ] in (
+      ap (λ port. port.stands) is ∙ ap (λ port. port.stands) joins.1,
+      record {
+        ties = ap (λ port. port.ties) is ∙ ap (λ port. port.ties) joins.1;
+        live = λ at live. live_same at ∙ live;
+        leads = λ one at live. leads_same one at;
+        read = λ one at lead. live_same at ∙ read one at (sym (leads_same one at) ∙ lead);
+      },
+    )
   where
     same_leads : (one : ℕ) (found : Option Reader) → leads_to subscriber found ≡ true → (subscriber == one) ≡ leads_to one found
     same_leads one None leads = cc
@@ -512,16 +512,18 @@ attaches_kept {T} {U} subscriber limit index None old joined new read is_found j
     let live_same : (at : ℕ) → is_live at new ≡ is_live at joined = λ at. ap (λ port. is_live at port) is in
     let reader_other : (at : ℕ) → at ≢ index → get_or new.readers at None ≡ get_or old.readers at None = λ at not.
     ap (λ all. get_or all at None) readers ∙ get_or-set_other joined.readers index at (Some reader) None not ∙ made.readers at not in
-    let apart : (at : ℕ) → is_live at old ≡ true → at ≢ index = λ at live same. let no : true ≡ false = sym live ∙ ap (λ i. is_live i old) same ∙ made.none in cc in
-    (ap (λ port. port.stands) is ∙ made.stands, record {
-      ties = ap (λ port. port.ties) is ∙ made.ties;
-      live = λ at live. live_same at ∙ made.live at (apart at live) ∙ live;
-      leads = λ one at live. ap (λ r. leads_to one r) (reader_other at (apart at live));
-      read = λ one at lead. elim (cases_eq at index) [
-          inl same ↦ live_same at ∙ ap (λ i. is_live i joined) same ∙ made.goes
-        | inr not ↦ live_same at ∙ made.live at not ∙ read one at (ap (λ r. leads_to one r) (sym (reader_other at not)) ∙ lead)
+    let apart : (at : ℕ) → is_live at old ≡ true → at ≢ index = λ at live same. let no : true ≡ false = sym live ∙ ap (λ i. is_live i old) same ∙ made.none in cc in (
+      ap (λ port. port.stands) is ∙ made.stands,
+      record {
+        ties = ap (λ port. port.ties) is ∙ made.ties;
+        live = λ at live. live_same at ∙ made.live at (apart at live) ∙ live;
+        leads = λ one at live. ap (λ r. leads_to one r) (reader_other at (apart at live));
+        read = λ one at lead. elim (cases_eq at index) [
+          | inl same ↦ live_same at ∙ ap (λ i. is_live i joined) same ∙ made.goes
+          | inr not ↦ live_same at ∙ made.live at not ∙ read one at (ap (λ r. leads_to one r) (sym (reader_other at not)) ∙ lead)
         ];
-    })
+      },
+    )
 
 pub attaches_well : {T U : Type 0} (next : ℕ) (places : List (Option (Member SubscriberEntry))) (subscriber limit index : ℕ) (old new : PublisherPort T U) → Attaches subscriber limit old (Ok index) new → IsTiedWell next places old
     → (new.stands ≡ old.stands) × IsTiedWell next places new

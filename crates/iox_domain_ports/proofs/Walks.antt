@@ -1,5 +1,5 @@
 -- What each step of a subscriber does to the publishers, put together to what a call does to them.
-use Rattle.std.proofs.Common.{◌≡◌, ◌+◌, ◌&&◌, ◌==◌, ◌∷◌, [], ℕ, zero, suc, Bool, true, false, not, List, get_or, length, slice_get, nat_le, Option, None, Some, Result, Ok, Err, refl, sym, ap, ◌∙◌, if◌then◌else◌}
+use Rattle.std.proofs.Common.{◌≡◌, ◌+◌, ◌&&◌, ◌==◌, ◌∷◌, [], ℕ, zero, suc, Bool, true, false, not, List, get_or, length, slice_get, nat_le, Option, None, Some, Result, Ok, Err, refl, ap, ◌∙◌, if◌then◌else◌}
 use Rattle.std.specs.declared.alloc.AllocError.{AllocError}
 use Rattle.iox_index_base.specs.declared.container.Member.{Member}
 use Rattle.iox_domain_values.specs.declared.connection_failure.ConnectionFailure.{ConnectionFailure}
@@ -9,11 +9,11 @@ use Rattle.iox_domain_values.specs.declared.degradation.DegradationInfo.{Degrada
 use Rattle.iox_domain_values.specs.declared.port_error.ReceiveError.{ReceiveError}
 use Rattle.iox_domain_publisher.specs.Ports.{detached_at}
 use Rattle.iox_domain_publisher.specs.declared.publisher_port.PublisherPort.{PublisherPort}
-use Rattle.iox_domain_subscriber.specs.Following.{is_of, is_unborrowed, replaced_port, replaced_ports, PartsFor, PartsBorrowed, PartsOver, PartsFull, PartsIf, Parts, ConnectsBy, Connects, unplaced, FollowsFreed, FollowsKey, FollowsAt, FollowsListed, freed_if, FollowsNoneAt, FollowsNone}
+use Rattle.iox_domain_subscriber.specs.Following.{is_of, is_unborrowed, replaced_port, replaced_ports, PartsFor, PartsBorrowed, PartsOver, PartsIf, Parts, ConnectsBy, Connects, unplaced, FollowsFreed, FollowsKey, FollowsAt, freed_if, FollowsNoneAt}
 use Rattle.iox_domain_subscriber.specs.Publishers.{changed, stands_in, AttachesTo}
-use Rattle.iox_domain_subscriber.specs.Receiving.{dropped_port, dropped_ports, is_idle_at, swept, given_ports, left_at, left_all, Serves, Receives}
+use Rattle.iox_domain_subscriber.specs.Receiving.{dropped_port, dropped_ports, is_idle_at, swept, given_ports, left_at, left_all, Serves}
 use Rattle.iox_domain_subscriber.specs.Subscribing.{attached_at, is_idle, without_key, ended_key, ended_ports, taken_ports}
-use Rattle.iox_domain_subscriber.specs.Updating.{FollowsOne, FollowsFrom, FollowsNoneIf, FollowsNones, FollowsList, UpdatesIf, Updates, is_listed, HasSamples, ReceivesAfter, ReceivesNext}
+use Rattle.iox_domain_subscriber.specs.Updating.{FollowsOne, FollowsFrom, FollowsNoneIf, FollowsNones, UpdatesIf, Updates, is_listed, ReceivesAfter, ReceivesNext}
 use Rattle.iox_domain_subscriber.specs.declared.attached.Attached.{Attached}
 use Rattle.iox_domain_subscriber.specs.declared.attached.Taken.{Taken}
 use Rattle.iox_domain_subscriber.specs.declared.publisher_entry.PublisherEntry.{PublisherEntry}

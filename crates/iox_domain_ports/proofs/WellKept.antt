@@ -1,8 +1,7 @@
 -- The ties of the publishers of a service stay apart, step by step.
-use Rattle.std.proofs.Common.{arith, ◌≡◌, ◌≢◌, ◌+◌, ◌<◌, ◌≤◌, ◌&&◌, ◌==◌, ◌∷◌, [], ℕ, zero, suc, Bool, true, false, not, List, get_or, set, length, replicate, Option, None, Some, Result, Ok, Err, refl, sym, ap, ◌∙◌, if◌then◌else◌, inl, inr}
+use Rattle.std.proofs.Common.{◌≡◌, ◌+◌, ◌&&◌, ◌∷◌, [], ℕ, zero, suc, Bool, true, false, not, List, get_or, set, length, Option, None, Some, Result, Ok, Err, refl, sym, ap, ◌∙◌, if◌then◌else◌}
 use Rattle.std.specs.List.{All, remove}
 use Rattle.std.specs.declared.alloc.AllocError.{AllocError}
-use Rattle.iox_index_base.specs.Places.{padded}
 use Rattle.iox_index_base.specs.declared.container.Member.{Member}
 use Rattle.iox_domain_values.specs.declared.backpressure.BackpressureDecision.{BackpressureDecision}
 use Rattle.iox_domain_values.specs.declared.backpressure.BackpressureInfo.{BackpressureInfo}
@@ -32,7 +31,7 @@ use Rattle.iox_domain_ports.specs.Publishing as publishing
 use Rattle.iox_domain_ports.specs.Rolls.{RollState, IsListOf}
 use Rattle.iox_domain_ports.proofs.Carrying.{Carries, carry_sends}
 use Rattle.iox_domain_ports.proofs.Numbered.{at_number, FoundEntry, found_of_all, all_set, all_gone}
-use Rattle.iox_domain_ports.proofs.TiedWell.{Kept, Alike, alike_is, alike_still, alike_waiting, well_alike, well_kept, still_there, updates_well, attaches_well}
+use Rattle.iox_domain_ports.proofs.TiedWell.{Alike, alike_is, alike_still, alike_waiting, well_alike, well_kept, still_there, updates_well, attaches_well}
 use Rattle.iox_domain_ports.proofs.Walks.{Walks}
 
 -- a publisher that stands is tied well after a step if it was before

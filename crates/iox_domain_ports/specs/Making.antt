@@ -1,5 +1,5 @@
 -- A publisher and a subscriber come.
-use Rattle.std.specs.Prelude.{ℕ, ◌≡◌, ◌+◌, ◌<◌, ◌^◌, max, nat_lt, List, Option, None, Some, Result, Ok, Err, if◌then◌else◌}
+use Rattle.std.specs.Prelude.{ℕ, ◌≡◌, ◌+◌, ◌^◌, max, nat_lt, List, Option, None, Some, Result, Ok, Err, if◌then◌else◌}
 use Rattle.std.specs.declared.alloc.AllocError.{AllocError}
 use Rattle.iox_index_base.specs.declared.container.Member.{Member}
 use Rattle.iox_domain_values.specs.OverrideAnswers.{places}
@@ -27,7 +27,7 @@ use Rattle.iox_domain_subscriber.specs.declared.publisher_entry.PublisherEntry.{
 use Rattle.iox_domain_subscriber.specs.declared.subscriber_port.SubscriberPort.{SubscriberPort}
 use Rattle.iox_domain_ports.specs.Ports.{with_both}
 use Rattle.iox_domain_ports.specs.Rolls.{IsListOf, free_place, entered}
-use Rattle.iox_domain_ports.specs.Subscribers.{subscriber_of, subscriber_added}
+use Rattle.iox_domain_ports.specs.Subscribers.{subscriber_added}
 use Rattle.iox_domain_ports.specs.declared.making.PublisherConfig.{PublisherConfig}
 use Rattle.iox_domain_ports.specs.declared.service_ports.ServicePorts.{ServicePorts}
 

@@ -44,13 +44,13 @@ end_earlier : {T U : Type 0} (place : ℕ) (port : PublisherPort T U)
 end_earlier place port =
     let long : length (untied place port).ties.items ≡ length port.ties.items = ap (λ ties. length ties) (untied_ties place port) ∙ length-set port.ties.items place None in
     elim (cases_lt place (length port.ties.items)) [
-      inl within ↦
-      let count : length port.ties.items - place ≡ suc (length (untied place port).ties.items - (place + 1)) = omega (arith, within, long) in
-      sym (ap (λ n. untied_from n place port) count)
-    | inr over ↦
-      let before : length port.ties.items - place ≡ zero = omega (arith, over) in
-      let after : length (untied place port).ties.items - (place + 1) ≡ zero = omega (arith, over, long) in
-      ap (λ n. untied_from n (place + 1) (untied place port)) after ∙ untied_none place port (get_or_past port.ties.items place None over) ∙ sym (ap (λ n. untied_from n place port) before)
+      | inl within ↦
+          let count : length port.ties.items - place ≡ suc (length (untied place port).ties.items - (place + 1)) = omega (arith, within, long) in
+          sym (ap (λ n. untied_from n place port) count)
+      | inr over ↦
+          let before : length port.ties.items - place ≡ zero = omega (arith, over) in
+          let after : length (untied place port).ties.items - (place + 1) ≡ zero = omega (arith, over, long) in
+          ap (λ n. untied_from n (place + 1) (untied place port)) after ∙ untied_none place port (get_or_past port.ties.items place None over) ∙ sym (ap (λ n. untied_from n place port) before)
     ]
 
 no_more : (listed : Option (Member SubscriberEntry)) (rest : List (Option (Member SubscriberEntry))) → TellTheSame [] (listed ∷ rest) → TellTheSame [] rest
@@ -61,9 +61,14 @@ longer : {T U : Type 0} (may : DegradationInfo → DegradationAction → Type 0)
     → TellTheSame [] more → FollowsAll may place [] found old answer new → FollowsAll may place more found old answer new
 longer may place [] found old new answer tells follows = follows
 longer may place (Some member ∷ more) found old new answer tells follows = let no : None ≡ Some member = tells zero in cc
-longer may place (None ∷ more) found old new answer tells follows =
-    (Ok tt, untied place old, found, (refl, refl), refl,
-      longer may (place + 1) more found (untied place old) new answer (no_more None more tells) (follows.0, follows.1 ∙ sym (end_earlier place old)))
+longer may place (None ∷ more) found old new answer tells follows = (
+  Ok tt,
+  untied place old,
+  found,
+  (refl, refl),
+  refl,
+  longer may (place + 1) more found (untied place old) new answer (no_more None more tells) (follows.0, follows.1 ∙ sym (end_earlier place old)),
+)
 
 -- and one that ends before them
 shorter : {T U : Type 0} (may : DegradationInfo → DegradationAction → Type 0) (place : ℕ) (more : List (Option (Member SubscriberEntry))) (found : Option ConnectionFailure) (old new : PublisherPort T U) (answer : Result (Unit {0}) ConnectionFailure)
@@ -127,14 +132,14 @@ none_there (suc place) (tie ∷ ties) = none_there place ties
 
 none_still : {T U : Type 0} (place other : ℕ) (port : PublisherPort T U) → (other ≢ place → get_or port.ties.items other None ≡ None) → get_or (untied place port).ties.items other None ≡ None
 none_still place other port none = elim (cases_lt other place) [
-    inl below ↦ away (omega (arith, below))
+  | inl below ↦ away (omega (arith, below))
   | inr from ↦ elim (cases_lt place other) [
-      inl above ↦ away (omega (arith, above))
+    | inl above ↦ away (omega (arith, above))
     | inr to ↦
-      let same : other ≡ place = omega (arith, from, to) in
-      ap (λ all. get_or all other None) (untied_ties place port) ∙ ap (λ at. get_or (set port.ties.items place None) at None) same ∙ none_there place port.ties.items
-    ]
+        let same : other ≡ place = omega (arith, from, to) in
+        ap (λ all. get_or all other None) (untied_ties place port) ∙ ap (λ at. get_or (set port.ties.items place None) at None) same ∙ none_there place port.ties.items
   ]
+]
   where
     away : other ≢ place → get_or (untied place port).ties.items other None ≡ None
     away not = ap (λ all. get_or all other None) (untied_ties place port) ∙ get_or-set_other port.ties.items place other None None not ∙ none not
@@ -143,9 +148,9 @@ none_still place other port none = elim (cases_lt other place) [
 cleared : {T U : Type 0} (count first other : ℕ) (port : PublisherPort T U) → length port.ties.items ≤ first + count → (other < first → get_or port.ties.items other None ≡ None)
     → get_or (untied_from count first port).ties.items other None ≡ None
 cleared zero first other port all before = elim (cases_lt other first) [
-    inl below ↦ before below
+  | inl below ↦ before below
   | inr from ↦ get_or_past port.ties.items other None (omega (arith, all, from))
-  ]
+]
 cleared (suc count) first other port all before =
     cleared count (first + 1) other (untied first port) (omega (arith, all, ap (λ ties. length ties) (untied_ties first port), length-set port.ties.items first None))
     (λ below. none_still first other port (λ not. before (omega (arith, below, not))))

@@ -88,8 +88,8 @@ pub opened_free : {T U : Type 0} (old new : Store T U) (uses later : Uses ℕ �
     → (slot : ℕ) → later.first ≤ slot → times slot (in_use (slots_of (seen_sender new later))) ≡ 0
 opened_free old new uses later is opened slot above =
     let none : times slot (in_use uses) ≡ 0 = elim (cases_lt 0 (times slot (in_use uses))) [
-      inl used ↦ absurd (omega (arith, is.within slot used, above, ap (λ u. u.first) opened))
-    | inr unused ↦ omega (arith, unused)
+      | inl used ↦ absurd (omega (arith, is.within slot used, above, ap (λ u. u.first) opened))
+      | inr unused ↦ omega (arith, unused)
     ] in
     ap (λ u. times slot (in_use u)) (slots_seen new later) ∙ ap (λ u. times slot (in_use u)) opened ∙ none
 

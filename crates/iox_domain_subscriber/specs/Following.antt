@@ -1,5 +1,5 @@
 -- What a subscriber does at one place of the list of publishers.
-use Rattle.std.specs.Prelude.{ℕ, ◌+◌, ◌<◌, ◌==◌, ◌≡◌, ◌≢◌, ◌||◌, is_none, Bool, true, false, List, [], length, get_or, set, slice_get, nat_le, Option, None, Some, Result, Ok, Err}
+use Rattle.std.specs.Prelude.{ℕ, ◌+◌, ◌<◌, ◌==◌, ◌≡◌, ◌≢◌, ◌||◌, is_none, Bool, true, false, List, [], length, get_or, slice_get, nat_le, Option, None, Some, Result, Ok, Err}
 use Rattle.std.specs.declared.alloc.AllocError.{AllocError}
 use Rattle.iox_maps.specs.SlotTable.{stored}
 use Rattle.iox_domain_values.specs.declared.connection_failure.ZeroCopyCreationError.{ZeroCopyCreationError}
