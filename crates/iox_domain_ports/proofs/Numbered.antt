@@ -1,196 +1,130 @@
--- Each port keeps to a number that was given out.
-use Rattle.std.proofs.Common.{arith, ◌≡◌, ◌+◌, ◌-◌, ◌<◌, ◌∙◌, ℕ, zero, suc, Bool, true, false, List, [], ◌∷◌, Option, None, Some, Result, Ok, Err, if◌then◌else◌, cond, refl, sym, ap, subst}
-use Rattle.std.specs.Prelude.{All}
-use Rattle.std.specs.BTreeMap.{is_at, insert_entry}
-use Rattle.std.specs.Cmp.{nat_cmp_is}
-use Rattle.std.specs.Map.{keys_of, lookup}
-use Rattle.std.specs.Ordering.{nat_cmp, is_eq}
-use Rattle.std.specs.declared.alloc.AllocError.{AllocError}
-use Rattle.std.specs.declared.cmp.Ordering.TheVariants.{Greater}
-use Rattle.std.proofs.lemmas.Map.{keys-set_value}
-use Rattle.std.proofs.lemmas.Map.Views.{All-map-remove_entry, All-keys-insert_entry}
-use Rattle.iox_domain_values.specs.declared.backpressure.BackpressureDecision.{BackpressureDecision}
-use Rattle.iox_domain_values.specs.declared.backpressure.BackpressureInfo.{BackpressureInfo}
-use Rattle.iox_domain_values.specs.declared.create_error.PublisherCreateError.{PublisherCreateError}
-use Rattle.iox_domain_values.specs.declared.create_error.SubscriberCreateError.{SubscriberCreateError}
-use Rattle.iox_domain_values.specs.declared.degradation.DegradationAction.{DegradationAction}
-use Rattle.iox_domain_values.specs.declared.degradation.DegradationInfo.{DegradationInfo}
-use Rattle.iox_domain_values.specs.declared.port_owner.PortOwner.{PortOwner}
-use Rattle.iox_domain_publisher.specs.Leaving.{departed}
-use Rattle.iox_domain_publisher.specs.Writing.{changed_if, given_up}
-use Rattle.iox_domain_publisher.specs.declared.publisher_port.PublisherPort.{PublisherPort}
-use Rattle.iox_domain_subscriber.specs.Arriving.{new_subscriber}
-use Rattle.iox_domain_subscriber.specs.Publishers.{port_of, with_port, changed, changed_at_port, is_over_in, settled, connection_in}
-use Rattle.iox_domain_subscriber.specs.Reading.{place_of}
-use Rattle.iox_domain_subscriber.specs.declared.attached.Taken.{Taken}
-use Rattle.iox_domain_subscriber.specs.declared.subscriber_port.SubscriberPort.{SubscriberPort}
-use Rattle.iox_domain_ports.specs.Lending.{LoansOne}
-use Rattle.iox_domain_ports.specs.Making.{identity_of, CreatesPublisher, CreatesSubscriber, AddsPublisher, AddsSubscriber}
-use Rattle.iox_domain_ports.specs.NumberLaws.{IsNumbered, NumbersStay}
-use Rattle.iox_domain_ports.specs.Ports.{AtPublisher, AtSubscriber, with_publisher, with_both}
-use Rattle.iox_domain_ports.specs.Publishing.{is_free}
-use Rattle.iox_domain_ports.specs.Publishing as publishing
-use Rattle.iox_domain_ports.specs.Subscribers.{subscriber_of, with_subscriber, subscriber_added, subscriber_removed}
-use Rattle.iox_domain_ports.specs.Subscribing.{HasSamplesOne, ReceivesOne, let_go, let_go_at, ReleasesAt, ReleasesOf, Releases}
-use Rattle.iox_domain_ports.specs.Subscribing as subscribing
-use Rattle.iox_domain_ports.specs.declared.making.PublisherConfig.{PublisherConfig}
-use Rattle.iox_domain_ports.specs.declared.service_ports.ServicePorts.{ServicePorts}
-use Rattle.iox_domain_ports.proofs.Keeping.{KeepsPorts, put_numbers, gone_numbers, updates_keeps, left_all_keeps, released_keeps}
-use Rattle.iox_domain_ports.proofs.Received.{update_made, looked, received_by}
+-- What is found under a number after an entry changed, went or came.
+use Rattle.std.proofs.Common.{◌≡◌, ◌≢◌, ◌∷◌, [], ℕ, Bool, true, false, List, Option, None, Some, cond, refl, sym, ap, ◌∙◌, subst}
+use Rattle.std.proofs.lemmas.List.Elements.{All-cons, All-head, All-nil, All-tail}
+use Rattle.std.specs.BTreeMap.{insert_entry, is_at}
+use Rattle.std.specs.FinMap.{nat_cmp-IsAntisymmetric}
+use Rattle.std.specs.List.{All}
+use Rattle.std.specs.Map.{lookup, set_value, remove_entry}
+use Rattle.std.specs.Ordering.{nat_cmp, is_eq, match_ordering}
+use Rattle.std.specs.declared.cmp.Ordering.{Ordering}
+use Rattle.std.specs.declared.cmp.Ordering.TheVariants.{Less, Equal, Greater}
 
--- each number is below this one
-abbrev AllBelow : {X : Type 0} → ℕ → List (ℕ × X) → Type 0
-AllBelow next entries = All (λ number. number < next) (keys_of entries)
+-- the test of a number
+abbrev pub at_number : ℕ → ℕ → Bool
+at_number number = is_at (nat_cmp number)
 
--- a number that none has is found nowhere
-not_found : {X : Type 0} (next : ℕ) (entries : List (ℕ × X)) → AllBelow next entries → lookup (is_at (nat_cmp next)) entries ≡ None
-not_found next [] all = refl
-not_found next (entry ∷ entries) all =
-    let below : entry.0 < next = all zero entry.0 (omega arith) in
-    ap (λ order. cond (is_eq order) (Some entry.1) (lookup (is_at (nat_cmp next)) entries)) (sym (nat_cmp_is next entry.0 Greater below))
-    ∙ not_found next entries (λ place default within. all (suc place) default (omega (arith, within)))
+equal_of : (order : Ordering) → is_eq order ≡ true → order ≡ Equal
+equal_of Less is = cc
+equal_of Equal is = refl
+equal_of Greater is = cc
 
-one_further : {X : Type 0} (next : ℕ) (entries : List (ℕ × X)) → AllBelow next entries → AllBelow (next + 1) entries
-one_further next entries all place default within = omega (arith, all place default within)
+-- a number passes its own test alone
+pub number_is : (number other : ℕ) → at_number number other ≡ true → number ≡ other
+number_is number other is = nat_cmp-IsAntisymmetric number other (equal_of (nat_cmp number other) is)
 
-came : {X : Type 0} (next : ℕ) (entries : List (ℕ × X)) (x : X) → AllBelow next entries → AllBelow (next + 1) (insert_entry nat_cmp entries next x)
-came next entries x all = All-keys-insert_entry nat_cmp next x (λ number. number < next + 1) entries (one_further next entries all) (omega arith)
+pub bool_false : (b : Bool) → (b ≡ true → ⊥) → b ≡ false
+bool_false true not = absurd (not refl)
+bool_false false not = refl
 
-as_is : {T U : Type 0} (old new : ServicePorts T U) → new ≡ old → IsNumbered old → IsNumbered new
-as_is old new is numbered = subst IsNumbered (sym is) numbered
+-- an entry of another number doesn't pass
+pub other_fails : (number changed : ℕ) → number ≢ changed → (key : ℕ) → at_number changed key ≡ true → at_number number key ≡ false
+other_fails number changed not key is = bool_false (at_number number key) (λ same. not (number_is number key same ∙ sym (number_is changed key is)))
 
-changed_numbers : {T U : Type 0} (number : ℕ) (step : PublisherPort T U → PublisherPort T U) (found : Option (PublisherPort T U)) (ports : List (ℕ × PublisherPort T U)) (next : ℕ) → AllBelow next ports
-    → AllBelow next (changed_at_port number step found ports)
-changed_numbers number step None ports next all = all
-changed_numbers number step (Some port) ports next all = put_numbers number ports (step port) next all
+other_head : {X : Type 0} (passes : Bool) (x y : X) (found : Option X) → passes ≡ false → cond passes (Some x) found ≡ cond passes (Some y) found
+other_head passes x y found is = ap (λ b. cond b (Some x) found) is ∙ sym (ap (λ b. cond b (Some y) found) is)
 
-settled_numbers : {T U : Type 0} (number : ℕ) (ports : List (ℕ × PublisherPort T U)) (next : ℕ) → AllBelow next ports → AllBelow next (settled number ports)
-settled_numbers number ports next all = gone_numbers (is_over_in number ports) number ports next all
+-- another entry changed
+other_set_by : {X : Type 0} (test number : ℕ → Bool) (passes : Bool) (e : ℕ × X) (es : List (ℕ × X)) (x : X) → (passes ≡ true → number e.0 ≡ false) → lookup number (set_value test es x) ≡ lookup number es
+    → lookup number (cond passes ((e.0, x) ∷ es) (e ∷ set_value test es x)) ≡ lookup number (e ∷ es)
+other_set_by test number true e es x apart rest = other_head (number e.0) x e.1 (lookup number es) (apart refl)
+other_set_by test number false e es x apart rest = ap (λ found. cond (number e.0) (Some e.1) found) rest
 
-put_numbered : {T U : Type 0} (number : ℕ) (old : ServicePorts T U) (after : PublisherPort T U) → IsNumbered old → IsNumbered (with_publisher number after old)
-put_numbered number old after numbered = (settled_numbers number (with_port number old.publishers after) old.next_port (put_numbers number old.publishers after old.next_port numbered.0), numbered.1)
+pub other_set : {X : Type 0} (test number : ℕ → Bool) (entries : List (ℕ × X)) (x : X) → ((key : ℕ) → test key ≡ true → number key ≡ false) → lookup number (set_value test entries x) ≡ lookup number entries
+other_set test number [] x apart = refl
+other_set test number (e ∷ es) x apart = other_set_by test number (test e.0) e es x (apart e.0) (other_set test number es x apart)
 
-at_publisher : {T U A : Type 0} (number : ℕ) (step : PublisherPort T U → Option A → PublisherPort T U → Type 0) (found : Option (PublisherPort T U)) (old new : ServicePorts T U) (answer : Option A)
-    → IsNumbered old → AtPublisher number step found old answer new → IsNumbered new
-at_publisher number step None old new answer numbered at = as_is old new at.1 numbered
-at_publisher number step (Some port) old new None numbered (after, steps, is) = as_is old new is numbered
-at_publisher number step (Some port) old new (Some value) numbered (after, steps, is) = as_is (with_publisher number after old) new is (put_numbered number old after numbered)
+-- the entry itself changed
+same_set_by : {X : Type 0} (test : ℕ → Bool) (passes : Bool) (e : ℕ × X) (es : List (ℕ × X)) (x y : X) → test e.0 ≡ passes → (lookup test es ≡ Some y → lookup test (set_value test es x) ≡ Some x)
+    → cond passes (Some e.1) (lookup test es) ≡ Some y → lookup test (cond passes ((e.0, x) ∷ es) (e ∷ set_value test es x)) ≡ Some x
+same_set_by test true e es x y is rest there = ap (λ b. cond b (Some x) (lookup test es)) is
+same_set_by test false e es x y is rest there = ap (λ b. cond b (Some e.1) (lookup test (set_value test es x))) is ∙ rest there
 
-left_publisher : {T U : Type 0} (number : ℕ) (found : Option (PublisherPort T U)) (old new : ServicePorts T U) (answer : Bool) → IsNumbered old → publishing.LeavesAt number found old answer new → IsNumbered new
-left_publisher number None old new answer numbered leaves = as_is old new leaves.1 numbered
-left_publisher {T} {U} number (Some port) old new answer numbered leaves = at (is_free port) leaves
-  where
-    at : (free : Bool) → publishing.LeavesPortIf free number port old answer new → IsNumbered new
-    at false leaves = as_is old new leaves.1 numbered
-    at true leaves = subst IsNumbered (sym leaves.1) (put_numbered number old (departed port) numbered)
+pub same_set : {X : Type 0} (test : ℕ → Bool) (entries : List (ℕ × X)) (x y : X) → lookup test entries ≡ Some y → lookup test (set_value test entries x) ≡ Some x
+same_set test [] x y there = cc
+same_set test (e ∷ es) x y there = same_set_by test (test e.0) e es x y refl (same_set test es x y) there
 
-put_subscriber : (number : ℕ) (ports : List (ℕ × SubscriberPort)) (after : SubscriberPort) (next : ℕ) → AllBelow next ports → AllBelow next (with_subscriber number ports after)
-put_subscriber number ports after next all = subst (λ keys. All (λ number. number < next) keys) (sym (keys-set_value (is_at (nat_cmp number)) ports after)) all
+-- another entry went
+other_gone_by : {X : Type 0} (test number : ℕ → Bool) (passes : Bool) (e : ℕ × X) (es : List (ℕ × X)) → (passes ≡ true → number e.0 ≡ false) → lookup number (remove_entry test es) ≡ lookup number es
+    → lookup number (cond passes es (e ∷ remove_entry test es)) ≡ lookup number (e ∷ es)
+other_gone_by test number true e es apart rest = sym (ap (λ b. cond b (Some e.1) (lookup number es)) (apart refl))
+other_gone_by test number false e es apart rest = ap (λ found. cond (number e.0) (Some e.1) found) rest
 
-settled_subscribers : (over : Bool) (number : ℕ) (ports : List (ℕ × SubscriberPort)) (next : ℕ) → AllBelow next ports → AllBelow next (if over then subscriber_removed number ports else ports)
-settled_subscribers true number ports next all = All-map-remove_entry (is_at (nat_cmp number)) (λ (entry : ℕ × SubscriberPort). entry.0) (λ number. number < next) ports all
-settled_subscribers false number ports next all = all
+pub other_gone : {X : Type 0} (test number : ℕ → Bool) (entries : List (ℕ × X)) → ((key : ℕ) → test key ≡ true → number key ≡ false) → lookup number (remove_entry test entries) ≡ lookup number entries
+other_gone test number [] apart = refl
+other_gone test number (e ∷ es) apart = other_gone_by test number (test e.0) e es (apart e.0) (other_gone test number es apart)
 
-both_numbered : {T U : Type 0} (number : ℕ) (old new : ServicePorts T U) (after : SubscriberPort) (ports_after : List (ℕ × PublisherPort T U)) → new ≡ with_both number after ports_after old
-    → KeepsPorts old.publishers ports_after → IsNumbered old → IsNumbered new
-both_numbered number old new after ports_after is keeps numbered =
-    as_is (with_both number after ports_after old) new is (keeps.numbers old.next_port numbered.0, put_subscriber number old.subscribers after old.next_port numbered.1)
+-- another entry came
+other_came_by : {X : Type 0} (came number : ℕ) (order : Ordering) (e : ℕ × X) (es : List (ℕ × X)) (x : X) → nat_cmp came e.0 ≡ order → number ≢ came
+    → lookup (at_number number) (insert_entry nat_cmp es came x) ≡ lookup (at_number number) es
+    → lookup (at_number number) (match_ordering order ((came, x) ∷ e ∷ es) ((e.0, x) ∷ es) (e ∷ insert_entry nat_cmp es came x)) ≡ lookup (at_number number) (e ∷ es)
+other_came_by came number Less e es x is not rest =
+    ap (λ b. cond b (Some x) (lookup (at_number number) (e ∷ es))) (bool_false (at_number number came) (λ same. not (number_is number came same)))
+other_came_by came number Equal e es x is not rest =
+    other_head (at_number number e.0) x e.1 (lookup (at_number number) es) (other_fails number came not e.0 (ap is_eq is))
+other_came_by came number Greater e es x is not rest = ap (λ found. cond (at_number number e.0) (Some e.1) found) rest
 
-at_subscriber : {T U A : Type 0} (number : ℕ) (step : SubscriberPort → List (ℕ × PublisherPort T U) → Option A → SubscriberPort → List (ℕ × PublisherPort T U) → Type 0)
-    (found : Option SubscriberPort) (old new : ServicePorts T U) (answer : Option A)
-    → ((port : SubscriberPort) (value : A) (after : SubscriberPort) (ports_after : List (ℕ × PublisherPort T U)) → step port old.publishers (Some value) after ports_after → KeepsPorts old.publishers ports_after)
-    → IsNumbered old → AtSubscriber number step found old answer new → IsNumbered new
-at_subscriber number step None old new answer keeps numbered at = as_is old new at.1 numbered
-at_subscriber number step (Some port) old new None keeps numbered (after, ports_after, steps, is) = as_is old new is numbered
-at_subscriber number step (Some port) old new (Some value) keeps numbered (after, ports_after, steps, is) = both_numbered number old new after ports_after is (keeps port value after ports_after steps) numbered
+pub other_came : {X : Type 0} (came number : ℕ) (entries : List (ℕ × X)) (x : X) → number ≢ came → lookup (at_number number) (insert_entry nat_cmp entries came x) ≡ lookup (at_number number) entries
+other_came came number [] x not = ap (λ b. cond b (Some x) None) (bool_false (at_number number came) (λ same. not (number_is number came same)))
+other_came came number (e ∷ es) x not = other_came_by came number (nat_cmp came e.0) e es x refl not (other_came came number es x not)
 
-left_subscriber : {T U : Type 0} (number : ℕ) (found : Option SubscriberPort) (old new : ServicePorts T U) (answer : Bool) → IsNumbered old → subscribing.LeavesAt number found old answer new → IsNumbered new
-left_subscriber number None old new answer numbered leaves = as_is old new leaves.1 numbered
-left_subscriber {T} {U} number (Some port) old new answer numbered leaves = at port.stands leaves
-  where
-    at : (stands : Bool) → subscribing.LeavesPortIf stands number port old answer new → IsNumbered new
-    at false leaves = as_is old new leaves.1 numbered
-    at true leaves = subst IsNumbered (sym leaves.1) (
-      (left_all_keeps port.connections.values old.publishers).numbers old.next_port numbered.0,
-      settled_subscribers _ number (with_subscriber number old.subscribers (record port { stands = false })) old.next_port
-          (put_subscriber number old.subscribers (record port { stands = false }) old.next_port numbered.1),
-    )
+-- what holds of each entry holds of the one that is found
+pub record FoundEntry {X : Type 0} (P : ℕ × X → Type 0) (test : ℕ → Bool) (x : X) : Type 0 where
+  pub key : ℕ
+  pub passes : test key ≡ true
+  pub holds : P (key, x)
 
-let_go_numbers : (number : ℕ) (found : Option SubscriberPort) (ports : List (ℕ × SubscriberPort)) (next : ℕ) → AllBelow next ports → AllBelow next (let_go_at number found ports)
-let_go_numbers number None ports next all = all
-let_go_numbers number (Some port) ports next all = put_subscriber number ports (record port { held = port.held - 1 }) next all
+found_by : {X : Type 0} (P : ℕ × X → Type 0) (test : ℕ → Bool) (passes : Bool) (e : ℕ × X) (es : List (ℕ × X)) (x : X) → test e.0 ≡ passes → P e → (lookup test es ≡ Some x → FoundEntry P test x)
+    → cond passes (Some e.1) (lookup test es) ≡ Some x → FoundEntry P test x
+found_by {X} P test true e es x is here rest there =
+    let same : e.1 ≡ x = cc in
+    record { key = e.0; passes = is; holds = subst (λ (y : X). P (e.0, y)) same here }
+found_by P test false e es x is here rest there = rest there
 
-released_numbers : {T U : Type 0} (number : ℕ) (sample : Taken) (found : Option SubscriberPort) (old new : ServicePorts T U) (answer : Bool) → IsNumbered old → ReleasesOf found number sample old answer new → IsNumbered new
-released_numbers number sample None old new answer numbered releases = as_is old new releases.1 numbered
-released_numbers {T} {U} number sample (Some port) old new answer numbered releases = at (place_of sample.slot (connection_in sample.publisher sample.index old.publishers)) releases
-  where
-    at : (place : Option ℕ) → ReleasesAt number sample place old answer new → IsNumbered new
-    at None releases = as_is old new releases.1 numbered
-    at (Some place) releases = subst IsNumbered (sym releases.1) (
-      (released_keeps sample.publisher sample.index (Some place) old.publishers).numbers old.next_port numbered.0,
-      settled_subscribers _ number (let_go_at number (subscriber_of number old.subscribers) old.subscribers) old.next_port
-          (let_go_numbers number (subscriber_of number old.subscribers) old.subscribers old.next_port numbered.1),
-    )
+pub found_of_all : {X : Type 0} (P : ℕ × X → Type 0) (test : ℕ → Bool) (entries : List (ℕ × X)) (x : X) → All P entries → lookup test entries ≡ Some x → FoundEntry P test x
+found_of_all P test [] x all there = cc
+found_of_all P test (e ∷ es) x all there = found_by P test (test e.0) e es x refl (All-head P e es all) (found_of_all P test es x (All-tail P e es all)) there
 
-adds_publisher : {T U : Type 0} (may : DegradationInfo → DegradationAction → Type 0) (config : PublisherConfig) (user_header : U) (place slots : ℕ) (old new : ServicePorts T U) (outcome : Result ℕ AllocError)
-    → IsNumbered old → AddsPublisher may config user_header place slots old outcome new → IsNumbered new
-adds_publisher may config user_header place slots old new (Err error) numbered adds = as_is old new adds numbered
-adds_publisher may config user_header place slots old new (Ok number) numbered (listed, is_list, outcome, port, updates, next, made) =
-    subst IsNumbered (sym made) (came old.next_port old.publishers port numbered.0, one_further old.next_port old.subscribers numbered.1)
+all_set_by : {X : Type 0} (P : ℕ × X → Type 0) (test : ℕ → Bool) (passes : Bool) (e : ℕ × X) (es : List (ℕ × X)) (x : X) → ((one : ℕ × X) → P one → P (one.0, x)) → All P (e ∷ es) → All P (set_value test es x)
+    → All P (cond passes ((e.0, x) ∷ es) (e ∷ set_value test es x))
+all_set_by P test true e es x changes all rest = All-cons P (e.0, x) es (changes e (All-head P e es all)) (All-tail P e es all)
+all_set_by P test false e es x changes all rest = All-cons P e (set_value test es x) (All-head P e es all) rest
 
-creates_publisher : {T U : Type 0} (overrides : ℕ → ℕ → Type 0) (may : DegradationInfo → DegradationAction → Type 0) (config : PublisherConfig) (user_header : U) (needed place : Option ℕ)
-    (old new : ServicePorts T U) (answer : Result ℕ PublisherCreateError) → IsNumbered old → CreatesPublisher overrides may config user_header needed place old answer new → IsNumbered new
-creates_publisher overrides may config user_header None place old new answer numbered creates = as_is old new creates.1 numbered
-creates_publisher overrides may config user_header (Some needed) None old new answer numbered creates = as_is old new creates.1 numbered
-creates_publisher overrides may config user_header (Some needed) (Some place) old new answer numbered (slots, allowed, outcome, adds, is) =
-    adds_publisher may config user_header place _ old new outcome numbered adds
+-- and of each, where it holds of the changed one
+pub all_set : {X : Type 0} (P : ℕ × X → Type 0) (test : ℕ → Bool) (entries : List (ℕ × X)) (x : X) → ((one : ℕ × X) → P one → P (one.0, x)) → All P entries → All P (set_value test entries x)
+all_set P test [] x changes all = all
+all_set P test (e ∷ es) x changes all = all_set_by P test (test e.0) e es x changes all (all_set P test es x changes (All-tail P e es all))
 
-adds_subscriber : {T U : Type 0} (may : DegradationInfo → DegradationAction → Type 0) (owner : PortOwner) (place buffer_size : ℕ) (old new : ServicePorts T U) (outcome : Result ℕ AllocError)
-    → IsNumbered old → AddsSubscriber may owner place buffer_size old outcome new → IsNumbered new
-adds_subscriber may owner place buffer_size old new (Err error) numbered adds = as_is old new adds numbered
-adds_subscriber may owner place buffer_size old new (Ok number) numbered (between, (listed, is_list, outcome, after, ports_after, updates, followed), next, made) =
-    let port : SubscriberPort = new_subscriber (identity_of owner place old) buffer_size old.sizes.max_publishers old.sizes.expired_connections in
-    let keeps = updates_keeps may listed old.publisher_list.changes port old.publishers outcome after ports_after updates in
-    subst IsNumbered (sym made) (
-      subst (λ ports. AllBelow (old.next_port + 1) ports.publishers) (sym followed) (one_further old.next_port ports_after (keeps.1.numbers old.next_port numbered.0)),
-      subst (λ ports. AllBelow (old.next_port + 1) ports.subscribers) (sym followed)
-          (put_subscriber old.next_port (subscriber_added old.next_port port old.subscribers) after (old.next_port + 1) (came old.next_port old.subscribers port numbered.1)),
-    )
+all_gone_by : {X : Type 0} (P : ℕ × X → Type 0) (test : ℕ → Bool) (passes : Bool) (e : ℕ × X) (es : List (ℕ × X)) → All P (e ∷ es) → All P (remove_entry test es) → All P (cond passes es (e ∷ remove_entry test es))
+all_gone_by P test true e es all rest = All-tail P e es all
+all_gone_by P test false e es all rest = All-cons P e (remove_entry test es) (All-head P e es all) rest
 
-creates_subscriber : {T U : Type 0} (may : DegradationInfo → DegradationAction → Type 0) (owner : PortOwner) (buffer_size : Result ℕ SubscriberCreateError) (place : Option ℕ)
-    (old new : ServicePorts T U) (answer : Result ℕ SubscriberCreateError) → IsNumbered old → CreatesSubscriber may owner buffer_size place old answer new → IsNumbered new
-creates_subscriber may owner (Err refusal) place old new answer numbered creates = as_is old new creates.1 numbered
-creates_subscriber may owner (Ok buffer_size) None old new answer numbered creates = as_is old new creates.1 numbered
-creates_subscriber may owner (Ok buffer_size) (Some place) old new answer numbered (outcome, adds, is) = adds_subscriber may owner place buffer_size old new outcome numbered adds
+-- one that went
+pub all_gone : {X : Type 0} (P : ℕ × X → Type 0) (test : ℕ → Bool) (entries : List (ℕ × X)) → All P entries → All P (remove_entry test entries)
+all_gone P test [] all = all
+all_gone P test (e ∷ es) all = all_gone_by P test (test e.0) e es all (all_gone P test es (All-tail P e es all))
 
-nobody_numbered : (X : Type 0) (next : ℕ) → AllBelow {X = X} next []
-nobody_numbered X next place default within = absurd (omega (arith, within))
+all_came_by : {X : Type 0} (P : ℕ × X → Type 0) (came : ℕ) (order : Ordering) (e : ℕ × X) (es : List (ℕ × X)) (x : X) → P (came, x) → ((one : ℕ × X) → P one → P (one.0, x)) → All P (e ∷ es) → All P (insert_entry nat_cmp es came x)
+    → All P (match_ordering order ((came, x) ∷ e ∷ es) ((e.0, x) ∷ es) (e ∷ insert_entry nat_cmp es came x))
+all_came_by P came Less e es x here changes all rest = All-cons P (came, x) (e ∷ es) here all
+all_came_by P came Equal e es x here changes all rest = All-cons P (e.0, x) es (changes e (All-head P e es all)) (All-tail P e es all)
+all_came_by P came Greater e es x here changes all rest = All-cons P e (insert_entry nat_cmp es came x) (All-head P e es all) rest
 
--- each call keeps to numbers that were given out
-pub numbers_stay : {T U : Type 0} (overrides : ℕ → ℕ → Type 0) (may_degrade : DegradationInfo → DegradationAction → Type 0) (may : BackpressureInfo → BackpressureDecision → Type 0)
-    → NumbersStay T U overrides may_degrade may
-numbers_stay {T} {U} overrides may_degrade may = record {
-  new = λ service sizes. (nobody_numbered (PublisherPort T U) 1, nobody_numbered SubscriberPort 1);
-  next = λ ports numbered. (not_found ports.next_port ports.publishers numbered.0, not_found ports.next_port ports.subscribers numbered.1);
-  create_publisher = creates_publisher overrides may_degrade;
-  create_subscriber = creates_subscriber may_degrade;
-  loan = λ number values elements old new answer numbered at. at_publisher number (LoansOne values elements) (port_of number old.publishers) old new answer numbered at;
-  write = λ number slot test change old numbered. (changed_numbers number (λ port. changed_if (test port) slot change port) (port_of number old.publishers) old.publishers old.next_port numbered.0, numbered.1);
-  drop_loan = λ number slot old numbered. (
-    settled_numbers number (changed number (given_up slot) old.publishers) old.next_port (changed_numbers number (given_up slot) (port_of number old.publishers) old.publishers old.next_port numbered.0),
-    numbered.1,
-  );
-  update_publisher = λ number old new answer numbered at. at_publisher number (publishing.UpdatesOne may_degrade old.subscriber_list) (port_of number old.publishers) old new answer numbered at;
-  send = λ number slot old new answer numbered at. at_publisher number (publishing.SendsOne may_degrade may old.subscriber_list slot) (port_of number old.publishers) old new answer numbered at;
-  retry = λ number elapsed old new answer numbered at. at_publisher number (publishing.RetriesOne may elapsed) (port_of number old.publishers) old new answer numbered at;
-  give_up = λ number old new answer numbered at. at_publisher number publishing.GivesUpOne (port_of number old.publishers) old new answer numbered at;
-  leave_publisher = λ number old new answer numbered leaves. left_publisher number (port_of number old.publishers) old new answer numbered leaves;
-  update_subscriber = λ number old new answer numbered at. at_subscriber number (subscribing.UpdatesOne may_degrade old.publisher_list) (subscriber_of number old.subscribers) old new answer
-      (λ port value after ports_after step. (update_made port.stands may_degrade old.publisher_list port old.publishers value after ports_after step).1) numbered at;
-  has_samples = λ number old new answer numbered at. at_subscriber number (HasSamplesOne may_degrade old.publisher_list) (subscriber_of number old.subscribers) old new answer
-      (λ port value after ports_after step. (looked port.stands may_degrade old.publisher_list port old.publishers value after ports_after step).1) numbered at;
-  receive = λ number old new answer numbered at. at_subscriber number (ReceivesOne may_degrade old.publisher_list) (subscriber_of number old.subscribers) old new answer
-      (λ port value after ports_after step. (received_by port.stands may_degrade old.publisher_list port old.publishers value after ports_after step).1.1) numbered at;
-  release = λ number sample old new answer numbered releases. released_numbers number sample (subscriber_of number old.subscribers) old new answer numbered releases;
-  leave_subscriber = λ number old new answer numbered leaves. left_subscriber number (subscriber_of number old.subscribers) old new answer numbered leaves;
-}
+-- one that came
+pub all_came : {X : Type 0} (P : ℕ × X → Type 0) (came : ℕ) (entries : List (ℕ × X)) (x : X) → P (came, x) → ((one : ℕ × X) → P one → P (one.0, x)) → All P entries → All P (insert_entry nat_cmp entries came x)
+all_came P came [] x here changes all = All-cons P (came, x) [] here all
+all_came P came (e ∷ es) x here changes all = all_came_by P came (nat_cmp came e.0) e es x here changes all (all_came P came es x here changes (All-tail P e es all))
+
+-- what follows of each entry
+pub all_then : {X : Type 0} (P Q : ℕ × X → Type 0) (entries : List (ℕ × X)) → ((one : ℕ × X) → P one → Q one) → All P entries → All Q entries
+all_then P Q [] follows all = All-nil Q
+all_then P Q (e ∷ es) follows all = All-cons Q e es (follows e (All-head P e es all)) (all_then P Q es follows (All-tail P e es all))

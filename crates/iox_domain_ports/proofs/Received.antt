@@ -35,7 +35,7 @@ use Rattle.iox_domain_ports.specs.declared.making.PublisherConfig.{PublisherConf
 use Rattle.iox_domain_ports.specs.declared.service_ports.ServicePorts.{ServicePorts}
 use Rattle.iox_domain_ports.proofs.Calling.{no_value, same_value}
 use Rattle.iox_domain_ports.proofs.Coming.{lookup-came}
-use Rattle.iox_domain_ports.proofs.Keeping.{holding_of, Keeps, updates_keeps, receives_next_keeps, has_samples_keeps, left_all_keeps, released_keeps}
+use Rattle.iox_domain_ports.proofs.KeepsLife.{holding_of, Keeps, updates_keeps, receives_next_keeps, has_samples_keeps, left_all_keeps, released_keeps}
 use Rattle.iox_domain_ports.proofs.Lives.{updates_life}
 use Rattle.iox_domain_ports.proofs.Outliving.{not_true, counts, count_of_life, counted_more, nothing_counted}
 

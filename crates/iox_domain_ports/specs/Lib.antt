@@ -12,3 +12,5 @@ pub mod Living
 pub mod LivingLaws
 pub mod LivingSteps
 pub mod NumberLaws
+pub mod Calls
+pub mod Laws

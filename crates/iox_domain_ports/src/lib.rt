@@ -10,8 +10,10 @@
 //! - [`reading`]: what is read of a sample.
 //! - [`living`]: how much lives.
 //! - [`numbering`]: each number is given to one port.
+//! - [`laws`]: what the calls come to, in other words.
 #![tactic(auto)]
 
+pub mod laws;
 pub mod lending;
 pub mod living;
 pub mod making;

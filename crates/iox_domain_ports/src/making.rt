@@ -131,6 +131,7 @@ impl<T: Copy, U: Copy> ServicePorts<T, U> {
         let mut port = PublisherPort::new(
             alloc,
             self.identity(config.owner, place),
+            self.sizes.max_subscribers as usize,
             config.allocation,
             self.sender_config(&config, slots),
             blank,

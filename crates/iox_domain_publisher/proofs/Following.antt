@@ -1,5 +1,5 @@
 -- An update goes from place to place.
-use Rattle.std.proofs.Common.{◌≡◌, ◌+◌, ◌<◌, ◌≤◌, ℕ, Bool, List, ◌∷◌, length, drop, get_or, Result, Option, None, refl, sym, ap, ◌∙◌}
+use Rattle.std.proofs.Common.{◌≡◌, ◌+◌, ◌<◌, ◌≤◌, arith, zero, suc, ◌-◌, ℕ, Bool, List, ◌∷◌, length, drop, get_or, Result, Option, None, refl, sym, ap, ◌∙◌}
 use Rattle.std.proofs.lemmas.List.{drop_more, drop_all, get_or_default}
 use Rattle.std.specs.Prelude.{is_ok}
 use Rattle.std.specs.declared.alloc.AllocError.{AllocError}
@@ -8,7 +8,7 @@ use Rattle.iox_domain_values.specs.declared.degradation.DegradationAction.{Degra
 use Rattle.iox_domain_values.specs.declared.degradation.DegradationInfo.{DegradationInfo}
 use Rattle.iox_index_base.specs.declared.container.Member.{Member}
 use Rattle.iox_domain_publisher.specs.Ports.{with_connections}
-use Rattle.iox_domain_publisher.specs.Updating.{Follows, Asks, FollowsAll, OnlyConnections, update_answer}
+use Rattle.iox_domain_publisher.specs.Updating.{Follows, Asks, FollowsAll, OnlyConnections, untied, untied_from, update_answer}
 use Rattle.iox_domain_publisher.specs.declared.publisher_port.PublisherPort.{PublisherPort}
 use Rattle.iox_domain_publisher.specs.declared.subscriber_entry.SubscriberEntry.{SubscriberEntry}
 
@@ -43,9 +43,36 @@ following_on may listed first now next place member asked found after outcome is
       only = only_still first now next so_far.only only;
     }
 
--- no place is left
-pub followed : {T U : Type 0} (may : DegradationInfo → DegradationAction → Type 0) (listed : List (Option (Member SubscriberEntry))) (first now : PublisherPort T U) (place : ℕ) (found : Option ConnectionFailure)
+-- no place of the list is left
+pub followed : {T U : Type 0} (may : DegradationInfo → DegradationAction → Type 0) (listed : List (Option (Member SubscriberEntry))) (first now new : PublisherPort T U) (place : ℕ) (found : Option ConnectionFailure)
     (answer : Result (Unit {0}) ConnectionFailure)
-    → Following may listed first found now place → length listed ≤ place → answer ≡ update_answer found → FollowsAll may 0 listed None first answer now
-followed may listed first now place found answer so_far over is_answer =
-    so_far.rest answer now (rw (drop_all place listed over) (is_answer, refl))
+    → Following may listed first found now place → place ≤ length listed → length listed ≤ place → answer ≡ update_answer found
+    → new ≡ untied_from (length now.ties.items - length listed) (length listed) now → FollowsAll may 0 listed None first answer new
+followed may listed first now new place found answer so_far within over is_answer is_new =
+    let same : length listed ≡ place = omega (arith, within, over) in
+    so_far.rest answer new (rw (drop_all place listed over) (is_answer, rw same at is_new))
+
+-- Where the untying stands before a place: whatever comes of the places that are left comes of all of them.
+pub record Untying {T U : Type 0} (whole first now : PublisherPort T U) (count place : ℕ) : Type 0 where
+  pub rest : untied_from (count - place) place now ≡ whole
+  pub only : OnlyConnections first now
+
+-- none is untied yet
+pub untying_none : {T U : Type 0} (first : PublisherPort T U) (count place : ℕ) → Untying (untied_from (count - place) place first) first first count place
+untying_none first count place = record { rest = refl; only = refl }
+
+-- one place more is untied
+pub untying_on : {T U : Type 0} (whole first now next : PublisherPort T U) (count place : ℕ) → Untying whole first now count place → place < count → next ≡ untied place now → OnlyConnections now next
+    → Untying whole first next count (place + 1)
+untying_on whole first now next count place so_far within is_next only =
+    let left : count - place ≡ suc (count - (place + 1)) = omega (arith, within) in
+    record {
+      rest = ap (λ port. untied_from (count - (place + 1)) (place + 1) port) is_next ∙ sym (ap (λ n. untied_from n place now) left) ∙ so_far.rest;
+      only = only_still first now next so_far.only only;
+    }
+
+-- no place is left
+pub untying_over : {T U : Type 0} (whole first now : PublisherPort T U) (count place : ℕ) → Untying whole first now count place → count ≤ place → now ≡ whole
+untying_over whole first now count place so_far over =
+    let left : count - place ≡ zero = omega (arith, over) in
+    sym (ap (λ n. untied_from n place now) left) ∙ so_far.rest

@@ -4,7 +4,7 @@ pub mod Asked
 pub mod Parting
 pub mod Reaching
 pub mod Beginning
-pub mod Joining
+pub mod Listing
 pub mod Enough
 pub mod Lent
 pub mod Finding

@@ -51,15 +51,15 @@ tie_same one two None same = refl
 tie_same one two (Some index) same = live_same one two index same
 
 -- and so as many of them
-count_same : {T U : Type 0} (one two : PublisherPort T U) (count place : ℕ) → one.ties ≡ two.ties → stages_of one ≡ stages_of two → live_from count place one ≡ live_from count place two
+count_same : {T U : Type 0} (one two : PublisherPort T U) (count place : ℕ) → one.ties.items ≡ two.ties.items → stages_of one ≡ stages_of two → live_from count place one ≡ live_from count place two
 count_same one two zero place ties same = refl
 count_same one two (suc count) place ties same =
-    ap (λ is. (if is then 1 else 0) + live_from count (place + 1) one) (ap (λ all. is_live_tie (get_or all place None) one) ties ∙ tie_same one two (get_or two.ties place None) same)
-    ∙ ap (λ more. (if is_live_tie (get_or two.ties place None) two then 1 else 0) + more) (count_same one two count (place + 1) ties same)
+    ap (λ is. (if is then 1 else 0) + live_from count (place + 1) one) (ap (λ all. is_live_tie (get_or all place None) one) ties ∙ tie_same one two (get_or two.ties.items place None) same)
+    ∙ ap (λ more. (if is_live_tie (get_or two.ties.items place None) two then 1 else 0) + more) (count_same one two count (place + 1) ties same)
 
 -- what a message changes nothing of
 record Keeps {T U : Type 0} (old new : PublisherPort T U) : Type 0 where
-  ties : new.ties ≡ old.ties
+  ties : new.ties.items ≡ old.ties.items
   stages : stages_of new ≡ stages_of old
   overflows : new.sender.uses.overflows ≡ old.sender.uses.overflows
   sending : new.sender.uses.sending ≡ old.sender.uses.sending
@@ -98,7 +98,7 @@ meeting_is (Some index) port overflows sending = ⊎_elim
 -- what one place of a walk with safe overflow comes to
 record Stepped {T U : Type 0} (live : Bool) (old : PublisherPort T U) (went : Bool) (new : PublisherPort T U) : Type 0 where
   goes : went ≡ true
-  ties : new.ties ≡ old.ties
+  ties : new.ties.items ≡ old.ties.items
   stages : stages_of new ≡ stages_of old
   overflows : new.sender.uses.overflows ≡ old.sender.uses.overflows
   sending : new.sender.uses.sending ≡ old.sender.uses.sending
@@ -111,7 +111,7 @@ stepped_is : {T U : Type 0} (may : BackpressureInfo → BackpressureDecision →
     → Steps may (if live then meeting.Delivered else meeting.Passed) met went new → Stepped live old went new
 stepped_is may true old met new went keeps step = record {
   goes = step.0;
-  ties = ap (λ port. port.ties) step.1 ∙ keeps.ties;
+  ties = ap (λ port. port.ties.items) step.1 ∙ keeps.ties;
   stages = ap (λ port. stages_of port) step.1 ∙ keeps.stages;
   overflows = ap (λ port. port.sender.uses.overflows) step.1 ∙ keeps.overflows;
   sending = ap (λ port. port.sender.uses.sending) step.1 ∙ keeps.sending;
@@ -121,7 +121,7 @@ stepped_is may true old met new went keeps step = record {
 }
 stepped_is may false old met new went keeps step = record {
   goes = step.0;
-  ties = ap (λ port. port.ties) step.1 ∙ keeps.ties;
+  ties = ap (λ port. port.ties.items) step.1 ∙ keeps.ties;
   stages = ap (λ port. stages_of port) step.1 ∙ keeps.stages;
   overflows = ap (λ port. port.sender.uses.overflows) step.1 ∙ keeps.overflows;
   sending = ap (λ port. port.sender.uses.sending) step.1 ∙ keeps.sending;
@@ -131,33 +131,33 @@ stepped_is may false old met new went keeps step = record {
 }
 
 -- what comes at a place that there is
-meeting_at_is : {T U : Type 0} (place : ℕ) (port : PublisherPort T U) → place < length port.ties → port.sender.uses.overflows ≡ true → is_some port.sender.uses.sending ≡ true
-    → meeting_at place port ≡ (if is_live_tie (get_or port.ties place None) port then meeting.Delivered else meeting.Passed)
+meeting_at_is : {T U : Type 0} (place : ℕ) (port : PublisherPort T U) → place < length port.ties.items → port.sender.uses.overflows ≡ true → is_some port.sender.uses.sending ≡ true
+    → meeting_at place port ≡ (if is_live_tie (get_or port.ties.items place None) port then meeting.Delivered else meeting.Passed)
 meeting_at_is place port within overflows sending =
-    let is : nat_lt place (length port.ties) ≡ true = grind (arith, within) in
-    rw is (meeting_is (get_or port.ties place None) port overflows sending)
+    let is : nat_lt place (length port.ties.items) ≡ true = grind (arith, within) in
+    rw is (meeting_is (get_or port.ties.items place None) port overflows sending)
 
 -- what a walk with safe overflow comes to
 record Reached {T U : Type 0} (count : ℕ) (old : PublisherPort T U) (arrived : Bool) (new : PublisherPort T U) : Type 0 where
   arrives : arrived ≡ true
-  ties : new.ties ≡ old.ties
+  ties : new.ties.items ≡ old.ties.items
   stages : stages_of new ≡ stages_of old
   delivered : new.progress.delivered ≡ old.progress.delivered + live_from count old.progress.place old
   fails : new.progress.fails ≡ old.progress.fails
 
 -- each connection that goes on takes the message
 reach : {T U : Type 0} (may : BackpressureInfo → BackpressureDecision → Type 0) (count : ℕ) (old : PublisherPort T U) (arrived : Bool) (new : PublisherPort T U)
-    → old.sender.uses.overflows ≡ true → is_some old.sender.uses.sending ≡ true → old.progress.place + count ≤ length old.ties → Delivers may count old arrived new → Reached count old arrived new
+    → old.sender.uses.overflows ≡ true → is_some old.sender.uses.sending ≡ true → old.progress.place + count ≤ length old.ties.items → Delivers may count old arrived new → Reached count old arrived new
 reach may zero old arrived new overflows sending within delivers = record {
   arrives = delivers.0;
-  ties = ap (λ port. port.ties) delivers.1;
+  ties = ap (λ port. port.ties.items) delivers.1;
   stages = ap (λ port. stages_of port) delivers.1;
   delivered = omega (arith, ap (λ port. port.progress.delivered) delivers.1);
   fails = ap (λ port. port.progress.fails) delivers.1;
 }
 reach {T} {U} may (suc count) old arrived new overflows sending within delivers =
     let place = old.progress.place in
-    let tie = get_or old.ties place None in
+    let tie = get_or old.ties.items place None in
     let live = is_live_tie tie old in
     let next : PublisherPort T U = delivers.1 in
     let step : Steps may (if live then meeting.Delivered else meeting.Passed) (met place old) delivers.0 next =
@@ -182,15 +182,15 @@ pub reaches_all : {T U : Type 0} (may : BackpressureInfo → BackpressureDecisio
 reaches_all {T} {U} may old answer new finishes overflows sending begins =
     let at_start : old.progress.place ≡ 0 = ap (λ progress. progress.place) begins in
     let gone : PublisherPort T U = finishes.1 in
-    let all : Reached (length old.ties - old.progress.place) old finishes.0 gone =
-    reach may (length old.ties - old.progress.place) old finishes.0 gone overflows sending (omega (arith, at_start)) finishes.2 in
+    let all : Reached (length old.ties.items - old.progress.place) old finishes.0 gone =
+    reach may (length old.ties.items - old.progress.place) old finishes.0 gone overflows sending (omega (arith, at_start)) finishes.2 in
     let ends : new ≡ concluded true gone = rw all.arrives at finishes.4 in
-    let ties : new.ties ≡ old.ties = ap (λ port. port.ties) ends ∙ all.ties in
+    let ties : new.ties.items ≡ old.ties.items = ap (λ port. port.ties.items) ends ∙ all.ties in
     let stages : stages_of new ≡ stages_of old = ap (λ port. stages_of port) ends ∙ all.stages in
     let none : old.progress.delivered ≡ 0 = ap (λ progress. progress.delivered) begins in
-    let rest : live_from (length old.ties - old.progress.place) old.progress.place old ≡ live_ties new =
-    ap (λ at. live_from (length old.ties - at) at old) at_start
-    ∙ ap (λ n. live_from n 0 old) (omega (arith, ap (λ all_ties. length all_ties) ties)) ∙ sym (count_same new old (length new.ties) 0 ties stages) in
+    let rest : live_from (length old.ties.items - old.progress.place) old.progress.place old ≡ live_ties new =
+    ap (λ at. live_from (length old.ties.items - at) at old) at_start
+    ∙ ap (λ n. live_from n 0 old) (omega (arith, ap (λ all_ties. length all_ties) ties)) ∙ sym (count_same new old (length new.ties.items) 0 ties stages) in
     let counted_all : gone.progress.delivered ≡ live_ties new = omega (arith, all.delivered, none, rest) in
     let fine : gone.progress.fails ≡ false = all.fails ∙ ap (λ progress. progress.fails) begins in
     let told : answer ≡ sent_answer true gone.progress = rw all.arrives at finishes.3 in

@@ -4,13 +4,14 @@ use Rattle.iox_domain_values.specs.declared.data_segment.AllocationStrategy.{All
 use Rattle.iox_domain_values.specs.declared.port_owner.PortIdentity.{PortIdentity}
 use Rattle.iox_domain_sender.specs.declared.sender_config.SenderConfig.{SenderConfig}
 use Rattle.iox_domain_publisher.specs.Places.{is_attached}
+use Rattle.iox_domain_publisher.specs.Ties.{no_ties}
 use Rattle.iox_domain_publisher.specs.Progress.{start}
 use Rattle.iox_domain_publisher.specs.Ports.{ended_at}
 use Rattle.iox_domain_publisher.specs.declared.publisher_port.PublisherPort.{PublisherPort}
 
--- a publisher that is connected to nobody
-abbrev pub new_port : {T U : Type 0} → PortIdentity → AllocationStrategy → SenderConfig → U → PublisherPort T U
-new_port identity allocation config user_header = record {
+-- a publisher that is connected to nobody, with room for so many subscribers
+abbrev pub new_port : {T U : Type 0} → PortIdentity → ℕ → AllocationStrategy → SenderConfig → U → PublisherPort T U
+new_port identity most_subscribers allocation config user_header = record {
   service = identity.service;
   number = identity.number;
   owner = identity.owner;
@@ -18,7 +19,7 @@ new_port identity allocation config user_header = record {
   allocation = allocation;
   stands = true;
   seen = 0;
-  ties = [];
+  ties = no_ties most_subscribers;
   readers = [];
   progress = start;
   sender = record {

@@ -1,4 +1,5 @@
 pub mod Places
+pub mod Ties
 pub mod Progress
 pub mod Answers
 pub mod Ports
@@ -9,5 +10,6 @@ pub mod Writing
 pub mod WritingLends
 pub mod Leaving
 pub mod Laws
+pub mod UpdateLaws
 pub mod Memory
 pub mod LoanLaws

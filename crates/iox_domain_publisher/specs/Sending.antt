@@ -42,7 +42,7 @@ meeting_by (Some index) port = meeting_of index port
 
 -- what comes of it at a place of the list of subscribers
 abbrev pub meeting_at : {T U : Type 0} → ℕ → PublisherPort T U → Meeting
-meeting_at place port = if nat_lt place (length port.ties) then meeting_by (get_or port.ties place None) port else meeting.Over
+meeting_at place port = if nat_lt place (length port.ties.items) then meeting_by (get_or port.ties.items place None) port else meeting.Over
 
 -- a message is put into the mailbox of the connection of this index
 abbrev pub with_message : {T U : Type 0} → ℕ → Option (Message T U) → PublisherPort T U → PublisherPort T U
@@ -60,7 +60,7 @@ met_by (Some index) port = put_at index port
 
 -- the message came to a place of the list of subscribers
 abbrev pub met : {T U : Type 0} → ℕ → PublisherPort T U → PublisherPort T U
-met place port = met_by (get_or port.ties place None) port
+met place port = met_by (get_or port.ties.items place None) port
 
 -- another progress of the send
 abbrev pub with_progress : {T U : Type 0} → ProgressState → PublisherPort T U → PublisherPort T U
@@ -121,7 +121,7 @@ concluded arrived port = if arrived then record port { sender = with_uses (finis
 -- A send goes over the places that are left, and answers.
 abbrev pub Finishes : {T U : Type 0} → (BackpressureInfo → BackpressureDecision → Type 0) → PublisherPort T U → Result Sent SendError → PublisherPort T U → Type 0
 Finishes {T} {U} may old answer new =
-    (arrived : Bool) × (gone : PublisherPort T U) × (Delivers may (length old.ties - old.progress.place) old arrived gone)
+    (arrived : Bool) × (gone : PublisherPort T U) × (Delivers may (length old.ties.items - old.progress.place) old arrived gone)
     × (answer ≡ sent_answer arrived gone.progress) × (new ≡ concluded arrived gone)
 
 -- the loan at this place of the list, if it may be sent: it is written, and nothing is being sent

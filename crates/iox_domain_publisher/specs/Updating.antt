@@ -1,5 +1,5 @@
 -- A publisher follows the list of subscribers.
-use Rattle.std.specs.Prelude.{ℕ, ◌+◌, ◌==◌, ◌≡◌, ◌||◌, min, nat_le, is_ok, is_none, Bool, true, false, List, [], ◌∷◌, length, get_or, set, Option, None, Some, Result, Ok, Err}
+use Rattle.std.specs.Prelude.{zero, suc, ℕ, ◌+◌, ◌-◌, ◌==◌, ◌≡◌, ◌||◌, min, nat_le, is_ok, is_none, Bool, true, false, List, [], ◌∷◌, length, get_or, Option, None, Some, Result, Ok, Err}
 use Rattle.std.specs.declared.alloc.AllocError.{AllocError}
 use Rattle.iox_domain_values.specs.declared.connection_failure.ConnectionFailure.{ConnectionFailure}
 use Rattle.iox_domain_values.specs.declared.connection_failure.ConnectionFailure.TheVariants.{FailedToEstablishConnection}
@@ -8,7 +8,8 @@ use Rattle.iox_domain_values.specs.declared.degradation.DegradationAction.{Degra
 use Rattle.iox_domain_values.specs.declared.degradation.DegradationAction.TheVariants as action
 use Rattle.iox_domain_values.specs.declared.degradation.DegradationInfo.{DegradationInfo}
 use Rattle.iox_index_base.specs.declared.container.Member.{Member}
-use Rattle.iox_domain_publisher.specs.Places.{reached, leads_to}
+use Rattle.iox_domain_publisher.specs.Places.{leads_to}
+use Rattle.iox_domain_publisher.specs.Ties.{ties_reached, tie_put}
 use Rattle.iox_domain_publisher.specs.Ports.{connection_to, with_connections, Joins, ended_at, welcomed_at}
 use Rattle.iox_domain_publisher.specs.declared.publisher_port.PublisherPort.{PublisherPort}
 use Rattle.iox_domain_publisher.specs.declared.subscriber_entry.SubscriberEntry.{SubscriberEntry}
@@ -21,28 +22,34 @@ is_tie_to subscriber (Some index) port = leads_to subscriber (get_or port.reader
 -- the connection that a place was tied to ends
 abbrev pub let_go_of : {T U : Type 0} → ℕ → Option ℕ → PublisherPort T U → PublisherPort T U
 let_go_of place None port = port
-let_go_of place (Some index) port = ended_at index (record port { ties = set port.ties place None })
+let_go_of place (Some index) port = ended_at index (record port { ties = tie_put place None port.ties })
 
 -- the subscriber of a place left: its connection ends
 abbrev pub untied : {T U : Type 0} → ℕ → PublisherPort T U → PublisherPort T U
-untied place port = let_go_of place (get_or port.ties place None) port
+untied place port = let_go_of place (get_or port.ties.items place None) port
+
+-- so many places from one on list nobody: their connections end
+abbrev pub untied_from : {T U : Type 0} → ℕ → ℕ → PublisherPort T U → PublisherPort T U
+untied_from zero place port = port
+untied_from (suc count) place port = untied_from count (place + 1) (untied place port)
 
 -- the place is one of those that may be tied
 abbrev pub within_reach : {T U : Type 0} → ℕ → PublisherPort T U → PublisherPort T U
-within_reach place port = record port { ties = reached (place + 1) port.ties }
+within_reach place port = record port { ties = ties_reached (place + 1) port.ties }
 
 -- messages go to the connection of this index from now on, which first gets what it may of the history
 abbrev pub tied : {T U : Type 0} → ℕ → ℕ → PublisherPort T U → PublisherPort T U
-tied place index port = welcomed_at index (record port { ties = set port.ties place (Some index) })
+tied place index port = welcomed_at index (record port { ties = tie_put place (Some index) port.ties })
 
--- Whether tying a place to a subscriber takes memory: the place isn't reached yet, or no connection leads to the subscriber.
-abbrev pub takes_memory : {T U : Type 0} → ℕ → ℕ → PublisherPort T U → Bool
-takes_memory place subscriber port = nat_le (length port.ties) place || is_none (connection_to subscriber port)
+-- Whether tying a place to a subscriber may fail: there is no room for the place, or no connection leads to the subscriber yet, so that
+-- one takes memory.
+abbrev pub may_fail : {T U : Type 0} → ℕ → ℕ → PublisherPort T U → Bool
+may_fail place subscriber port = nat_le port.ties.room place || is_none (connection_to subscriber port)
 
 -- A place is tied to the connection of its subscriber, which is made where there is none, for as many waiting messages as it asks for
--- and may have; where that takes memory, and there is none, nothing changes.
+-- and may have; where that fails nothing changes.
 abbrev pub Ties : {T U : Type 0} → ℕ → SubscriberEntry → PublisherPort T U → Result (Unit {0}) AllocError → PublisherPort T U → Type 0
-Ties place entry old (Err error) new = (takes_memory place entry.subscriber old ≡ true) × (new ≡ old)
+Ties place entry old (Err error) new = (may_fail place entry.subscriber old ≡ true) × (new ≡ old)
 Ties {T} {U} place entry old (Ok done) new =
     (index : ℕ) × (joined : PublisherPort T U)
     × (Joins entry.subscriber (min entry.buffer_size old.sender.uses.most_waiting) (connection_to entry.subscriber old) (within_reach place old) (Ok index) joined)
@@ -57,7 +64,7 @@ FollowsTo place entry false old answer new = Ties place entry (untied place old)
 abbrev pub Follows : {T U : Type 0} → ℕ → Option (Member SubscriberEntry) → PublisherPort T U → Result (Unit {0}) AllocError → PublisherPort T U → Type 0
 Follows place None old answer new = (answer ≡ Ok tt) × (new ≡ untied place old)
 Follows place (Some member) old answer new =
-    FollowsTo place member.value (is_tie_to member.value.subscriber (get_or old.ties place None) old) old answer new
+    FollowsTo place member.value (is_tie_to member.value.subscriber (get_or old.ties.items place None) old) old answer new
 
 -- what a handler is told of a connection that failed
 abbrev pub told_of : {T U : Type 0} → SubscriberEntry → PublisherPort T U → DegradationInfo
@@ -86,9 +93,10 @@ Asks may None port found false after = after ≡ found
 Asks may (Some member) port found false after =
     (action : DegradationAction) × may (told_of member.value port) action × (after ≡ first_failure found no_memory action)
 
--- The places from one on are followed, one after the other; the answer is the first failure that is to fail the call.
+-- The places from one on are followed, one after the other, and those behind the end of the list as places that list nobody; the
+-- answer is the first failure that is to fail the call.
 abbrev pub FollowsAll : {T U : Type 0} → (DegradationInfo → DegradationAction → Type 0) → ℕ → List (Option (Member SubscriberEntry)) → Option ConnectionFailure → PublisherPort T U → Result (Unit {0}) ConnectionFailure → PublisherPort T U → Type 0
-FollowsAll may place [] found old answer new = (answer ≡ update_answer found) × (new ≡ old)
+FollowsAll may place [] found old answer new = (answer ≡ update_answer found) × (new ≡ untied_from (length old.ties.items - place) place old)
 FollowsAll {T} {U} may place (listed ∷ rest) found old answer new =
     (outcome : Result (Unit {0}) AllocError) × (next : PublisherPort T U) × (after : Option ConnectionFailure)
     × Follows place listed old outcome next × Asks may listed next found (is_ok outcome) after

@@ -3,9 +3,16 @@ ghost use Rattle.iox_domain_values.specs.DegradationAnswers.{Allowed};
 ghost use Rattle.iox_domain_values.specs.declared.degradation.DegradationCause.TheVariants as cause;
 ghost use Rattle.iox_domain_publisher.specs.LoanLaws.{LoanTells, NewSegmentIsFree};
 ghost use Rattle.iox_domain_publisher.specs.Memory.{NeedsNoMemory};
+ghost use Rattle.iox_domain_publisher.specs.UpdateLaws.{FollowsWhoIsListed};
 
 use iox_domain_values::DegradationHandler;
 use iox_domain_values::degradation_handler::DegradationFn;
+
+/// An update of a publisher goes by who is listed at which place, and not by where the list that it is lent ends; after one over a list that
+/// had changed, no place is tied that lists nobody.
+pub fn follows_who_is_listed<T, U>(_handler: &DegradationHandler)
+    ensures { FollowsWhoIsListed T U (Allowed (λ object. (⟦<dyn DegradationFn as DegradationFn>⟧ object.vtable).allows object.value) _handler.now cause.FailedToEstablishConnection) }
+{}
 
 /// An update of a publisher that has a connection to each listed subscriber and reaches its place never fails, whatever the handler
 /// would answer: it takes no memory.

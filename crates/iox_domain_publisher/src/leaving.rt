@@ -5,15 +5,18 @@ ghost use Rattle.iox_domain_publisher.specs.Leaving.{new_port, parted_at, depart
 use crate::places::Places;
 use crate::progress::Progress;
 use crate::publisher_port::PublisherPort;
+use crate::ties::Ties;
 use iox_domain_sender::{Sender, SenderConfig};
 use iox_domain_values::{AllocationStrategy, PortIdentity};
 use std::alloc::{AllocError, Global};
 
 impl<T: Copy, U: Copy> PublisherPort<T, U> {
-    /// A publisher that is connected to nobody yet, and is to be listed at its place. It fails only where memory is wanting.
+    /// A publisher that is connected to nobody yet, and is to be listed at its place, with room for so many places of the list of
+    /// subscribers. It fails only where memory is wanting.
     pub fn new(
         alloc: Global,
         identity: PortIdentity,
+        most_subscribers: usize,
         allocation: AllocationStrategy,
         config: SenderConfig,
         blank: T,
@@ -24,7 +27,7 @@ impl<T: Copy, U: Copy> PublisherPort<T, U> {
         requires waiting { config.most_waiting < 2 ^ 32 }
         requires borrowed { config.most_borrowed < 2 ^ 32 }
         requires segments { 0 < config.most_segments }
-        ensures { IfOk result (λ port. port ≡ new_port identity allocation config user_header) }
+        ensures { IfOk result (λ port. port ≡ new_port identity most_subscribers allocation config user_header) }
     {
         Ok(PublisherPort {
             service: identity.service,
@@ -34,7 +37,7 @@ impl<T: Copy, U: Copy> PublisherPort<T, U> {
             allocation,
             stands: true,
             seen: 0,
-            ties: Places::new(alloc),
+            ties: Ties::new(alloc, most_subscribers)?,
             readers: Places::new(alloc),
             progress: Progress::start(),
             sender: Sender::new(alloc, config, blank, user_header)?,

@@ -1,6 +1,7 @@
 //! One publisher with its connections: who they lead to, how they are made and ended, and how a message is sent to all of them.
 //!
 //! - [`places`]: values at places, as they are first needed.
+//! - [`ties`]: which connection each place of a list is tied to.
 //! - [`meeting`]: what comes of a message at a place, and of a send.
 //! - [`reader`]: who a connection leads to.
 //! - [`subscriber_entry`]: what the list of subscribers tells of one.
@@ -28,6 +29,7 @@ pub mod publisher_port;
 pub mod reader;
 pub mod sending;
 pub mod subscriber_entry;
+pub mod ties;
 pub mod updating;
 pub mod writing;
 
@@ -38,3 +40,4 @@ pub use progress::Progress;
 pub use publisher_port::PublisherPort;
 pub use reader::Reader;
 pub use subscriber_entry::SubscriberEntry;
+pub use ties::Ties;

@@ -2,6 +2,7 @@
 use crate::places::Places;
 use crate::progress::Progress;
 use crate::reader::Reader;
+use crate::ties::Ties;
 use iox_domain_sender::Sender;
 use iox_domain_values::{AllocationStrategy, PortOwner};
 
@@ -25,7 +26,7 @@ pub struct PublisherPort<T, U> {
     /// How often the list of subscribers had changed when it was last followed.
     pub seen: u64,
     /// For each place of the list of subscribers the index of the connection that messages go to.
-    pub ties: Places<usize>,
+    pub ties: Ties,
     /// For each index of a connection who it leads to; none where it ended.
     pub readers: Places<Reader>,
     /// How far the send is that is under way, if one is.

@@ -113,7 +113,7 @@ impl<T: Copy, U: Copy> PublisherPort<T, U> {
 
     // Goes over the places that are left, up to one where the send waits; answers whether it came to the end.
     fn go_on(&mut self, handlers: &Handlers) -> bool
-        ensures { Delivers (MayDecide (λ object. (⟦<dyn BackpressureFn as BackpressureFn>⟧ object.vtable).allows object.value) handlers.now.strategy handlers.now.backpressure) (length self.old.ties - self.old.progress.place) self.old result self.new }
+        ensures { Delivers (MayDecide (λ object. (⟦<dyn BackpressureFn as BackpressureFn>⟧ object.vtable).allows object.value) handlers.now.strategy handlers.now.backpressure) (length self.old.ties.items - self.old.progress.place) self.old result self.new }
     {
         for _place in self.progress.place()..self.ties.len() {
             if !self.step(handlers) {

@@ -1,11 +1,11 @@
 //! A publisher follows the list of subscribers.
-ghost use Rattle.std.specs.Prelude.{◌≡◌, ℕ, ◌+◌, ◌<◌, ◌≤◌, ◌^◌, Ok, IfOk, OnErr, length, get_or, None, Some};
+ghost use Rattle.std.specs.Prelude.{◌≡◌, ℕ, ◌+◌, ◌-◌, ◌<◌, ◌≤◌, ◌^◌, Ok, IfOk, OnErr, length, get_or, None, Some};
 ghost use Rattle.iox_domain_values.specs.DegradationAnswers.{Allowed};
 ghost use Rattle.iox_domain_values.specs.declared.degradation.DegradationCause.TheVariants as cause;
 ghost use Rattle.iox_domain_publisher.specs.Places.{leads_to};
 ghost use Rattle.iox_domain_publisher.specs.Ports.{with_connections};
 ghost use Rattle.iox_domain_publisher.specs.Memory.{HasRoom};
-ghost use Rattle.iox_domain_publisher.specs.Updating.{is_tie_to, untied, within_reach, Ties, Follows, first_failure, update_answer, told_of, Updates, FollowsAll, Asks, OnlyConnections};
+ghost use Rattle.iox_domain_publisher.specs.Updating.{is_tie_to, untied, untied_from, within_reach, Ties, Follows, first_failure, update_answer, told_of, Updates, FollowsAll, Asks, OnlyConnections};
 
 use crate::publisher_port::PublisherPort;
 use crate::reader::Reader;
@@ -21,7 +21,7 @@ use std::alloc::{AllocError, Global};
 impl<T: Copy, U: Copy> PublisherPort<T, U> {
     // Whether a place is tied to a connection that leads to this subscriber.
     fn is_tied_to(&self, place: usize, subscriber: u64) -> bool
-        ensures { result ≡ is_tie_to subscriber (get_or self.now.ties place None) self.now }
+        ensures { result ≡ is_tie_to subscriber (get_or self.now.ties.items place None) self.now }
     {
         match self.ties.get(place) {
             Some(index) => Reader::leads_to(self.readers.get(index), subscriber),
@@ -41,18 +41,14 @@ impl<T: Copy, U: Copy> PublisherPort<T, U> {
         self.end(index);
     }
 
-    /// Reaches a place of the list of subscribers, so that following a subscriber there takes no memory where its connection is
-    /// there already: the service calls it when a subscriber comes, since an update must not fail then. It fails only where the
-    /// place isn't reached yet and memory is wanting, and then nothing has changed.
-    ///
-    /// This port's own.
-    pub fn reach(&mut self, place: usize) -> Result<(), AllocError>
-        requires { place + 1 < 2 ^ 64 }
-        ensures ok { IfOk result (λ _. self.new ≡ within_reach place self.old) }
-        ensures short { OnErr result (length self.old.ties ≤ place) }
-        ensures err { OnErr result (self.new ≡ self.old) }
+    // Lets go of the connections that the places from one on are tied to.
+    fn untie_from(&mut self, first: usize)
+        ensures untied { self.new ≡ untied_from (length self.old.ties.items - first) first self.old }
+        ensures same { OnlyConnections self.old self.new }
     {
-        self.ties.reach(place + 1)
+        for place in first..self.ties.len() {
+            self.untie(place);
+        }
     }
 
     // Ties a place to the connection of its subscriber.
@@ -63,7 +59,9 @@ impl<T: Copy, U: Copy> PublisherPort<T, U> {
     {
         let before = self.ties.len();
         let most = self.sender.most_waiting();
-        self.reach(place)?;
+        if !self.ties.reach(place + 1) {
+            return Err(AllocError);
+        }
         match self.join(alloc, entry.subscriber, entry.buffer_size.min(most)) {
             Ok(index) => {
                 self.ties.put(place, Some(index));
@@ -135,7 +133,7 @@ impl<T: Copy, U: Copy> PublisherPort<T, U> {
         )
     }
 
-    // Follows each place of the list.
+    // Follows each place of the list, and lets go of what places behind its end are tied to.
     fn follow_all(
         &mut self,
         alloc: Global,
@@ -150,13 +148,14 @@ impl<T: Copy, U: Copy> PublisherPort<T, U> {
             let outcome = self.follow(alloc, place, listed[place]);
             found = self.ask(&listed[place], outcome.is_ok(), found, handler);
         }
+        self.untie_from(listed.len());
         answer_of(found)
     }
 
     /// Follows the list of subscribers, if it changed since it was last followed: the connections of those that left end, and those
-    /// that came are connected, and get what they may of the history. Where a connection isn't made the handler is asked; the answer is
+    /// that came are connected, and get what they may of the history. A place behind the end of the list lists nobody. Where a connection isn't made the handler is asked; the answer is
     /// the first failure that it degrades and fails, after all places were tried. A connection fails only where memory is wanting, and
-    /// takes none where it is there already and its place is reached.
+    /// takes none where it is there already; and at a place behind as many subscribers as the publisher was made for.
     ///
     /// Ported from `iceoryx2::port::publisher::Publisher::update_connections`.
     pub fn update(

@@ -26,6 +26,7 @@ fn publisher(
     PublisherPort::new(
         alloc,
         identity(5, 1),
+        2,
         AllocationStrategy::Static,
         config,
         0,

@@ -34,6 +34,7 @@ fn publisher(alloc: Global, overflows: bool) -> Result<PublisherPort<u64, u8>, A
     PublisherPort::new(
         alloc,
         identity(5, 1),
+        2,
         AllocationStrategy::Static,
         config,
         0,

@@ -1,6 +1,6 @@
 //! The way of a message from publishers to a subscriber.
 use crate::messages::{OWNER, first_value, identity, lend, publisher, send, write_all};
-use iox_domain_publisher::{Places, Progress, PublisherPort};
+use iox_domain_publisher::{Places, Progress, PublisherPort, Ties};
 use iox_domain_subscriber::{PublisherEntry, Publishers, SubscriberPort, Taken};
 use iox_domain_values::{AllocationStrategy, DegradationAction, DegradationHandler};
 use iox_index_base::{Member, OwnerId};
@@ -25,7 +25,7 @@ fn port(alloc: Global, number: u64) -> Result<PublisherPort<u64, u8>, AllocError
         allocation: AllocationStrategy::Static,
         stands: true,
         seen: 0,
-        ties: Places::new(alloc),
+        ties: Ties::new(alloc, 2)?,
         readers: Places::new(alloc),
         progress: Progress::start(),
         sender: publisher(alloc, 4, 1)?,

@@ -1,13 +1,15 @@
 -- A further segment of slots.
-use Rattle.std.proofs.Common.{rules, arith, ◌≡◌, ◌+◌, ◌-◌, ◌∷◌, [], ◌++◌, ℕ, zero, suc, Bool, if◌then◌else◌, List, length, length-append, get_or, take, replicate, Result, Ok, Err, IsOk, is_ok, refl, sym, subst, ap, ◌∙◌}
+use Rattle.std.proofs.Common.{rules, arith, ◌≡◌, ◌≤◌, ◌+◌, ◌-◌, ◌∷◌, [], ◌++◌, ℕ, zero, suc, Bool, if◌then◌else◌, List, length, length-append, get_or, take, replicate, Result, Ok, Err, IsOk, is_ok, refl, sym, subst, ap, ◌∙◌, inl, inr}
+use Rattle.std.proofs.lemmas.Bool.{cases_lt}
 use Rattle.std.specs.declared.alloc.AllocError.{AllocError}
 use Rattle.std.proofs.lemmas.List.{length-replicate, take_all}
-use Rattle.iox_domain_slots.specs.Uses.{Uses, segment_opened}
+use Rattle.iox_domain_slots.specs.Uses.{Uses, in_use, segment_opened}
+use Rattle.iox_domain_slots.specs.Counting.{times}
 use Rattle.iox_domain_sender.specs.Payloads.{PayloadsState, payload_at}
-use Rattle.iox_domain_sender.specs.Sending.{SenderState, Store, IsSender, seen_sender, sender_of, opened_for, uses_by, loan_in, message_in, masked}
+use Rattle.iox_domain_sender.specs.Sending.{SenderState, Store, IsSender, seen_sender, sender_of, slots_of, opened_for, uses_by, loan_in, message_in, masked}
 use Rattle.iox_domain_sender.specs.Rows.{RowsState}
 use Rattle.iox_domain_sender.proofs.Segments.{with_segment}
-use Rattle.iox_domain_sender.proofs.Agreeing.{uses_agree}
+use Rattle.iox_domain_sender.proofs.Agreeing.{uses_agree, slots_seen}
 use Rattle.iox_domain_sender.proofs.Loaning.{loan_of, message_of}
 
 -- a segment without a value behind the others
@@ -80,6 +82,16 @@ open_kept {T = T} {U = U} old new uses later room is opened put = subst (IsSende
   sole = is.sole;
   within = λ slot used. omega (arith, is.within slot used);
 })
+
+-- and none of its slots is in use yet
+pub opened_free : {T U : Type 0} (old new : Store T U) (uses later : Uses ℕ ℕ) → IsSender old uses → later ≡ segment_opened uses
+    → (slot : ℕ) → later.first ≤ slot → times slot (in_use (slots_of (seen_sender new later))) ≡ 0
+opened_free old new uses later is opened slot above =
+    let none : times slot (in_use uses) ≡ 0 = elim (cases_lt 0 (times slot (in_use uses))) [
+      | inl used ↦ absurd (omega (arith, is.within slot used, above, ap (λ u. u.first) opened))
+      | inr unused ↦ omega (arith, unused)
+    ] in
+    ap (λ u. times slot (in_use u)) (slots_seen new later) ∙ ap (λ u. times slot (in_use u)) opened ∙ none
 
 -- a list that is filled up to as many more
 filled_up : {X : Type 0} (xs : List X) (size : ℕ) (blank : X) → take (length xs + size) xs ++ replicate (length xs + size - length xs) blank ≡ xs ++ replicate size blank

@@ -1,10 +1,11 @@
 //! One publisher with its messages.
 ghost use Rattle.std.specs.Prelude.{◌≡◌, ℕ, ◌+◌, ◌<◌, ◌≤◌, length, get_or, set, map, is_some, option_copied, slice_get, position, nat_lt, IsSome, IfSome, IfOk, OnErr, ◌-◌, ◌^◌, ◌==◌, [], true, false, None, Some};
 ghost use Rattle.iox_domain_slots.specs.declared.stage.Stage.TheVariants as stage;
-ghost use Rattle.iox_domain_slots.specs.Uses.{Uses, nobody, placed, connected, is_there, worst_case, accepts, offered, taken, given_back, ended, welcomed, dropped, begun, finished, connection_at, with_connection};
+ghost use Rattle.iox_domain_slots.specs.Uses.{Uses, nobody, placed, connected, is_there, worst_case, accepts, offered, taken, given_back, ended, welcomed, dropped, begun, finished, connection_at, with_connection, in_use};
+ghost use Rattle.iox_domain_slots.specs.Counting.{times};
 ghost use Rattle.std.specs.Borrow.{sem};
 ghost use Rattle.iox_domain_sender.specs.Messages.{Message, Loan, write_value, write_all, write_user_header, written_of, sent_as};
-ghost use Rattle.iox_domain_sender.specs.Sending.{SenderState, LoanMade, with_uses, change_loan, has_loan, has_place, has_value, has_length, is_written_at, opened_for};
+ghost use Rattle.iox_domain_sender.specs.Sending.{SenderState, LoanMade, slots_of, with_uses, change_loan, has_loan, has_place, has_value, has_length, is_written_at, opened_for};
 
 use crate::marks::Marks;
 use crate::payloads::Payloads;
@@ -285,11 +286,12 @@ impl<T: Copy, U: Copy> Sender<T, U> {
         &self.headers[slot].user_header
     }
 
-    /// Opens a segment of as many slots, in which loans may have so many values; only its slots are lent from now on. What is in
-    /// use stays as it is. It fails only where memory is wanting, and then nothing has changed.
+    /// Opens a segment of as many slots, in which loans may have so many values; only its slots are lent from now on, and each of them
+    /// is free. What is in use stays as it is. It fails only where memory is wanting, and then nothing has changed.
     pub fn open_segment(&mut self, alloc: Global, room: usize, blank: T) -> Result<(), AllocError>
         requires { self.old.segments < self.old.most_segments }
         ensures opened { IfOk result (λ _. self.new ≡ opened_for room self.old) }
+        ensures free { IfOk result (λ _. (slot : ℕ) → self.new.uses.first ≤ slot → times slot (in_use (slots_of self.new)) ≡ 0) }
         ensures refused { OnErr result (self.new ≡ self.old) }
     {
         let size = self.values.size();

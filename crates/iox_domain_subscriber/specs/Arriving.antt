@@ -2,6 +2,7 @@
 use Rattle.std.specs.Prelude.{ℕ, ◌+◌, [], replicate, None, true}
 use Rattle.std.specs.List.{range_with_len}
 use Rattle.iox_domain_values.specs.declared.port_owner.PortIdentity.{PortIdentity}
+use Rattle.iox_domain_publisher.specs.Ties.{no_ties}
 use Rattle.iox_domain_subscriber.specs.declared.subscriber_port.SubscriberPort.{SubscriberPort}
 
 -- a subscriber without connections and samples, of which at most so many may go on, and so many more expire
@@ -16,7 +17,7 @@ new_subscriber identity buffer_size most_connections most_expired = record {
   held = 0;
   seen = 0;
   again = true;
-  places = [];
+  places = no_ties most_connections;
   connections = record { values = replicate (most_connections + most_expired) None; free = range_with_len 0 (most_connections + most_expired) };
   expired = record { items = []; room = most_expired };
 }

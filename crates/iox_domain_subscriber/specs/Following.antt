@@ -1,10 +1,10 @@
 -- What a subscriber does at one place of the list of publishers.
-use Rattle.std.specs.Prelude.{ℕ, ◌+◌, ◌<◌, ◌==◌, ◌≡◌, ◌≢◌, ◌||◌, is_none, Bool, true, false, List, [], length, get_or, set, slice_get, nat_le, Option, None, Some, Result, Ok, Err}
+use Rattle.std.specs.Prelude.{ℕ, ◌+◌, ◌<◌, ◌==◌, ◌≡◌, ◌≢◌, ◌||◌, is_none, Bool, true, false, List, [], length, get_or, slice_get, nat_le, Option, None, Some, Result, Ok, Err}
 use Rattle.std.specs.declared.alloc.AllocError.{AllocError}
 use Rattle.iox_maps.specs.SlotTable.{stored}
 use Rattle.iox_domain_values.specs.declared.connection_failure.ZeroCopyCreationError.{ZeroCopyCreationError}
 use Rattle.iox_domain_values.specs.declared.connection_failure.ZeroCopyCreationError.TheVariants as creation
-use Rattle.iox_domain_publisher.specs.Places.{reached}
+use Rattle.iox_domain_publisher.specs.Ties.{ties_reached, tie_put}
 use Rattle.iox_domain_publisher.specs.Ports.{connection_to}
 use Rattle.iox_domain_publisher.specs.declared.publisher_port.PublisherPort.{PublisherPort}
 use Rattle.iox_domain_subscriber.specs.Keys.{with_last}
@@ -71,16 +71,16 @@ Parts key port ports is_free new new_ports =
 
 -- the place of the list is one that may have a connection
 abbrev pub within_reach : ℕ → SubscriberPort → SubscriberPort
-within_reach place port = record port { places = reached (place + 1) port.places }
+within_reach place port = record port { places = ties_reached (place + 1) port.places }
 
 -- a connection comes to a place, under a key
 abbrev pub kept_at : ℕ → ℕ → Attached → SubscriberPort → SubscriberPort
-kept_at place key attached port = record port { connections = stored port.connections key attached; places = set (reached (place + 1) port.places) place (Some key) }
+kept_at place key attached port = record port { connections = stored port.connections key attached; places = tie_put place (Some key) (ties_reached (place + 1) port.places) }
 
 -- a connection comes to a place that is reached, under the key that comes next
 abbrev pub KeepsReached : ℕ → Attached → SubscriberPort → SubscriberPort → Type 0
 KeepsReached place attached port new =
-    (key : ℕ) × (slice_get port.connections.free 0 ≡ Some key) × (new ≡ record port { connections = stored port.connections key attached; places = set port.places place (Some key) })
+    (key : ℕ) × (slice_get port.connections.free 0 ≡ Some key) × (new ≡ record port { connections = stored port.connections key attached; places = tie_put place (Some key) port.places })
 
 -- a connection comes to a place, under the key that comes next
 abbrev pub KeepsAt : ℕ → Attached → SubscriberPort → SubscriberPort → Type 0
@@ -97,22 +97,22 @@ abbrev pub lacks_connection : {T U : Type 0} → ℕ → Option (PublisherPort T
 lacks_connection subscriber None = false
 lacks_connection subscriber (Some publisher) = is_none (connection_to subscriber publisher)
 
--- Whether attaching to a publisher at a place takes memory: no key is left, the place isn't reached yet, or the publisher has no
--- connection that leads to the subscriber.
-abbrev pub takes_memory : {T U : Type 0} → ℕ → ℕ → SubscriberPort → List (ℕ × PublisherPort T U) → Bool
-takes_memory place number port ports =
-    (length port.connections.free == 0) || (nat_le (length port.places) place || lacks_connection port.number (port_of number ports))
+-- Whether attaching to a publisher at a place may fail: no key is left, there is no room for the place, or the publisher has no
+-- connection yet that leads to the subscriber, so that one takes memory.
+abbrev pub may_fail : {T U : Type 0} → ℕ → ℕ → SubscriberPort → List (ℕ × PublisherPort T U) → Bool
+may_fail place number port ports =
+    (length port.connections.free == 0) || (nat_le port.places.room place || lacks_connection port.number (port_of number ports))
 
--- The subscriber attaches to a publisher, at a place; where that takes memory, and there is none, nothing changes.
+-- The subscriber attaches to a publisher, at a place; where that fails nothing changes.
 abbrev pub Connects : {T U : Type 0} → ℕ → ℕ → SubscriberPort → List (ℕ × PublisherPort T U) → Result (Unit {0}) ZeroCopyCreationError → SubscriberPort → List (ℕ × PublisherPort T U) → Type 0
 Connects place number port ports (Err failure) new new_ports =
-    (failure ≡ creation.OutOfMemory) × (takes_memory place number port ports ≡ true) × (new ≡ port) × (new_ports ≡ ports)
+    (failure ≡ creation.OutOfMemory) × (may_fail place number port ports ≡ true) × (new ≡ port) × (new_ports ≡ ports)
 Connects place number port ports (Ok done) new new_ports =
     (answer : Option (Result ℕ AllocError)) × AttachesTo number port.number port.buffer_size ports answer new_ports × ConnectsBy place number answer port new
 
 -- no connection is at a place any longer
 abbrev pub unplaced : ℕ → SubscriberPort → SubscriberPort
-unplaced place port = record port { places = set port.places place None }
+unplaced place port = record port { places = tie_put place None port.places }
 
 -- where the former connection stays the new publisher is refused, and the list is followed again
 abbrev pub FollowsFreed : {T U : Type 0} → Bool → ℕ → ℕ → SubscriberPort → List (ℕ × PublisherPort T U) → Result (Unit {0}) ZeroCopyCreationError → SubscriberPort → List (ℕ × PublisherPort T U) → Type 0
@@ -133,7 +133,7 @@ FollowsAt (Some key) place number port ports answer new new_ports = FollowsKey (
 
 -- What becomes of a place that lists this publisher.
 abbrev pub FollowsListed : {T U : Type 0} → ℕ → ℕ → SubscriberPort → List (ℕ × PublisherPort T U) → Result (Unit {0}) ZeroCopyCreationError → SubscriberPort → List (ℕ × PublisherPort T U) → Type 0
-FollowsListed place number port ports answer new new_ports = FollowsAt (get_or port.places place None) place number port ports answer new new_ports
+FollowsListed place number port ports answer new new_ports = FollowsAt (get_or port.places.items place None) place number port ports answer new new_ports
 
 -- a place that is free then has no connection any longer
 abbrev pub freed_if : Bool → ℕ → SubscriberPort → SubscriberPort
@@ -148,11 +148,11 @@ FollowsNoneAt {T} {U} (Some key) place port ports new new_ports =
 
 -- What becomes of a place that lists none.
 abbrev pub FollowsNone : {T U : Type 0} → ℕ → SubscriberPort → List (ℕ × PublisherPort T U) → SubscriberPort → List (ℕ × PublisherPort T U) → Type 0
-FollowsNone place port ports new new_ports = FollowsNoneAt (get_or port.places place None) place port ports new new_ports
+FollowsNone place port ports new new_ports = FollowsNoneAt (get_or port.places.items place None) place port ports new new_ports
 
--- A publisher that comes to a place where there was none, and which is reached, is always followed if a key is left and the publisher
--- has the connection already.
+-- A publisher that comes to a place where there was none, and for which there is room, is always followed if a key is left and the
+-- publisher has the connection already.
 abbrev pub AttachesAtOnce : Type 0 → Type 0 → Type 0
 AttachesAtOnce T U = (place number : ℕ) (port new : SubscriberPort) (ports new_ports : List (ℕ × PublisherPort T U)) (answer : Result (Unit {0}) ZeroCopyCreationError)
-    → get_or port.places place None ≡ None → place < length port.places → port.connections.free ≢ [] → lacks_connection port.number (port_of number ports) ≡ false
+    → get_or port.places.items place None ≡ None → place < port.places.room → port.connections.free ≢ [] → lacks_connection port.number (port_of number ports) ≡ false
     → FollowsListed place number port ports answer new new_ports → answer ≡ Ok tt

@@ -6,7 +6,7 @@ use Rattle.std.specs.Map.{lookup, set_value, remove_entry}
 use Rattle.std.specs.declared.alloc.AllocError.{AllocError}
 use Rattle.iox_domain_slots.specs.Uses.{Connection, nobody}
 use Rattle.iox_domain_sender.specs.Messages.{Message}
-use Rattle.iox_domain_publisher.specs.Ports.{connection_of, connection_to, Attaches}
+use Rattle.iox_domain_publisher.specs.Ports.{connection_of, connection_to, ended_at, Attaches}
 use Rattle.iox_domain_publisher.specs.declared.publisher_port.PublisherPort.{PublisherPort}
 use Rattle.iox_domain_subscriber.specs.Reading.{is_over, given_back_at}
 
@@ -61,6 +61,10 @@ changed_at_port number step (Some port) ports = with_port number ports (step por
 -- one step of the publisher of a number, if there is one
 abbrev pub changed : {T U : Type 0} → ℕ → (PublisherPort T U → PublisherPort T U) → List (ℕ × PublisherPort T U) → List (ℕ × PublisherPort T U)
 changed number step ports = changed_at_port number step (port_of number ports) ports
+
+-- a connection of a publisher that left ends; one that stands ends its connections itself
+abbrev pub ended_if_left : {T U : Type 0} → ℕ → PublisherPort T U → PublisherPort T U
+ended_if_left index port = if port.stands then port else ended_at index port
 
 -- whether a publisher is over; none isn't
 abbrev pub is_over_port : {T U : Type 0} → Option (PublisherPort T U) → Bool

@@ -3,10 +3,9 @@ use Rattle.std.specs.Prelude.{ℕ, ◌==◌, ◌&&◌, Bool, List, length, map, 
 use Rattle.iox_maps.specs.SlotTable.{value_at, released}
 use Rattle.iox_domain_slots.specs.Uses.{Connection, nobody}
 use Rattle.iox_domain_sender.specs.Messages.{Message}
-use Rattle.iox_domain_publisher.specs.Ports.{ended_at}
 use Rattle.iox_domain_publisher.specs.declared.publisher_port.PublisherPort.{PublisherPort}
 use Rattle.iox_domain_subscriber.specs.Reading.{taken_at}
-use Rattle.iox_domain_subscriber.specs.Publishers.{connection_in, most_borrowed_in, changed, settled}
+use Rattle.iox_domain_subscriber.specs.Publishers.{connection_in, most_borrowed_in, changed, ended_if_left, settled}
 use Rattle.iox_domain_subscriber.specs.declared.attached.Attached.{Attached}
 use Rattle.iox_domain_subscriber.specs.declared.attached.Seen.{Seen}
 use Rattle.iox_domain_subscriber.specs.declared.attached.Taken.{Taken}
@@ -60,10 +59,10 @@ without_key key (Some attached) port = record port { connections = released port
 abbrev pub ended_key : ℕ → SubscriberPort → SubscriberPort
 ended_key key port = without_key key (attached_at key port) port
 
--- a connection ends at its publisher, which is gone if it is over then
+-- a connection ends at its publisher if that left, which is gone if it is over then
 abbrev pub ended_ports : {T U : Type 0} → Option Attached → List (ℕ × PublisherPort T U) → List (ℕ × PublisherPort T U)
 ended_ports None ports = ports
-ended_ports (Some attached) ports = settled attached.publisher (changed attached.publisher (ended_at attached.index) ports)
+ended_ports (Some attached) ports = settled attached.publisher (changed attached.publisher (ended_if_left attached.index) ports)
 
 -- the oldest message that waits at a connection is received
 abbrev pub taken_of : {T U : Type 0} → Option Attached → List (ℕ × PublisherPort T U) → Option Taken

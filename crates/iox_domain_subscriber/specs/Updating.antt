@@ -63,7 +63,7 @@ abbrev pub FollowsList : {T U : Type 0} → (DegradationInfo → DegradationActi
 FollowsList {T} {U} may listed port ports answer new new_ports =
     (found : Option ConnectionFailure) × (between : SubscriberPort) × (between_ports : List (ℕ × PublisherPort T U))
     × FollowsFrom may 0 listed None port ports found between between_ports
-    × FollowsNones listed 0 (length between.places) between between_ports new new_ports × (answer ≡ update_answer found)
+    × FollowsNones listed 0 (length between.places.items) between between_ports new new_ports × (answer ≡ update_answer found)
 
 -- where nothing is to be followed nothing happens
 abbrev pub UpdatesIf : {T U : Type 0} → Bool → (DegradationInfo → DegradationAction → Type 0) → List (Option (Member PublisherEntry)) → ℕ → SubscriberPort → List (ℕ × PublisherPort T U) → Result (Unit {0}) ConnectionFailure → SubscriberPort → List (ℕ × PublisherPort T U) → Type 0

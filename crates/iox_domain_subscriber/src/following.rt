@@ -2,14 +2,14 @@
 ghost use Rattle.std.specs.Prelude.{◌≡◌, ◌≢◌, ◌+◌, ◌<◌, ◌≤◌, ◌==◌, ◌^◌, IfOk, OnErr, length, get_or, [], None, Some, true};
 ghost use Rattle.iox_domain_subscriber.specs.Subscribing.{attached_at, connection_by, is_idle};
 ghost use Rattle.iox_domain_subscriber.specs.Receiving.{IsMet};
-ghost use Rattle.iox_domain_subscriber.specs.Following.{is_unborrowed, is_of, replaced_port, replaced_ports, within_reach, unplaced, Parts, PartsFull, KeepsReached, Connects, FollowsListed, FollowsFreed, FollowsNone, AttachesAtOnce};
+ghost use Rattle.iox_domain_subscriber.specs.Following.{is_unborrowed, is_of, replaced_port, replaced_ports, unplaced, Parts, PartsFull, KeepsReached, Connects, FollowsListed, FollowsFreed, FollowsNone, AttachesAtOnce};
 
 use crate::attached::Attached;
 use crate::expired::Sought;
 use crate::publishers::Publishers;
 use crate::subscriber_port::SubscriberPort;
 use iox_domain_values::ZeroCopyCreationError;
-use std::alloc::{AllocError, Global};
+use std::alloc::Global;
 
 impl SubscriberPort {
     // Whether nothing is borrowed of the connection of a key.
@@ -74,20 +74,6 @@ impl SubscriberPort {
         self.part_full(key, publishers)
     }
 
-    /// Reaches a place of the list of publishers, so that following a publisher there takes no memory where its connection is there
-    /// already: the service calls it when a publisher comes, since an update must not fail then. It fails only where the place
-    /// isn't reached yet and memory is wanting, and then nothing has changed.
-    ///
-    /// This port's own.
-    pub fn reach(&mut self, place: usize) -> Result<(), AllocError>
-        requires { place + 1 < 2 ^ 64 }
-        ensures ok { IfOk result (λ _. self.new ≡ within_reach place self.old) }
-        ensures short { OnErr result (length self.old.places ≤ place) }
-        ensures err { OnErr result (self.new ≡ self.old) }
-    {
-        self.places.reach(place + 1)
-    }
-
     // Attaches to a publisher that is listed at a place.
     fn connect<T: Copy, U: Copy>(
         &mut self,
@@ -103,7 +89,7 @@ impl SubscriberPort {
         if self.connections.is_full() {
             return Err(ZeroCopyCreationError::OutOfMemory);
         }
-        if self.places.reach(place + 1).is_err() {
+        if !self.places.reach(place + 1) {
             return Err(ZeroCopyCreationError::OutOfMemory);
         }
         match publishers.attach(alloc, number, self.number, self.buffer_size) {
@@ -204,8 +190,8 @@ impl SubscriberPort {
     }
 }
 
-/// A publisher that comes to a reached place where there was none is followed without memory, if a key is left and it has the
-/// connection already. A law of the step at a place: the function does nothing.
+/// A publisher that comes to a place where there was none is followed without memory, if there is room for the place, a key is left and
+/// it has the connection already. A law of the step at a place: the function does nothing.
 pub fn attaches_at_once<T, U>()
     ensures { AttachesAtOnce T U }
 {}

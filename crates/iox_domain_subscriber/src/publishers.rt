@@ -2,8 +2,8 @@
 ghost use Rattle.std.specs.Prelude.{◌≡◌, ◌-◌, ◌^◌, ◌<◌, length, map, min, slice_get, option_copied, is_some, OnOk, OnErr, [], None, Some};
 ghost use Rattle.std.specs.Borrow.{sem};
 ghost use Rattle.std.specs.Option.{option_copied_mut};
-ghost use Rattle.iox_domain_publisher.specs.Ports.{ended_at, detached_at};
-ghost use Rattle.iox_domain_subscriber.specs.Publishers.{port_of, with_port, added, connection_in, most_borrowed_in, stands_in, changed, is_over_in, settled, released, AttachesTo};
+ghost use Rattle.iox_domain_publisher.specs.Ports.{detached_at};
+ghost use Rattle.iox_domain_subscriber.specs.Publishers.{port_of, with_port, added, connection_in, most_borrowed_in, stands_in, changed, ended_if_left, is_over_in, settled, released, AttachesTo};
 ghost use Rattle.iox_domain_subscriber.specs.Living.{living_publishers};
 ghost use Rattle.iox_domain_subscriber.specs.Reading.{place_of, taken_at, given_back_at};
 
@@ -134,21 +134,22 @@ impl<T: Copy, U: Copy> Publishers<T, U> {
         }
     }
 
-    /// Ends a connection of a publisher if it goes on: what waits is lost, what is borrowed stays in use until it is given back. A
-    /// publisher that is over then is gone.
+    /// Ends a connection of a publisher that left, if it goes on: what waits is lost, what is borrowed stays in use until it is given
+    /// back. A publisher that is over then is gone. One that stands ends its connections itself, as it follows the list of subscribers:
+    /// then nothing happens.
     pub fn end(&mut self, number: u64, index: usize)
-        ensures { self.new ≡ settled number (changed number (ended_at index) self.old) }
+        ensures { self.new ≡ settled number (changed number (ended_if_left index) self.old) }
     {
         self.end_there(number, index);
         self.settle(number);
     }
 
-    // Ends a connection of a publisher.
+    // Ends a connection of a publisher that left.
     fn end_there(&mut self, number: u64, index: usize)
-        ensures { self.new ≡ changed number (ended_at index) self.old }
+        ensures { self.new ≡ changed number (ended_if_left index) self.old }
     {
         if let Some(port) = self.get_mut(number) {
-            port.end(index);
+            end_if_left(port, index);
         }
     }
 
@@ -217,5 +218,14 @@ impl<T: Copy, U: Copy> Publishers<T, U> {
             Some(port) => give_back_at(port, index, slot),
             None => false,
         }
+    }
+}
+
+// Ends a connection of a publisher, if it left.
+fn end_if_left<T: Copy, U: Copy>(port: &mut PublisherPort<T, U>, index: usize)
+    ensures { port.new ≡ ended_if_left index port.old }
+{
+    if !port.stands {
+        port.end(index);
     }
 }

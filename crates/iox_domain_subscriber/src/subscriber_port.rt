@@ -4,7 +4,7 @@ ghost use Rattle.iox_domain_subscriber.specs.Arriving.{new_subscriber};
 
 use crate::attached::Attached;
 use crate::keys::Keys;
-use iox_domain_publisher::Places;
+use iox_domain_publisher::Ties;
 use iox_domain_values::{PortIdentity, PortOwner};
 use iox_maps::SlotMap;
 use std::alloc::{AllocError, Global};
@@ -33,7 +33,7 @@ pub struct SubscriberPort {
     /// Whether a connection failed for want of room among the expired ones: the list is then followed again.
     pub again: bool,
     /// For each place of the list of publishers the key of its connection.
-    pub places: Places<usize>,
+    pub places: Ties,
     /// Its connections, the expired ones too.
     pub connections: SlotMap<Attached>,
     /// The keys of the connections whose publisher left, in the order in which they expired.
@@ -65,7 +65,7 @@ impl SubscriberPort {
             held: 0,
             seen: 0,
             again: true,
-            places: Places::new(alloc),
+            places: Ties::new(alloc, most_connections)?,
             connections: SlotMap::new(alloc, most)?,
             expired: Keys::new(alloc, most_expired)?,
         })

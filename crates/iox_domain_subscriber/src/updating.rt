@@ -109,7 +109,7 @@ impl SubscriberPort {
         listed: &[Option<Member<PublisherEntry>>],
         publishers: &mut Publishers<T, U>,
     )
-        ensures { FollowsNones listed.now 0 (length self.old.places) self.old publishers.old self.new publishers.new }
+        ensures { FollowsNones listed.now 0 (length self.old.places.items) self.old publishers.old self.new publishers.new }
     {
         let count = self.places.len();
         for place in 0..count {

@@ -1,4 +1,4 @@
-use Rattle.iox_domain_ports.proofs.Numbered.{numbers_stay}
+use Rattle.iox_domain_ports.proofs.GivenOut.{numbers_stay}
 use Rattle.iox_domain_ports.proofs.numbering.numbers_stay.Goals as goal
 
 pub returns : goal.returns

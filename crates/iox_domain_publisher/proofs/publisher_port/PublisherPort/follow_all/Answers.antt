@@ -1,5 +1,5 @@
 use Rattle.std.proofs.Common.{arith}
-use Rattle.iox_domain_publisher.proofs.Following.{following_none, following_on, followed}
+use Rattle.iox_domain_publisher.proofs.Following.{only_still, following_none, following_on, followed}
 use Rattle.iox_domain_publisher.proofs.publisher_port.PublisherPort.follow_all.Goals as goal
 
 pub loop-place-init : goal.loop-place-init
@@ -11,4 +11,7 @@ loop-place-preserved g c = following_on _ _ _ _ _ c.loop-place.place c.index-lis
     c.follow-outcome.ensures.follows c.follow-outcome.ensures.same c.ask-found.ensures
 
 pub returns-clause-follows : goal.returns-clause-follows
-returns-clause-follows g c = followed _ _ _ _ c.loop-place.place c.loop-place.found _ c.loop-place.invariant (omega (arith, c.loop-place-test.false)) c.answer_of.ensures
+returns-clause-follows g c = followed _ _ _ _ _ c.loop-place.place c.loop-place.found _ c.loop-place.invariant (omega (arith, c.loop-place.auto.place-end)) (omega (arith, c.loop-place-test.false)) c.answer_of.ensures c.untie_from.ensures.untied
+
+pub returns-clause-only : goal.returns-clause-only
+returns-clause-only g c = only_still c.args.self.now c.loop-place.self c.untie_from.new.self c.loop-place.invariant.only c.untie_from.ensures.same

@@ -1,5 +1,5 @@
 use Rattle.std.proofs.Common.{rules, ◌≡◌, ◌+◌, ◌-◌, ◌++◌, ◌∙◌, take, replicate, length, sym, refl, is_ok, IsOk, if◌then◌else◌}
-use Rattle.iox_domain_sender.proofs.Opening.{open_seen, open_kept, opened_put, resized_is}
+use Rattle.iox_domain_sender.proofs.Opening.{open_seen, open_kept, opened_free, opened_put, resized_is}
 use Rattle.iox_domain_sender.proofs.sender.Sender.open_segment.Goals as goal
 
 pub invariant_of-self-2 : goal.invariant_of-self-2
@@ -25,3 +25,7 @@ returns-clause-opened g c =
     c.in_ok-values.ensures c.in_ok-written.ensures c.push.ensures c.push-2.ensures
     (resized_is c.resize-resized.result c.resize-resized.new.self.items c.self.inside.headers.items c.size-size.result c.self.inside.blank done resized) refl in
     open_seen (record { values = c.self.inside.values; written = c.self.inside.written; headers = c.self.inside.headers.items; blank = c.self.inside.blank }) (record { values = c.push.new.self; written = c.push-2.new.self; headers = c.resize-resized.new.self.items; blank = c.self.inside.blank }) c.self.inside.uses c.open_segment.new.self c.args.self.now c.args.room c.self.view_is c.in_ok-open_segment.ensures.opened put
+
+pub returns-clause-free : goal.returns-clause-free
+returns-clause-free g c =
+    opened_free (record { values = c.self.inside.values; written = c.self.inside.written; headers = c.self.inside.headers.items; blank = c.self.inside.blank }) (record { values = c.push.new.self; written = c.push-2.new.self; headers = c.resize-resized.new.self.items; blank = c.self.inside.blank }) c.self.inside.uses c.open_segment.new.self c.self.invariant c.in_ok-open_segment.ensures.opened
