@@ -15,10 +15,11 @@ use Rattle.iox_domain_values.specs.declared.degradation.DegradationAction.{Degra
 use Rattle.iox_domain_values.specs.declared.degradation.DegradationInfo.{DegradationInfo}
 use Rattle.iox_domain_values.specs.declared.port_error.ReceiveError.{ReceiveError}
 use Rattle.iox_domain_publisher.specs.Ports.{connection_to, ended_at, detached_at}
+use Rattle.iox_domain_publisher.specs.Ties.{tie_put}
 use Rattle.iox_domain_publisher.specs.declared.publisher_port.PublisherPort.{PublisherPort}
 use Rattle.iox_domain_subscriber.specs.Following.{PartsFor, PartsBorrowed, PartsOver, PartsIf, Parts, ConnectsBy, Connects, FollowsFreed, FollowsKey, FollowsAt, freed_if, FollowsNoneAt, is_of, is_unborrowed}
 use Rattle.iox_domain_subscriber.specs.Living.{living_publishers}
-use Rattle.iox_domain_subscriber.specs.Publishers.{removed, is_over_in, settled, port_of, with_port, changed, changed_at_port, released, stands_in, AttachesAtPort}
+use Rattle.iox_domain_subscriber.specs.Publishers.{removed, ended_if_left, is_over_in, settled, port_of, with_port, changed, changed_at_port, released, stands_in, AttachesAtPort}
 use Rattle.iox_domain_subscriber.specs.Reading.{taken_at, given_back_at}
 use Rattle.iox_domain_subscriber.specs.Receiving.{is_idle_at, dropped_port, dropped_ports, swept, given_ports, Receives, left_at, left_all}
 use Rattle.iox_domain_subscriber.specs.Subscribing.{attached_at, is_idle, without_key, ended_key, ended_ports, taken_ports}
@@ -92,11 +93,15 @@ changed_keeps {T} {U} number step ports alike = at (port_of number ports) refl
     at None is = kept ports ports refl
     at (Some port) is = with_port_keeps number ports port (step port) is (alike port)
 
+if_left_life : {T U : Type 0} (stands : Bool) (index : ℕ) (port : PublisherPort T U) → life_of (if stands then port else ended_at index port) ≡ life_of port
+if_left_life true index port = refl
+if_left_life false index port = ended_life index port
+
 ended_keeps : {T U : Type 0} (attached : Option Attached) (ports : List (ℕ × PublisherPort T U)) → KeepsPorts ports (ended_ports attached ports)
 ended_keeps None ports = kept ports ports refl
 ended_keeps (Some attached) ports =
-    let changed_ports = changed attached.publisher (ended_at attached.index) ports in
-    onto ports changed_ports (settled attached.publisher changed_ports) (changed_keeps attached.publisher (ended_at attached.index) ports (ended_life attached.index)) (settled_keeps attached.publisher changed_ports)
+    let changed_ports = changed attached.publisher (ended_if_left attached.index) ports in
+    onto ports changed_ports (settled attached.publisher changed_ports) (changed_keeps attached.publisher (ended_if_left attached.index) ports (λ port. if_left_life port.stands attached.index port)) (settled_keeps attached.publisher changed_ports)
 
 taken_keeps : {T U : Type 0} (attached : Option Attached) (ports : List (ℕ × PublisherPort T U)) → KeepsPorts ports (taken_ports attached ports)
 taken_keeps None ports = kept ports ports refl
@@ -170,7 +175,7 @@ parts_keeps key port ports is_free new new_ports parts = parts_if_keeps (is_idle
 freed_keeps : {T U : Type 0} (is_free : Bool) (place number : ℕ) (port : SubscriberPort) (ports : List (ℕ × PublisherPort T U)) (answer : Result (Unit {0}) ZeroCopyCreationError)
     (new : SubscriberPort) (new_ports : List (ℕ × PublisherPort T U)) → FollowsFreed is_free place number port ports answer new new_ports → Keeps port ports new new_ports
 freed_keeps false place number port ports answer new new_ports follows = (ap holding_of follows.1, kept ports new_ports follows.2)
-freed_keeps true place number port ports answer new new_ports follows = connects_keeps place number (record port { places = set port.places place None }) ports answer new new_ports follows
+freed_keeps true place number port ports answer new new_ports follows = connects_keeps place number (record port { places = tie_put place None port.places }) ports answer new new_ports follows
 
 key_keeps : {T U : Type 0} (same_one : Bool) (key place number : ℕ) (port : SubscriberPort) (ports : List (ℕ × PublisherPort T U)) (answer : Result (Unit {0}) ZeroCopyCreationError)
     (new : SubscriberPort) (new_ports : List (ℕ × PublisherPort T U)) → FollowsKey same_one key place number port ports answer new new_ports → Keeps port ports new new_ports
@@ -187,7 +192,7 @@ at_keeps (Some key) place number port ports answer new new_ports follows = key_k
 one_keeps : {T U : Type 0} (place : ℕ) (listed : Option (Member PublisherEntry)) (port : SubscriberPort) (ports : List (ℕ × PublisherPort T U)) (outcome : Result (Unit {0}) ZeroCopyCreationError)
     (new : SubscriberPort) (new_ports : List (ℕ × PublisherPort T U)) → FollowsOne place listed port ports outcome new new_ports → Keeps port ports new new_ports
 one_keeps place None port ports outcome new new_ports follows = same port new ports new_ports follows.1 follows.2
-one_keeps place (Some member) port ports outcome new new_ports follows = at_keeps (get_or port.places place None) place member.value.publisher port ports outcome new new_ports follows
+one_keeps place (Some member) port ports outcome new new_ports follows = at_keeps (get_or port.places.items place None) place member.value.publisher port ports outcome new new_ports follows
 
 from_keeps : {T U : Type 0} (may : DegradationInfo → DegradationAction → Type 0) (place : ℕ) (listed : List (Option (Member PublisherEntry))) (found : Option ConnectionFailure) (port : SubscriberPort)
     (ports : List (ℕ × PublisherPort T U)) (after : Option ConnectionFailure) (new : SubscriberPort) (new_ports : List (ℕ × PublisherPort T U))
@@ -211,7 +216,7 @@ none_at_keeps (Some key) place port ports new new_ports (is_free, between, parts
 none_if_keeps : {T U : Type 0} (lists : Bool) (place : ℕ) (port : SubscriberPort) (ports : List (ℕ × PublisherPort T U)) (new : SubscriberPort) (new_ports : List (ℕ × PublisherPort T U))
     → FollowsNoneIf lists place port ports new new_ports → Keeps port ports new new_ports
 none_if_keeps true place port ports new new_ports follows = same port new ports new_ports follows.0 follows.1
-none_if_keeps false place port ports new new_ports follows = none_at_keeps (get_or port.places place None) place port ports new new_ports follows
+none_if_keeps false place port ports new new_ports follows = none_at_keeps (get_or port.places.items place None) place port ports new new_ports follows
 
 nones_keeps : {T U : Type 0} (listed : List (Option (Member PublisherEntry))) (place count : ℕ) (port : SubscriberPort) (ports : List (ℕ × PublisherPort T U)) (new : SubscriberPort)
     (new_ports : List (ℕ × PublisherPort T U)) → FollowsNones listed place count port ports new new_ports → Keeps port ports new new_ports
@@ -227,7 +232,7 @@ updates_if_keeps true may listed changes port ports answer new new_ports updates
 updates_if_keeps false may listed changes port ports answer new new_ports (found, between, between_ports, follows, nones, is) =
     onward port between new ports between_ports new_ports
     (from_keeps may 0 listed None (record port { seen = changes; again = false }) ports found between between_ports follows)
-    (nones_keeps listed 0 (length between.places) between between_ports new new_ports nones)
+    (nones_keeps listed 0 (length between.places.items) between between_ports new new_ports nones)
 
 -- an update of a subscriber leaves all that lives
 pub updates_keeps : {T U : Type 0} (may : DegradationInfo → DegradationAction → Type 0) (listed : List (Option (Member PublisherEntry))) (changes : ℕ) (port : SubscriberPort)

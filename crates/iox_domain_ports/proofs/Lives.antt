@@ -15,7 +15,8 @@ use Rattle.iox_domain_publisher.specs.Leaving.{parted_at, parted_from, departed}
 use Rattle.iox_domain_publisher.specs.Places.{is_attached}
 use Rattle.iox_domain_publisher.specs.Ports.{Joins, connection_to, connection_of, is_live, ended_at, welcomed_at, greeted_at}
 use Rattle.iox_domain_publisher.specs.Sending.{meeting_at, met, met_by, with_message, decided_by, concluded, sent_answer, Steps, Delivers, Finishes}
-use Rattle.iox_domain_publisher.specs.Updating.{is_tie_to, let_go_of, untied, within_reach, Ties, FollowsTo, Follows, FollowsAll, UpdatesIf, Updates}
+use Rattle.iox_domain_publisher.specs.Ties.{tie_put}
+use Rattle.iox_domain_publisher.specs.Updating.{is_tie_to, let_go_of, untied, untied_from, within_reach, Ties, FollowsTo, Follows, FollowsAll, UpdatesIf, Updates}
 use Rattle.iox_domain_publisher.specs.declared.meeting.Meeting.{Meeting}
 use Rattle.iox_domain_publisher.specs.declared.meeting.Meeting.TheVariants as meeting
 use Rattle.iox_domain_publisher.specs.declared.meeting.Sent.{Sent}
@@ -43,10 +44,14 @@ ended_life index port = either (is_live index port) _ _ (life_of port) refl refl
 
 let_go_life : {T U : Type 0} (place : ℕ) (tie : Option ℕ) (port : PublisherPort T U) → life_of (let_go_of place tie port) ≡ life_of port
 let_go_life place None port = refl
-let_go_life place (Some index) port = ended_life index (record port { ties = set port.ties place None })
+let_go_life place (Some index) port = ended_life index (record port { ties = tie_put place None port.ties })
 
 untied_life : {T U : Type 0} (place : ℕ) (port : PublisherPort T U) → life_of (untied place port) ≡ life_of port
-untied_life place port = let_go_life place (get_or port.ties place None) port
+untied_life place port = let_go_life place (get_or port.ties.items place None) port
+
+untied_from_life : {T U : Type 0} (count place : ℕ) (port : PublisherPort T U) → life_of (untied_from count place port) ≡ life_of port
+untied_from_life zero place port = refl
+untied_from_life (suc count) place port = untied_from_life count (place + 1) (untied place port) ∙ untied_life place port
 
 pub joins_life : {T U : Type 0} (subscriber limit : ℕ) (found : Option ℕ) (old : PublisherPort T U) (answer : Result ℕ AllocError) (new : PublisherPort T U)
     → Joins subscriber limit found old answer new → life_of new ≡ life_of old
@@ -65,7 +70,7 @@ ties_life : {T U : Type 0} (place : ℕ) (entry : SubscriberEntry) (old : Publis
     → Ties place entry old answer new → life_of new ≡ life_of old
 ties_life place entry old (Err error) new ties = ap life_of ties.1
 ties_life place entry old (Ok done) new (index, joined, joins, is) =
-    ap life_of is ∙ welcomed_life index (record joined { ties = set joined.ties place (Some index) })
+    ap life_of is ∙ welcomed_life index (record joined { ties = tie_put place (Some index) joined.ties })
     ∙ joins_life _ _ (connection_to entry.subscriber old) (within_reach place old) (Ok index) joined joins
 
 follows_to_life : {T U : Type 0} (place : ℕ) (entry : SubscriberEntry) (same : Bool) (old : PublisherPort T U) (answer : Result (Unit {0}) AllocError) (new : PublisherPort T U)
@@ -77,11 +82,11 @@ follows_life : {T U : Type 0} (place : ℕ) (listed : Option (Member SubscriberE
     → Follows place listed old answer new → life_of new ≡ life_of old
 follows_life place None old answer new follows = ap life_of follows.1 ∙ untied_life place old
 follows_life place (Some member) old answer new follows =
-    follows_to_life place member.value (is_tie_to member.value.subscriber (get_or old.ties place None) old) old answer new follows
+    follows_to_life place member.value (is_tie_to member.value.subscriber (get_or old.ties.items place None) old) old answer new follows
 
 follows_all_life : {T U : Type 0} (may : DegradationInfo → DegradationAction → Type 0) (place : ℕ) (listed : List (Option (Member SubscriberEntry))) (found : Option ConnectionFailure)
     (old : PublisherPort T U) (answer : Result (Unit {0}) ConnectionFailure) (new : PublisherPort T U) → FollowsAll may place listed found old answer new → life_of new ≡ life_of old
-follows_all_life may place [] found old answer new follows = ap life_of follows.1
+follows_all_life may place [] found old answer new follows = ap life_of follows.1 ∙ untied_from_life (length old.ties.items - place) place old
 follows_all_life may place (first ∷ rest) found old answer new (outcome, next, after, follows, asks, further) =
     follows_all_life may (place + 1) rest after next answer new further ∙ follows_life place first old outcome next follows
 
@@ -119,10 +124,10 @@ delivers_life : {T U : Type 0} (may : BackpressureInfo → BackpressureDecision 
     → Delivers may places old arrived new → life_of new ≡ life_of old
 delivers_life may zero old arrived new delivers = ap life_of delivers.1
 delivers_life may (suc places) old arrived new (false, next, steps, goes) =
-    ap life_of goes.1 ∙ steps_life may (meeting_at old.progress.place old) (met old.progress.place old) false next steps ∙ met_life (get_or old.ties old.progress.place None) old
+    ap life_of goes.1 ∙ steps_life may (meeting_at old.progress.place old) (met old.progress.place old) false next steps ∙ met_life (get_or old.ties.items old.progress.place None) old
 delivers_life may (suc places) old arrived new (true, next, steps, goes) =
     delivers_life may places next arrived new goes
-    ∙ steps_life may (meeting_at old.progress.place old) (met old.progress.place old) true next steps ∙ met_life (get_or old.ties old.progress.place None) old
+    ∙ steps_life may (meeting_at old.progress.place old) (met old.progress.place old) true next steps ∙ met_life (get_or old.ties.items old.progress.place None) old
 
 -- whether a send that answers so ended
 abbrev pub is_ended : Result Sent SendError → Bool
@@ -148,7 +153,7 @@ pub finishes_life : {T U : Type 0} (may : BackpressureInfo → BackpressureDecis
     → Finishes may old answer new → life_of new ≡ life_after (is_ended answer) (life_of old)
 finishes_life may old answer new (arrived, gone, delivers, told, is) =
     ap life_of is ∙ concluded_life arrived gone
-    ∙ ap (λ life. life_after (is_ended (sent_answer arrived gone.progress)) life) (delivers_life may (length old.ties - old.progress.place) old arrived gone delivers)
+    ∙ ap (λ life. life_after (is_ended (sent_answer arrived gone.progress)) life) (delivers_life may (length old.ties.items - old.progress.place) old arrived gone delivers)
     ∙ ap (λ outcome. life_after (is_ended outcome) (life_of old)) (sym told)
 
 parted_life : {T U : Type 0} (index : ℕ) (port : PublisherPort T U) → life_of (parted_at index port) ≡ life_of port
