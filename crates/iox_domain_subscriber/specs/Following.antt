@@ -69,10 +69,6 @@ abbrev pub Parts : {T U : Type 0} → ℕ → SubscriberPort → List (ℕ × Pu
 Parts key port ports is_free new new_ports =
     PartsIf (is_idle port ports key) (nat_le port.expired.room (length port.expired.items)) key port ports is_free new new_ports
 
--- the place of the list is one that may have a connection
-abbrev pub within_reach : ℕ → SubscriberPort → SubscriberPort
-within_reach place port = record port { places = ties_reached (place + 1) port.places }
-
 -- a connection comes to a place, under a key
 abbrev pub kept_at : ℕ → ℕ → Attached → SubscriberPort → SubscriberPort
 kept_at place key attached port = record port { connections = stored port.connections key attached; places = tie_put place (Some key) (ties_reached (place + 1) port.places) }
