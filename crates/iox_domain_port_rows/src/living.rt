@@ -171,7 +171,7 @@ fn lives(world: &World, publishing: u64, subscribing: u64) -> bool {
     world.ports.living(3) == publishing
         && world.ports.living(9) == subscribing
         && world.ports.living(4) == 0
-        && world.ports.living_in_all() == publishing + subscribing
+        && world.ports.living_in_all() == publishing.saturating_add(subscribing)
 }
 
 #[test]
