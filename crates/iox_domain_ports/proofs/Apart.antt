@@ -28,7 +28,8 @@ use Rattle.iox_domain_subscriber.specs.declared.publisher_entry.PublisherEntry.{
 use Rattle.iox_domain_subscriber.specs.declared.subscriber_port.SubscriberPort.{SubscriberPort}
 use Rattle.iox_domain_ports.specs.Calls.{PortCall, PublisherComes, SubscriberComes, Lends, Writes, GivesLoanUp, PublisherUpdates, Sends, Retries, GivesSendUp, PublisherLeaves, SubscriberUpdates, AsksForSamples, Receives, Releases, SubscriberLeaves, Happens}
 use Rattle.iox_domain_ports.specs.Laws.{IsListApart, IsTiedWell, IsWellEntry, IsApart}
-use Rattle.iox_domain_ports.specs.Making.{slots_needed, publisher_place, subscriber_place, buffer_of, identity_of, sender_config, AddsPublisher, CreatesPublisher, AddsSubscriber, CreatesSubscriber}
+use Rattle.iox_domain_values.specs.Sizes.{buffer_of}
+use Rattle.iox_domain_ports.specs.Making.{slots_needed, publisher_place, subscriber_place, identity_of, sender_config, AddsPublisher, CreatesPublisher, AddsSubscriber, CreatesSubscriber}
 use Rattle.iox_domain_ports.specs.Ports.{AtPublisher, AtSubscriber, no_ports, with_publisher}
 use Rattle.iox_domain_ports.specs.Publishing.{is_free}
 use Rattle.iox_domain_ports.specs.Publishing as publishing
@@ -240,11 +241,11 @@ subscribes_apart {T} {U} may owner place buffer_size old new (Ok number) adds =
       };
     })
 
-creates_subscriber_apart : {T U : Type 0} (may : DegradationInfo → DegradationAction → Type 0) (owner : PortOwner) (buffer_size place : Option ℕ) (old new : ServicePorts T U) (answer : Result ℕ SubscriberCreateError)
+creates_subscriber_apart : {T U : Type 0} (may : DegradationInfo → DegradationAction → Type 0) (owner : PortOwner) (buffer_size : Result ℕ SubscriberCreateError) (place : Option ℕ) (old new : ServicePorts T U) (answer : Result ℕ SubscriberCreateError)
     → CreatesSubscriber may owner buffer_size place old answer new → StaysApart old new
-creates_subscriber_apart may owner None place old new answer creates = apart_same old new creates.1
-creates_subscriber_apart may owner (Some buffer_size) None old new answer creates = apart_same old new creates.1
-creates_subscriber_apart may owner (Some buffer_size) (Some place) old new answer creates = subscribes_apart may owner place buffer_size old new creates.0 creates.1
+creates_subscriber_apart may owner (Err refusal) place old new answer creates = apart_same old new creates.1
+creates_subscriber_apart may owner (Ok buffer_size) None old new answer creates = apart_same old new creates.1
+creates_subscriber_apart may owner (Ok buffer_size) (Some place) old new answer creates = subscribes_apart may owner place buffer_size old new creates.0 creates.1
 
 -- a publisher leaves
 leaves_apart : {T U : Type 0} (free : Bool) (number : ℕ) (port : PublisherPort T U) (old new : ServicePorts T U) (answer : Bool) → port_of number old.publishers ≡ Some port
@@ -328,7 +329,7 @@ releases_apart (Some port) number given old new answer releases = released_apart
 calls_stay : {T U : Type 0} (overrides : ℕ → ℕ → Type 0) (may : DegradationInfo → DegradationAction → Type 0) (decide : BackpressureInfo → BackpressureDecision → Type 0) (call : PortCall T U) (old new : ServicePorts T U)
     → Happens overrides may decide call old new → StaysApart old new
 calls_stay overrides may decide (PublisherComes config user_header answer) old new happens = creates_apart overrides may config user_header (slots_needed config old) (publisher_place old) old new answer happens
-calls_stay overrides may decide (SubscriberComes owner buffer_size answer) old new happens = creates_subscriber_apart may owner (buffer_of buffer_size old) (subscriber_place old) old new answer happens
+calls_stay overrides may decide (SubscriberComes owner buffer_size answer) old new happens = creates_subscriber_apart may owner (buffer_of buffer_size old.sizes) (subscriber_place old) old new answer happens
 calls_stay overrides may decide (Lends number values elements answer) old new happens =
     apart_publisher number _ (port_of number old.publishers) old new answer (λ port after answer list loans. carry_loans (goes_carries old.next_port old.subscriber_list.places) values elements port after answer loans) refl happens
 calls_stay overrides may decide (Writes number slot test change) old new happens =

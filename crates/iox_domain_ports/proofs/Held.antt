@@ -24,7 +24,8 @@ use Rattle.iox_domain_subscriber.specs.declared.attached.Taken.{Taken}
 use Rattle.iox_domain_subscriber.specs.declared.subscriber_port.SubscriberPort.{SubscriberPort}
 use Rattle.iox_domain_ports.specs.Calls.{PortCall, PublisherComes, SubscriberComes, Lends, Writes, GivesLoanUp, PublisherUpdates, Sends, Retries, GivesSendUp, PublisherLeaves, SubscriberUpdates, AsksForSamples, Receives, Releases, SubscriberLeaves, Happens}
 use Rattle.iox_domain_ports.specs.Laws.{IsTidy, IsSoundEntry, IsSound, gives_back, HeldStays}
-use Rattle.iox_domain_ports.specs.Making.{slots_needed, publisher_place, subscriber_place, buffer_of, identity_of, sender_config, AddsPublisher, CreatesPublisher, AddsSubscriber, CreatesSubscriber}
+use Rattle.iox_domain_values.specs.Sizes.{buffer_of}
+use Rattle.iox_domain_ports.specs.Making.{slots_needed, publisher_place, subscriber_place, identity_of, sender_config, AddsPublisher, CreatesPublisher, AddsSubscriber, CreatesSubscriber}
 use Rattle.iox_domain_ports.specs.Ports.{AtPublisher, AtSubscriber, with_publisher}
 use Rattle.iox_domain_ports.specs.Publishing.{is_free}
 use Rattle.iox_domain_ports.specs.Publishing as publishing
@@ -153,11 +154,11 @@ subscribes {T} {U} spared may owner place buffer_size old new (Ok number) adds =
       held = λ sound sample message apart held. walked.held old.next_port sound sample message held;
     })
 
-creates_subscriber : {T U : Type 0} (spared : Taken → Type 0) (may : DegradationInfo → DegradationAction → Type 0) (owner : PortOwner) (buffer_size place : Option ℕ) (old new : ServicePorts T U) (answer : Result ℕ SubscriberCreateError)
+creates_subscriber : {T U : Type 0} (spared : Taken → Type 0) (may : DegradationInfo → DegradationAction → Type 0) (owner : PortOwner) (buffer_size : Result ℕ SubscriberCreateError) (place : Option ℕ) (old new : ServicePorts T U) (answer : Result ℕ SubscriberCreateError)
     → CreatesSubscriber may owner buffer_size place old answer new → CallKeeps spared old new
-creates_subscriber spared may owner None place old new answer creates = call_same spared old new creates.1
-creates_subscriber spared may owner (Some buffer_size) None old new answer creates = call_same spared old new creates.1
-creates_subscriber spared may owner (Some buffer_size) (Some place) old new answer creates = subscribes spared may owner place buffer_size old new creates.0 creates.1
+creates_subscriber spared may owner (Err refusal) place old new answer creates = call_same spared old new creates.1
+creates_subscriber spared may owner (Ok buffer_size) None old new answer creates = call_same spared old new creates.1
+creates_subscriber spared may owner (Ok buffer_size) (Some place) old new answer creates = subscribes spared may owner place buffer_size old new creates.0 creates.1
 
 -- a port leaves
 publisher_leaves : {T U : Type 0} (spared : Taken → Type 0) (free : Bool) (number : ℕ) (port : PublisherPort T U) (old new : ServicePorts T U) (answer : Bool) → port_of number old.publishers ≡ Some port
@@ -216,7 +217,7 @@ fewer one other old new follows keeps = record {
 calls_keep : {T U : Type 0} (overrides : ℕ → ℕ → Type 0) (may : DegradationInfo → DegradationAction → Type 0) (decide : BackpressureInfo → BackpressureDecision → Type 0) (call : PortCall T U) (old new : ServicePorts T U)
     → Happens overrides may decide call old new → CallKeeps (λ sample. gives_back sample call ≡ false) old new
 calls_keep overrides may decide (PublisherComes config user_header answer) old new happens = creates_publisher _ overrides may config user_header (slots_needed config old) (publisher_place old) old new answer happens
-calls_keep overrides may decide (SubscriberComes owner buffer_size answer) old new happens = creates_subscriber _ may owner (buffer_of buffer_size old) (subscriber_place old) old new answer happens
+calls_keep overrides may decide (SubscriberComes owner buffer_size answer) old new happens = creates_subscriber _ may owner (buffer_of buffer_size old.sizes) (subscriber_place old) old new answer happens
 calls_keep overrides may decide (Lends number values elements answer) old new happens =
     at_found _ number _ (port_of number old.publishers) old new answer (λ port after answer loans. port_loans values elements port after answer loans) refl happens
 calls_keep overrides may decide (Writes number slot test change) old new happens =

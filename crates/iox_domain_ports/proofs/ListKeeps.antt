@@ -1,5 +1,5 @@
 -- What a change of the publishers of a service leaves held.
-use Rattle.std.proofs.Common.{arith, ◌≡◌, ◌<◌, ◌&&◌, ◌||◌, ◌==◌, ◌∷◌, [], ℕ, zero, suc, Bool, true, false, not, List, get_or, length, Option, None, Some, Result, Ok, Err, refl, sym, ap, ◌∙◌, if◌then◌else◌, inl, inr}
+use Rattle.std.proofs.Common.{arith, ◌≡◌, ◌<◌, ◌&&◌, ◌||◌, ◌==◌, ◌∷◌, [], ℕ, zero, suc, Bool, true, false, not, List, get_or, length, is_some, Option, None, Some, Result, Ok, Err, refl, sym, ap, ◌∙◌, if◌then◌else◌, inl, inr}
 use Rattle.std.proofs.lemmas.Bool.{cases_eq}
 use Rattle.std.specs.List.{All, list_any}
 use Rattle.std.specs.declared.alloc.AllocError.{AllocError}
@@ -88,15 +88,16 @@ none_there [] index none = refl
 none_there (x ∷ xs) zero none = (neither (is_there x) (list_any is_there xs) none).0
 none_there (x ∷ xs) (suc index) none = none_there xs index (neither (is_there x) (list_any is_there xs) none).1
 
-last_of : (stands loans connections : Bool) → (not stands && (loans && not connections)) ≡ true → connections ≡ false
-last_of true loans connections is = cc
-last_of false false connections is = cc
-last_of false true true is = cc
-last_of false true false is = refl
+last_of : (stands loans sends connections : Bool) → (not stands && (loans && (not sends && not connections))) ≡ true → connections ≡ false
+last_of true loans sends connections is = cc
+last_of false false sends connections is = cc
+last_of false true true connections is = cc
+last_of false true false true is = cc
+last_of false true false false is = refl
 
 over_holds_none : {T U : Type 0} (port : PublisherPort T U) (sample : Taken) (message : Message T U) → is_over port ≡ true → IsTidy port → sample_at_port sample (Some port) ≡ Some message → ⊥
 over_holds_none port sample message over tidy held =
-    let none : list_any is_there port.sender.uses.connections ≡ false = last_of port.stands (length port.sender.uses.loans == 0) (list_any is_there port.sender.uses.connections) over in
+    let none : list_any is_there port.sender.uses.connections ≡ false = last_of port.stands (length port.sender.uses.loans == 0) (is_some port.sender.uses.sending) (list_any is_there port.sender.uses.connections) over in
     let empty : connection_of sample.index port ≡ nobody = tidy sample.index (vacant_of (connection_of sample.index port).stage (none_there port.sender.uses.connections sample.index none)) in
     let no : None ≡ Some message = ap (λ connection. borrowed_in sample.slot connection) (sym empty) ∙ held in
     cc

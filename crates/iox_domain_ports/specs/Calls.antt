@@ -17,7 +17,8 @@ use Rattle.iox_domain_publisher.specs.declared.publisher_port.PublisherPort.{Pub
 use Rattle.iox_domain_subscriber.specs.Publishers.{port_of}
 use Rattle.iox_domain_subscriber.specs.declared.attached.Taken.{Taken}
 use Rattle.iox_domain_ports.specs.Lending.{LoansOne, written_in, gave_up_in}
-use Rattle.iox_domain_ports.specs.Making.{slots_needed, publisher_place, subscriber_place, buffer_of, CreatesPublisher, CreatesSubscriber}
+use Rattle.iox_domain_values.specs.Sizes.{buffer_of}
+use Rattle.iox_domain_ports.specs.Making.{slots_needed, publisher_place, subscriber_place, CreatesPublisher, CreatesSubscriber}
 use Rattle.iox_domain_ports.specs.Ports.{AtPublisher, AtSubscriber}
 use Rattle.iox_domain_ports.specs.Publishing.{SendsOne, RetriesOne, GivesUpOne}
 use Rattle.iox_domain_ports.specs.Publishing as publishing
@@ -51,7 +52,7 @@ abbrev pub Happens : {T U : Type 0} → (ℕ → ℕ → Type 0) → (Degradatio
 Happens overrides may decide (PublisherComes config user_header answer) old new =
     CreatesPublisher overrides may config user_header (slots_needed config old) (publisher_place old) old answer new
 Happens overrides may decide (SubscriberComes owner buffer_size answer) old new =
-    CreatesSubscriber may owner (buffer_of buffer_size old) (subscriber_place old) old answer new
+    CreatesSubscriber may owner (buffer_of buffer_size old.sizes) (subscriber_place old) old answer new
 Happens overrides may decide (Lends number values elements answer) old new = AtPublisher number (LoansOne values elements) (port_of number old.publishers) old answer new
 Happens overrides may decide (Writes number slot test change) old new = new ≡ written_in number test slot change old
 Happens overrides may decide (GivesLoanUp number slot) old new = new ≡ gave_up_in number slot old
