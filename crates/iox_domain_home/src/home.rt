@@ -89,12 +89,7 @@ pub trait Home<T, U> {
 
     /// The send of a publisher that waits is tried again, after so many nanoseconds: `ServicePorts::retry` says what that does. None, and
     /// nothing happens, also where the domain isn't here.
-    fn retry(
-        &mut self,
-        id: DomainId,
-        number: u64,
-        elapsed: u64,
-    ) -> Option<Result<Sent, SendError>>
+    fn retry(&mut self, id: DomainId, number: u64, elapsed: u64) -> Option<Result<Sent, SendError>>
         ensures { AtDomain (λ after. with_ports id after self.old) (RetriesBy (publisher_decides id number self.old) number elapsed) (ports_of id self.old) self.old result self.new };
 
     /// A publisher leaves: `ServicePorts::leave_publisher` says what that does. Who decided for it is dropped. Answers false, and nothing
