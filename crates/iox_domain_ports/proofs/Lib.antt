@@ -1,3 +1,4 @@
 pub mod Rolling
 pub mod Lifting
 pub mod Coming
+pub mod Counting

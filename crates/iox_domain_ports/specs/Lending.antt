@@ -1,9 +1,10 @@
 -- A publisher lends a slot, what is to be sent is written there, and a loan is given up.
-use Rattle.std.specs.Prelude.{ℕ, ◌≡◌, Bool, true, false, Option, None, Some, Result}
+use Rattle.std.specs.Prelude.{ℕ, ◌≡◌, Bool, true, false, Option, None, Some, option_map, Result}
+use Rattle.iox_describe_base.specs.declared.header.Header.{Header}
 use Rattle.iox_domain_values.specs.declared.port_error.LoanError.{LoanError}
 use Rattle.iox_domain_sender.specs.Messages.{Loan}
 use Rattle.iox_domain_publisher.specs.Loaning.{Loans}
-use Rattle.iox_domain_publisher.specs.Writing.{loan_of, changed_if, given_up}
+use Rattle.iox_domain_publisher.specs.Writing.{loan_of, changed_if, changed_there, given_up}
 use Rattle.iox_domain_publisher.specs.declared.publisher_port.PublisherPort.{PublisherPort}
 use Rattle.iox_domain_subscriber.specs.Publishers.{port_of, changed, settled}
 use Rattle.iox_domain_ports.specs.declared.service_ports.ServicePorts.{ServicePorts}
@@ -38,6 +39,23 @@ loan_at_port slot (Some port) = loan_of slot port
 -- the loan in a slot of the publisher of a number
 abbrev pub loan_in : {T U : Type 0} → ℕ → ℕ → ServicePorts T U → Option (Loan T U)
 loan_in number slot ports = loan_at_port slot (port_of number ports.publishers)
+
+-- what the header of a loan of a publisher tells: who is to send it, and how many elements it has
+abbrev pub header_of_loan : {T U : Type 0} → PublisherPort T U → Loan T U → Header
+header_of_loan port loan = record { node_id = port.owner.node_id; publisher_id = port.number; number_of_elements = loan.elements }
+
+-- the header of the loan in a slot of a publisher; none without one
+abbrev pub loan_header_at_port : {T U : Type 0} → ℕ → Option (PublisherPort T U) → Option Header
+loan_header_at_port slot None = None
+loan_header_at_port slot (Some port) = option_map (header_of_loan port) (loan_of slot port)
+
+-- the header of the loan in a slot of the publisher of a number
+abbrev pub loan_header_in : {T U : Type 0} → ℕ → ℕ → ServicePorts T U → Option Header
+loan_header_in number slot ports = loan_header_at_port slot (port_of number ports.publishers)
+
+-- the loan in a slot of the publisher of a number changes
+abbrev pub loan_changed_in : {T U : Type 0} → ℕ → ℕ → (Loan T U → Loan T U) → ServicePorts T U → ServicePorts T U
+loan_changed_in number slot change ports = record ports { publishers = changed number (changed_there slot change) ports.publishers }
 
 -- the loan in a slot of the publisher of a number is given up, and a publisher that is over then is gone
 abbrev pub gave_up_in : {T U : Type 0} → ℕ → ℕ → ServicePorts T U → ServicePorts T U

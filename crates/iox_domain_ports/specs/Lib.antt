@@ -6,4 +6,7 @@ pub mod Publishing
 pub mod Subscribing
 pub mod Making
 pub mod Lending
+pub mod LendingLends
 pub mod Reading
+pub mod Living
+pub mod LivingLaws

@@ -1,18 +1,23 @@
 //! A publisher lends a slot, what is to be sent is written there, and a loan is given up.
-ghost use Rattle.std.specs.Prelude.{◌≡◌, ℕ, length, is_some, None, option_copied};
+ghost use Rattle.std.specs.Prelude.{◌≡◌, ℕ, length, is_some, None, option_copied, option_map};
+ghost use Rattle.std.specs.Borrow.{sem};
+ghost use Rattle.std.specs.Option.{option_copied_mut};
 ghost use Rattle.iox_domain_sender.specs.Messages.{write_value, write_all, write_user_header};
 ghost use Rattle.iox_domain_sender.specs.Sending.{has_loan, has_place, has_length, is_written_loan};
-ghost use Rattle.iox_domain_publisher.specs.Writing.{place_of, changed_if, value_at, given_up};
+ghost use Rattle.iox_domain_publisher.specs.Writing.{place_of, changed_if, value_at, values_at, given_up};
 ghost use Rattle.iox_domain_subscriber.specs.Publishers.{port_of, changed, settled};
-ghost use Rattle.iox_domain_ports.specs.Lending.{LoansOne, passes, written_in, loan_in, gave_up_in};
+ghost use Rattle.iox_domain_ports.specs.Lending.{LoansOne, passes, written_in, loan_in, loan_header_in, gave_up_in};
 ghost use Rattle.iox_domain_ports.specs.Ports.{AtPublisher};
 
 use crate::service_ports::ServicePorts;
+use iox_describe_base::Header;
 use iox_domain_publisher::PublisherPort;
 use iox_domain_values::LoanError;
 use std::alloc::Global;
 
 impl<T: Copy, U: Copy> ServicePorts<T, U> {
+    ghost use Rattle.iox_domain_ports.specs.LendingLends.{LendsValue, LendsUserHeader};
+
     /// The publisher lends a slot for so many values: `PublisherPort::loan` says when that is refused and what changes. The header of
     /// the message tells so many elements, and `blank` fills a new segment. None, and nothing happens, where the number is none of a
     /// publisher that stands, and while a send of it waits.
@@ -94,6 +99,72 @@ impl<T: Copy, U: Copy> ServicePorts<T, U> {
             Some(port) => port.value(slot, place),
             None => None,
         }
+    }
+
+    /// The value at a place of the loan in a slot, to be changed there, if a loan of the publisher stands there that has this place, and it
+    /// is written.
+    ///
+    /// Ported from changing it through `iceoryx2::sample_mut::SampleMut::payload_mut`.
+    pub fn value_mut(&mut self, number: u64, slot: usize, place: usize) -> Option<&mut T>
+        ensures* writes_back { sem 𝓛 (LendsValue T.row U.row self.entry number slot place result) }
+        ensures value { option_copied_mut result ≡ value_at place (loan_in number slot self.old) }
+    {
+        match self.publishers.get_mut(number) {
+            Some(port) => port.value_mut(slot, place),
+            None => None,
+        }
+    }
+
+    /// The values of the loan in a slot, if a loan of the publisher stands there of which each value is written.
+    ///
+    /// Ported from `iceoryx2::sample_mut::SampleMut::payload`.
+    pub fn values(&self, number: u64, slot: usize) -> Option<&[T]>
+        ensures { option_copied result ≡ values_at (loan_in number slot self.now) }
+    {
+        match self.publishers.get(number) {
+            Some(port) => port.values(slot),
+            None => None,
+        }
+    }
+
+    /// The user header of the loan in a slot, if a loan of the publisher stands there.
+    ///
+    /// Ported from `iceoryx2::sample_mut_uninit::SampleMutUninit::user_header`.
+    pub fn loan_user_header(&self, number: u64, slot: usize) -> Option<&U>
+        ensures { option_copied result ≡ option_map (λ loan. loan.user_header) (loan_in number slot self.now) }
+    {
+        match self.publishers.get(number) {
+            Some(port) => port.user_header(slot),
+            None => None,
+        }
+    }
+
+    /// The user header of the loan in a slot, to be changed there, if a loan of the publisher stands there.
+    ///
+    /// Ported from `iceoryx2::sample_mut_uninit::SampleMutUninit::user_header_mut`.
+    pub fn user_header_mut(&mut self, number: u64, slot: usize) -> Option<&mut U>
+        ensures* writes_back { sem 𝓛 (LendsUserHeader T.row U.row self.entry number slot result) }
+        ensures value { option_copied_mut result ≡ option_map (λ loan. loan.user_header) (loan_in number slot self.old) }
+    {
+        match self.publishers.get_mut(number) {
+            Some(port) => port.user_header_mut(slot),
+            None => None,
+        }
+    }
+
+    /// What the header of the loan in a slot tells, if a loan of the publisher stands there.
+    ///
+    /// Ported from `iceoryx2::sample_mut_uninit::SampleMutUninit::header`.
+    pub fn loan_header(&self, number: u64, slot: usize) -> Option<Header>
+        ensures { result ≡ loan_header_in number slot self.now }
+    {
+        let port = self.publishers.get(number)?;
+        let elements = port.elements(slot)?;
+        Some(Header {
+            node_id: port.owner.node_id,
+            publisher_id: port.number,
+            number_of_elements: elements,
+        })
     }
 
     /// Whether a loan of the publisher stands in a slot of which each value is written: the condition of its send.

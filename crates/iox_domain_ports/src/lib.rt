@@ -8,9 +8,11 @@
 //! - [`publishing`]: a publisher follows the subscribers, sends and leaves.
 //! - [`subscribing`]: a subscriber follows the publishers, receives, releases and leaves.
 //! - [`reading`]: what is read of a sample.
+//! - [`living`]: how much lives.
 #![tactic(auto)]
 
 pub mod lending;
+pub mod living;
 pub mod making;
 pub mod publishing;
 pub mod reading;

@@ -1,10 +1,12 @@
 //! The subscribers of a service, by number.
-ghost use Rattle.std.specs.Prelude.{◌≡◌, option_copied, OnOk, OnErr, []};
+ghost use Rattle.std.specs.Prelude.{◌≡◌, ◌-◌, ◌^◌, min, option_copied, OnOk, OnErr, []};
 ghost use Rattle.std.specs.Borrow.{sem};
 ghost use Rattle.std.specs.Option.{option_copied_mut};
+ghost use Rattle.iox_domain_ports.specs.Living.{living_subscribers};
 ghost use Rattle.iox_domain_ports.specs.Subscribers.{subscriber_of, with_subscriber, subscriber_added, is_over_in, settled};
 
 use iox_domain_subscriber::SubscriberPort;
+use iox_domain_subscriber::living::{add, counted, living_of_subscriber};
 use std::alloc::{AllocError, Global};
 use std::collections::BTreeMap;
 use std::marker::Model;
@@ -70,6 +72,17 @@ impl Subscribers {
         if self.is_over(number) {
             let _ = self.ports.remove(&number);
         }
+    }
+
+    /// How much lives of the subscribers of an owner, or of all where none is named: those that stand, and the samples that are held. Past
+    /// 2^64 - 1 it is that.
+    pub fn living(&self, owner: Option<u64>) -> u64
+        ensures { result ≡ min (living_subscribers owner self.now) (2 ^ 64 - 1) }
+    {
+        self.ports
+            .values()
+            .map(|port| counted(owner, port.owner.number, living_of_subscriber(port)))
+            .fold(0, add)
     }
 
     // Whether the subscriber of a number is over.

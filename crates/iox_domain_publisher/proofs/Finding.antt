@@ -1,5 +1,5 @@
 -- The loan in a slot is found.
-use Rattle.std.proofs.Common.{arith, ◌≡◌, ◌≢◌, ◌==◌, ◌&&◌, ◌≤◌, ◌∙◌, ℕ, zero, suc, Bool, true, false, if◌then◌else◌, List, [], ◌∷◌, length, nat_lt, slice_get, None, Some, refl, sym, ap, position, unwrap_or}
+use Rattle.std.proofs.Common.{arith, ◌≡◌, ◌≢◌, ◌==◌, ◌&&◌, ◌≤◌, ◌∙◌, ℕ, zero, suc, Bool, true, false, if◌then◌else◌, List, [], ◌∷◌, length, get_or, is_some, nat_lt, slice_get, Option, None, Some, refl, sym, ap, position, unwrap_or}
 use Rattle.std.specs.List.{list_any, find, position_or_len}
 use Rattle.std.proofs.Math.Logic.{⊎_elim}
 use Rattle.std.proofs.Math.Dec.{eqb}
@@ -8,8 +8,9 @@ use Rattle.std.proofs.lemmas.Bool.Decides.{eqb_tells}
 use Rattle.std.proofs.lemmas.List.{get_or_past}
 use Rattle.std.proofs.lemmas.List.Folds.{find_at}
 use Rattle.std.proofs.lemmas.Option.{none-some, slice_get_cases}
-use Rattle.iox_domain_sender.specs.Messages.{Loan}
-use Rattle.iox_domain_publisher.specs.Writing.{value_at}
+use Rattle.iox_domain_sender.specs.Messages.{Loan, written_of}
+use Rattle.iox_domain_sender.specs.Sending.{is_written_loan}
+use Rattle.iox_domain_publisher.specs.Writing.{value_at, values_at}
 
 -- false isn't true
 not_true : false ≡ true → ⊥
@@ -106,3 +107,45 @@ no_loan slot (loan ∷ loans) none = ⊎_elim
     let rest : list_any (λ one. eqb slot one.slot) loans ≡ false = rw (apart loan.slot slot other.1) at none in
     rw other.0 (no_loan slot loans rest))
     (eqb_tells loan.slot slot)
+
+-- a loan in the slot that passes a test is one in the slot
+pub some_loan : {T U : Type 0} (slot : ℕ) (test : Loan T U → Bool) (loans : List (Loan T U)) → list_any (λ loan. eqb slot loan.slot && test loan) loans ≡ true
+    → list_any (λ loan. eqb slot loan.slot) loans ≡ true
+some_loan slot test [] any = any
+some_loan slot test (loan ∷ loans) any = ⊎_elim
+    (λ here. rw here refl)
+    (λ away.
+    let rest : list_any (λ one. eqb slot one.slot && test one) loans ≡ true = rw away at any in
+    rw away (some_loan slot test loans rest))
+    (cases_Bool (eqb slot loan.slot))
+
+none_of : {X : Type 0} (one : Option X) → is_some one ≡ false → one ≡ None
+none_of None isnt = refl
+none_of (Some x) isnt = absurd (not_true (sym isnt))
+
+-- the value at a place of the loan in the slot isn't written: none stands there
+pub unwritten : {T U : Type 0} (slot place : ℕ) (loans : List (Loan T U)) → list_any (λ loan. eqb slot loan.slot && is_some (get_or loan.values place None)) loans ≡ false
+    → value_at place (find (λ loan. loan.slot == slot) loans) ≡ None
+unwritten slot place [] none = refl
+unwritten slot place (loan ∷ loans) none = ⊎_elim
+    (λ same.
+    let here : eqb slot loan.slot ≡ true = alike loan.slot slot same.1 in
+    ⊎_elim
+    (λ written. absurd (not_true (let wrong : true ≡ false = rw written at (rw here at none) in sym wrong)))
+    (λ isnt. rw same.0 (none_of (get_or loan.values place None) isnt))
+    (cases_Bool (is_some (get_or loan.values place None))))
+    (λ other.
+    let rest : list_any (λ one. eqb slot one.slot && is_some (get_or one.values place None)) loans ≡ false = rw (apart loan.slot slot other.1) at none in
+    rw other.0 (unwritten slot place loans rest))
+    (eqb_tells loan.slot slot)
+
+-- a loan that isn't written has no values to be read
+pub no_values : {T U : Type 0} (loan : Option (Loan T U)) → is_written_loan loan ≡ false → values_at loan ≡ None
+no_values None unwritten = refl
+no_values (Some loan) unwritten = rw unwritten refl
+
+-- the values of a written loan
+pub loan_values : {T U : Type 0} (loan : Option (Loan T U)) (values : List T) → is_written_loan loan ≡ true
+    → ((one : Loan T U) → loan ≡ Some one → values ≡ written_of one.values) → Some values ≡ values_at loan
+loan_values None values written are = absurd (not_true written)
+loan_values (Some loan) values written are = rw written (ap Some (are loan refl))

@@ -6,6 +6,7 @@ pub mod Updating
 pub mod Sending
 pub mod Loaning
 pub mod Writing
+pub mod WritingLends
 pub mod Leaving
 pub mod Laws
 pub mod Memory

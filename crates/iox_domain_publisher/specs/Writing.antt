@@ -1,7 +1,7 @@
 -- What lies in a loan is written and read, and a loan is given up.
-use Rattle.std.specs.Prelude.{ℕ, Bool, get_or, ◌==◌, Option, None, Some, if◌then◌else◌}
+use Rattle.std.specs.Prelude.{ℕ, Bool, List, get_or, ◌==◌, Option, None, Some, if◌then◌else◌}
 use Rattle.std.specs.List.{find, position}
-use Rattle.iox_domain_sender.specs.Messages.{Loan}
+use Rattle.iox_domain_sender.specs.Messages.{Loan, is_written, written_of}
 use Rattle.iox_domain_sender.specs.Sending.{with_uses, change_loan}
 use Rattle.iox_domain_publisher.specs.Sending.{dropped_at}
 use Rattle.iox_domain_publisher.specs.declared.publisher_port.PublisherPort.{PublisherPort}
@@ -14,15 +14,24 @@ place_of slot port = position (λ loan. loan.slot == slot) port.sender.uses.loan
 abbrev pub loan_of : {T U : Type 0} → ℕ → PublisherPort T U → Option (Loan T U)
 loan_of slot port = find (λ loan. loan.slot == slot) port.sender.uses.loans
 
+-- the loan in this slot changes
+abbrev pub changed_there : {T U : Type 0} → ℕ → (Loan T U → Loan T U) → PublisherPort T U → PublisherPort T U
+changed_there slot change port = record port { sender = with_uses (change_loan slot change port.sender.uses) port.sender }
+
 -- the loan in this slot changes where that is allowed; else nothing happens
 abbrev pub changed_if : {T U : Type 0} → Bool → ℕ → (Loan T U → Loan T U) → PublisherPort T U → PublisherPort T U
 changed_if allowed slot change port =
-    if allowed then record port { sender = with_uses (change_loan slot change port.sender.uses) port.sender } else port
+    if allowed then changed_there slot change port else port
 
 -- what is written at a place of a loan
 abbrev pub value_at : {T U : Type 0} → ℕ → Option (Loan T U) → Option T
 value_at place None = None
 value_at place (Some loan) = get_or loan.values place None
+
+-- the values of a loan, if each of them is written
+abbrev pub values_at : {T U : Type 0} → Option (Loan T U) → Option (List T)
+values_at None = None
+values_at (Some loan) = if is_written loan then Some (written_of loan.values) else None
 
 -- the loan at a place of the list is given up; where there is none nothing happens
 abbrev pub given_up_at : {T U : Type 0} → Option ℕ → PublisherPort T U → PublisherPort T U

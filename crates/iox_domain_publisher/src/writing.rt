@@ -1,12 +1,16 @@
 //! What lies in a loan is written and read, and a loan is given up. A loan goes by its slot; where none stands there nothing happens.
 ghost use Rattle.std.specs.Prelude.{◌≡◌, length, is_some, option_copied, option_map};
+ghost use Rattle.std.specs.Borrow.{sem};
+ghost use Rattle.std.specs.Option.{option_copied_mut};
 ghost use Rattle.iox_domain_sender.specs.Messages.{write_value, write_all, write_user_header};
 ghost use Rattle.iox_domain_sender.specs.Sending.{has_loan, has_place, has_length, is_written_loan};
-ghost use Rattle.iox_domain_publisher.specs.Writing.{place_of, loan_of, changed_if, value_at, given_up};
+ghost use Rattle.iox_domain_publisher.specs.Writing.{place_of, loan_of, changed_if, value_at, values_at, given_up};
 
 use crate::publisher_port::PublisherPort;
 
 impl<T: Copy, U: Copy> PublisherPort<T, U> {
+    ghost use Rattle.iox_domain_publisher.specs.WritingLends.{LendsValue, LendsUserHeader};
+
     /// Writes a value at a place of the loan in this slot; answers whether a loan stands there that has this place.
     ///
     /// Ported from writing through `iceoryx2::sample_mut_uninit::SampleMutUninit::payload_mut`.
@@ -73,6 +77,33 @@ impl<T: Copy, U: Copy> PublisherPort<T, U> {
         self.sender.value(slot, place)
     }
 
+    /// The value at a place of the loan in this slot, to be changed there, if a loan stands there that has this place, and it is written.
+    ///
+    /// Ported from changing it through `iceoryx2::sample_mut::SampleMut::payload_mut`.
+    pub fn value_mut(&mut self, slot: usize, place: usize) -> Option<&mut T>
+        ensures* writes_back { sem 𝓛 (LendsValue T.row U.row self.entry slot place result) }
+        ensures value { option_copied_mut result ≡ value_at place (loan_of slot self.old) }
+    {
+        if self.sender.has_value(slot, place) {
+            Some(self.sender.value_mut(slot, place))
+        } else {
+            None
+        }
+    }
+
+    /// The values of the loan in this slot, if a loan stands there of which each value is written.
+    ///
+    /// Ported from `iceoryx2::sample_mut::SampleMut::payload`.
+    pub fn values(&self, slot: usize) -> Option<&[T]>
+        ensures { option_copied result ≡ values_at (loan_of slot self.now) }
+    {
+        let at = self.sender.place_of_loan(slot)?;
+        if !self.sender.is_written(at) {
+            return None;
+        }
+        Some(self.sender.loan_values(at))
+    }
+
     /// How many elements the loan in this slot has, if one stands there.
     pub fn elements(&self, slot: usize) -> Option<u64>
         ensures { result ≡ option_map (λ loan. loan.elements) (loan_of slot self.now) }
@@ -93,6 +124,20 @@ impl<T: Copy, U: Copy> PublisherPort<T, U> {
             return None;
         }
         Some(self.sender.loan_user_header(slot))
+    }
+
+    /// The user header of the loan in this slot, to be changed there, if one stands there.
+    ///
+    /// Ported from `iceoryx2::sample_mut_uninit::SampleMutUninit::user_header_mut`.
+    pub fn user_header_mut(&mut self, slot: usize) -> Option<&mut U>
+        ensures* writes_back { sem 𝓛 (LendsUserHeader T.row U.row self.entry slot result) }
+        ensures value { option_copied_mut result ≡ option_map (λ loan. loan.user_header) (loan_of slot self.old) }
+    {
+        if self.sender.has_loan(slot) {
+            Some(self.sender.user_header_mut(slot))
+        } else {
+            None
+        }
     }
 
     /// Whether a loan stands in this slot of which each value is written: the condition of its send.

@@ -69,6 +69,13 @@ pub becomes : {T U : Type 0} (store : Store T U) (old : Uses ℕ ℕ) (slot : �
 becomes store old slot is written =
     ap (λ values. record (message_in store slot) { values = values }) (sym (whole (payload_at slot store.written) (payload_at slot store.values) (is.marks slot) written))
 
+-- the values of a written loan are those that stand in its slot
+pub loan_values_are : {T U : Type 0} (store : Store T U) (old : Uses ℕ ℕ) (state : SenderState T U) (at : ℕ) (loan : Loan T U) → seen_sender store old ≡ state → IsSender store old
+    → slice_get state.uses.loans at ≡ Some loan → is_written loan ≡ true → payload_at (get_or old.loans at 0) store.values ≡ written_of loan.values
+loan_values_are store old state at loan is sender there written =
+    let it = loan_is store old state at loan is there in
+    ap (λ message. message.values) (becomes store old (get_or old.loans at 0) sender (sym (ap is_written it) ∙ written)) ∙ sym (ap (λ l. written_of l.values) it)
+
 -- the send of a written loan begins
 pub begin_seen : {T U : Type 0} (store : Store T U) (old new : Uses ℕ ℕ) (state : SenderState T U) (at : ℕ) (loan : Loan T U) → seen_sender store old ≡ state → IsSender store old
     → slice_get state.uses.loans at ≡ Some loan → is_written loan ≡ true → new ≡ begun at (get_or old.loans at 0) old

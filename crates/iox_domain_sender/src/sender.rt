@@ -3,7 +3,7 @@ ghost use Rattle.std.specs.Prelude.{◌≡◌, ℕ, ◌+◌, ◌<◌, ◌≤◌,
 ghost use Rattle.iox_domain_slots.specs.declared.stage.Stage.TheVariants as stage;
 ghost use Rattle.iox_domain_slots.specs.Uses.{Uses, nobody, placed, connected, is_there, worst_case, accepts, offered, taken, given_back, ended, welcomed, dropped, begun, finished, connection_at, with_connection};
 ghost use Rattle.std.specs.Borrow.{sem};
-ghost use Rattle.iox_domain_sender.specs.Messages.{Message, Loan, write_value, write_all, write_user_header, sent_as};
+ghost use Rattle.iox_domain_sender.specs.Messages.{Message, Loan, write_value, write_all, write_user_header, written_of, sent_as};
 ghost use Rattle.iox_domain_sender.specs.Sending.{SenderState, LoanMade, with_uses, change_loan, has_loan, has_place, has_value, has_length, is_written_at, opened_for};
 
 use crate::marks::Marks;
@@ -38,7 +38,7 @@ impl<T, U> Model for Sender<T, U> {
 }
 
 impl<T: Copy, U: Copy> Sender<T, U> {
-    ghost use Rattle.iox_domain_sender.specs.SenderLends.{LendsValue};
+    ghost use Rattle.iox_domain_sender.specs.SenderLends.{LendsValue, LendsUserHeader};
 
     /// A publisher with one segment of slots, of which none is in use. `blank` fills the slots, and a new loan has this user
     /// header. It fails only where memory is wanting.
@@ -221,6 +221,25 @@ impl<T: Copy, U: Copy> Sender<T, U> {
         ensures { (at : ℕ) (loan : Loan T U) → slice_get self.now.uses.loans at ≡ Some loan → loan.slot ≡ slot → result.now ≡ loan.user_header }
     {
         &self.headers[slot].user_header
+    }
+
+    /// The user header of the loan in this slot, to be changed there.
+    pub fn user_header_mut(&mut self, slot: usize) -> &mut U
+        requires { has_loan slot self.old.uses ≡ true }
+        ensures* writes_back { sem 𝓛 (LendsUserHeader T.row U.row self.entry slot result) }
+        ensures value { (at : ℕ) (loan : Loan T U) → slice_get self.old.uses.loans at ≡ Some loan → loan.slot ≡ slot → result.now ≡ loan.user_header }
+    {
+        let header = &mut self.headers[slot];
+        &mut header.user_header
+    }
+
+    /// The values of the written loan at this place of the list.
+    pub fn loan_values(&self, at: usize) -> &[T]
+        requires loan { at < length self.now.uses.loans }
+        requires written { is_written_at at self.now.uses ≡ true }
+        ensures { (loan : Loan T U) → slice_get self.now.uses.loans at ≡ Some loan → result.now ≡ written_of loan.values }
+    {
+        self.values.values(self.uses.lent(at))
     }
 
     /// Begins the send of the written loan at this place of the list, and answers its slot: it is no loan any longer, but in use

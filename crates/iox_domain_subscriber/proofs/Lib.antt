@@ -6,3 +6,4 @@ pub mod Sweeping
 pub mod Walking
 pub mod Serving
 pub mod Located
+pub mod Adding

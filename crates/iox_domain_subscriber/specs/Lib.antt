@@ -9,3 +9,4 @@ pub mod Following
 pub mod Updating
 pub mod Laws
 pub mod Arriving
+pub mod Living

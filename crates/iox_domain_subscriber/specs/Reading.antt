@@ -1,5 +1,5 @@
 -- What a subscriber does at one publisher.
-use Rattle.std.specs.Prelude.{ℕ, ◌==◌, ◌&&◌, Bool, length, not, position, Option, None, Some}
+use Rattle.std.specs.Prelude.{ℕ, ◌==◌, ◌&&◌, Bool, length, is_some, not, position, Option, None, Some}
 use Rattle.std.specs.List.{list_any, find}
 use Rattle.iox_domain_slots.specs.Uses.{Connection, is_there, taken, given_back}
 use Rattle.iox_domain_sender.specs.Messages.{Message}
@@ -23,6 +23,7 @@ abbrev pub given_back_at : {T U : Type 0} → ℕ → Option ℕ → PublisherPo
 given_back_at index None port = port
 given_back_at index (Some at) port = with_connection_of index (given_back at (connection_of index port)) port
 
--- whether a publisher left, and has neither loans nor connections
+-- whether a publisher left, and has neither loans nor connections, nor a send that waits
 abbrev pub is_over : {T U : Type 0} → PublisherPort T U → Bool
-is_over port = not port.stands && ((length port.sender.uses.loans == 0) && not (list_any is_there port.sender.uses.connections))
+is_over port =
+    not port.stands && ((length port.sender.uses.loans == 0) && (not (is_some port.sender.uses.sending) && not (list_any is_there port.sender.uses.connections)))

@@ -10,6 +10,7 @@
 //! - `expired`: what it looks for among its expired connections.
 //! - [`following`]: it follows one place of that list.
 //! - [`updating`]: it follows all of them.
+//! - [`living`]: how much lives.
 //! - [`laws`]: what its steps come to, in other words.
 #![tactic(auto)]
 
@@ -18,6 +19,7 @@ mod expired;
 pub mod following;
 pub mod keys;
 pub mod laws;
+pub mod living;
 pub mod publisher_entry;
 pub mod publishers;
 pub mod reading;

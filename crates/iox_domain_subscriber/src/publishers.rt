@@ -1,11 +1,13 @@
 //! The publishers of a service, by number.
-ghost use Rattle.std.specs.Prelude.{◌≡◌, ◌<◌, length, map, min, slice_get, option_copied, is_some, OnOk, OnErr, [], None, Some};
+ghost use Rattle.std.specs.Prelude.{◌≡◌, ◌-◌, ◌^◌, ◌<◌, length, map, min, slice_get, option_copied, is_some, OnOk, OnErr, [], None, Some};
 ghost use Rattle.std.specs.Borrow.{sem};
 ghost use Rattle.std.specs.Option.{option_copied_mut};
 ghost use Rattle.iox_domain_publisher.specs.Ports.{ended_at, detached_at};
 ghost use Rattle.iox_domain_subscriber.specs.Publishers.{port_of, with_port, added, connection_in, most_borrowed_in, stands_in, changed, is_over_in, settled, released, AttachesTo};
+ghost use Rattle.iox_domain_subscriber.specs.Living.{living_publishers};
 ghost use Rattle.iox_domain_subscriber.specs.Reading.{place_of, taken_at, given_back_at};
 
+use crate::living::{add, counted, living_of_publisher};
 use crate::reading::{borrowed_at, give_back_at, is_over, take_at, waiting_at};
 use iox_domain_publisher::PublisherPort;
 use std::alloc::{AllocError, Global};
@@ -157,6 +159,17 @@ impl<T: Copy, U: Copy> Publishers<T, U> {
         if self.is_over(number) {
             let _ = self.ports.remove(&number);
         }
+    }
+
+    /// How much lives of the publishers of an owner, or of all where none is named: those that stand, their loans, and the messages of
+    /// sends that wait. Past 2^64 - 1 it is that.
+    pub fn living(&self, owner: Option<u64>) -> u64
+        ensures { result ≡ min (living_publishers owner self.now) (2 ^ 64 - 1) }
+    {
+        self.ports
+            .values()
+            .map(|port| counted(owner, port.owner.number, living_of_publisher(port)))
+            .fold(0, add)
     }
 
     // Whether the publisher of a number is over.

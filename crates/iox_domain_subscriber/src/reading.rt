@@ -103,11 +103,11 @@ pub fn elements_at<T: Copy, U: Copy>(
     Some(port.sender.elements(slot))
 }
 
-/// Whether the publisher left, and has neither loans nor connections.
+/// Whether the publisher left, and has neither loans nor connections, nor a send that waits.
 pub fn is_over<T: Copy, U: Copy>(port: &PublisherPort<T, U>) -> bool
     ensures { result ≡ is_over port.now }
 {
-    !port.stands && port.sender.loans() == 0 && !has_connections(port)
+    !port.stands && port.sender.loans() == 0 && !port.sender.is_sending() && !has_connections(port)
 }
 
 // Whether the publisher has a connection: one that goes on, or ended and holds something.
