@@ -1,1 +1,1 @@
-mod Ready
+pub mod Ready

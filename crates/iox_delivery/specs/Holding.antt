@@ -61,3 +61,7 @@ value_found place (Some message) = slice_get message.values place
 -- whether a sample of the subscriber of a number is held, and has a value
 abbrev pub holds_sample : {T U : Type 0} → ℕ → Taken → Option (ServicePorts T U) → Bool
 holds_sample number taken ports = is_some (subscriber_found number ports) && is_some (value_found 0 (message_found taken ports))
+
+-- whether a message of the subscriber of a number is held
+abbrev pub holds_message : {T U : Type 0} → ℕ → Taken → Option (ServicePorts T U) → Bool
+holds_message number taken ports = is_some (subscriber_found number ports) && is_some (message_found taken ports)

@@ -1,6 +1,7 @@
 -- What the calls of a publisher and of its loans do to their home. `ports_of` finds the ports of a domain in a home, `with_ports` puts
 -- others there.
 use Rattle.std.specs.Prelude.{ℕ, ◌≡◌, true, Option, None, Some, Result, Ok, Err}
+use Rattle.iox_describe_base.specs.declared.header.Header.{Header}
 use Rattle.iox_domain_values.specs.declared.backpressure.BackpressureDecision.{BackpressureDecision}
 use Rattle.iox_domain_values.specs.declared.backpressure.BackpressureInfo.{BackpressureInfo}
 use Rattle.iox_domain_values.specs.declared.connection_failure.ConnectionFailure.{ConnectionFailure}
@@ -12,7 +13,7 @@ use Rattle.iox_domain_sender.specs.Messages.{write_value, write_user_header}
 use Rattle.iox_domain_sender.specs.Sending.{has_loan, has_length}
 use Rattle.iox_domain_publisher.specs.declared.meeting.Sent.{Sent as Sending}
 use Rattle.iox_domain_publisher.specs.declared.meeting.Sent.TheVariants as sending
-use Rattle.iox_domain_ports.specs.Lending.{written_in, gave_up_in}
+use Rattle.iox_domain_ports.specs.Lending.{written_in, loan_header_in, gave_up_in}
 use Rattle.iox_domain_ports.specs.declared.service_ports.ServicePorts.{ServicePorts}
 use Rattle.iox_domain_home.specs.Homes.{AtDomain, LeavesDomain}
 use Rattle.iox_domain_home.specs.Steps.{LoansBy, UpdatesBy, SendsBy, RetriesBy, GivesUpBy, PublisherLeaves}
@@ -46,6 +47,11 @@ sent_of port (Err error) = Err error
 abbrev pub changed_at : {P H : Type 0} → (P → H) → (P → P) → Option P → H → H
 changed_at with_ports change None home = home
 changed_at with_ports change (Some ports) home = with_ports (change ports)
+
+-- the header of the loan in a slot of the publisher of a number
+abbrev pub loan_header_found : {T U : Type 0} → ℕ → ℕ → Option (ServicePorts T U) → Option Header
+loan_header_found number slot None = None
+loan_header_found number slot (Some ports) = loan_header_in number slot ports
 
 -- A publisher lends a value to be written.
 abbrev pub LendsUninit : {T U H : Type 0} → (DomainId → H → Option (ServicePorts T U)) → (DomainId → ServicePorts T U → H → H) → PortId → H → Result (SampleMutUninit T U) LoanError → H → Type 0

@@ -41,12 +41,15 @@ abbrev pub TellsSamples : {T U H : Type 0} → (DomainId → H → Option (Servi
 TellsSamples ports_of with_ports degrades port old answer new =
     AtDomain (λ after. with_ports port.domain after old) (TellsBy (degrades port.domain port.number old) port.number) (ports_of port.domain old) old (Some answer) new
 
+-- A subscriber takes the message that comes next, if one comes.
+abbrev pub TakesMessage : {T U H : Type 0} → (DomainId → H → Option (ServicePorts T U)) → (DomainId → ServicePorts T U → H → H) → (DomainId → ℕ → H → DegradationInfo → DegradationAction → Type 0) → PortId → H → Result (Option Taken) ReceiveError → H → Type 0
+TakesMessage ports_of with_ports degrades port old answer new =
+    AtDomain (λ after. with_ports port.domain after old) (ReceivesBy (degrades port.domain port.number old) port.number) (ports_of port.domain old) old (Some answer) new
+
 -- A subscriber receives.
 abbrev pub ReceivesSample : {T U H : Type 0} → (DomainId → H → Option (ServicePorts T U)) → (DomainId → ServicePorts T U → H → H) → (DomainId → ℕ → H → DegradationInfo → DegradationAction → Type 0) → PortId → H → Result (Option (Sample T U)) ReceiveError → H → Type 0
 ReceivesSample ports_of with_ports degrades port old answer new =
-    (received : Result (Option Taken) ReceiveError)
-    × AtDomain (λ after. with_ports port.domain after old) (ReceivesBy (degrades port.domain port.number old) port.number) (ports_of port.domain old) old (Some received) new
-    × (answer ≡ received_of port received)
+    (received : Result (Option Taken) ReceiveError) × TakesMessage ports_of with_ports degrades port old received new × (answer ≡ received_of port received)
 
 -- A subscriber leaves.
 abbrev pub SubscriberGoes : {T U H : Type 0} → (DomainId → H → Option (ServicePorts T U)) → (DomainId → ServicePorts T U → H → H) → (DomainId → ℕ → H → H) → PortId → H → H → Type 0

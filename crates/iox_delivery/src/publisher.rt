@@ -4,8 +4,8 @@ ghost use Rattle.iox_delivery.specs.Holding.{publisher_stands, publisher_blocked
 ghost use Rattle.iox_delivery.specs.Publishing.{LendsUninit, FollowsSubscribers, PublisherGoes};
 
 use crate::port_id::PortId;
+use crate::publishing;
 use crate::sample_mut_uninit::SampleMutUninit;
-use crate::sent::is_blocked;
 use iox_domain_home::{DomainId, Home};
 use iox_domain_values::{BackpressureStrategy, ConnectionFailure, LoanError};
 use std::alloc::Global;
@@ -62,20 +62,14 @@ impl<T: Copy, U: Copy> Publisher<T, U> {
     pub fn holds<H: Home<T, U>>(&self, home: &H) -> bool
         ensures { result ≡ publisher_stands self.now.port.number (H.ports_of self.now.port.domain home.now) }
     {
-        let Some(ports) = home.ports(self.port.domain) else {
-            return false;
-        };
-        match ports.publishers.get(self.port.number) {
-            Some(publisher) => publisher.stands,
-            None => false,
-        }
+        publishing::holds(self.port, home)
     }
 
     /// Whether a send of it waits: that it doesn't is the condition of its calls.
     pub fn is_blocked<H: Home<T, U>>(&self, home: &H) -> bool
         ensures { result ≡ publisher_blocked self.now.port.number (H.ports_of self.now.port.domain home.now) }
     {
-        is_blocked(self.port, home)
+        publishing::is_blocked(self.port, home)
     }
 
     /// Lends a value to be written. It is refused as `ServicePorts::loan` says: with `ExceedsMaxLoans` where as many loans are out as it may
@@ -110,10 +104,7 @@ impl<T: Copy, U: Copy> Publisher<T, U> {
         requires free { publisher_blocked self.now.port.number (H.ports_of self.now.port.domain home.old) ≡ false }
         ensures { FollowsSubscribers H.ports_of H.with_ports H.publisher_degrades self.now.port home.old result home.new }
     {
-        match home.update_publisher(alloc, self.port.domain, self.port.number) {
-            Some(outcome) => outcome,
-            None => unreachable!(),
-        }
+        publishing::update(self.port, alloc, home)
     }
 
     /// Leaves: what was sent stays to be read, and what is lent can't be sent any longer. Its handlers are dropped.
@@ -129,8 +120,6 @@ impl<T: Copy, U: Copy> Publisher<T, U> {
             strategy: _,
             of: _,
         } = self;
-        if !home.leave_publisher(port.domain, port.number) {
-            unreachable!();
-        }
+        publishing::leave(port, home);
     }
 }

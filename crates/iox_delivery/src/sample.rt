@@ -4,6 +4,7 @@ ghost use Rattle.iox_delivery.specs.Holding.{message_found, value_found, holds_s
 ghost use Rattle.iox_delivery.specs.Subscribing.{sample_of, header_found, ReleasesSample};
 
 use crate::port_id::PortId;
+use crate::subscribing;
 use iox_describe_base::Header;
 use iox_domain_home::Home;
 use iox_domain_subscriber::Taken;
@@ -49,6 +50,7 @@ impl<T: Copy, U: Copy> Sample<T, U> {
     /// The value, as it was sent.
     ///
     /// Ported from `iceoryx2::sample::Sample::payload`.
+    #[tactic(auto, using(crate::proofs::Ready::sample_is_message))]
     pub fn payload<'a, H: Home<T, U>>(&self, home: &'a H) -> &'a T
     where
         T: 'a,
@@ -56,11 +58,8 @@ impl<T: Copy, U: Copy> Sample<T, U> {
         requires { holds_sample self.now.port.number self.now.taken (H.ports_of self.now.port.domain home.now) ≡ true }
         ensures { Some result.now ≡ value_found 0 (message_found self.now.taken (H.ports_of self.now.port.domain home.now)) }
     {
-        let Some(ports) = home.ports(self.port.domain) else {
-            unreachable!();
-        };
-        match ports.payload(self.taken) {
-            Some(values) => &values[0],
+        match subscribing::values(self.port, self.taken, home).first() {
+            Some(value) => value,
             None => unreachable!(),
         }
     }
@@ -68,6 +67,7 @@ impl<T: Copy, U: Copy> Sample<T, U> {
     /// The user header, as it was sent.
     ///
     /// Ported from `iceoryx2::sample::Sample::user_header`.
+    #[tactic(auto, using(crate::proofs::Ready::sample_is_message))]
     pub fn user_header<'a, H: Home<T, U>>(&self, home: &'a H) -> &'a U
     where
         T: 'a,
@@ -75,29 +75,18 @@ impl<T: Copy, U: Copy> Sample<T, U> {
         requires { holds_sample self.now.port.number self.now.taken (H.ports_of self.now.port.domain home.now) ≡ true }
         ensures { Some result.now ≡ option_map (λ message. message.user_header) (message_found self.now.taken (H.ports_of self.now.port.domain home.now)) }
     {
-        let Some(ports) = home.ports(self.port.domain) else {
-            unreachable!();
-        };
-        match ports.user_header(self.taken) {
-            Some(user_header) => user_header,
-            None => unreachable!(),
-        }
+        subscribing::user_header(self.port, self.taken, home)
     }
 
     /// What its header tells: who sent it, and how many elements it has.
     ///
     /// Ported from `iceoryx2::sample::Sample::header`.
+    #[tactic(auto, using(crate::proofs::Ready::sample_is_message))]
     pub fn header<H: Home<T, U>>(&self, home: &H) -> Header
         requires { holds_sample self.now.port.number self.now.taken (H.ports_of self.now.port.domain home.now) ≡ true }
         ensures { Some result ≡ header_found self.now.taken (H.ports_of self.now.port.domain home.now) }
     {
-        let Some(ports) = home.ports(self.port.domain) else {
-            unreachable!();
-        };
-        match ports.header(self.taken) {
-            Some(header) => header,
-            None => unreachable!(),
-        }
+        subscribing::header(self.port, self.taken, home)
     }
 
     /// The number of the publisher that sent it.
@@ -113,16 +102,12 @@ impl<T: Copy, U: Copy> Sample<T, U> {
     /// Releases the message: its slot may be lent again once nothing else refers to it.
     ///
     /// Ported from dropping an `iceoryx2::sample::Sample`.
+    #[tactic(auto, using(crate::proofs::Ready::sample_is_message))]
     pub fn release<H: Home<T, U>>(self, home: &mut H)
         requires { holds_sample self.port.number self.taken (H.ports_of self.port.domain home.old) ≡ true }
         ensures { ReleasesSample H.ports_of H.with_ports self.port self.taken home.old home.new }
     {
         let Sample { port, taken, of: _ } = self;
-        let Some(ports) = home.ports_mut(port.domain) else {
-            unreachable!();
-        };
-        if !ports.release(port.number, taken) {
-            unreachable!();
-        }
+        subscribing::release(port, taken, home);
     }
 }

@@ -1,12 +1,13 @@
 //! A loan that is to be written.
-ghost use Rattle.std.specs.Prelude.{◌≡◌, true, false, is_some, option_copied};
+ghost use Rattle.std.specs.Prelude.{◌≡◌, true, false, Some, is_some, option_copied, option_map};
 ghost use Rattle.iox_domain_publisher.specs.Writing.{value_at};
-ghost use Rattle.iox_domain_sender.specs.Sending.{is_written_loan};
 ghost use Rattle.iox_delivery.specs.Holding.{loan_found, is_sample};
-ghost use Rattle.iox_delivery.specs.Publishing.{loan_of, sample_mut_of, WritesPayload, WritesUserHeader, GivesUpLoan};
+ghost use Rattle.iox_delivery.specs.Publishing.{loan_of, loan_header_found, sample_mut_of, WritesPayload, WritesUserHeader, GivesUpLoan};
 
+use crate::lending;
 use crate::port_id::PortId;
 use crate::sample_mut::SampleMut;
+use iox_describe_base::Header;
 use iox_domain_home::Home;
 use std::marker::PhantomData;
 
@@ -35,13 +36,7 @@ impl<T: Copy, U: Copy> SampleMutUninit<T, U> {
     pub fn holds<H: Home<T, U>>(&self, home: &H) -> bool
         ensures { result ≡ is_some (loan_found self.now.port.number self.now.slot (H.ports_of self.now.port.domain home.now)) }
     {
-        let Some(ports) = home.ports(self.port.domain) else {
-            return false;
-        };
-        match ports.publishers.get(self.port.number) {
-            Some(publisher) => publisher.elements(self.slot).is_some(),
-            None => false,
-        }
+        lending::is_out(self.port, self.slot, home)
     }
 
     /// Whether the value is written: the condition of `assume_init`.
@@ -100,6 +95,29 @@ impl<T: Copy, U: Copy> SampleMutUninit<T, U> {
         SampleMut::of_loan(port, slot)
     }
 
+    /// What its header tells: who is to send it, and how many elements it has.
+    ///
+    /// Ported from `iceoryx2::sample_mut_uninit::SampleMutUninit::header`.
+    pub fn header<H: Home<T, U>>(&self, home: &H) -> Header
+        requires { is_some (loan_found self.now.port.number self.now.slot (H.ports_of self.now.port.domain home.now)) ≡ true }
+        ensures { Some result ≡ loan_header_found self.now.port.number self.now.slot (H.ports_of self.now.port.domain home.now) }
+    {
+        lending::header(self.port, self.slot, home)
+    }
+
+    /// The user header.
+    ///
+    /// Ported from `iceoryx2::sample_mut_uninit::SampleMutUninit::user_header`.
+    pub fn user_header<'a, H: Home<T, U>>(&self, home: &'a H) -> &'a U
+    where
+        T: 'a,
+        U: 'a,
+        requires { is_some (loan_found self.now.port.number self.now.slot (H.ports_of self.now.port.domain home.now)) ≡ true }
+        ensures { Some result.now ≡ option_map (λ loan. loan.user_header) (loan_found self.now.port.number self.now.slot (H.ports_of self.now.port.domain home.now)) }
+    {
+        lending::user_header(self.port, self.slot, home)
+    }
+
     /// Writes the user header.
     ///
     /// Ported from writing through `iceoryx2::sample_mut_uninit::SampleMutUninit::user_header_mut`.
@@ -107,7 +125,7 @@ impl<T: Copy, U: Copy> SampleMutUninit<T, U> {
         ensures writes { WritesUserHeader H.ports_of H.with_ports self.old.port self.old.slot user_header home.old home.new }
         ensures same { self.new ≡ self.old }
     {
-        write_user_header(self.port, self.slot, home, user_header);
+        lending::write_user_header(self.port, self.slot, home, user_header);
     }
 
     /// Gives the loan up.
@@ -117,7 +135,7 @@ impl<T: Copy, U: Copy> SampleMutUninit<T, U> {
         ensures { GivesUpLoan H.ports_of H.with_ports self.port self.slot home.old home.new }
     {
         let SampleMutUninit { port, slot, of: _ } = self;
-        drop_loan(port, slot, home);
+        lending::drop_loan(port, slot, home);
     }
 }
 
@@ -142,28 +160,5 @@ fn write<T: Copy, U: Copy, H: Home<T, U>>(port: PortId, slot: usize, home: &mut 
 {
     if let Some(ports) = home.ports_mut(port.domain) {
         let _ = ports.write_payload(port.number, slot, value);
-    }
-}
-
-// Writes the user header of a loan.
-pub(crate) fn write_user_header<T: Copy, U: Copy, H: Home<T, U>>(
-    port: PortId,
-    slot: usize,
-    home: &mut H,
-    user_header: U,
-)
-    ensures { WritesUserHeader H.ports_of H.with_ports port slot user_header home.old home.new }
-{
-    if let Some(ports) = home.ports_mut(port.domain) {
-        let _ = ports.write_user_header(port.number, slot, user_header);
-    }
-}
-
-// Gives a loan up.
-pub(crate) fn drop_loan<T: Copy, U: Copy, H: Home<T, U>>(port: PortId, slot: usize, home: &mut H)
-    ensures { GivesUpLoan H.ports_of H.with_ports port slot home.old home.new }
-{
-    if let Some(ports) = home.ports_mut(port.domain) {
-        let _ = ports.drop_loan(port.number, slot);
     }
 }

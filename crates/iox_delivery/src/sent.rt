@@ -4,6 +4,7 @@ ghost use Rattle.iox_delivery.specs.Holding.{publisher_blocked};
 ghost use Rattle.iox_delivery.specs.Publishing.{sent_of, RetriesSend, GivesUpSend};
 
 use crate::port_id::PortId;
+use crate::publishing;
 use iox_domain_home::Home;
 use iox_domain_publisher::Sent as Sending;
 use iox_domain_values::SendError;
@@ -32,7 +33,7 @@ impl<T: Copy, U: Copy> BlockedSend<T, U> {
     pub fn holds<H: Home<T, U>>(&self, home: &H) -> bool
         ensures { result ≡ publisher_blocked self.now.port.number (H.ports_of self.now.port.domain home.now) }
     {
-        is_blocked(self.port, home)
+        publishing::is_blocked(self.port, home)
     }
 
     /// Tries the mailbox again at which the send waits, after so many nanoseconds since it was first found full, and goes on: it answers
@@ -69,19 +70,6 @@ impl<T: Copy, U: Copy> BlockedSend<T, U> {
             Some(delivered) => delivered,
             None => unreachable!(),
         }
-    }
-}
-
-// Whether a send of a publisher waits.
-pub(crate) fn is_blocked<T: Copy, U: Copy, H: Home<T, U>>(port: PortId, home: &H) -> bool
-    ensures { result ≡ publisher_blocked port.number (H.ports_of port.domain home.now) }
-{
-    let Some(ports) = home.ports(port.domain) else {
-        return false;
-    };
-    match ports.publishers.get(port.number) {
-        Some(publisher) => publisher.sender.is_sending(),
-        None => false,
     }
 }
 

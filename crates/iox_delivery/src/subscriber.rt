@@ -1,12 +1,12 @@
 //! A subscriber of single values.
 ghost use Rattle.std.specs.Prelude.{◌≡◌, true};
 ghost use Rattle.iox_delivery.specs.Holding.{subscriber_stands};
-ghost use Rattle.iox_delivery.specs.Subscribing.{received_of, FollowsPublishers, TellsSamples, ReceivesSample, SubscriberGoes};
+ghost use Rattle.iox_delivery.specs.Subscribing.{FollowsPublishers, TellsSamples, ReceivesSample, SubscriberGoes};
 
 use crate::port_id::PortId;
 use crate::sample::Sample;
+use crate::subscribing;
 use iox_domain_home::{DomainId, Home};
-use iox_domain_subscriber::Taken;
 use iox_domain_values::{ConnectionFailure, ReceiveError};
 use std::alloc::Global;
 use std::marker::PhantomData;
@@ -62,13 +62,7 @@ impl<T: Copy, U: Copy> Subscriber<T, U> {
     pub fn holds<H: Home<T, U>>(&self, home: &H) -> bool
         ensures { result ≡ subscriber_stands self.now.port.number (H.ports_of self.now.port.domain home.now) }
     {
-        let Some(ports) = home.ports(self.port.domain) else {
-            return false;
-        };
-        match ports.subscribers.get(self.port.number) {
-            Some(subscriber) => subscriber.stands,
-            None => false,
-        }
+        subscribing::holds(self.port, home)
     }
 
     /// Whether some connection of it has data, after it followed the publishers: it fails where that does.
@@ -82,10 +76,7 @@ impl<T: Copy, U: Copy> Subscriber<T, U> {
         requires { subscriber_stands self.now.port.number (H.ports_of self.now.port.domain home.old) ≡ true }
         ensures { TellsSamples H.ports_of H.with_ports H.subscriber_degrades self.now.port home.old result home.new }
     {
-        match home.has_samples(alloc, self.port.domain, self.port.number) {
-            Some(outcome) => outcome,
-            None => unreachable!(),
-        }
+        subscribing::has_samples(self.port, alloc, home)
     }
 
     /// Receives the next message, if one waits: `ServicePorts::receive` says which, and when it is refused. It is held until it is released.
@@ -99,9 +90,9 @@ impl<T: Copy, U: Copy> Subscriber<T, U> {
         requires { subscriber_stands self.now.port.number (H.ports_of self.now.port.domain home.old) ≡ true }
         ensures { ReceivesSample H.ports_of H.with_ports H.subscriber_degrades self.now.port home.old result home.new }
     {
-        match home.receive(alloc, self.port.domain, self.port.number) {
-            Some(outcome) => received_of(self.port, outcome),
-            None => unreachable!(),
+        match subscribing::take(self.port, alloc, home)? {
+            Some(taken) => Ok(Some(Sample::of_taken(self.port, taken))),
+            None => Ok(None),
         }
     }
 
@@ -117,10 +108,7 @@ impl<T: Copy, U: Copy> Subscriber<T, U> {
         requires { subscriber_stands self.now.port.number (H.ports_of self.now.port.domain home.old) ≡ true }
         ensures { FollowsPublishers H.ports_of H.with_ports H.subscriber_degrades self.now.port home.old result home.new }
     {
-        match home.update_subscriber(alloc, self.port.domain, self.port.number) {
-            Some(outcome) => outcome,
-            None => unreachable!(),
-        }
+        subscribing::update(self.port, alloc, home)
     }
 
     /// Leaves: the samples that it holds stay to be read and released. Its handler is dropped.
@@ -135,21 +123,6 @@ impl<T: Copy, U: Copy> Subscriber<T, U> {
             buffer_size: _,
             of: _,
         } = self;
-        if !home.leave_subscriber(port.domain, port.number) {
-            unreachable!();
-        }
-    }
-}
-
-// What a subscriber received, as a value.
-fn received_of<T: Copy, U: Copy>(
-    port: PortId,
-    received: Result<Option<Taken>, ReceiveError>,
-) -> Result<Option<Sample<T, U>>, ReceiveError>
-    ensures { result ≡ received_of port received }
-{
-    match received? {
-        Some(taken) => Ok(Some(Sample::of_taken(port, taken))),
-        None => Ok(None),
+        subscribing::leave(port, home);
     }
 }
