@@ -21,8 +21,10 @@ pub struct Publisher<T, U> {
 }
 
 impl<T: Copy, U: Copy> Publisher<T, U> {
-    // The publisher of a port.
-    pub(crate) fn of_port(port: PortId, strategy: BackpressureStrategy) -> Self
+    /// The publisher that was made under a number, as a value. It is to be had once.
+    ///
+    /// This port's own: what makes ports by number hands them out so.
+    pub fn of_port(port: PortId, strategy: BackpressureStrategy) -> Self
         ensures port { result.port ≡ port }
         ensures strategy { result.strategy ≡ strategy }
     {

@@ -21,8 +21,10 @@ pub struct Subscriber<T, U> {
 }
 
 impl<T: Copy, U: Copy> Subscriber<T, U> {
-    // The subscriber of a port.
-    pub(crate) fn of_port(port: PortId, buffer_size: usize) -> Self
+    /// The subscriber that was made under a number, as a value. It is to be had once.
+    ///
+    /// This port's own: what makes ports by number hands them out so.
+    pub fn of_port(port: PortId, buffer_size: usize) -> Self
         ensures port { result.port ≡ port }
         ensures buffer_size { result.buffer_size ≡ buffer_size }
     {
