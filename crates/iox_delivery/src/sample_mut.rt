@@ -6,6 +6,7 @@ ghost use Rattle.iox_delivery.specs.Publishing.{sample_mut_of, loan_header_found
 
 use crate::lending;
 use crate::port_id::PortId;
+use crate::publishing;
 use crate::sample_mut_uninit::is_written;
 use crate::sent::Sent;
 use iox_describe_base::Header;
@@ -94,6 +95,13 @@ impl<T: Copy, U: Copy> SampleMut<T, U> {
         ensures same { self.new ≡ self.old }
     {
         lending::write_user_header(self.port, self.slot, home, user_header);
+    }
+
+    /// Whether a send of its publisher waits: that none does is the condition of `send`.
+    pub fn is_blocked<H: Home<T, U>>(&self, home: &H) -> bool
+        ensures { result ≡ publisher_blocked self.now.port.number (H.ports_of self.now.port.domain home.now) }
+    {
+        publishing::is_blocked(self.port, home)
     }
 
     /// Sends the message: `ServicePorts::send` says which connections take it, and when it is refused. The loan is spent in every case.

@@ -8,6 +8,7 @@ ghost use Rattle.iox_delivery.specs.Slices.{sample_mut_of};
 
 use crate::lending;
 use crate::port_id::PortId;
+use crate::publishing;
 use crate::sent::Sent;
 use iox_describe_base::Header;
 use iox_domain_home::Home;
@@ -95,6 +96,13 @@ impl<T: Copy, U: Copy> SampleMut<T, U> {
         ensures same { self.new ≡ self.old }
     {
         lending::write_user_header(self.port, self.slot, home, user_header);
+    }
+
+    /// Whether a send of its publisher waits: that none does is the condition of `send`.
+    pub fn is_blocked<H: Home<T, U>>(&self, home: &H) -> bool
+        ensures { result ≡ publisher_blocked self.now.port.number (H.ports_of self.now.port.domain home.now) }
+    {
+        publishing::is_blocked(self.port, home)
     }
 
     /// Sends the message: `ServicePorts::send` says which connections take it, and when it is refused. The loan is spent in every case.
