@@ -1,0 +1,129 @@
+-- What is held may be sent, and released.
+use Rattle.std.proofs.Common.{◌≡◌, ◌&&◌, ◌||◌, ◌==◌, ◌∙◌, ℕ, Bool, true, false, not, cond, List, [], is_some, option_map, slice_get, unwrap_or, Option, None, Some, Result, Ok, Err, refl, sym, ap, position}
+use Rattle.iox_index_base.specs.declared.container.Member.{Member}
+use Rattle.iox_domain_values.specs.declared.backpressure.BackpressureDecision.{BackpressureDecision}
+use Rattle.iox_domain_values.specs.declared.backpressure.BackpressureInfo.{BackpressureInfo}
+use Rattle.iox_domain_values.specs.declared.connection_failure.ConnectionFailure.{ConnectionFailure}
+use Rattle.iox_domain_values.specs.declared.degradation.DegradationAction.{DegradationAction}
+use Rattle.iox_domain_values.specs.declared.degradation.DegradationInfo.{DegradationInfo}
+use Rattle.iox_domain_sender.specs.Messages.{Loan, Message}
+use Rattle.iox_domain_sender.specs.Sending.{is_written_loan}
+use Rattle.iox_domain_publisher.proofs.Finding.{at_place, at_none}
+use Rattle.iox_domain_publisher.specs.Ports.{connection_of}
+use Rattle.iox_domain_publisher.specs.Sending.{ready_at, Sends, SendsIf, SendsAfter}
+use Rattle.iox_domain_publisher.specs.Writing.{loan_of}
+use Rattle.iox_domain_publisher.specs.declared.publisher_port.PublisherPort.{PublisherPort}
+use Rattle.iox_domain_publisher.specs.declared.subscriber_entry.SubscriberEntry.{SubscriberEntry}
+use Rattle.iox_domain_subscriber.specs.Publishers.{port_of, connection_in, connection_at_port}
+use Rattle.iox_domain_subscriber.specs.Reading.{place_of}
+use Rattle.iox_domain_subscriber.specs.declared.attached.Taken.{Taken}
+use Rattle.iox_domain_subscriber.specs.declared.subscriber_port.SubscriberPort.{SubscriberPort}
+use Rattle.iox_domain_ports.specs.Lending.{passes_port, loan_at_port}
+use Rattle.iox_domain_ports.specs.Ports.{AtPublisher}
+use Rattle.iox_domain_ports.specs.Publishing.{is_blocked, SendsOne}
+use Rattle.iox_domain_ports.specs.Reading.{sample_at_port, sample_in}
+use Rattle.iox_domain_ports.specs.Subscribers.{subscriber_of}
+use Rattle.iox_domain_ports.specs.Subscribing.{Releases, ReleasesAt, ReleasesOf}
+use Rattle.iox_domain_ports.specs.declared.service_ports.ServicePorts.{ServicePorts}
+use Rattle.iox_domain_home.specs.Homes.{AtDomain}
+use Rattle.iox_domain_home.specs.Steps.{SendsBy}
+use Rattle.iox_delivery.specs.Holding.{publisher_blocked, loan_found, is_sample, value_found, message_found, subscriber_found, holds_sample, holds_message}
+
+no : false ≡ true → ⊥
+no h = cc
+
+left_of : (a b : Bool) → (a && b) ≡ true → a ≡ true
+left_of true b h = refl
+left_of false b h = h
+
+right_of : (a b : Bool) → (a && b) ≡ true → b ≡ true
+right_of true b h = h
+right_of false b h = absurd (no h)
+
+may_be_sent : {T U : Type 0} (at : ℕ) (port : PublisherPort T U) (blocked written : Bool) → blocked ≡ false → written ≡ true → cond (blocked || not written) None (Some at) ≡ None → ⊥
+may_be_sent at port true written free is none = no (sym free)
+may_be_sent at port false false free is none = no is
+may_be_sent at port false true free is none = cc
+
+-- a written loan of a publisher of which no send waits may be sent
+ready_there : {T U : Type 0} (slot : ℕ) (port : PublisherPort T U) (at : Option ℕ) → at ≡ position (λ loan. loan.slot == slot) port.sender.uses.loans
+    → is_written_loan (loan_of slot port) ≡ true → is_blocked port ≡ false → ready_at at port ≡ None → ⊥
+ready_there slot port None is written free none = no (sym (ap is_written_loan (at_none (λ loan. loan.slot == slot) port.sender.uses.loans is)) ∙ written)
+ready_there slot port (Some at) is written free none =
+    may_be_sent at port _ _ free (ap is_written_loan (at_place (λ loan. loan.slot == slot) port.sender.uses.loans at is) ∙ written) none
+
+answers_after : {T U : Type 0} (may : BackpressureInfo → BackpressureDecision → Type 0) (at : ℕ) (outcome : Result (Unit {0}) ConnectionFailure) (updated new : PublisherPort T U)
+    → SendsAfter may at outcome updated None new → ⊥
+answers_after may at (Err failure) updated new sends = let is : None ≡ Some _ = sends.0 in cc
+answers_after may at (Ok done) updated new sends = let is : None ≡ Some _ = sends.2 in cc
+
+answers_if : {T U : Type 0} (stands : Bool) (may_degrade : DegradationInfo → DegradationAction → Type 0) (may : BackpressureInfo → BackpressureDecision → Type 0) (listed : List (Option (Member SubscriberEntry))) (changes at : ℕ) (old new : PublisherPort T U)
+    → SendsIf stands may_degrade may listed changes at old None new → ⊥
+answers_if false may_degrade may listed changes at old new sends = let is : None ≡ Some _ = sends.0 in cc
+answers_if true may_degrade may listed changes at old new sends = answers_after may at sends.0 sends.1 new sends.3
+
+-- only where no loan may be sent there is no answer
+none_ready : {T U : Type 0} (may_degrade : DegradationInfo → DegradationAction → Type 0) (may : BackpressureInfo → BackpressureDecision → Type 0) (listed : List (Option (Member SubscriberEntry))) (changes : ℕ) (ready : Option ℕ) (old new : PublisherPort T U)
+    → Sends may_degrade may listed changes ready old None new → ready ≡ None
+none_ready may_degrade may listed changes None old new sends = refl
+none_ready may_degrade may listed changes (Some at) old new sends = absurd (answers_if old.stands may_degrade may listed changes at old new sends)
+
+port_sends : {T U : Type 0} (may_degrade : DegradationInfo → DegradationAction → Type 0) (may : BackpressureInfo → BackpressureDecision → Type 0) (number slot : ℕ) (port : Option (PublisherPort T U)) (old new : ServicePorts T U)
+    → is_written_loan (loan_at_port slot port) ≡ true → passes_port is_blocked port ≡ false → AtPublisher number (SendsOne may_degrade may old.subscriber_list slot) port old None new → ⊥
+port_sends may_degrade may number slot None old new holds free sends = no holds
+port_sends may_degrade may number slot (Some port) old new holds free sends =
+    ready_there slot port _ refl holds free (none_ready may_degrade may sends.1.0 old.subscriber_list.changes _ port sends.0 sends.1.2)
+
+-- a sample that is held by a publisher of which no send waits is sent
+pub sample_sends : {T U H : Type 0} (with_ports : ServicePorts T U → H) (may_degrade : DegradationInfo → DegradationAction → Type 0) (may : BackpressureInfo → BackpressureDecision → Type 0) (number slot : ℕ) (found : Option (ServicePorts T U)) (old new : H)
+    → is_written_loan (loan_found number slot found) ≡ true → publisher_blocked number found ≡ false → AtDomain with_ports (SendsBy may_degrade may number slot) found old None new → ⊥
+sample_sends with_ports may_degrade may number slot None old new holds free sends = no holds
+sample_sends with_ports may_degrade may number slot (Some ports) old new holds free sends = port_sends may_degrade may number slot (port_of number ports.publishers) ports sends.0 holds free sends.1
+
+releases_at : {T U : Type 0} (number : ℕ) (taken : Taken) (port : Option (PublisherPort T U)) (old new : ServicePorts T U) (place : Option ℕ) → port_of taken.publisher old.publishers ≡ port
+    → place ≡ place_of taken.slot (connection_in taken.publisher taken.index old.publishers)
+    → is_some (sample_at_port taken port) ≡ true → ReleasesAt number taken place old false new → ⊥
+releases_at number taken None old new place there is holds releases = no holds
+releases_at number taken (Some port) old new (Some at) there is holds releases = no releases.0
+releases_at number taken (Some port) old new None there is holds releases =
+    let here : None ≡ place_of taken.slot (connection_of taken.index port) = is ∙ ap (λ found. place_of taken.slot (connection_at_port taken.index found)) there in
+    no (sym (ap (λ message. is_some message) (at_none (λ message. message.slot == taken.slot) (connection_of taken.index port).borrowed here)) ∙ holds)
+
+releases_of : {T U : Type 0} (subscriber : Option SubscriberPort) (number : ℕ) (taken : Taken) (old new : ServicePorts T U)
+    → (is_some subscriber && is_some (sample_in taken old)) ≡ true → ReleasesOf subscriber number taken old false new → ⊥
+releases_of None number taken old new holds releases = no holds
+releases_of (Some subscriber) number taken old new holds releases =
+    releases_at number taken (port_of taken.publisher old.publishers) old new _ refl refl holds releases
+
+-- a sample that is held is released
+pub sample_releases : {T U : Type 0} (number : ℕ) (taken : Taken) (ports new : ServicePorts T U) → holds_message number taken (Some ports) ≡ true → Releases number taken ports false new → ⊥
+sample_releases number taken ports new holds releases = releases_of (subscriber_of number ports.subscribers) number taken ports new holds releases
+
+value_of_message : {T U : Type 0} (found : Option (Message T U)) (there : Bool) → (there && is_some (value_found 0 found)) ≡ true → (there && is_some found) ≡ true
+value_of_message None true holds = holds
+value_of_message None false holds = holds
+value_of_message (Some message) true holds = refl
+value_of_message (Some message) false holds = holds
+
+-- a sample with a value is a message that is held
+pub sample_is_message : {T U : Type 0} (number : ℕ) (taken : Taken) (ports : Option (ServicePorts T U)) → holds_sample number taken ports ≡ true → holds_message number taken ports ≡ true
+sample_is_message number taken ports holds = value_of_message (message_found taken ports) (is_some (subscriber_found number ports)) holds
+
+-- what may be sent is written
+pub sample_is_written : {T U : Type 0} (loan : Option (Loan T U)) → is_sample loan ≡ true → is_written_loan loan ≡ true
+sample_is_written loan holds = left_of _ _ holds
+
+-- what may be sent is a loan
+pub sample_is_loan : {T U : Type 0} (loan : Option (Loan T U)) → is_sample loan ≡ true → is_some loan ≡ true
+sample_is_loan None holds = holds
+sample_is_loan (Some loan) holds = refl
+
+-- the first value of a message
+pub first_value : {T U : Type 0} (found : Option (Message T U)) (values : List T) → Some values ≡ option_map (λ message. message.values) found → value_found 0 found ≡ slice_get values 0
+first_value None values is = cc
+first_value (Some message) values is = ap (λ some. slice_get (unwrap_or some []) 0) (sym is)
+
+-- what is written is a loan
+pub written_is_loan : {T U : Type 0} (loan : Option (Loan T U)) → is_written_loan loan ≡ true → is_some loan ≡ true
+written_is_loan None holds = holds
+written_is_loan (Some loan) holds = refl

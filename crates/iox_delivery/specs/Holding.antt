@@ -1,0 +1,67 @@
+-- What a home has of a port, a loan or a sample: the conditions of its calls. `ports` are the ports of its domain, if the home has them.
+use Rattle.std.specs.Prelude.{ℕ, ◌&&◌, Bool, false, is_some, slice_get, Option, None, Some}
+use Rattle.iox_domain_sender.specs.Messages.{Loan, Message}
+use Rattle.iox_domain_sender.specs.Sending.{is_written_loan}
+use Rattle.iox_domain_publisher.specs.Writing.{value_at}
+use Rattle.iox_domain_publisher.specs.declared.publisher_port.PublisherPort.{PublisherPort}
+use Rattle.iox_domain_subscriber.specs.Publishers.{port_of}
+use Rattle.iox_domain_subscriber.specs.declared.attached.Taken.{Taken}
+use Rattle.iox_domain_subscriber.specs.declared.subscriber_port.SubscriberPort.{SubscriberPort}
+use Rattle.iox_domain_ports.specs.Lending.{passes_port, loan_at_port}
+use Rattle.iox_domain_ports.specs.Publishing.{is_blocked}
+use Rattle.iox_domain_ports.specs.Reading.{sample_in}
+use Rattle.iox_domain_ports.specs.Subscribers.{subscriber_of}
+use Rattle.iox_domain_ports.specs.declared.service_ports.ServicePorts.{ServicePorts}
+
+-- the publisher of a number
+abbrev pub publisher_found : {T U : Type 0} → ℕ → Option (ServicePorts T U) → Option (PublisherPort T U)
+publisher_found number None = None
+publisher_found number (Some ports) = port_of number ports.publishers
+
+-- whether the publisher of a number is there, and didn't leave
+abbrev pub publisher_stands : {T U : Type 0} → ℕ → Option (ServicePorts T U) → Bool
+publisher_stands number ports = passes_port (λ port. port.stands) (publisher_found number ports)
+
+-- whether a send of the publisher of a number waits
+abbrev pub publisher_blocked : {T U : Type 0} → ℕ → Option (ServicePorts T U) → Bool
+publisher_blocked number ports = passes_port is_blocked (publisher_found number ports)
+
+-- the loan in a slot of the publisher of a number
+abbrev pub loan_found : {T U : Type 0} → ℕ → ℕ → Option (ServicePorts T U) → Option (Loan T U)
+loan_found number slot ports = loan_at_port slot (publisher_found number ports)
+
+-- whether a loan may be sent and read: each of its values is written, and it has one
+abbrev pub is_sample : {T U : Type 0} → Option (Loan T U) → Bool
+is_sample loan = is_written_loan loan && is_some (value_at 0 loan)
+
+-- the subscriber of a number
+abbrev pub subscriber_found : {T U : Type 0} → ℕ → Option (ServicePorts T U) → Option SubscriberPort
+subscriber_found number None = None
+subscriber_found number (Some ports) = subscriber_of number ports.subscribers
+
+-- whether a subscriber didn't leave; none did
+abbrev pub stands_there : Option SubscriberPort → Bool
+stands_there None = false
+stands_there (Some port) = port.stands
+
+-- whether the subscriber of a number is there, and didn't leave
+abbrev pub subscriber_stands : {T U : Type 0} → ℕ → Option (ServicePorts T U) → Bool
+subscriber_stands number ports = stands_there (subscriber_found number ports)
+
+-- the message of a sample that is held
+abbrev pub message_found : {T U : Type 0} → Taken → Option (ServicePorts T U) → Option (Message T U)
+message_found taken None = None
+message_found taken (Some ports) = sample_in taken ports
+
+-- the value of a message at a place
+abbrev pub value_found : {T U : Type 0} → ℕ → Option (Message T U) → Option T
+value_found place None = None
+value_found place (Some message) = slice_get message.values place
+
+-- whether a sample of the subscriber of a number is held, and has a value
+abbrev pub holds_sample : {T U : Type 0} → ℕ → Taken → Option (ServicePorts T U) → Bool
+holds_sample number taken ports = is_some (subscriber_found number ports) && is_some (value_found 0 (message_found taken ports))
+
+-- whether a message of the subscriber of a number is held
+abbrev pub holds_message : {T U : Type 0} → ℕ → Taken → Option (ServicePorts T U) → Bool
+holds_message number taken ports = is_some (subscriber_found number ports) && is_some (message_found taken ports)

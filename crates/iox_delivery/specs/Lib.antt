@@ -1,0 +1,4 @@
+pub mod Holding
+pub mod Publishing
+pub mod Subscribing
+pub mod Slices

@@ -1,0 +1,103 @@
+-- What the calls of a publisher and of its loans do to their home. `ports_of` finds the ports of a domain in a home, `with_ports` puts
+-- others there.
+use Rattle.std.specs.Prelude.{ℕ, ◌≡◌, true, Option, None, Some, Result, Ok, Err}
+use Rattle.iox_describe_base.specs.declared.header.Header.{Header}
+use Rattle.iox_domain_values.specs.declared.backpressure.BackpressureDecision.{BackpressureDecision}
+use Rattle.iox_domain_values.specs.declared.backpressure.BackpressureInfo.{BackpressureInfo}
+use Rattle.iox_domain_values.specs.declared.connection_failure.ConnectionFailure.{ConnectionFailure}
+use Rattle.iox_domain_values.specs.declared.degradation.DegradationAction.{DegradationAction}
+use Rattle.iox_domain_values.specs.declared.degradation.DegradationInfo.{DegradationInfo}
+use Rattle.iox_domain_values.specs.declared.port_error.LoanError.{LoanError}
+use Rattle.iox_domain_values.specs.declared.port_error.SendError.{SendError}
+use Rattle.iox_domain_sender.specs.Messages.{write_value, write_user_header}
+use Rattle.iox_domain_sender.specs.Sending.{has_loan, has_length}
+use Rattle.iox_domain_publisher.specs.declared.meeting.Sent.{Sent as Sending}
+use Rattle.iox_domain_publisher.specs.declared.meeting.Sent.TheVariants as sending
+use Rattle.iox_domain_ports.specs.Lending.{written_in, loan_header_in, gave_up_in}
+use Rattle.iox_domain_ports.specs.declared.service_ports.ServicePorts.{ServicePorts}
+use Rattle.iox_domain_home.specs.Homes.{AtDomain, LeavesDomain}
+use Rattle.iox_domain_home.specs.Steps.{LoansBy, UpdatesBy, SendsBy, RetriesBy, GivesUpBy, PublisherLeaves}
+use Rattle.iox_domain_home.specs.declared.domain_id.DomainId.{DomainId}
+use Rattle.iox_delivery.specs.declared.port_id.PortId.{PortId}
+use Rattle.iox_delivery.specs.declared.sample_mut.SampleMut.{SampleMut}
+use Rattle.iox_delivery.specs.declared.sample_mut_uninit.SampleMutUninit.{SampleMutUninit}
+use Rattle.iox_delivery.specs.declared.sent.Sent.{Sent}
+use Rattle.iox_delivery.specs.declared.sent.Sent.TheVariants as sent
+
+-- the loan of a publisher in a slot
+abbrev pub loan_of : {T U : Type 0} → PortId → ℕ → SampleMutUninit T U
+loan_of port slot = record { port = port; slot = slot; of = record {} }
+
+-- the written loan of a publisher in a slot
+abbrev pub sample_mut_of : {T U : Type 0} → PortId → ℕ → SampleMut T U
+sample_mut_of port slot = record { port = port; slot = slot; of = record {} }
+
+-- what is lent of a publisher
+abbrev pub lent_of : {T U : Type 0} → PortId → Result ℕ LoanError → Result (SampleMutUninit T U) LoanError
+lent_of port (Ok slot) = Ok (loan_of port slot)
+lent_of port (Err error) = Err error
+
+-- what a send of a publisher came to
+abbrev pub sent_of : {T U : Type 0} → PortId → Result Sending SendError → Result (Sent T U) SendError
+sent_of port (Ok (sending.Delivered delivered)) = Ok (sent.Delivered delivered)
+sent_of port (Ok sending.Blocked) = Ok (sent.Blocked (record { port = port; of = record {} }))
+sent_of port (Err error) = Err error
+
+-- What a change of the ports of a domain comes to in its home: nothing changes where the domain isn't here.
+abbrev pub changed_at : {P H : Type 0} → (P → H) → (P → P) → Option P → H → H
+changed_at with_ports change None home = home
+changed_at with_ports change (Some ports) home = with_ports (change ports)
+
+-- the header of the loan in a slot of the publisher of a number
+abbrev pub loan_header_found : {T U : Type 0} → ℕ → ℕ → Option (ServicePorts T U) → Option Header
+loan_header_found number slot None = None
+loan_header_found number slot (Some ports) = loan_header_in number slot ports
+
+-- A publisher lends a value to be written.
+abbrev pub LendsUninit : {T U H : Type 0} → (DomainId → H → Option (ServicePorts T U)) → (DomainId → ServicePorts T U → H → H) → PortId → H → Result (SampleMutUninit T U) LoanError → H → Type 0
+LendsUninit ports_of with_ports port old answer new =
+    (lent : Result ℕ LoanError) × AtDomain (λ after. with_ports port.domain after old) (LoansBy port.number 1 1) (ports_of port.domain old) old (Some lent) new × (answer ≡ lent_of port lent)
+
+-- A publisher follows the list of subscribers.
+abbrev pub FollowsSubscribers : {T U H : Type 0} → (DomainId → H → Option (ServicePorts T U)) → (DomainId → ServicePorts T U → H → H) → (DomainId → ℕ → H → DegradationInfo → DegradationAction → Type 0) → PortId → H → Result (Unit {0}) ConnectionFailure → H → Type 0
+FollowsSubscribers ports_of with_ports degrades port old answer new =
+    AtDomain (λ after. with_ports port.domain after old) (UpdatesBy (degrades port.domain port.number old) port.number) (ports_of port.domain old) old (Some answer) new
+
+-- A publisher leaves.
+abbrev pub PublisherGoes : {T U H : Type 0} → (DomainId → H → Option (ServicePorts T U)) → (DomainId → ServicePorts T U → H → H) → (DomainId → ℕ → H → H) → PortId → H → H → Type 0
+PublisherGoes ports_of with_ports without port old new =
+    LeavesDomain (λ after. with_ports port.domain after old) (without port.domain port.number) (PublisherLeaves port.number) (ports_of port.domain old) old true new
+
+-- The value of a loan of one value is written.
+abbrev pub WritesPayload : {T U H : Type 0} → (DomainId → H → Option (ServicePorts T U)) → (DomainId → ServicePorts T U → H → H) → PortId → ℕ → T → H → H → Type 0
+WritesPayload ports_of with_ports port slot value old new =
+    new ≡ changed_at (λ after. with_ports port.domain after old) (written_in port.number (λ publisher. has_length slot 1 publisher.sender.uses) slot (write_value 0 value)) (ports_of port.domain old) old
+
+-- The user header of a loan is written.
+abbrev pub WritesUserHeader : {T U H : Type 0} → (DomainId → H → Option (ServicePorts T U)) → (DomainId → ServicePorts T U → H → H) → PortId → ℕ → U → H → H → Type 0
+WritesUserHeader ports_of with_ports port slot user_header old new =
+    new ≡ changed_at (λ after. with_ports port.domain after old) (written_in port.number (λ publisher. has_loan slot publisher.sender.uses) slot (write_user_header user_header)) (ports_of port.domain old) old
+
+-- A loan is given up.
+abbrev pub GivesUpLoan : {T U H : Type 0} → (DomainId → H → Option (ServicePorts T U)) → (DomainId → ServicePorts T U → H → H) → PortId → ℕ → H → H → Type 0
+GivesUpLoan ports_of with_ports port slot old new =
+    new ≡ changed_at (λ after. with_ports port.domain after old) (gave_up_in port.number slot) (ports_of port.domain old) old
+
+-- A written loan is sent.
+abbrev pub SendsSample : {T U H : Type 0} → (DomainId → H → Option (ServicePorts T U)) → (DomainId → ServicePorts T U → H → H) → (DomainId → ℕ → H → DegradationInfo → DegradationAction → Type 0) → (DomainId → ℕ → H → BackpressureInfo → BackpressureDecision → Type 0) → PortId → ℕ → H → Result (Sent T U) SendError → H → Type 0
+SendsSample ports_of with_ports degrades decides port slot old answer new =
+    (outcome : Result Sending SendError)
+    × AtDomain (λ after. with_ports port.domain after old) (SendsBy (degrades port.domain port.number old) (decides port.domain port.number old) port.number slot) (ports_of port.domain old) old (Some outcome) new
+    × (answer ≡ sent_of port outcome)
+
+-- A send that waits is tried again.
+abbrev pub RetriesSend : {T U H : Type 0} → (DomainId → H → Option (ServicePorts T U)) → (DomainId → ServicePorts T U → H → H) → (DomainId → ℕ → H → BackpressureInfo → BackpressureDecision → Type 0) → PortId → ℕ → H → Result (Sent T U) SendError → H → Type 0
+RetriesSend ports_of with_ports decides port elapsed old answer new =
+    (outcome : Result Sending SendError)
+    × AtDomain (λ after. with_ports port.domain after old) (RetriesBy (decides port.domain port.number old) port.number elapsed) (ports_of port.domain old) old (Some outcome) new
+    × (answer ≡ sent_of port outcome)
+
+-- A send that waits is given up.
+abbrev pub GivesUpSend : {T U H : Type 0} → (DomainId → H → Option (ServicePorts T U)) → (DomainId → ServicePorts T U → H → H) → PortId → H → ℕ → H → Type 0
+GivesUpSend ports_of with_ports port old answer new =
+    AtDomain (λ after. with_ports port.domain after old) (GivesUpBy port.number) (ports_of port.domain old) old (Some answer) new

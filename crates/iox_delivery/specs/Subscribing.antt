@@ -1,0 +1,66 @@
+-- What the calls of a subscriber and of its samples do to their home. `ports_of` finds the ports of a domain in a home, `with_ports` puts
+-- others there.
+use Rattle.std.specs.Prelude.{ℕ, ◌≡◌, Bool, true, Option, None, Some, Result, Ok, Err}
+use Rattle.iox_describe_base.specs.declared.header.Header.{Header}
+use Rattle.iox_domain_values.specs.declared.connection_failure.ConnectionFailure.{ConnectionFailure}
+use Rattle.iox_domain_values.specs.declared.degradation.DegradationAction.{DegradationAction}
+use Rattle.iox_domain_values.specs.declared.degradation.DegradationInfo.{DegradationInfo}
+use Rattle.iox_domain_values.specs.declared.port_error.ReceiveError.{ReceiveError}
+use Rattle.iox_domain_subscriber.specs.declared.attached.Taken.{Taken}
+use Rattle.iox_domain_ports.specs.Reading.{header_in}
+use Rattle.iox_domain_ports.specs.Subscribing.{Releases}
+use Rattle.iox_domain_ports.specs.declared.service_ports.ServicePorts.{ServicePorts}
+use Rattle.iox_domain_home.specs.Homes.{AtDomain, LeavesDomain}
+use Rattle.iox_domain_home.specs.Steps.{FollowsBy, TellsBy, ReceivesBy, SubscriberLeaves}
+use Rattle.iox_domain_home.specs.declared.domain_id.DomainId.{DomainId}
+use Rattle.iox_delivery.specs.declared.port_id.PortId.{PortId}
+use Rattle.iox_delivery.specs.declared.sample.Sample.{Sample}
+
+-- the sample of a message that a subscriber took
+abbrev pub sample_of : {T U : Type 0} → PortId → Taken → Sample T U
+sample_of port taken = record { port = port; taken = taken; of = record {} }
+
+-- what a subscriber received
+abbrev pub received_of : {T U : Type 0} → PortId → Result (Option Taken) ReceiveError → Result (Option (Sample T U)) ReceiveError
+received_of port (Ok (Some taken)) = Ok (Some (sample_of port taken))
+received_of port (Ok None) = Ok None
+received_of port (Err error) = Err error
+
+-- the header of a sample that is held
+abbrev pub header_found : {T U : Type 0} → Taken → Option (ServicePorts T U) → Option Header
+header_found taken None = None
+header_found taken (Some ports) = header_in taken ports
+
+-- A subscriber follows the list of publishers.
+abbrev pub FollowsPublishers : {T U H : Type 0} → (DomainId → H → Option (ServicePorts T U)) → (DomainId → ServicePorts T U → H → H) → (DomainId → ℕ → H → DegradationInfo → DegradationAction → Type 0) → PortId → H → Result (Unit {0}) ConnectionFailure → H → Type 0
+FollowsPublishers ports_of with_ports degrades port old answer new =
+    AtDomain (λ after. with_ports port.domain after old) (FollowsBy (degrades port.domain port.number old) port.number) (ports_of port.domain old) old (Some answer) new
+
+-- It is told whether some connection of a subscriber has data.
+abbrev pub TellsSamples : {T U H : Type 0} → (DomainId → H → Option (ServicePorts T U)) → (DomainId → ServicePorts T U → H → H) → (DomainId → ℕ → H → DegradationInfo → DegradationAction → Type 0) → PortId → H → Result Bool ConnectionFailure → H → Type 0
+TellsSamples ports_of with_ports degrades port old answer new =
+    AtDomain (λ after. with_ports port.domain after old) (TellsBy (degrades port.domain port.number old) port.number) (ports_of port.domain old) old (Some answer) new
+
+-- A subscriber takes the message that comes next, if one comes.
+abbrev pub TakesMessage : {T U H : Type 0} → (DomainId → H → Option (ServicePorts T U)) → (DomainId → ServicePorts T U → H → H) → (DomainId → ℕ → H → DegradationInfo → DegradationAction → Type 0) → PortId → H → Result (Option Taken) ReceiveError → H → Type 0
+TakesMessage ports_of with_ports degrades port old answer new =
+    AtDomain (λ after. with_ports port.domain after old) (ReceivesBy (degrades port.domain port.number old) port.number) (ports_of port.domain old) old (Some answer) new
+
+-- A subscriber receives.
+abbrev pub ReceivesSample : {T U H : Type 0} → (DomainId → H → Option (ServicePorts T U)) → (DomainId → ServicePorts T U → H → H) → (DomainId → ℕ → H → DegradationInfo → DegradationAction → Type 0) → PortId → H → Result (Option (Sample T U)) ReceiveError → H → Type 0
+ReceivesSample ports_of with_ports degrades port old answer new =
+    (received : Result (Option Taken) ReceiveError) × TakesMessage ports_of with_ports degrades port old received new × (answer ≡ received_of port received)
+
+-- A subscriber leaves.
+abbrev pub SubscriberGoes : {T U H : Type 0} → (DomainId → H → Option (ServicePorts T U)) → (DomainId → ServicePorts T U → H → H) → (DomainId → ℕ → H → H) → PortId → H → H → Type 0
+SubscriberGoes ports_of with_ports without port old new =
+    LeavesDomain (λ after. with_ports port.domain after old) (without port.domain port.number) (SubscriberLeaves port.number) (ports_of port.domain old) old true new
+
+-- what a sample's release answers
+abbrev pub ReleasesOne : {T U : Type 0} → ℕ → Taken → ServicePorts T U → Option (Unit {0}) → ServicePorts T U → Type 0
+ReleasesOne number taken old answer new = Releases number taken old true new
+
+-- A sample is released.
+abbrev pub ReleasesSample : {T U H : Type 0} → (DomainId → H → Option (ServicePorts T U)) → (DomainId → ServicePorts T U → H → H) → PortId → Taken → H → H → Type 0
+ReleasesSample ports_of with_ports port taken old new =
+    AtDomain (λ after. with_ports port.domain after old) (ReleasesOne port.number taken) (ports_of port.domain old) old (Some tt) new

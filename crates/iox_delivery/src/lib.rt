@@ -1,0 +1,34 @@
+//! The ports of a service as values: a publisher lends what is to be sent, and sends it; a subscriber receives it, and it is read and
+//! released. Each call is handed the home that has the domain of the port.
+//!
+//! - [`port_id`]: which port of which domain.
+//! - [`publisher`]: a publisher of single values.
+//! - [`sample_mut_uninit`]: a loan that is to be written.
+//! - [`sample_mut`]: a loan that is written.
+//! - [`sent`]: what a send came to, and a send that waits.
+//! - [`subscriber`]: a subscriber of single values.
+//! - [`sample`]: a message that was received.
+//! - [`slice`]: the same of slices.
+//!
+//! No port, loan, sample or waiting send may be let go: it is spent by the call that ends it.
+#![tactic(auto)]
+
+mod lending;
+pub mod port_id;
+pub mod publisher;
+mod publishing;
+pub mod sample;
+pub mod sample_mut;
+pub mod sample_mut_uninit;
+pub mod sent;
+pub mod slice;
+pub mod subscriber;
+mod subscribing;
+
+pub use port_id::PortId;
+pub use publisher::Publisher;
+pub use sample::Sample;
+pub use sample_mut::SampleMut;
+pub use sample_mut_uninit::SampleMutUninit;
+pub use sent::{BlockedSend, Sent};
+pub use subscriber::Subscriber;

@@ -1,0 +1,129 @@
+//! A loan that is written.
+ghost use Rattle.std.specs.Prelude.{◌≡◌, true, false, Some, option_map};
+ghost use Rattle.iox_domain_publisher.specs.Writing.{value_at};
+ghost use Rattle.iox_delivery.specs.Holding.{loan_found, is_sample, publisher_blocked};
+ghost use Rattle.iox_delivery.specs.Publishing.{sample_mut_of, loan_header_found, SendsSample, WritesUserHeader, GivesUpLoan};
+
+use crate::lending;
+use crate::port_id::PortId;
+use crate::publishing;
+use crate::sample_mut_uninit::is_written;
+use crate::sent::Sent;
+use iox_describe_base::Header;
+use iox_domain_home::Home;
+use iox_domain_values::SendError;
+use std::alloc::Global;
+use std::marker::PhantomData;
+
+/// A loan of a value that is written, and may be sent.
+///
+/// Ported from `iceoryx2::sample_mut::SampleMut`.
+pub struct SampleMut<T, U> {
+    port: PortId,
+    slot: usize,
+    of: PhantomData<(T, U)>,
+}
+
+impl<T: Copy, U: Copy> SampleMut<T, U> {
+    // The written loan of a publisher in a slot.
+    pub(crate) fn of_loan(port: PortId, slot: usize) -> Self
+        ensures { result ≡ sample_mut_of port slot }
+    {
+        SampleMut {
+            port,
+            slot,
+            of: PhantomData,
+        }
+    }
+
+    /// Whether the loan is out in this home, and written: the condition of its calls.
+    pub fn holds<H: Home<T, U>>(&self, home: &H) -> bool
+        ensures { result ≡ is_sample (loan_found self.now.port.number self.now.slot (H.ports_of self.now.port.domain home.now)) }
+    {
+        is_written(self.port, self.slot, home)
+    }
+
+    /// The value.
+    ///
+    /// Ported from `iceoryx2::sample_mut::SampleMut::payload`.
+    pub fn payload<'a, H: Home<T, U>>(&self, home: &'a H) -> &'a T
+    where
+        T: 'a,
+        U: 'a,
+        requires { is_sample (loan_found self.now.port.number self.now.slot (H.ports_of self.now.port.domain home.now)) ≡ true }
+        ensures { Some result.now ≡ value_at 0 (loan_found self.now.port.number self.now.slot (H.ports_of self.now.port.domain home.now)) }
+    {
+        let Some(ports) = home.ports(self.port.domain) else {
+            unreachable!();
+        };
+        match ports.value(self.port.number, self.slot, 0) {
+            Some(value) => value,
+            None => unreachable!(),
+        }
+    }
+
+    /// What its header tells: who is to send it, and how many elements it has.
+    ///
+    /// Ported from `iceoryx2::sample_mut::SampleMut::header`.
+    #[tactic(auto, using(crate::proofs::Ready::sample_is_loan))]
+    pub fn header<H: Home<T, U>>(&self, home: &H) -> Header
+        requires { is_sample (loan_found self.now.port.number self.now.slot (H.ports_of self.now.port.domain home.now)) ≡ true }
+        ensures { Some result ≡ loan_header_found self.now.port.number self.now.slot (H.ports_of self.now.port.domain home.now) }
+    {
+        lending::header(self.port, self.slot, home)
+    }
+
+    /// The user header.
+    ///
+    /// Ported from `iceoryx2::sample_mut::SampleMut::user_header`.
+    #[tactic(auto, using(crate::proofs::Ready::sample_is_loan))]
+    pub fn user_header<'a, H: Home<T, U>>(&self, home: &'a H) -> &'a U
+    where
+        T: 'a,
+        U: 'a,
+        requires { is_sample (loan_found self.now.port.number self.now.slot (H.ports_of self.now.port.domain home.now)) ≡ true }
+        ensures { Some result.now ≡ option_map (λ loan. loan.user_header) (loan_found self.now.port.number self.now.slot (H.ports_of self.now.port.domain home.now)) }
+    {
+        lending::user_header(self.port, self.slot, home)
+    }
+
+    /// Writes the user header.
+    ///
+    /// Ported from writing through `iceoryx2::sample_mut::SampleMut::user_header_mut`.
+    pub fn user_header_write<H: Home<T, U>>(&mut self, home: &mut H, user_header: U)
+        ensures writes { WritesUserHeader H.ports_of H.with_ports self.old.port self.old.slot user_header home.old home.new }
+        ensures same { self.new ≡ self.old }
+    {
+        lending::write_user_header(self.port, self.slot, home, user_header);
+    }
+
+    /// Whether a send of its publisher waits: that none does is the condition of `send`.
+    pub fn is_blocked<H: Home<T, U>>(&self, home: &H) -> bool
+        ensures { result ≡ publisher_blocked self.now.port.number (H.ports_of self.now.port.domain home.now) }
+    {
+        publishing::is_blocked(self.port, home)
+    }
+
+    /// Sends the message: `ServicePorts::send` says which connections take it, and when it is refused. The loan is spent in every case.
+    ///
+    /// Ported from `iceoryx2::sample_mut::SampleMut::send`.
+    #[tactic(auto, using(crate::proofs::Ready::sample_is_written))]
+    pub fn send<H: Home<T, U>>(self, alloc: Global, home: &mut H) -> Result<Sent<T, U>, SendError>
+        requires holds { is_sample (loan_found self.port.number self.slot (H.ports_of self.port.domain home.old)) ≡ true }
+        requires free { publisher_blocked self.port.number (H.ports_of self.port.domain home.old) ≡ false }
+        ensures { SendsSample H.ports_of H.with_ports H.publisher_degrades H.publisher_decides self.port self.slot home.old result home.new }
+    {
+        let SampleMut { port, slot, of: _ } = self;
+        lending::send(port, slot, alloc, home)
+    }
+
+    /// Gives the loan up.
+    ///
+    /// Ported from dropping an `iceoryx2::sample_mut::SampleMut`.
+    pub fn drop_with<H: Home<T, U>>(self, home: &mut H)
+        ensures { GivesUpLoan H.ports_of H.with_ports self.port self.slot home.old home.new }
+    {
+        let SampleMut { port, slot, of: _ } = self;
+        lending::drop_loan(port, slot, home);
+    }
+}

@@ -1,0 +1,90 @@
+//! What a send came to, and a send that waits.
+ghost use Rattle.std.specs.Prelude.{◌≡◌, true};
+ghost use Rattle.iox_delivery.specs.Holding.{publisher_blocked};
+ghost use Rattle.iox_delivery.specs.Publishing.{sent_of, RetriesSend, GivesUpSend};
+
+use crate::port_id::PortId;
+use crate::publishing;
+use iox_domain_home::Home;
+use iox_domain_publisher::Sent as Sending;
+use iox_domain_values::SendError;
+use std::marker::PhantomData;
+
+/// What a send came to.
+///
+/// Ported from what `iceoryx2::sample_mut::SampleMut::send` answers, which waits itself.
+pub enum Sent<T, U> {
+    /// So many connections took the message.
+    Delivered(usize),
+    /// The send waits at a full mailbox.
+    Blocked(BlockedSend<T, U>),
+}
+
+/// A send that waits at a full mailbox: it is tried again, or given up. Till then its publisher lends, sends and follows nothing.
+///
+/// This port's own: `iceoryx2::port::publisher::Publisher::send` waits itself.
+pub struct BlockedSend<T, U> {
+    port: PortId,
+    of: PhantomData<(T, U)>,
+}
+
+impl<T: Copy, U: Copy> BlockedSend<T, U> {
+    /// Whether the send waits in this home: the condition of its calls.
+    pub fn holds<H: Home<T, U>>(&self, home: &H) -> bool
+        ensures { result ≡ publisher_blocked self.now.port.number (H.ports_of self.now.port.domain home.now) }
+    {
+        publishing::is_blocked(self.port, home)
+    }
+
+    /// Tries the mailbox again at which the send waits, after so many nanoseconds since it was first found full, and goes on: it answers
+    /// as the send did. The mailbox's count of retries is one higher.
+    ///
+    /// This port's own.
+    pub fn retry<H: Home<T, U>>(
+        self,
+        home: &mut H,
+        elapsed_ns: u64,
+    ) -> Result<Sent<T, U>, SendError>
+        requires { publisher_blocked self.port.number (H.ports_of self.port.domain home.old) ≡ true }
+        ensures { RetriesSend H.ports_of H.with_ports H.publisher_decides self.port elapsed_ns home.old result home.new }
+    {
+        let BlockedSend { port, of: _ } = self;
+        match home.retry(port.domain, port.number, elapsed_ns) {
+            Some(sent) => sent_of(port, sent),
+            None => unreachable!(),
+        }
+    }
+
+    /// Ends the send, and answers how many connections took the message.
+    ///
+    /// This port's own.
+    pub fn give_up<H: Home<T, U>>(self, home: &mut H) -> usize
+        requires { publisher_blocked self.port.number (H.ports_of self.port.domain home.old) ≡ true }
+        ensures { GivesUpSend H.ports_of H.with_ports self.port home.old result home.new }
+    {
+        let BlockedSend { port, of: _ } = self;
+        let Some(ports) = home.ports_mut(port.domain) else {
+            unreachable!();
+        };
+        match ports.give_up(port.number) {
+            Some(delivered) => delivered,
+            None => unreachable!(),
+        }
+    }
+}
+
+// What a send of a publisher came to, as a value.
+pub(crate) fn sent_of<T, U>(
+    port: PortId,
+    sent: Result<Sending, SendError>,
+) -> Result<Sent<T, U>, SendError>
+    ensures { result ≡ sent_of port sent }
+{
+    match sent? {
+        Sending::Delivered(delivered) => Ok(Sent::Delivered(delivered)),
+        Sending::Blocked => Ok(Sent::Blocked(BlockedSend {
+            port,
+            of: PhantomData,
+        })),
+    }
+}

@@ -1,0 +1,167 @@
+//! What a subscriber of values and one of slices have in common, and what their samples have.
+ghost use Rattle.std.specs.Prelude.{◌≡◌, true, Some, option_map};
+ghost use Rattle.iox_delivery.specs.Holding.{subscriber_stands, message_found, holds_message};
+ghost use Rattle.iox_delivery.specs.Subscribing.{header_found, FollowsPublishers, TellsSamples, TakesMessage, SubscriberGoes, ReleasesSample};
+
+use crate::port_id::PortId;
+use iox_describe_base::Header;
+use iox_domain_home::Home;
+use iox_domain_subscriber::Taken;
+use iox_domain_values::{ConnectionFailure, ReceiveError};
+use std::alloc::Global;
+
+// Whether a subscriber stands.
+pub(crate) fn holds<T: Copy, U: Copy, H: Home<T, U>>(port: PortId, home: &H) -> bool
+    ensures { result ≡ subscriber_stands port.number (H.ports_of port.domain home.now) }
+{
+    let Some(ports) = home.ports(port.domain) else {
+        return false;
+    };
+    match ports.subscribers.get(port.number) {
+        Some(subscriber) => subscriber.stands,
+        None => false,
+    }
+}
+
+// Whether some connection of a subscriber has data.
+pub(crate) fn has_samples<T: Copy, U: Copy, H: Home<T, U>>(
+    port: PortId,
+    alloc: Global,
+    home: &mut H,
+) -> Result<bool, ConnectionFailure>
+    requires { subscriber_stands port.number (H.ports_of port.domain home.old) ≡ true }
+    ensures { TellsSamples H.ports_of H.with_ports H.subscriber_degrades port home.old result home.new }
+{
+    match home.has_samples(alloc, port.domain, port.number) {
+        Some(outcome) => outcome,
+        None => unreachable!(),
+    }
+}
+
+// A subscriber receives.
+pub(crate) fn take<T: Copy, U: Copy, H: Home<T, U>>(
+    port: PortId,
+    alloc: Global,
+    home: &mut H,
+) -> Result<Option<Taken>, ReceiveError>
+    requires { subscriber_stands port.number (H.ports_of port.domain home.old) ≡ true }
+    ensures { TakesMessage H.ports_of H.with_ports H.subscriber_degrades port home.old result home.new }
+{
+    match home.receive(alloc, port.domain, port.number) {
+        Some(outcome) => outcome,
+        None => unreachable!(),
+    }
+}
+
+// A subscriber follows the publishers.
+pub(crate) fn update<T: Copy, U: Copy, H: Home<T, U>>(
+    port: PortId,
+    alloc: Global,
+    home: &mut H,
+) -> Result<(), ConnectionFailure>
+    requires { subscriber_stands port.number (H.ports_of port.domain home.old) ≡ true }
+    ensures { FollowsPublishers H.ports_of H.with_ports H.subscriber_degrades port home.old result home.new }
+{
+    match home.update_subscriber(alloc, port.domain, port.number) {
+        Some(outcome) => outcome,
+        None => unreachable!(),
+    }
+}
+
+// A subscriber leaves.
+pub(crate) fn leave<T: Copy, U: Copy, H: Home<T, U>>(port: PortId, home: &mut H)
+    requires { subscriber_stands port.number (H.ports_of port.domain home.old) ≡ true }
+    ensures { SubscriberGoes H.ports_of H.with_ports H.without_subscriber port home.old home.new }
+{
+    if !home.leave_subscriber(port.domain, port.number) {
+        unreachable!();
+    }
+}
+
+// The values of a message that is held.
+pub(crate) fn values<'a, T: Copy, U: Copy, H: Home<T, U>>(
+    port: PortId,
+    taken: Taken,
+    home: &'a H,
+) -> &'a [T]
+where
+    T: 'a,
+    U: 'a,
+    requires { holds_message port.number taken (H.ports_of port.domain home.now) ≡ true }
+    ensures { Some result.now ≡ option_map (λ message. message.values) (message_found taken (H.ports_of port.domain home.now)) }
+{
+    let Some(ports) = home.ports(port.domain) else {
+        unreachable!();
+    };
+    match ports.payload(taken) {
+        Some(values) => values,
+        None => unreachable!(),
+    }
+}
+
+// The user header of a message that is held.
+pub(crate) fn user_header<'a, T: Copy, U: Copy, H: Home<T, U>>(
+    port: PortId,
+    taken: Taken,
+    home: &'a H,
+) -> &'a U
+where
+    T: 'a,
+    U: 'a,
+    requires { holds_message port.number taken (H.ports_of port.domain home.now) ≡ true }
+    ensures { Some result.now ≡ option_map (λ message. message.user_header) (message_found taken (H.ports_of port.domain home.now)) }
+{
+    let Some(ports) = home.ports(port.domain) else {
+        unreachable!();
+    };
+    match ports.user_header(taken) {
+        Some(user_header) => user_header,
+        None => unreachable!(),
+    }
+}
+
+// What the header of a message that is held tells.
+pub(crate) fn header<T: Copy, U: Copy, H: Home<T, U>>(
+    port: PortId,
+    taken: Taken,
+    home: &H,
+) -> Header
+    requires { holds_message port.number taken (H.ports_of port.domain home.now) ≡ true }
+    ensures { Some result ≡ header_found taken (H.ports_of port.domain home.now) }
+{
+    let Some(ports) = home.ports(port.domain) else {
+        unreachable!();
+    };
+    match ports.header(taken) {
+        Some(header) => header,
+        None => unreachable!(),
+    }
+}
+
+// A message that is held is released.
+pub(crate) fn release<T: Copy, U: Copy, H: Home<T, U>>(port: PortId, taken: Taken, home: &mut H)
+    requires { holds_message port.number taken (H.ports_of port.domain home.old) ≡ true }
+    ensures { ReleasesSample H.ports_of H.with_ports port taken home.old home.new }
+{
+    let Some(ports) = home.ports_mut(port.domain) else {
+        unreachable!();
+    };
+    if !ports.release(port.number, taken) {
+        unreachable!();
+    }
+}
+
+// Whether a message is held.
+pub(crate) fn holds_message<T: Copy, U: Copy, H: Home<T, U>>(
+    port: PortId,
+    taken: Taken,
+    home: &H,
+) -> bool
+    ensures { result ≡ holds_message port.number taken (H.ports_of port.domain home.now) }
+{
+    match home.ports(port.domain) {
+        Some(ports) => ports.subscribers.get(port.number).is_some()
+            && ports.payload(taken).is_some(),
+        None => false,
+    }
+}

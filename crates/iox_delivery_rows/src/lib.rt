@@ -1,0 +1,7 @@
+//! Conversations between ports as values, as tests.
+//!
+//! - `plain_home`: a home of one domain whose ports ask nobody.
+//! - `conversations`: what is said.
+#![tactic(auto)]
+
+pub mod plain_home;
