@@ -3,5 +3,3 @@ pub mod Handling
 pub mod Domains
 pub mod Publishing
 pub mod Subscribing
-pub mod Homes
-pub mod HomeLaws

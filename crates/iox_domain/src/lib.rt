@@ -5,18 +5,16 @@
 //! | `domain` | a domain: which service it is of, its ports and their handlers |
 //! | `kept` | what is kept for ports, by their numbers |
 //! | `publishing` | a publisher comes, follows the subscribers, sends and leaves |
-//! | `home` | a domain as the home of its ports |
 //! | `subscribing` | a subscriber comes, follows the publishers, receives and leaves |
 //!
 //! Lending, writing, reading and releasing ask nobody: these calls are those of the domain's `ports`.
 #![tactic(auto)]
 
 pub mod domain;
-pub mod home;
 pub mod kept;
 pub mod publishing;
 pub mod subscribing;
 
 pub use domain::Domain;
-pub use iox_domain_home::{DomainId, Home};
+pub use iox_domain_home::DomainId;
 pub use kept::Kept;
