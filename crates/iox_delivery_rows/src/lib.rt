@@ -4,4 +4,6 @@
 //! - `conversations`: what is said.
 #![tactic(auto)]
 
+#[cfg(test)]
+mod conversations;
 pub mod plain_home;
