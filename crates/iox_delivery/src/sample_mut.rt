@@ -4,11 +4,10 @@ ghost use Rattle.iox_domain_publisher.specs.Writing.{value_at};
 ghost use Rattle.iox_delivery.specs.Holding.{loan_found, is_sample, publisher_blocked};
 ghost use Rattle.iox_delivery.specs.Publishing.{sample_mut_of, loan_header_found, SendsSample, WritesUserHeader, GivesUpLoan};
 
-use crate::lending;
 use crate::port_id::PortId;
-use crate::publishing;
 use crate::sample_mut_uninit::is_written;
 use crate::sent::Sent;
+use crate::{lending, publishing};
 use iox_describe_base::Header;
 use iox_domain_home::Home;
 use iox_domain_values::SendError;

@@ -212,7 +212,8 @@ impl<T: Copy, U: Copy> ServicePorts<T, U> {
     {
         match self.sizes.buffer_size(buffer_size) {
             Err(refusal) => refusal,
-            Ok(_) if self.subscriber_place().is_none() => SubscriberCreateError::ExceedsMaxSupportedSubscribers,
+            Ok(_) if self.subscriber_place().is_none() =>
+                SubscriberCreateError::ExceedsMaxSupportedSubscribers,
             Ok(_) => SubscriberCreateError::OutOfMemory,
         }
     }

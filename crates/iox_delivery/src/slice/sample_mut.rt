@@ -6,10 +6,9 @@ ghost use Rattle.iox_delivery.specs.Holding.{loan_found, publisher_blocked};
 ghost use Rattle.iox_delivery.specs.Publishing.{loan_header_found, SendsSample, WritesUserHeader, GivesUpLoan};
 ghost use Rattle.iox_delivery.specs.Slices.{sample_mut_of};
 
-use crate::lending;
 use crate::port_id::PortId;
-use crate::publishing;
 use crate::sent::Sent;
+use crate::{lending, publishing};
 use iox_describe_base::Header;
 use iox_domain_home::Home;
 use iox_domain_values::SendError;
