@@ -1,15 +1,12 @@
 //! Tests of the ports of a service: what no clause says.
 //!
 //! - `conversations`: whole conversations between them, call by call.
-//! - `domains`: one service with who decides for its ports.
 //! - `living`: what lives, by owner, and what lies in a loan.
 //! - `slices`: slices, and ports that come and go.
 #![tactic(auto)]
 
 #[cfg(test)]
 mod conversations;
-#[cfg(test)]
-mod domains;
 #[cfg(test)]
 mod living;
 #[cfg(test)]
