@@ -122,8 +122,3 @@ sample_is_loan (Some loan) holds = refl
 pub first_value : {T U : Type 0} (found : Option (Message T U)) (values : List T) → Some values ≡ option_map (λ message. message.values) found → value_found 0 found ≡ slice_get values 0
 first_value None values is = cc
 first_value (Some message) values is = ap (λ some. slice_get (unwrap_or some []) 0) (sym is)
-
--- what is written is a loan
-pub written_is_loan : {T U : Type 0} (loan : Option (Loan T U)) → is_written_loan loan ≡ true → is_some loan ≡ true
-written_is_loan None holds = holds
-written_is_loan (Some loan) holds = refl

@@ -1,4 +1,4 @@
 pub mod Holding
 pub mod Publishing
 pub mod Subscribing
-pub mod Slices
+pub mod Lent

@@ -9,11 +9,12 @@ use Rattle.iox_domain_values.specs.declared.degradation.DegradationAction.{Degra
 use Rattle.iox_domain_values.specs.declared.degradation.DegradationInfo.{DegradationInfo}
 use Rattle.iox_domain_values.specs.declared.port_error.LoanError.{LoanError}
 use Rattle.iox_domain_values.specs.declared.port_error.SendError.{SendError}
-use Rattle.iox_domain_sender.specs.Messages.{write_value, write_user_header}
+use Rattle.iox_domain_values.specs.declared.port_error.SendError.TheVariants as refusal
+use Rattle.iox_domain_sender.specs.Messages.{Loan, write_value, write_user_header}
 use Rattle.iox_domain_sender.specs.Sending.{has_loan, has_length}
 use Rattle.iox_domain_publisher.specs.declared.meeting.Sent.{Sent as Sending}
 use Rattle.iox_domain_publisher.specs.declared.meeting.Sent.TheVariants as sending
-use Rattle.iox_domain_ports.specs.Lending.{written_in, loan_header_in, gave_up_in}
+use Rattle.iox_domain_ports.specs.Lending.{written_in, loan_changed_in, loan_header_in, gave_up_in}
 use Rattle.iox_domain_ports.specs.declared.service_ports.ServicePorts.{ServicePorts}
 use Rattle.iox_domain_home.specs.Homes.{AtDomain, LeavesDomain}
 use Rattle.iox_domain_home.specs.Steps.{LoansBy, UpdatesBy, SendsBy, RetriesBy, GivesUpBy, PublisherLeaves}
@@ -53,10 +54,25 @@ abbrev pub loan_header_found : {T U : Type 0} → ℕ → ℕ → Option (Servic
 loan_header_found number slot None = None
 loan_header_found number slot (Some ports) = loan_header_in number slot ports
 
+-- A publisher lends a slot for so many values and elements.
+abbrev pub LendsSlot : {T U H : Type 0} → (DomainId → H → Option (ServicePorts T U)) → (DomainId → ServicePorts T U → H → H) → PortId → ℕ → ℕ → H → Result ℕ LoanError → H → Type 0
+LendsSlot ports_of with_ports port values elements old answer new =
+    AtDomain (λ after. with_ports port.domain after old) (LoansBy port.number values elements) (ports_of port.domain old) old (Some answer) new
+
 -- A publisher lends a value to be written.
 abbrev pub LendsUninit : {T U H : Type 0} → (DomainId → H → Option (ServicePorts T U)) → (DomainId → ServicePorts T U → H → H) → PortId → H → Result (SampleMutUninit T U) LoanError → H → Type 0
 LendsUninit ports_of with_ports port old answer new =
-    (lent : Result ℕ LoanError) × AtDomain (λ after. with_ports port.domain after old) (LoansBy port.number 1 1) (ports_of port.domain old) old (Some lent) new × (answer ≡ lent_of port lent)
+    (lent : Result ℕ LoanError) × LendsSlot ports_of with_ports port 1 1 old lent new × (answer ≡ lent_of port lent)
+
+-- What follows a loan: where it was refused nothing, and that is answered; else the next step, at its slot.
+abbrev pub AfterLoan : {H A : Type 0} → (LoanError → A) → (ℕ → H → A → H → Type 0) → Result ℕ LoanError → H → A → H → Type 0
+AfterLoan refused next (Err error) old answer new = (answer ≡ refused error) × (new ≡ old)
+AfterLoan refused next (Ok slot) old answer new = next slot old answer new
+
+-- what is lent of a publisher, and written
+abbrev pub written_of : {T U : Type 0} → PortId → Result ℕ LoanError → Result (SampleMut T U) LoanError
+written_of port (Ok slot) = Ok (sample_mut_of port slot)
+written_of port (Err error) = Err error
 
 -- A publisher follows the list of subscribers.
 abbrev pub FollowsSubscribers : {T U H : Type 0} → (DomainId → H → Option (ServicePorts T U)) → (DomainId → ServicePorts T U → H → H) → (DomainId → ℕ → H → DegradationInfo → DegradationAction → Type 0) → PortId → H → Result (Unit {0}) ConnectionFailure → H → Type 0
@@ -72,6 +88,25 @@ PublisherGoes ports_of with_ports without port old new =
 abbrev pub WritesPayload : {T U H : Type 0} → (DomainId → H → Option (ServicePorts T U)) → (DomainId → ServicePorts T U → H → H) → PortId → ℕ → T → H → H → Type 0
 WritesPayload ports_of with_ports port slot value old new =
     new ≡ changed_at (λ after. with_ports port.domain after old) (written_in port.number (λ publisher. has_length slot 1 publisher.sender.uses) slot (write_value 0 value)) (ports_of port.domain old) old
+
+-- The value of the loan in a slot is written, and the slot is answered.
+abbrev pub WritesLent : {T U H : Type 0} → (DomainId → H → Option (ServicePorts T U)) → (DomainId → ServicePorts T U → H → H) → PortId → T → ℕ → H → Result ℕ LoanError → H → Type 0
+WritesLent ports_of with_ports port value slot old answer new = WritesPayload ports_of with_ports port slot value old new × (answer ≡ Ok slot)
+
+-- A publisher lends a slot for one value, which is written there.
+abbrev pub LendsValue : {T U H : Type 0} → (DomainId → H → Option (ServicePorts T U)) → (DomainId → ServicePorts T U → H → H) → PortId → T → H → Result ℕ LoanError → H → Type 0
+LendsValue {T} {U} {H} ports_of with_ports port value old answer new =
+    (lent : Result ℕ LoanError) × (middle : H)
+    × LendsSlot ports_of with_ports port 1 1 old lent middle × AfterLoan Err (WritesLent ports_of with_ports port value) lent middle answer new
+
+-- A publisher lends a value that is written: a default.
+abbrev pub LendsDefault : {T U H : Type 0} → (DomainId → H → Option (ServicePorts T U)) → (DomainId → ServicePorts T U → H → H) → (T → Type 0) → PortId → H → Result (SampleMut T U) LoanError → H → Type 0
+LendsDefault {T} {U} {H} ports_of with_ports is_default port old answer new =
+    (value : T) × is_default value × (lent : Result ℕ LoanError) × LendsValue ports_of with_ports port value old lent new × (answer ≡ written_of port lent)
+
+-- what the home ends as once the loan in a slot changed; nothing changes where the domain isn't here
+abbrev pub loan_changed : {T U H : Type 0} → (DomainId → H → Option (ServicePorts T U)) → (DomainId → ServicePorts T U → H → H) → PortId → ℕ → (Loan T U → Loan T U) → H → H
+loan_changed ports_of with_ports port slot change home = changed_at (λ after. with_ports port.domain after home) (loan_changed_in port.number slot change) (ports_of port.domain home) home
 
 -- The user header of a loan is written.
 abbrev pub WritesUserHeader : {T U H : Type 0} → (DomainId → H → Option (ServicePorts T U)) → (DomainId → ServicePorts T U → H → H) → PortId → ℕ → U → H → H → Type 0
@@ -89,6 +124,13 @@ SendsSample ports_of with_ports degrades decides port slot old answer new =
     (outcome : Result Sending SendError)
     × AtDomain (λ after. with_ports port.domain after old) (SendsBy (degrades port.domain port.number old) (decides port.domain port.number old) port.number slot) (ports_of port.domain old) old (Some outcome) new
     × (answer ≡ sent_of port outcome)
+
+-- A value is lent, written and sent.
+abbrev pub SendsCopy : {T U H : Type 0} → (DomainId → H → Option (ServicePorts T U)) → (DomainId → ServicePorts T U → H → H) → (DomainId → ℕ → H → DegradationInfo → DegradationAction → Type 0) → (DomainId → ℕ → H → BackpressureInfo → BackpressureDecision → Type 0) → PortId → T → H → Result (Sent T U) SendError → H → Type 0
+SendsCopy {T} {U} {H} ports_of with_ports degrades decides port value old answer new =
+    (lent : Result ℕ LoanError) × (middle : H)
+    × LendsValue ports_of with_ports port value old lent middle
+    × AfterLoan (λ error. Err (refusal.LoanError error)) (SendsSample ports_of with_ports degrades decides port) lent middle answer new
 
 -- A send that waits is tried again.
 abbrev pub RetriesSend : {T U H : Type 0} → (DomainId → H → Option (ServicePorts T U)) → (DomainId → ServicePorts T U → H → H) → (DomainId → ℕ → H → BackpressureInfo → BackpressureDecision → Type 0) → PortId → ℕ → H → Result (Sent T U) SendError → H → Type 0

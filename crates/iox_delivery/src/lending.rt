@@ -1,8 +1,12 @@
-//! What loans of values and of slices have in common.
+//! What loans of values and of slices have in common: their calls, by port and slot.
 ghost use Rattle.std.specs.Prelude.{◌≡◌, true, false, Some, is_some, option_map};
+ghost use Rattle.std.specs.Borrow.{sem, LendsIf};
+ghost use Rattle.std.specs.Option.{option_copied_mut};
+ghost use Rattle.iox_domain_sender.specs.Messages.{write_value, write_user_header};
 ghost use Rattle.iox_domain_sender.specs.Sending.{is_written_loan};
+ghost use Rattle.iox_domain_publisher.specs.Writing.{value_at};
 ghost use Rattle.iox_delivery.specs.Holding.{loan_found, publisher_blocked};
-ghost use Rattle.iox_delivery.specs.Publishing.{loan_header_found, SendsSample, WritesUserHeader, GivesUpLoan};
+ghost use Rattle.iox_delivery.specs.Publishing.{loan_changed, loan_header_found, SendsSample, WritesUserHeader, GivesUpLoan};
 
 use crate::port_id::PortId;
 use crate::sent::{Sent, sent_of};
@@ -11,8 +15,10 @@ use iox_domain_home::Home;
 use iox_domain_values::SendError;
 use std::alloc::Global;
 
-// Whether a loan is out.
-pub(crate) fn is_out<T: Copy, U: Copy, H: Home<T, U>>(port: PortId, slot: usize, home: &H) -> bool
+/// Whether the loan of a publisher in a slot is out.
+///
+/// This port's own.
+pub fn is_out<T: Copy, U: Copy, H: Home<T, U>>(port: PortId, slot: usize, home: &H) -> bool
     ensures { result ≡ is_some (loan_found port.number slot (H.ports_of port.domain home.now)) }
 {
     let Some(ports) = home.ports(port.domain) else {
@@ -24,12 +30,10 @@ pub(crate) fn is_out<T: Copy, U: Copy, H: Home<T, U>>(port: PortId, slot: usize,
     }
 }
 
-// Whether each value of a loan is written.
-pub(crate) fn is_written<T: Copy, U: Copy, H: Home<T, U>>(
-    port: PortId,
-    slot: usize,
-    home: &H,
-) -> bool
+/// Whether each value of the loan in a slot is written; false where none is out.
+///
+/// This port's own.
+pub fn is_written<T: Copy, U: Copy, H: Home<T, U>>(port: PortId, slot: usize, home: &H) -> bool
     ensures { result ≡ is_written_loan (loan_found port.number slot (H.ports_of port.domain home.now)) }
 {
     match home.ports(port.domain) {
@@ -38,8 +42,10 @@ pub(crate) fn is_written<T: Copy, U: Copy, H: Home<T, U>>(
     }
 }
 
-// The user header of a loan.
-pub(crate) fn user_header<'a, T: Copy, U: Copy, H: Home<T, U>>(
+/// The user header of the loan in a slot.
+///
+/// Ported from `iceoryx2::sample_mut_uninit::SampleMutUninit::user_header`.
+pub fn user_header<'a, T: Copy, U: Copy, H: Home<T, U>>(
     port: PortId,
     slot: usize,
     home: &'a H,
@@ -59,8 +65,10 @@ where
     }
 }
 
-// What the header of a loan tells.
-pub(crate) fn header<T: Copy, U: Copy, H: Home<T, U>>(port: PortId, slot: usize, home: &H) -> Header
+/// What the header of the loan in a slot tells: who is to send it, and how many elements it has.
+///
+/// Ported from `iceoryx2::sample_mut_uninit::SampleMutUninit::header`.
+pub fn header<T: Copy, U: Copy, H: Home<T, U>>(port: PortId, slot: usize, home: &H) -> Header
     requires { is_some (loan_found port.number slot (H.ports_of port.domain home.now)) ≡ true }
     ensures { Some result ≡ loan_header_found port.number slot (H.ports_of port.domain home.now) }
 {
@@ -73,8 +81,10 @@ pub(crate) fn header<T: Copy, U: Copy, H: Home<T, U>>(port: PortId, slot: usize,
     }
 }
 
-// Writes the user header of a loan.
-pub(crate) fn write_user_header<T: Copy, U: Copy, H: Home<T, U>>(
+/// Writes the user header of the loan in a slot; nothing happens where none is out.
+///
+/// Ported from writing through `iceoryx2::sample_mut_uninit::SampleMutUninit::user_header_mut`.
+pub fn write_user_header<T: Copy, U: Copy, H: Home<T, U>>(
     port: PortId,
     slot: usize,
     home: &mut H,
@@ -87,8 +97,50 @@ pub(crate) fn write_user_header<T: Copy, U: Copy, H: Home<T, U>>(
     }
 }
 
-// Sends a loan each of whose values is written.
-pub(crate) fn send<T: Copy, U: Copy, H: Home<T, U>>(
+/// The value at a place of the loan in a slot, to be changed there, if the loan is out, and has that place, and it is written.
+///
+/// Ported from changing it through `iceoryx2::sample_mut::SampleMut::payload_mut`.
+pub fn value_mut<'a, T: Copy, U: Copy, H: Home<T, U>>(
+    home: &'a mut H,
+    port: PortId,
+    slot: usize,
+    place: usize,
+) -> Option<&'a mut T>
+where
+    T: 'a,
+    U: 'a,
+    ensures* writes_back { sem 𝓛 (LendsIf H.row T.row home.entry result (λ last. loan_changed H.ports_of H.with_ports port slot (write_value place last) home.old) home.old) }
+    ensures value { option_copied_mut result ≡ value_at place (loan_found port.number slot (H.ports_of port.domain home.old)) }
+{
+    match home.ports_mut(port.domain) {
+        Some(ports) => ports.value_mut(port.number, slot, place),
+        None => None,
+    }
+}
+
+/// The user header of the loan in a slot, to be changed there, if the loan is out.
+///
+/// Ported from `iceoryx2::sample_mut_uninit::SampleMutUninit::user_header_mut`.
+pub fn user_header_mut<'a, T: Copy, U: Copy, H: Home<T, U>>(
+    home: &'a mut H,
+    port: PortId,
+    slot: usize,
+) -> Option<&'a mut U>
+where
+    T: 'a,
+    U: 'a,
+    ensures* writes_back { sem 𝓛 (LendsIf H.row U.row home.entry result (λ last. loan_changed H.ports_of H.with_ports port slot (write_user_header last) home.old) home.old) }
+    ensures value { option_copied_mut result ≡ option_map (λ loan. loan.user_header) (loan_found port.number slot (H.ports_of port.domain home.old)) }
+{
+    home.ports_mut(port.domain)?
+        .user_header_mut(port.number, slot)
+}
+
+/// Sends the loan in a slot, each of whose values is written: `ServicePorts::send` says which connections take it, and when it is refused. The
+/// loan is spent in every case.
+///
+/// Ported from `iceoryx2::sample_mut::SampleMut::send`.
+pub fn send<T: Copy, U: Copy, H: Home<T, U>>(
     port: PortId,
     slot: usize,
     alloc: Global,
@@ -104,8 +156,10 @@ pub(crate) fn send<T: Copy, U: Copy, H: Home<T, U>>(
     }
 }
 
-// Gives a loan up.
-pub(crate) fn drop_loan<T: Copy, U: Copy, H: Home<T, U>>(port: PortId, slot: usize, home: &mut H)
+/// Gives the loan in a slot up; nothing happens where none is out.
+///
+/// Ported from dropping an `iceoryx2::sample_mut::SampleMut`.
+pub fn drop_loan<T: Copy, U: Copy, H: Home<T, U>>(port: PortId, slot: usize, home: &mut H)
     ensures { GivesUpLoan H.ports_of H.with_ports port slot home.old home.new }
 {
     if let Some(ports) = home.ports_mut(port.domain) {

@@ -8,22 +8,23 @@
 //! - [`sent`]: what a send came to, and a send that waits.
 //! - [`subscriber`]: a subscriber of single values.
 //! - [`sample`]: a message that was received.
-//! - [`slice`]: the same of slices.
+//! - [`publishing`], [`lending`], [`subscribing`]: what ports of slices have in common with these, by port, slot and message.
+//! - [`laws`]: what a loan comes to that was just made.
 //!
 //! No port, loan, sample or waiting send may be let go: it is spent by the call that ends it.
 #![tactic(auto)]
 
-mod lending;
+pub mod laws;
+pub mod lending;
 pub mod port_id;
 pub mod publisher;
-mod publishing;
+pub mod publishing;
 pub mod sample;
 pub mod sample_mut;
 pub mod sample_mut_uninit;
 pub mod sent;
-pub mod slice;
 pub mod subscriber;
-mod subscribing;
+pub mod subscribing;
 
 pub use port_id::PortId;
 pub use publisher::Publisher;

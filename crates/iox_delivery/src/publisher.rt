@@ -1,13 +1,16 @@
 //! A publisher of single values.
-ghost use Rattle.std.specs.Prelude.{◌≡◌, true, false};
+ghost use Rattle.std.specs.Prelude.{◌≡◌, ◌∷◌, [], true, false, IfOk};
+ghost use Rattle.iox_delivery.specs.Lent.{IsReady};
 ghost use Rattle.iox_delivery.specs.Holding.{publisher_stands, publisher_blocked};
-ghost use Rattle.iox_delivery.specs.Publishing.{LendsUninit, FollowsSubscribers, PublisherGoes};
+ghost use Rattle.iox_delivery.specs.Publishing.{LendsUninit, LendsDefault, SendsCopy, FollowsSubscribers, PublisherGoes};
 
 use crate::port_id::PortId;
-use crate::publishing;
+use crate::sample_mut::SampleMut;
 use crate::sample_mut_uninit::SampleMutUninit;
+use crate::sent::Sent;
+use crate::{lending, publishing};
 use iox_domain_home::{DomainId, Home};
-use iox_domain_values::{BackpressureStrategy, ConnectionFailure, LoanError};
+use iox_domain_values::{BackpressureStrategy, ConnectionFailure, LoanError, SendError};
 use std::alloc::Global;
 use std::marker::PhantomData;
 
@@ -87,10 +90,46 @@ impl<T: Copy, U: Copy> Publisher<T, U> {
         requires free { publisher_blocked self.now.port.number (H.ports_of self.now.port.domain home.old) ≡ false }
         ensures { LendsUninit H.ports_of H.with_ports self.now.port home.old result home.new }
     {
-        match home.loan(alloc, self.port.domain, self.port.number, 1, 1) {
-            Some(lent) => Ok(SampleMutUninit::of_loan(self.port, lent?)),
-            None => unreachable!(),
-        }
+        let slot = publishing::loan(self.port, alloc, home, 1, 1)?;
+        Ok(SampleMutUninit::of_loan(self.port, slot))
+    }
+
+    /// Lends a value that is written: a default. It is refused as `loan_uninit` is. It may be sent at once: it is a loan that is written, and no
+    /// send waits.
+    ///
+    /// Ported from `iceoryx2::port::publisher::Publisher::loan`.
+    pub fn loan<H: Home<T, U>>(
+        &self,
+        alloc: Global,
+        home: &mut H,
+    ) -> Result<SampleMut<T, U>, LoanError>
+    where
+        T: Default,
+        requires holds { publisher_stands self.now.port.number (H.ports_of self.now.port.domain home.old) ≡ true }
+        requires free { publisher_blocked self.now.port.number (H.ports_of self.now.port.domain home.old) ≡ false }
+        ensures lends { LendsDefault H.ports_of H.with_ports T.is_default self.now.port home.old result home.new }
+        ensures ready { IfOk result (λ sample. (value : T) × T.is_default value × IsReady self.now.port.number (value ∷ []) 1 sample.slot (H.ports_of self.now.port.domain home.new)) }
+    {
+        let slot = publishing::loan_value(self.port, alloc, home, T::default())?;
+        Ok(SampleMut::of_loan(self.port, slot))
+    }
+
+    /// Lends a value, writes it and sends it. A loan that is refused as `loan_uninit` is, is `SendError::LoanError`, and nothing is sent; else it
+    /// answers as `SampleMut::send` does.
+    ///
+    /// Ported from `iceoryx2::port::publisher::Publisher::send_copy`.
+    pub fn send_copy<H: Home<T, U>>(
+        &self,
+        alloc: Global,
+        home: &mut H,
+        value: T,
+    ) -> Result<Sent<T, U>, SendError>
+        requires holds { publisher_stands self.now.port.number (H.ports_of self.now.port.domain home.old) ≡ true }
+        requires free { publisher_blocked self.now.port.number (H.ports_of self.now.port.domain home.old) ≡ false }
+        ensures { SendsCopy H.ports_of H.with_ports H.publisher_degrades H.publisher_decides self.now.port value home.old result home.new }
+    {
+        let slot = publishing::loan_value(self.port, alloc, home, value)?;
+        lending::send(self.port, slot, alloc, home)
     }
 
     /// Follows the subscribers that came and left: `ServicePorts::update_publisher` says what that does. It fails as a handler says where a

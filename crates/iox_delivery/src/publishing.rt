@@ -1,15 +1,19 @@
-//! What a publisher of values and one of slices have in common.
-ghost use Rattle.std.specs.Prelude.{◌≡◌, true, false};
+//! What a publisher of values and one of slices have in common: their calls, by port.
+ghost use Rattle.std.specs.Prelude.{◌≡◌, ◌∷◌, [], true, false, IfOk};
+ghost use Rattle.iox_delivery.specs.Lent.{IsReady};
 ghost use Rattle.iox_delivery.specs.Holding.{publisher_stands, publisher_blocked};
-ghost use Rattle.iox_delivery.specs.Publishing.{FollowsSubscribers, PublisherGoes};
+ghost use Rattle.iox_delivery.specs.Publishing.{LendsSlot, LendsValue, FollowsSubscribers, PublisherGoes};
 
 use crate::port_id::PortId;
+use crate::sample_mut_uninit::write;
 use iox_domain_home::Home;
-use iox_domain_values::ConnectionFailure;
+use iox_domain_values::{ConnectionFailure, LoanError};
 use std::alloc::Global;
 
-// Whether a publisher stands.
-pub(crate) fn holds<T: Copy, U: Copy, H: Home<T, U>>(port: PortId, home: &H) -> bool
+/// Whether a publisher stands.
+///
+/// This port's own.
+pub fn holds<T: Copy, U: Copy, H: Home<T, U>>(port: PortId, home: &H) -> bool
     ensures { result ≡ publisher_stands port.number (H.ports_of port.domain home.now) }
 {
     let Some(ports) = home.ports(port.domain) else {
@@ -21,8 +25,10 @@ pub(crate) fn holds<T: Copy, U: Copy, H: Home<T, U>>(port: PortId, home: &H) -> 
     }
 }
 
-// Whether a send of a publisher waits.
-pub(crate) fn is_blocked<T: Copy, U: Copy, H: Home<T, U>>(port: PortId, home: &H) -> bool
+/// Whether a send of a publisher waits.
+///
+/// This port's own.
+pub fn is_blocked<T: Copy, U: Copy, H: Home<T, U>>(port: PortId, home: &H) -> bool
     ensures { result ≡ publisher_blocked port.number (H.ports_of port.domain home.now) }
 {
     let Some(ports) = home.ports(port.domain) else {
@@ -34,8 +40,49 @@ pub(crate) fn is_blocked<T: Copy, U: Copy, H: Home<T, U>>(port: PortId, home: &H
     }
 }
 
-// A publisher follows the subscribers.
-pub(crate) fn update<T: Copy, U: Copy, H: Home<T, U>>(
+/// A publisher lends a slot for so many values; the header of the message tells so many elements. It is refused as `ServicePorts::loan` says:
+/// with `ExceedsMaxLoanSize` where that is more than its room allows and the room doesn't grow, else with `ExceedsMaxLoans` where as many
+/// loans are out as it may have, else with `OutOfMemory` where each slot is in use or a new segment isn't made.
+///
+/// Ported from `iceoryx2::port::publisher::Publisher::loan_slice_uninit`.
+pub fn loan<T: Copy, U: Copy, H: Home<T, U>>(
+    port: PortId,
+    alloc: Global,
+    home: &mut H,
+    values: usize,
+    elements: u64,
+) -> Result<usize, LoanError>
+    requires holds { publisher_stands port.number (H.ports_of port.domain home.old) ≡ true }
+    requires free { publisher_blocked port.number (H.ports_of port.domain home.old) ≡ false }
+    ensures { LendsSlot H.ports_of H.with_ports port values elements home.old result home.new }
+{
+    match home.loan(alloc, port.domain, port.number, values, elements) {
+        Some(lent) => lent,
+        None => unreachable!(),
+    }
+}
+
+// A publisher lends a slot for one value, which is written there.
+pub(crate) fn loan_value<T: Copy, U: Copy, H: Home<T, U>>(
+    port: PortId,
+    alloc: Global,
+    home: &mut H,
+    value: T,
+) -> Result<usize, LoanError>
+    requires holds { publisher_stands port.number (H.ports_of port.domain home.old) ≡ true }
+    requires free { publisher_blocked port.number (H.ports_of port.domain home.old) ≡ false }
+    ensures lends { LendsValue H.ports_of H.with_ports port value home.old result home.new }
+    ensures ready { IfOk result (λ slot. IsReady port.number (value ∷ []) 1 slot (H.ports_of port.domain home.new)) }
+{
+    let slot = loan(port, alloc, home, 1, 1)?;
+    write(port, slot, home, value);
+    Ok(slot)
+}
+
+/// A publisher follows the subscribers that came and left: `ServicePorts::update_publisher` says what that does, and when it fails.
+///
+/// Ported from `iceoryx2::port::update_connections::UpdateConnections`.
+pub fn update<T: Copy, U: Copy, H: Home<T, U>>(
     port: PortId,
     alloc: Global,
     home: &mut H,
@@ -50,8 +97,10 @@ pub(crate) fn update<T: Copy, U: Copy, H: Home<T, U>>(
     }
 }
 
-// A publisher leaves.
-pub(crate) fn leave<T: Copy, U: Copy, H: Home<T, U>>(port: PortId, home: &mut H)
+/// A publisher leaves, and its handlers are dropped.
+///
+/// Ported from dropping an `iceoryx2::port::publisher::Publisher`.
+pub fn leave<T: Copy, U: Copy, H: Home<T, U>>(port: PortId, home: &mut H)
     requires holds { publisher_stands port.number (H.ports_of port.domain home.old) ≡ true }
     requires free { publisher_blocked port.number (H.ports_of port.domain home.old) ≡ false }
     ensures { PublisherGoes H.ports_of H.with_ports H.without_publisher port home.old home.new }

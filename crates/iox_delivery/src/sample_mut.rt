@@ -1,8 +1,11 @@
 //! A loan that is written.
 ghost use Rattle.std.specs.Prelude.{◌≡◌, true, false, Some, option_map};
+ghost use Rattle.std.specs.Borrow.{sem, LendsIf};
+ghost use Rattle.std.specs.Option.{option_copied_mut};
+ghost use Rattle.iox_domain_sender.specs.Messages.{write_value, write_user_header};
 ghost use Rattle.iox_domain_publisher.specs.Writing.{value_at};
 ghost use Rattle.iox_delivery.specs.Holding.{loan_found, is_sample, publisher_blocked};
-ghost use Rattle.iox_delivery.specs.Publishing.{sample_mut_of, loan_header_found, SendsSample, WritesUserHeader, GivesUpLoan};
+ghost use Rattle.iox_delivery.specs.Publishing.{sample_mut_of, loan_changed, loan_header_found, SendsSample, WritesUserHeader, GivesUpLoan};
 
 use crate::port_id::PortId;
 use crate::sample_mut_uninit::is_written;
@@ -61,6 +64,19 @@ impl<T: Copy, U: Copy> SampleMut<T, U> {
         }
     }
 
+    /// The value, to be changed, if the loan is out and written.
+    ///
+    /// Ported from `iceoryx2::sample_mut::SampleMut::payload_mut`.
+    pub fn payload_mut<'a, H: Home<T, U>>(home: &'a mut H, sample: &Self) -> Option<&'a mut T>
+    where
+        T: 'a,
+        U: 'a,
+        ensures* writes_back { sem 𝓛 (LendsIf H.row T.row home.entry result (λ last. loan_changed H.ports_of H.with_ports sample.now.port sample.now.slot (write_value 0 last) home.old) home.old) }
+        ensures value { option_copied_mut result ≡ value_at 0 (loan_found sample.now.port.number sample.now.slot (H.ports_of sample.now.port.domain home.old)) }
+    {
+        lending::value_mut(home, sample.port, sample.slot, 0)
+    }
+
     /// What its header tells: who is to send it, and how many elements it has.
     ///
     /// Ported from `iceoryx2::sample_mut::SampleMut::header`.
@@ -84,6 +100,19 @@ impl<T: Copy, U: Copy> SampleMut<T, U> {
         ensures { Some result.now ≡ option_map (λ loan. loan.user_header) (loan_found self.now.port.number self.now.slot (H.ports_of self.now.port.domain home.now)) }
     {
         lending::user_header(self.port, self.slot, home)
+    }
+
+    /// The user header, to be changed, if the loan is out.
+    ///
+    /// Ported from `iceoryx2::sample_mut::SampleMut::user_header_mut`.
+    pub fn user_header_mut<'a, H: Home<T, U>>(home: &'a mut H, sample: &Self) -> Option<&'a mut U>
+    where
+        T: 'a,
+        U: 'a,
+        ensures* writes_back { sem 𝓛 (LendsIf H.row U.row home.entry result (λ last. loan_changed H.ports_of H.with_ports sample.now.port sample.now.slot (write_user_header last) home.old) home.old) }
+        ensures value { option_copied_mut result ≡ option_map (λ loan. loan.user_header) (loan_found sample.now.port.number sample.now.slot (H.ports_of sample.now.port.domain home.old)) }
+    {
+        lending::user_header_mut(home, sample.port, sample.slot)
     }
 
     /// Writes the user header.

@@ -1,8 +1,11 @@
 //! A loan that is to be written.
-ghost use Rattle.std.specs.Prelude.{◌≡◌, true, false, Some, is_some, option_copied, option_map};
+ghost use Rattle.std.specs.Prelude.{◌≡◌, true, Some, is_some, option_copied, option_map};
+ghost use Rattle.std.specs.Borrow.{sem, LendsIf};
+ghost use Rattle.std.specs.Option.{option_copied_mut};
+ghost use Rattle.iox_domain_sender.specs.Messages.{write_user_header};
 ghost use Rattle.iox_domain_publisher.specs.Writing.{value_at};
 ghost use Rattle.iox_delivery.specs.Holding.{loan_found, is_sample};
-ghost use Rattle.iox_delivery.specs.Publishing.{loan_of, loan_header_found, sample_mut_of, WritesPayload, WritesUserHeader, GivesUpLoan};
+ghost use Rattle.iox_delivery.specs.Publishing.{loan_of, loan_changed, loan_header_found, sample_mut_of, WritesPayload, WritesUserHeader, GivesUpLoan};
 
 use crate::lending;
 use crate::port_id::PortId;
@@ -118,6 +121,19 @@ impl<T: Copy, U: Copy> SampleMutUninit<T, U> {
         lending::user_header(self.port, self.slot, home)
     }
 
+    /// The user header, to be changed, if the loan is out.
+    ///
+    /// Ported from `iceoryx2::sample_mut_uninit::SampleMutUninit::user_header_mut`.
+    pub fn user_header_mut<'a, H: Home<T, U>>(home: &'a mut H, sample: &Self) -> Option<&'a mut U>
+    where
+        T: 'a,
+        U: 'a,
+        ensures* writes_back { sem 𝓛 (LendsIf H.row U.row home.entry result (λ last. loan_changed H.ports_of H.with_ports sample.now.port sample.now.slot (write_user_header last) home.old) home.old) }
+        ensures value { option_copied_mut result ≡ option_map (λ loan. loan.user_header) (loan_found sample.now.port.number sample.now.slot (H.ports_of sample.now.port.domain home.old)) }
+    {
+        lending::user_header_mut(home, sample.port, sample.slot)
+    }
+
     /// Writes the user header.
     ///
     /// Ported from writing through `iceoryx2::sample_mut_uninit::SampleMutUninit::user_header_mut`.
@@ -155,7 +171,12 @@ pub(crate) fn is_written<T: Copy, U: Copy, H: Home<T, U>>(
 }
 
 // Writes the value of a loan.
-fn write<T: Copy, U: Copy, H: Home<T, U>>(port: PortId, slot: usize, home: &mut H, value: T)
+pub(crate) fn write<T: Copy, U: Copy, H: Home<T, U>>(
+    port: PortId,
+    slot: usize,
+    home: &mut H,
+    value: T,
+)
     ensures { WritesPayload H.ports_of H.with_ports port slot value home.old home.new }
 {
     if let Some(ports) = home.ports_mut(port.domain) {

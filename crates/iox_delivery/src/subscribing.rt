@@ -1,4 +1,4 @@
-//! What a subscriber of values and one of slices have in common, and what their samples have.
+//! What a subscriber of values and one of slices have in common, and what their samples have: their calls, by port and message.
 ghost use Rattle.std.specs.Prelude.{◌≡◌, true, Some, option_map};
 ghost use Rattle.iox_delivery.specs.Holding.{subscriber_stands, message_found, holds_message};
 ghost use Rattle.iox_delivery.specs.Subscribing.{header_found, FollowsPublishers, TellsSamples, TakesMessage, SubscriberGoes, ReleasesSample};
@@ -10,8 +10,10 @@ use iox_domain_subscriber::Taken;
 use iox_domain_values::{ConnectionFailure, ReceiveError};
 use std::alloc::Global;
 
-// Whether a subscriber stands.
-pub(crate) fn holds<T: Copy, U: Copy, H: Home<T, U>>(port: PortId, home: &H) -> bool
+/// Whether a subscriber stands.
+///
+/// This port's own.
+pub fn holds<T: Copy, U: Copy, H: Home<T, U>>(port: PortId, home: &H) -> bool
     ensures { result ≡ subscriber_stands port.number (H.ports_of port.domain home.now) }
 {
     let Some(ports) = home.ports(port.domain) else {
@@ -23,8 +25,10 @@ pub(crate) fn holds<T: Copy, U: Copy, H: Home<T, U>>(port: PortId, home: &H) -> 
     }
 }
 
-// Whether some connection of a subscriber has data.
-pub(crate) fn has_samples<T: Copy, U: Copy, H: Home<T, U>>(
+/// Whether some connection of a subscriber has data, after it followed the publishers: it fails where that does.
+///
+/// Ported from `iceoryx2::port::subscriber::Subscriber::has_samples`.
+pub fn has_samples<T: Copy, U: Copy, H: Home<T, U>>(
     port: PortId,
     alloc: Global,
     home: &mut H,
@@ -38,8 +42,10 @@ pub(crate) fn has_samples<T: Copy, U: Copy, H: Home<T, U>>(
     }
 }
 
-// A subscriber receives.
-pub(crate) fn take<T: Copy, U: Copy, H: Home<T, U>>(
+/// A subscriber receives the next message, if one waits: `ServicePorts::receive` says which, and when it is refused.
+///
+/// Ported from `iceoryx2::port::subscriber::Subscriber::receive`.
+pub fn take<T: Copy, U: Copy, H: Home<T, U>>(
     port: PortId,
     alloc: Global,
     home: &mut H,
@@ -53,8 +59,10 @@ pub(crate) fn take<T: Copy, U: Copy, H: Home<T, U>>(
     }
 }
 
-// A subscriber follows the publishers.
-pub(crate) fn update<T: Copy, U: Copy, H: Home<T, U>>(
+/// A subscriber follows the publishers that came and left: `ServicePorts::update_subscriber` says what that does, and when it fails.
+///
+/// Ported from `iceoryx2::port::update_connections::UpdateConnections`.
+pub fn update<T: Copy, U: Copy, H: Home<T, U>>(
     port: PortId,
     alloc: Global,
     home: &mut H,
@@ -68,8 +76,10 @@ pub(crate) fn update<T: Copy, U: Copy, H: Home<T, U>>(
     }
 }
 
-// A subscriber leaves.
-pub(crate) fn leave<T: Copy, U: Copy, H: Home<T, U>>(port: PortId, home: &mut H)
+/// A subscriber leaves, and its handler is dropped.
+///
+/// Ported from dropping an `iceoryx2::port::subscriber::Subscriber`.
+pub fn leave<T: Copy, U: Copy, H: Home<T, U>>(port: PortId, home: &mut H)
     requires { subscriber_stands port.number (H.ports_of port.domain home.old) ≡ true }
     ensures { SubscriberGoes H.ports_of H.with_ports H.without_subscriber port home.old home.new }
 {
@@ -78,8 +88,10 @@ pub(crate) fn leave<T: Copy, U: Copy, H: Home<T, U>>(port: PortId, home: &mut H)
     }
 }
 
-// The values of a message that is held.
-pub(crate) fn values<'a, T: Copy, U: Copy, H: Home<T, U>>(
+/// The values of a message that is held.
+///
+/// Ported from `iceoryx2::sample::Sample::payload`.
+pub fn values<'a, T: Copy, U: Copy, H: Home<T, U>>(
     port: PortId,
     taken: Taken,
     home: &'a H,
@@ -99,8 +111,10 @@ where
     }
 }
 
-// The user header of a message that is held.
-pub(crate) fn user_header<'a, T: Copy, U: Copy, H: Home<T, U>>(
+/// The user header of a message that is held.
+///
+/// Ported from `iceoryx2::sample::Sample::user_header`.
+pub fn user_header<'a, T: Copy, U: Copy, H: Home<T, U>>(
     port: PortId,
     taken: Taken,
     home: &'a H,
@@ -120,12 +134,10 @@ where
     }
 }
 
-// What the header of a message that is held tells.
-pub(crate) fn header<T: Copy, U: Copy, H: Home<T, U>>(
-    port: PortId,
-    taken: Taken,
-    home: &H,
-) -> Header
+/// What the header of a message that is held tells: who sent it, and how many elements it has.
+///
+/// Ported from `iceoryx2::sample::Sample::header`.
+pub fn header<T: Copy, U: Copy, H: Home<T, U>>(port: PortId, taken: Taken, home: &H) -> Header
     requires { holds_message port.number taken (H.ports_of port.domain home.now) ≡ true }
     ensures { Some result ≡ header_found taken (H.ports_of port.domain home.now) }
 {
@@ -138,8 +150,10 @@ pub(crate) fn header<T: Copy, U: Copy, H: Home<T, U>>(
     }
 }
 
-// A message that is held is released.
-pub(crate) fn release<T: Copy, U: Copy, H: Home<T, U>>(port: PortId, taken: Taken, home: &mut H)
+/// A message that is held is released.
+///
+/// Ported from dropping an `iceoryx2::sample::Sample`.
+pub fn release<T: Copy, U: Copy, H: Home<T, U>>(port: PortId, taken: Taken, home: &mut H)
     requires { holds_message port.number taken (H.ports_of port.domain home.old) ≡ true }
     ensures { ReleasesSample H.ports_of H.with_ports port taken home.old home.new }
 {
@@ -151,12 +165,10 @@ pub(crate) fn release<T: Copy, U: Copy, H: Home<T, U>>(port: PortId, taken: Take
     }
 }
 
-// Whether a message is held.
-pub(crate) fn holds_message<T: Copy, U: Copy, H: Home<T, U>>(
-    port: PortId,
-    taken: Taken,
-    home: &H,
-) -> bool
+/// Whether a message is held.
+///
+/// This port's own.
+pub fn holds_message<T: Copy, U: Copy, H: Home<T, U>>(port: PortId, taken: Taken, home: &H) -> bool
     ensures { result ≡ holds_message port.number taken (H.ports_of port.domain home.now) }
 {
     match home.ports(port.domain) {

@@ -4,10 +4,10 @@ ghost use Rattle.iox_delivery_rows.specs.Plain.{same_id, own_ports, with_own_por
 
 use iox_domain_home::{DomainId, Home};
 use iox_domain_ports::ServicePorts;
-use iox_domain_publisher::{Handlers, Sent};
+use iox_domain_publisher::Sent;
 use iox_domain_subscriber::Taken;
 use iox_domain_values::{
-    BackpressureStrategy, ConnectionFailure, DegradationAction, DegradationHandler, LoanError,
+    BackpressureStrategy, ConnectionFailure, DegradationAction, DegradationHandler, Handlers, LoanError,
     ReceiveError, SendError,
 };
 use std::alloc::Global;

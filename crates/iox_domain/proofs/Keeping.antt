@@ -1,5 +1,5 @@
 -- What is kept under a number, and put back.
-use Rattle.std.proofs.Common.{ℕ, ◌≡◌, ◌∷◌, [], List, Bool, true, false, Option, None, Some, refl, sym, ap, subst, ◌∙◌, cond}
+use Rattle.std.proofs.Common.{ℕ, ◌≡◌, ◌∷◌, [], List, true, Option, None, Some, refl, sym, ap, ◌∙◌, cond}
 use Rattle.std.proofs.lemmas.Cmp.{nat_cmp_total}
 use Rattle.std.proofs.lemmas.Map.{lookup-none}
 use Rattle.std.proofs.lemmas.Map.Entries.{none_below_head}

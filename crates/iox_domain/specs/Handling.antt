@@ -1,25 +1,28 @@
 -- Who decides for a port.
-use Rattle.std.specs.Prelude.{ℕ, List, Option, None, Some}
-use Rattle.iox_domain_values.specs.declared.backpressure_strategy.BackpressureStrategy.TheVariants.{RetryUntilDelivered}
+use Rattle.std.specs.Prelude.{◌≡◌, Option, None, Some}
+use Rattle.iox_domain_values.specs.declared.backpressure.BackpressureDecision.{BackpressureDecision}
+use Rattle.iox_domain_values.specs.declared.backpressure.BackpressureDecision.TheVariants.{Retry}
+use Rattle.iox_domain_values.specs.declared.backpressure.BackpressureInfo.{BackpressureInfo}
+use Rattle.iox_domain_values.specs.declared.degradation.DegradationAction.{DegradationAction}
 use Rattle.iox_domain_values.specs.declared.degradation.DegradationAction.TheVariants.{Warn}
-use Rattle.iox_domain_values.specs.declared.degradation_handler.DegradationHandler.{DegradationHandler}
-use Rattle.iox_domain_values.specs.declared.degradation_handler.DegradationHandler.TheVariants.{Fixed}
-use Rattle.iox_domain_publisher.specs.declared.handlers.Handlers.{Handlers}
-use Rattle.iox_domain.specs.Kept.{kept_under}
+use Rattle.iox_domain_values.specs.declared.degradation.DegradationCause.{DegradationCause}
+use Rattle.iox_domain_values.specs.declared.degradation.DegradationCause.TheVariants.{FailedToEstablishConnection}
+use Rattle.iox_domain_values.specs.declared.degradation.DegradationInfo.{DegradationInfo}
 
--- a value, or what stands for none
-abbrev pub or_else : {H : Type 0} → H → Option H → H
-or_else default None = default
-or_else default (Some value) = value
+-- a connection that fails is passed over with a warning
+abbrev pub passes_over : DegradationCause → DegradationInfo → DegradationAction → Type 0
+passes_over cause info action = action ≡ Warn
 
--- who decides for a publisher where nobody is named: a send waits at a full mailbox, and a connection that fails is passed over with a warning
-abbrev pub default_handlers : {X Y : Type 0} {F : X → Type 0} {G : Y → Type 0} → Handlers X Y F G
-default_handlers = record { strategy = RetryUntilDelivered; backpressure = None; degradation = Fixed Warn }
+-- a send waits at a full mailbox
+abbrev pub waits : BackpressureInfo → BackpressureDecision → Type 0
+waits info decision = decision ≡ Retry
 
--- who decides for the publisher of a number
-abbrev pub handlers_of : {X Y : Type 0} {F : X → Type 0} {G : Y → Type 0} → ℕ → List (ℕ × Handlers X Y F G) → Handlers X Y F G
-handlers_of number handlers = or_else default_handlers (kept_under number handlers)
+-- what may be answered where a connection of a port failed: what may be by who is kept for it, and a warning where nobody is
+abbrev pub kept_degrades : {H : Type 0} → (H → DegradationCause → DegradationInfo → DegradationAction → Type 0) → Option H → DegradationInfo → DegradationAction → Type 0
+kept_degrades degrades None = passes_over FailedToEstablishConnection
+kept_degrades degrades (Some kept) = degrades kept FailedToEstablishConnection
 
--- who decides for the subscriber of a number
-abbrev pub handler_of : {X : Type 0} {F : X → Type 0} → ℕ → List (ℕ × DegradationHandler X F) → DegradationHandler X F
-handler_of number handlers = or_else (Fixed Warn) (kept_under number handlers)
+-- what may be decided where a mailbox is full: what may be by who is kept for the publisher, and the send waits where nobody is
+abbrev pub kept_decides : {H : Type 0} → (H → BackpressureInfo → BackpressureDecision → Type 0) → Option H → BackpressureInfo → BackpressureDecision → Type 0
+kept_decides decides None = waits
+kept_decides decides (Some kept) = decides kept

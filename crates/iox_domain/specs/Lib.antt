@@ -3,3 +3,6 @@ pub mod Handling
 pub mod Domains
 pub mod Publishing
 pub mod Subscribing
+pub mod AsHome
+pub mod HomeLaws
+pub mod Parts

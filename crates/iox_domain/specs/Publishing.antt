@@ -1,9 +1,8 @@
 -- A publisher comes, and leaves.
-use Rattle.std.specs.Prelude.{ℕ, ◌≡◌, Bool, true, false, List, Option, None, Some, Result, Ok, Err}
+use Rattle.std.specs.Prelude.{ℕ, ◌≡◌, Bool, true, false, List, Result, Ok, Err}
 use Rattle.iox_domain_values.specs.declared.create_error.PublisherCreateError.{PublisherCreateError}
 use Rattle.iox_domain_values.specs.declared.degradation.DegradationAction.{DegradationAction}
 use Rattle.iox_domain_values.specs.declared.degradation.DegradationInfo.{DegradationInfo}
-use Rattle.iox_domain_publisher.specs.declared.handlers.Handlers.{Handlers}
 use Rattle.iox_domain_ports.specs.Making.{slots_needed, publisher_place, publisher_refusal, CreatesPublisher}
 use Rattle.iox_domain_ports.specs.declared.making.PublisherConfig.{PublisherConfig}
 use Rattle.iox_domain.specs.Domains.{with_ports}
@@ -11,7 +10,7 @@ use Rattle.iox_domain.specs.Kept.{kept, forgotten}
 use Rattle.iox_domain.specs.declared.domain.Domain.{Domain}
 
 -- A publisher comes, and who decides for it is kept under its number, which comes next; a refusal is told for what the ports are, and nothing has changed.
-abbrev pub MakesPublisher : {T U X Y : Type 0} {F : X → Type 0} {G : Y → Type 0} → (ℕ → ℕ → Type 0) → (DegradationInfo → DegradationAction → Type 0) → PublisherConfig → U → Handlers X Y F G → Domain T U X Y F G → Result ℕ PublisherCreateError → Domain T U X Y F G → Type 0
+abbrev pub MakesPublisher : {T U B D : Type 0} → (ℕ → ℕ → Type 0) → (DegradationInfo → DegradationAction → Type 0) → PublisherConfig → U → B → Domain T U B D → Result ℕ PublisherCreateError → Domain T U B D → Type 0
 MakesPublisher overrides may config user_header handlers old (Err error) new =
     (error ≡ publisher_refusal (slots_needed config old.ports) (publisher_place old.ports)) × (new ≡ old)
 MakesPublisher overrides may config user_header handlers old (Ok number) new =

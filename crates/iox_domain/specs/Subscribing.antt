@@ -3,7 +3,6 @@ use Rattle.std.specs.Prelude.{ℕ, ◌≡◌, Result, Ok, Err}
 use Rattle.iox_domain_values.specs.declared.create_error.SubscriberCreateError.{SubscriberCreateError}
 use Rattle.iox_domain_values.specs.declared.degradation.DegradationAction.{DegradationAction}
 use Rattle.iox_domain_values.specs.declared.degradation.DegradationInfo.{DegradationInfo}
-use Rattle.iox_domain_values.specs.declared.degradation_handler.DegradationHandler.{DegradationHandler}
 use Rattle.iox_domain_values.specs.Sizes.{buffer_of}
 use Rattle.iox_domain_ports.specs.Making.{subscriber_place, subscriber_refusal, CreatesSubscriber}
 use Rattle.iox_domain_ports.specs.declared.making.SubscriberConfig.{SubscriberConfig}
@@ -12,7 +11,7 @@ use Rattle.iox_domain.specs.Kept.{kept}
 use Rattle.iox_domain.specs.declared.domain.Domain.{Domain}
 
 -- A subscriber comes, and who decides for it is kept under its number, which comes next; a refusal is told for what the ports are, and nothing has changed.
-abbrev pub MakesSubscriber : {T U X Y : Type 0} {F : X → Type 0} {G : Y → Type 0} → (DegradationInfo → DegradationAction → Type 0) → SubscriberConfig → DegradationHandler Y G → Domain T U X Y F G → Result ℕ SubscriberCreateError → Domain T U X Y F G → Type 0
+abbrev pub MakesSubscriber : {T U B D : Type 0} → (DegradationInfo → DegradationAction → Type 0) → SubscriberConfig → D → Domain T U B D → Result ℕ SubscriberCreateError → Domain T U B D → Type 0
 MakesSubscriber may config handler old (Err error) new =
     (error ≡ subscriber_refusal (buffer_of config.buffer_size old.ports.sizes) (subscriber_place old.ports)) × (new ≡ old)
 MakesSubscriber may config handler old (Ok number) new =

@@ -10,17 +10,17 @@ use iox_describe_settings::publish_subscribe::StaticConfig;
 use iox_describe_settings::{Description, Settings};
 use iox_domain_home::DomainId;
 use iox_domain_ports::ServicePorts;
-use iox_domain_publisher::Handlers;
 use iox_domain_settings::{fits, sizes_of};
-use iox_domain_values::{DegradationHandler, DomainError};
+use iox_domain_values::{DegradationHandler, DomainError, Handlers};
 use iox_queues_base::Words;
 use std::alloc::{AllocError, Global};
 
 /// One publish-subscribe service: its ports, and who decides for them.
 ///
-/// It is one owned value, which each call of a port is handed. Ported from what the ports of an `iceoryx2` service share.
+/// It is one owned value, which each call of a port is handed. Who decides is a type of its own for publishers and for subscribers, so that a
+/// domain has no `dyn` in it unless these have. Ported from what the ports of an `iceoryx2` service share.
 #[derive(Drop)]
-pub struct Domain<T, U> {
+pub struct Domain<T, U, B = Handlers, D = DegradationHandler> {
     /// Which domain it is.
     pub id: DomainId,
     /// What its nodes agreed on.
@@ -28,14 +28,14 @@ pub struct Domain<T, U> {
     /// The ports.
     pub ports: ServicePorts<T, U>,
     /// Who decides for each publisher that stands.
-    pub publisher_handlers: Kept<Handlers>,
+    pub publisher_handlers: Kept<B>,
     /// Who decides for each subscriber that stands.
-    pub subscriber_handlers: Kept<DegradationHandler>,
+    pub subscriber_handlers: Kept<D>,
     /// What fills a slot that was never written. It is never read.
     pub blank: T,
 }
 
-impl<T: Words + ZeroCopySend, U: Copy + ZeroCopySend> Domain<T, U> {
+impl<T: Words + ZeroCopySend, U: Copy + ZeroCopySend, B: Drop, D: Drop> Domain<T, U, B, D> {
     ghost use Rattle.iox_domain.specs.Domains.{IsNewDomain};
 
     /// Whether a domain over values of `T`, or slices of them, with user headers of `U` can be made by a description: it is that of a

@@ -3,7 +3,10 @@
 //! | Module | What it has |
 //! |---|---|
 //! | `domain` | a domain: which service it is of, its ports and their handlers |
+//! | `home` | a domain as the home of its own ports |
 //! | `kept` | what is kept for ports, by their numbers |
+//! | `nobody` | who decides where nobody is named |
+//! | `parts` | what a domain is made of |
 //! | `publishing` | a publisher comes, follows the subscribers, sends and leaves |
 //! | `subscribing` | a subscriber comes, follows the publishers, receives and leaves |
 //!
@@ -11,10 +14,15 @@
 #![tactic(auto)]
 
 pub mod domain;
+pub mod home;
 pub mod kept;
+pub mod nobody;
+pub mod parts;
 pub mod publishing;
 pub mod subscribing;
 
 pub use domain::Domain;
 pub use iox_domain_home::DomainId;
 pub use kept::Kept;
+pub use nobody::Nobody;
+pub use parts::DomainParts;

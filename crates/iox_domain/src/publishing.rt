@@ -1,44 +1,39 @@
 //! A publisher comes, follows the subscribers, sends and leaves.
 ghost use Rattle.std.specs.Prelude.{◌≡◌};
-ghost use Rattle.iox_domain_values.specs.OverrideAnswers as overriding_of;
-ghost use Rattle.iox_domain_values.specs.DegradationAnswers.{Allowed};
 ghost use Rattle.iox_domain_values.specs.declared.degradation.DegradationCause.TheVariants as cause;
-ghost use Rattle.iox_domain_publisher.specs.Answers.{MayDecide};
 ghost use Rattle.iox_domain_subscriber.specs.Publishers.{port_of};
 ghost use Rattle.iox_domain_ports.specs.Lending.{LoansOne};
 ghost use Rattle.iox_domain_ports.specs.Ports.{AtPublisher};
 ghost use Rattle.iox_domain_ports.specs.Publishing.{UpdatesOne, SendsOne, RetriesOne, LeavesAt};
 ghost use Rattle.iox_domain.specs.Domains.{with_ports};
-ghost use Rattle.iox_domain.specs.Handling.{handlers_of, default_handlers};
+ghost use Rattle.iox_domain.specs.Handling.{kept_degrades, kept_decides};
+ghost use Rattle.iox_domain.specs.Kept.{kept_under};
 ghost use Rattle.iox_domain.specs.Publishing.{MakesPublisher, kept_unless};
 
 use crate::domain::Domain;
+use crate::nobody::Nobody;
 use iox_domain_ports::PublisherConfig;
-use iox_domain_publisher::{Handlers, Sent};
-use iox_domain_values::backpressure_handler::BackpressureFn;
-use iox_domain_values::degradation_handler::DegradationFn;
-use iox_domain_values::samples_override::PreallocatedSamplesFn;
+use iox_domain_publisher::Sent;
 use iox_domain_values::{
-    BackpressureStrategy, ConnectionFailure, DegradationAction, DegradationHandler, LoanError,
-    PreallocatedSamplesOverride, PublisherCreateError, SendError,
+    ConnectionFailure, Decides, Degrades, LoanError, Overrides, PublisherCreateError, SendError,
 };
 use std::alloc::Global;
 
-impl<T: Copy, U: Copy> Domain<T, U> {
+impl<T: Copy, U: Copy, B: Decides + Degrades, D: Degrades> Domain<T, U, B, D> {
     /// A publisher comes, and its number is the answer: `ServicePorts::create_publisher` says what it gets, and when it is refused. Who
     /// decides for it is kept until it leaves; a loan has this user header at first.
     ///
     /// Ported from `iceoryx2::service::port_factory::publisher::PortFactoryPublisher::create`.
-    pub fn create_publisher(
+    pub fn create_publisher<O: Overrides>(
         &mut self,
         alloc: Global,
         config: PublisherConfig,
         user_header: U,
-        overriding: &PreallocatedSamplesOverride,
-        handlers: Handlers,
+        overriding: &O,
+        handlers: B,
     ) -> Result<u64, PublisherCreateError>
-        ensures { MakesPublisher (overriding_of.Allowed (λ object. (⟦<dyn PreallocatedSamplesFn as PreallocatedSamplesFn>⟧ object.vtable).allows object.value) overriding.now)
-            (Allowed (λ object. (⟦<dyn DegradationFn as DegradationFn>⟧ object.vtable).allows object.value) handlers.degradation cause.FailedToEstablishConnection)
+        ensures { MakesPublisher (O.overrides overriding.now)
+            (B.degrades handlers cause.FailedToEstablishConnection)
             config user_header handlers self.old result self.new }
     {
         let number = self.ports.next_port;
@@ -52,7 +47,7 @@ impl<T: Copy, U: Copy> Domain<T, U> {
                 self.blank,
                 user_header,
                 overriding,
-                &handlers.degradation,
+                handlers,
             ),
             None => unreachable!(),
         };
@@ -89,17 +84,17 @@ impl<T: Copy, U: Copy> Domain<T, U> {
         alloc: Global,
         number: u64,
     ) -> Option<Result<(), ConnectionFailure>>
-        ensures updates { AtPublisher number (UpdatesOne (Allowed (λ object. (⟦<dyn DegradationFn as DegradationFn>⟧ object.vtable).allows object.value) (handlers_of number self.old.publisher_handlers).degradation cause.FailedToEstablishConnection) self.old.ports.subscriber_list) (port_of number self.old.ports.publishers) self.old.ports result self.new.ports }
+        ensures updates { AtPublisher number (UpdatesOne (kept_degrades (λ kept. B.degrades kept) (kept_under number self.old.publisher_handlers)) self.old.ports.subscriber_list) (port_of number self.old.ports.publishers) self.old.ports result self.new.ports }
         ensures rest { self.new ≡ with_ports self.new.ports self.old }
     {
         match self.publisher_handlers.get(number) {
             Some(kept) => self
                 .ports
-                .update_publisher(alloc, number, &kept.degradation),
+                .update_publisher(alloc, number, kept),
             None => self.ports.update_publisher(
                 alloc,
                 number,
-                &DegradationHandler::Fixed(DegradationAction::Warn),
+                &Nobody,
             ),
         }
     }
@@ -113,12 +108,12 @@ impl<T: Copy, U: Copy> Domain<T, U> {
         number: u64,
         slot: usize,
     ) -> Option<Result<Sent, SendError>>
-        ensures sends { AtPublisher number (SendsOne (Allowed (λ object. (⟦<dyn DegradationFn as DegradationFn>⟧ object.vtable).allows object.value) (handlers_of number self.old.publisher_handlers).degradation cause.FailedToEstablishConnection) (MayDecide (λ object. (⟦<dyn BackpressureFn as BackpressureFn>⟧ object.vtable).allows object.value) (handlers_of number self.old.publisher_handlers).strategy (handlers_of number self.old.publisher_handlers).backpressure) self.old.ports.subscriber_list slot) (port_of number self.old.ports.publishers) self.old.ports result self.new.ports }
+        ensures sends { AtPublisher number (SendsOne (kept_degrades (λ kept. B.degrades kept) (kept_under number self.old.publisher_handlers)) (kept_decides (λ kept. B.decides kept) (kept_under number self.old.publisher_handlers)) self.old.ports.subscriber_list slot) (port_of number self.old.ports.publishers) self.old.ports result self.new.ports }
         ensures rest { self.new ≡ with_ports self.new.ports self.old }
     {
         match self.publisher_handlers.get(number) {
             Some(kept) => self.ports.send(alloc, number, slot, kept),
-            None => self.ports.send(alloc, number, slot, &default_handlers()),
+            None => self.ports.send(alloc, number, slot, &Nobody),
         }
     }
 
@@ -126,12 +121,12 @@ impl<T: Copy, U: Copy> Domain<T, U> {
     ///
     /// This port's own: `iceoryx2::port::publisher::Publisher::send` waits itself.
     pub fn retry(&mut self, number: u64, elapsed: u64) -> Option<Result<Sent, SendError>>
-        ensures retries { AtPublisher number (RetriesOne (MayDecide (λ object. (⟦<dyn BackpressureFn as BackpressureFn>⟧ object.vtable).allows object.value) (handlers_of number self.old.publisher_handlers).strategy (handlers_of number self.old.publisher_handlers).backpressure) elapsed) (port_of number self.old.ports.publishers) self.old.ports result self.new.ports }
+        ensures retries { AtPublisher number (RetriesOne (kept_decides (λ kept. B.decides kept) (kept_under number self.old.publisher_handlers)) elapsed) (port_of number self.old.ports.publishers) self.old.ports result self.new.ports }
         ensures rest { self.new ≡ with_ports self.new.ports self.old }
     {
         match self.publisher_handlers.get(number) {
             Some(kept) => self.ports.retry(number, elapsed, kept),
-            None => self.ports.retry(number, elapsed, &default_handlers()),
+            None => self.ports.retry(number, elapsed, &Nobody),
         }
     }
 
@@ -147,16 +142,5 @@ impl<T: Copy, U: Copy> Domain<T, U> {
             self.publisher_handlers.forget(number);
         }
         left
-    }
-}
-
-// Who decides for a publisher where nobody is named. Its variants are named here: to call what makes them would count as making an object.
-fn default_handlers() -> Handlers
-    ensures { result ≡ default_handlers }
-{
-    Handlers {
-        strategy: BackpressureStrategy::RetryUntilDelivered,
-        backpressure: None,
-        degradation: DegradationHandler::Fixed(DegradationAction::Warn),
     }
 }

@@ -1,25 +1,25 @@
 //! A subscriber comes, follows the publishers, receives and leaves.
 ghost use Rattle.std.specs.Prelude.{◌≡◌};
-ghost use Rattle.iox_domain_values.specs.DegradationAnswers.{Allowed};
 ghost use Rattle.iox_domain_values.specs.declared.degradation.DegradationCause.TheVariants as cause;
 ghost use Rattle.iox_domain_ports.specs.Ports.{AtSubscriber};
 ghost use Rattle.iox_domain_ports.specs.Subscribers.{subscriber_of};
 ghost use Rattle.iox_domain_ports.specs.Subscribing.{UpdatesOne, HasSamplesOne, ReceivesOne, LeavesAt};
 ghost use Rattle.iox_domain.specs.Domains.{with_ports};
-ghost use Rattle.iox_domain.specs.Handling.{handler_of};
+ghost use Rattle.iox_domain.specs.Handling.{kept_degrades};
+ghost use Rattle.iox_domain.specs.Kept.{kept_under};
 ghost use Rattle.iox_domain.specs.Publishing.{kept_unless};
 ghost use Rattle.iox_domain.specs.Subscribing.{MakesSubscriber};
 
 use crate::domain::Domain;
+use crate::nobody::Nobody;
 use iox_domain_ports::SubscriberConfig;
 use iox_domain_subscriber::Taken;
-use iox_domain_values::degradation_handler::DegradationFn;
 use iox_domain_values::{
-    ConnectionFailure, DegradationAction, DegradationHandler, ReceiveError, SubscriberCreateError,
+    ConnectionFailure, Decides, Degrades, ReceiveError, SubscriberCreateError,
 };
 use std::alloc::Global;
 
-impl<T: Copy, U: Copy> Domain<T, U> {
+impl<T: Copy, U: Copy, B: Decides + Degrades, D: Degrades> Domain<T, U, B, D> {
     /// A subscriber comes, and its number is the answer: `ServicePorts::create_subscriber` says what it gets, and when it is refused. Who
     /// decides for it is kept until it leaves.
     ///
@@ -28,9 +28,9 @@ impl<T: Copy, U: Copy> Domain<T, U> {
         &mut self,
         alloc: Global,
         config: SubscriberConfig,
-        handler: DegradationHandler,
+        handler: D,
     ) -> Result<u64, SubscriberCreateError>
-        ensures { MakesSubscriber (Allowed (λ object. (⟦<dyn DegradationFn as DegradationFn>⟧ object.vtable).allows object.value) handler cause.FailedToEstablishConnection)
+        ensures { MakesSubscriber (D.degrades handler cause.FailedToEstablishConnection)
             config handler self.old result self.new }
     {
         let number = self.ports.next_port;
@@ -58,7 +58,7 @@ impl<T: Copy, U: Copy> Domain<T, U> {
         alloc: Global,
         number: u64,
     ) -> Option<Result<(), ConnectionFailure>>
-        ensures updates { AtSubscriber number (UpdatesOne (Allowed (λ object. (⟦<dyn DegradationFn as DegradationFn>⟧ object.vtable).allows object.value) (handler_of number self.old.subscriber_handlers) cause.FailedToEstablishConnection) self.old.ports.publisher_list) (subscriber_of number self.old.ports.subscribers) self.old.ports result self.new.ports }
+        ensures updates { AtSubscriber number (UpdatesOne (kept_degrades (λ kept. D.degrades kept) (kept_under number self.old.subscriber_handlers)) self.old.ports.publisher_list) (subscriber_of number self.old.ports.subscribers) self.old.ports result self.new.ports }
         ensures rest { self.new ≡ with_ports self.new.ports self.old }
     {
         match self.subscriber_handlers.get(number) {
@@ -66,7 +66,7 @@ impl<T: Copy, U: Copy> Domain<T, U> {
             None => self.ports.update_subscriber(
                 alloc,
                 number,
-                &DegradationHandler::Fixed(DegradationAction::Warn),
+                &Nobody,
             ),
         }
     }
@@ -79,7 +79,7 @@ impl<T: Copy, U: Copy> Domain<T, U> {
         alloc: Global,
         number: u64,
     ) -> Option<Result<bool, ConnectionFailure>>
-        ensures has { AtSubscriber number (HasSamplesOne (Allowed (λ object. (⟦<dyn DegradationFn as DegradationFn>⟧ object.vtable).allows object.value) (handler_of number self.old.subscriber_handlers) cause.FailedToEstablishConnection) self.old.ports.publisher_list) (subscriber_of number self.old.ports.subscribers) self.old.ports result self.new.ports }
+        ensures has { AtSubscriber number (HasSamplesOne (kept_degrades (λ kept. D.degrades kept) (kept_under number self.old.subscriber_handlers)) self.old.ports.publisher_list) (subscriber_of number self.old.ports.subscribers) self.old.ports result self.new.ports }
         ensures rest { self.new ≡ with_ports self.new.ports self.old }
     {
         match self.subscriber_handlers.get(number) {
@@ -87,7 +87,7 @@ impl<T: Copy, U: Copy> Domain<T, U> {
             None => self.ports.has_samples(
                 alloc,
                 number,
-                &DegradationHandler::Fixed(DegradationAction::Warn),
+                &Nobody,
             ),
         }
     }
@@ -100,7 +100,7 @@ impl<T: Copy, U: Copy> Domain<T, U> {
         alloc: Global,
         number: u64,
     ) -> Option<Result<Option<Taken>, ReceiveError>>
-        ensures receives { AtSubscriber number (ReceivesOne (Allowed (λ object. (⟦<dyn DegradationFn as DegradationFn>⟧ object.vtable).allows object.value) (handler_of number self.old.subscriber_handlers) cause.FailedToEstablishConnection) self.old.ports.publisher_list) (subscriber_of number self.old.ports.subscribers) self.old.ports result self.new.ports }
+        ensures receives { AtSubscriber number (ReceivesOne (kept_degrades (λ kept. D.degrades kept) (kept_under number self.old.subscriber_handlers)) self.old.ports.publisher_list) (subscriber_of number self.old.ports.subscribers) self.old.ports result self.new.ports }
         ensures rest { self.new ≡ with_ports self.new.ports self.old }
     {
         match self.subscriber_handlers.get(number) {
@@ -108,7 +108,7 @@ impl<T: Copy, U: Copy> Domain<T, U> {
             None => self.ports.receive(
                 alloc,
                 number,
-                &DegradationHandler::Fixed(DegradationAction::Warn),
+                &Nobody,
             ),
         }
     }

@@ -1,8 +1,11 @@
 -- What each call of a port does to the ports of its service, by the port's number.
-use Rattle.std.specs.Prelude.{ℕ, Bool, Option, Result}
+use Rattle.std.specs.Prelude.{ℕ, Bool, Option, Result, Ok}
 use Rattle.iox_domain_values.specs.declared.backpressure.BackpressureDecision.{BackpressureDecision}
 use Rattle.iox_domain_values.specs.declared.backpressure.BackpressureInfo.{BackpressureInfo}
+use Rattle.iox_domain_values.specs.Sizes.{buffer_of}
 use Rattle.iox_domain_values.specs.declared.connection_failure.ConnectionFailure.{ConnectionFailure}
+use Rattle.iox_domain_values.specs.declared.create_error.PublisherCreateError.{PublisherCreateError}
+use Rattle.iox_domain_values.specs.declared.create_error.SubscriberCreateError.{SubscriberCreateError}
 use Rattle.iox_domain_values.specs.declared.degradation.DegradationAction.{DegradationAction}
 use Rattle.iox_domain_values.specs.declared.degradation.DegradationInfo.{DegradationInfo}
 use Rattle.iox_domain_values.specs.declared.port_error.LoanError.{LoanError}
@@ -12,10 +15,13 @@ use Rattle.iox_domain_publisher.specs.declared.meeting.Sent.{Sent}
 use Rattle.iox_domain_subscriber.specs.Publishers.{port_of}
 use Rattle.iox_domain_subscriber.specs.declared.attached.Taken.{Taken}
 use Rattle.iox_domain_ports.specs.Lending.{LoansOne}
+use Rattle.iox_domain_ports.specs.Making.{slots_needed, publisher_place, publisher_refusal, CreatesPublisher, subscriber_place, subscriber_refusal, CreatesSubscriber}
 use Rattle.iox_domain_ports.specs.Ports.{AtPublisher, AtSubscriber}
 use Rattle.iox_domain_ports.specs.Publishing as publishing
 use Rattle.iox_domain_ports.specs.Subscribers.{subscriber_of}
 use Rattle.iox_domain_ports.specs.Subscribing as subscribing
+use Rattle.iox_domain_ports.specs.declared.making.PublisherConfig.{PublisherConfig}
+use Rattle.iox_domain_ports.specs.declared.making.SubscriberConfig.{SubscriberConfig}
 use Rattle.iox_domain_ports.specs.declared.service_ports.ServicePorts.{ServicePorts}
 
 -- The publisher of a number lends a slot for so many values and elements.
@@ -57,3 +63,19 @@ ReceivesBy may number old answer new = AtSubscriber number (subscribing.Receives
 -- The subscriber of a number leaves.
 abbrev pub SubscriberLeaves : {T U : Type 0} → ℕ → ServicePorts T U → Bool → ServicePorts T U → Type 0
 SubscriberLeaves number old answer new = subscribing.LeavesAt number (subscriber_of number old.subscribers) old answer new
+
+-- A publisher comes, under this number.
+abbrev pub PublisherComes : {T U : Type 0} → (ℕ → ℕ → Type 0) → (DegradationInfo → DegradationAction → Type 0) → PublisherConfig → U → ServicePorts T U → ℕ → ServicePorts T U → Type 0
+PublisherComes overrides may config user_header old number new = CreatesPublisher overrides may config user_header (slots_needed config old) (publisher_place old) old (Ok number) new
+
+-- Why a publisher doesn't come.
+abbrev pub why_no_publisher : {T U : Type 0} → PublisherConfig → ServicePorts T U → PublisherCreateError
+why_no_publisher config ports = publisher_refusal (slots_needed config ports) (publisher_place ports)
+
+-- A subscriber comes, under this number.
+abbrev pub SubscriberComes : {T U : Type 0} → (DegradationInfo → DegradationAction → Type 0) → SubscriberConfig → ServicePorts T U → ℕ → ServicePorts T U → Type 0
+SubscriberComes may config old number new = CreatesSubscriber may config.owner (buffer_of config.buffer_size old.sizes) (subscriber_place old) old (Ok number) new
+
+-- Why a subscriber doesn't come.
+abbrev pub why_no_subscriber : {T U : Type 0} → SubscriberConfig → ServicePorts T U → SubscriberCreateError
+why_no_subscriber config ports = subscriber_refusal (buffer_of config.buffer_size ports.sizes) (subscriber_place ports)

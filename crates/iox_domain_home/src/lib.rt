@@ -2,10 +2,13 @@
 //!
 //! - [`domain_id`]: which domain it is.
 //! - [`home`]: what holds domains, and lends the ports of one by its id.
+//! - [`makes_ports`]: a home in which ports are made.
 #![tactic(auto)]
 
 pub mod domain_id;
 pub mod home;
+pub mod makes_ports;
 
 pub use domain_id::DomainId;
 pub use home::Home;
+pub use makes_ports::MakesPorts;

@@ -1,10 +1,10 @@
 //! Whole conversations between the ports of a service, call by call.
 use iox_domain_ports::{PublisherConfig, ServicePorts, SubscriberConfig};
-use iox_domain_publisher::{Handlers, Sent};
+use iox_domain_publisher::Sent;
 use iox_domain_subscriber::Taken;
 use iox_domain_values::{
     AllocationStrategy, BackpressureStrategy, ConnectionFailure, DegradationAction,
-    DegradationHandler, LoanError, PortOwner, PreallocatedSamplesOverride, PublisherCreateError,
+    DegradationHandler, Handlers, LoanError, PortOwner, PreallocatedSamplesOverride, PublisherCreateError,
     ReceiveError, SendError, ServiceSizes, SubscriberCreateError, ZeroCopyCreationError,
 };
 use std::alloc::{AllocError, Global};

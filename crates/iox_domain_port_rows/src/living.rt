@@ -1,10 +1,10 @@
 //! What lives, by owner, and what lies in a loan.
 use iox_describe_base::Header;
 use iox_domain_ports::{PublisherConfig, ServicePorts, SubscriberConfig};
-use iox_domain_publisher::{Handlers, Sent};
+use iox_domain_publisher::Sent;
 use iox_domain_subscriber::Taken;
 use iox_domain_values::{
-    AllocationStrategy, BackpressureStrategy, DegradationHandler, PortOwner,
+    AllocationStrategy, BackpressureStrategy, DegradationHandler, Handlers, PortOwner,
     PreallocatedSamplesOverride, ServiceSizes,
 };
 use std::alloc::{AllocError, Global};

@@ -1,9 +1,9 @@
 //! Slices, and ports that come and go.
 use iox_domain_ports::{PublisherConfig, ServicePorts, SubscriberConfig};
-use iox_domain_publisher::{Handlers, Sent};
+use iox_domain_publisher::Sent;
 use iox_domain_subscriber::Taken;
 use iox_domain_values::{
-    AllocationStrategy, BackpressureStrategy, DegradationHandler, LoanError, PortOwner,
+    AllocationStrategy, BackpressureStrategy, DegradationHandler, Handlers, LoanError, PortOwner,
     PreallocatedSamplesOverride, PublisherCreateError, ServiceSizes,
 };
 use std::alloc::{AllocError, Global};

@@ -9,8 +9,3 @@ pub mod Lending
 pub mod LendingLends
 pub mod Reading
 pub mod Living
-pub mod LivingLaws
-pub mod LivingSteps
-pub mod NumberLaws
-pub mod Calls
-pub mod Laws

@@ -9,15 +9,11 @@
 //! - [`subscribing`]: a subscriber follows the publishers, receives, releases and leaves.
 //! - [`reading`]: what is read of a sample.
 //! - [`living`]: how much lives.
-//! - [`numbering`]: each number is given to one port.
-//! - [`laws`]: what the calls come to, in other words.
 #![tactic(auto)]
 
-pub mod laws;
 pub mod lending;
 pub mod living;
 pub mod making;
-pub mod numbering;
 pub mod publishing;
 pub mod reading;
 pub mod roll;

@@ -1,20 +1,9 @@
 //! How many ports, loans and samples live.
 ghost use Rattle.std.specs.Prelude.{◌≡◌, ◌-◌, ◌^◌, min, None, Some};
-ghost use Rattle.iox_domain_values.specs.OverrideAnswers as overriding_of;
-ghost use Rattle.iox_domain_values.specs.DegradationAnswers.{Allowed};
-ghost use Rattle.iox_domain_values.specs.declared.degradation.DegradationCause.TheVariants as cause;
-ghost use Rattle.iox_domain_publisher.specs.Answers.{MayDecide};
 ghost use Rattle.iox_domain_ports.specs.Living.{living};
-ghost use Rattle.iox_domain_ports.specs.LivingLaws.{LivingTells};
-ghost use Rattle.iox_domain_ports.specs.LivingSteps.{PublisherSteps, SubscriberSteps, CreatingSteps};
 
 use crate::service_ports::ServicePorts;
-use iox_domain_publisher::Handlers;
 use iox_domain_subscriber::living::add;
-use iox_domain_values::backpressure_handler::BackpressureFn;
-use iox_domain_values::degradation_handler::DegradationFn;
-use iox_domain_values::samples_override::PreallocatedSamplesFn;
-use iox_domain_values::{DegradationHandler, PreallocatedSamplesOverride};
 
 impl<T: Copy, U: Copy> ServicePorts<T, U> {
     /// How much of an owner lives: each of its ports until it leaves, each loan of its publishers until it is given up or sent, also of
@@ -47,30 +36,3 @@ impl<T: Copy, U: Copy> ServicePorts<T, U> {
         )
     }
 }
-
-/// None live in a new service; none live in all exactly if no port stands, no loan is out, no send waits and no sample is held; and of an
-/// owner at most as many live as in all. It stands on a function that does nothing.
-pub fn living_tells<T, U>()
-    ensures { LivingTells T U }
-{}
-
-/// What each call at a publisher adds to what lives of its owner, and takes from it, whatever the handlers would answer. It stands on a
-/// function that does nothing.
-pub fn publisher_steps<T, U>(_handlers: &Handlers)
-    ensures { PublisherSteps T U (Allowed (λ object. (⟦<dyn DegradationFn as DegradationFn>⟧ object.vtable).allows object.value) _handlers.now.degradation cause.FailedToEstablishConnection) (MayDecide (λ object. (⟦<dyn BackpressureFn as BackpressureFn>⟧ object.vtable).allows object.value) _handlers.now.strategy _handlers.now.backpressure) }
-{}
-
-/// What each call at a subscriber adds to what lives of its owner, and takes from it, whatever the handler would answer. It stands on a
-/// function that does nothing.
-pub fn subscriber_steps<T, U>(_handler: &DegradationHandler)
-    ensures { SubscriberSteps T U (Allowed (λ object. (⟦<dyn DegradationFn as DegradationFn>⟧ object.vtable).allows object.value) _handler.now cause.FailedToEstablishConnection) }
-{}
-
-/// A port that comes, under a number that is new, is one more of its owner. It stands on a function that does nothing.
-pub fn creating_steps<T, U>(
-    _overriding: &PreallocatedSamplesOverride,
-    _handler: &DegradationHandler,
-)
-    ensures { CreatingSteps T U (overriding_of.Allowed (λ object. (⟦<dyn PreallocatedSamplesFn as PreallocatedSamplesFn>⟧ object.vtable).allows object.value) _overriding.now)
-        (Allowed (λ object. (⟦<dyn DegradationFn as DegradationFn>⟧ object.vtable).allows object.value) _handler.now cause.FailedToEstablishConnection) }
-{}

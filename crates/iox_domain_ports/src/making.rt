@@ -1,7 +1,5 @@
 //! A publisher and a subscriber come.
 ghost use Rattle.std.specs.Prelude.{◌≡◌, ◌+◌, ◌<◌, ◌^◌, Some, IfSome};
-ghost use Rattle.iox_domain_values.specs.OverrideAnswers as overriding_of;
-ghost use Rattle.iox_domain_values.specs.DegradationAnswers.{Allowed};
 ghost use Rattle.iox_domain_values.specs.declared.degradation.DegradationCause.TheVariants as cause;
 ghost use Rattle.iox_domain_values.specs.Sizes.{buffer_of};
 ghost use Rattle.iox_domain_ports.specs.Subscribers.{subscriber_of};
@@ -11,11 +9,9 @@ use crate::service_ports::ServicePorts;
 use iox_domain_publisher::{PublisherPort, SubscriberEntry};
 use iox_domain_sender::SenderConfig;
 use iox_domain_subscriber::{PublisherEntry, SubscriberPort};
-use iox_domain_values::degradation_handler::DegradationFn;
-use iox_domain_values::samples_override::PreallocatedSamplesFn;
 use iox_domain_values::{
-    AllocationStrategy, DegradationHandler, PortIdentity, PortOwner, PreallocatedSamplesOverride,
-    PublisherCreateError, SubscriberCreateError,
+    AllocationStrategy, Degrades, Overrides, PortIdentity, PortOwner,
+    PublisherCreateError, SubscriberCreateError, number_of_places,
 };
 use std::alloc::{AllocError, Global};
 
@@ -51,17 +47,17 @@ impl<T: Copy, U: Copy> ServicePorts<T, U> {
     /// nothing has changed.
     ///
     /// Ported from `iceoryx2::service::port_factory::publisher::PortFactoryPublisher::create`.
-    pub fn create_publisher(
+    pub fn create_publisher<O: Overrides, D: Degrades>(
         &mut self,
         alloc: Global,
         config: PublisherConfig,
         blank: T,
         user_header: U,
-        overriding: &PreallocatedSamplesOverride,
-        handler: &DegradationHandler,
+        overriding: &O,
+        handler: &D,
     ) -> Result<u64, PublisherCreateError>
-        ensures { CreatesPublisher (overriding_of.Allowed (λ object. (⟦<dyn PreallocatedSamplesFn as PreallocatedSamplesFn>⟧ object.vtable).allows object.value) overriding.now)
-            (Allowed (λ object. (⟦<dyn DegradationFn as DegradationFn>⟧ object.vtable).allows object.value) handler.now cause.FailedToEstablishConnection)
+        ensures { CreatesPublisher (O.overrides overriding.now)
+            (D.degrades handler.now cause.FailedToEstablishConnection)
             config user_header (slots_needed config self.old) (publisher_place self.old) self.old result self.new }
     {
         let Some(needed) = self.slots_needed(&config) else {
@@ -70,7 +66,7 @@ impl<T: Copy, U: Copy> ServicePorts<T, U> {
         let Some(place) = self.publisher_place() else {
             return Err(PublisherCreateError::ExceedsMaxSupportedPublishers);
         };
-        let slots = overriding.number_of_places(needed.max(1));
+        let slots = number_of_places(overriding, needed.max(1));
         match self.add_publisher(alloc, config, place, slots, blank, user_header, handler) {
             Ok(number) => Ok(number),
             Err(_) => Err(PublisherCreateError::UnableToCreateDataSegment),
@@ -111,7 +107,7 @@ impl<T: Copy, U: Copy> ServicePorts<T, U> {
     }
 
     // A publisher comes at the place that is free.
-    fn add_publisher(
+    fn add_publisher<D: Degrades>(
         &mut self,
         alloc: Global,
         config: PublisherConfig,
@@ -119,12 +115,12 @@ impl<T: Copy, U: Copy> ServicePorts<T, U> {
         slots: usize,
         blank: T,
         user_header: U,
-        handler: &DegradationHandler,
+        handler: &D,
     ) -> Result<u64, AllocError>
         requires loans { config.max_loaned_samples < 2 ^ 32 }
         requires place { publisher_place self.old ≡ Some place }
         requires number { self.old.next_port + 1 < 2 ^ 64 }
-        ensures { AddsPublisher (Allowed (λ object. (⟦<dyn DegradationFn as DegradationFn>⟧ object.vtable).allows object.value) handler.now cause.FailedToEstablishConnection)
+        ensures { AddsPublisher (D.degrades handler.now cause.FailedToEstablishConnection)
             config user_header place slots self.old result self.new }
     {
         let number = self.next_port;
@@ -187,13 +183,13 @@ impl<T: Copy, U: Copy> ServicePorts<T, U> {
     /// `ExceedsMaxSupportedSubscribers` if no place is free; else with `OutOfMemory` where memory is wanting. Then nothing has changed.
     ///
     /// Ported from `iceoryx2::service::port_factory::subscriber::PortFactorySubscriber::create`.
-    pub fn create_subscriber(
+    pub fn create_subscriber<D: Degrades>(
         &mut self,
         alloc: Global,
         config: SubscriberConfig,
-        handler: &DegradationHandler,
+        handler: &D,
     ) -> Result<u64, SubscriberCreateError>
-        ensures { CreatesSubscriber (Allowed (λ object. (⟦<dyn DegradationFn as DegradationFn>⟧ object.vtable).allows object.value) handler.now cause.FailedToEstablishConnection)
+        ensures { CreatesSubscriber (D.degrades handler.now cause.FailedToEstablishConnection)
             config.owner (buffer_of config.buffer_size self.old.sizes) (subscriber_place self.old) self.old result self.new }
     {
         let buffer_size = self.sizes.buffer_size(config.buffer_size)?;
@@ -230,17 +226,17 @@ impl<T: Copy, U: Copy> ServicePorts<T, U> {
     }
 
     // A subscriber comes at the place that is free.
-    fn add_subscriber(
+    fn add_subscriber<D: Degrades>(
         &mut self,
         alloc: Global,
         owner: PortOwner,
         place: usize,
         buffer_size: usize,
-        handler: &DegradationHandler,
+        handler: &D,
     ) -> Result<u64, AllocError>
         requires place { subscriber_place self.old ≡ Some place }
         requires number { self.old.next_port + 1 < 2 ^ 64 }
-        ensures { AddsSubscriber (Allowed (λ object. (⟦<dyn DegradationFn as DegradationFn>⟧ object.vtable).allows object.value) handler.now cause.FailedToEstablishConnection)
+        ensures { AddsSubscriber (D.degrades handler.now cause.FailedToEstablishConnection)
             owner place buffer_size self.old result self.new }
     {
         let number = self.next_port;
@@ -263,8 +259,8 @@ impl<T: Copy, U: Copy> ServicePorts<T, U> {
     }
 
     // A subscriber follows the list of publishers for the first time. It comes also where it isn't connected.
-    fn follow_first(&mut self, alloc: Global, number: u64, handler: &DegradationHandler)
-        ensures { FollowsFirst (Allowed (λ object. (⟦<dyn DegradationFn as DegradationFn>⟧ object.vtable).allows object.value) handler.now cause.FailedToEstablishConnection)
+    fn follow_first<D: Degrades>(&mut self, alloc: Global, number: u64, handler: &D)
+        ensures { FollowsFirst (D.degrades handler.now cause.FailedToEstablishConnection)
             number (subscriber_of number self.old.subscribers) self.old self.new }
     {
         let Some(port) = self.subscribers.get_mut(number) else {

@@ -1,18 +1,14 @@
 //! A publisher follows the subscribers, sends and leaves.
 ghost use Rattle.std.specs.Prelude.{◌≡◌, None};
-ghost use Rattle.iox_domain_values.specs.DegradationAnswers.{Allowed};
 ghost use Rattle.iox_domain_values.specs.declared.degradation.DegradationCause.TheVariants as cause;
-ghost use Rattle.iox_domain_publisher.specs.Answers.{MayDecide};
 ghost use Rattle.iox_domain_subscriber.specs.Publishers.{port_of};
 ghost use Rattle.iox_domain_ports.specs.Ports.{AtPublisher};
 ghost use Rattle.iox_domain_ports.specs.Publishing.{UpdatesOne, SendsOne, RetriesOne, GivesUpOne, LeavesOne, LeavesAt};
 
 use crate::roll::Roll;
 use crate::service_ports::ServicePorts;
-use iox_domain_publisher::{Handlers, PublisherPort, Sent, SubscriberEntry};
-use iox_domain_values::backpressure_handler::BackpressureFn;
-use iox_domain_values::degradation_handler::DegradationFn;
-use iox_domain_values::{ConnectionFailure, DegradationHandler, SendError};
+use iox_domain_publisher::{PublisherPort, Sent, SubscriberEntry};
+use iox_domain_values::{ConnectionFailure, Decides, Degrades, SendError};
 use std::alloc::Global;
 
 impl<T: Copy, U: Copy> ServicePorts<T, U> {
@@ -20,13 +16,13 @@ impl<T: Copy, U: Copy> ServicePorts<T, U> {
     /// happens, where the number is none of a publisher that stands, and while a send of it waits.
     ///
     /// Ported from `iceoryx2::port::publisher::Publisher::update_connections`.
-    pub fn update_publisher(
+    pub fn update_publisher<D: Degrades>(
         &mut self,
         alloc: Global,
         number: u64,
-        handler: &DegradationHandler,
+        handler: &D,
     ) -> Option<Result<(), ConnectionFailure>>
-        ensures { AtPublisher number (UpdatesOne (Allowed (λ object. (⟦<dyn DegradationFn as DegradationFn>⟧ object.vtable).allows object.value) handler.now cause.FailedToEstablishConnection) self.old.subscriber_list) (port_of number self.old.publishers) self.old result self.new }
+        ensures { AtPublisher number (UpdatesOne (D.degrades handler.now cause.FailedToEstablishConnection) self.old.subscriber_list) (port_of number self.old.publishers) self.old result self.new }
     {
         let port = self.publishers.get_mut(number)?;
         let outcome = update_one(port, alloc, &self.subscriber_list, handler)?;
@@ -38,14 +34,14 @@ impl<T: Copy, U: Copy> ServicePorts<T, U> {
     /// where the number is none of a publisher, no written loan of it stands in the slot, or another send of it waits.
     ///
     /// Ported from `iceoryx2::sample_mut::SampleMut::send`.
-    pub fn send(
+    pub fn send<B: Decides + Degrades>(
         &mut self,
         alloc: Global,
         number: u64,
         slot: usize,
-        handlers: &Handlers,
+        handlers: &B,
     ) -> Option<Result<Sent, SendError>>
-        ensures { AtPublisher number (SendsOne (Allowed (λ object. (⟦<dyn DegradationFn as DegradationFn>⟧ object.vtable).allows object.value) handlers.now.degradation cause.FailedToEstablishConnection) (MayDecide (λ object. (⟦<dyn BackpressureFn as BackpressureFn>⟧ object.vtable).allows object.value) handlers.now.strategy handlers.now.backpressure) self.old.subscriber_list slot) (port_of number self.old.publishers) self.old result self.new }
+        ensures { AtPublisher number (SendsOne (B.degrades handlers.now cause.FailedToEstablishConnection) (B.decides handlers.now) self.old.subscriber_list slot) (port_of number self.old.publishers) self.old result self.new }
     {
         let port = self.publishers.get_mut(number)?;
         let outcome = send_one(port, alloc, slot, &self.subscriber_list, handlers)?;
@@ -57,13 +53,13 @@ impl<T: Copy, U: Copy> ServicePorts<T, U> {
     /// and nothing happens, where the number is none of a publisher, and where no send of it waits.
     ///
     /// This port's own: `iceoryx2::port::publisher::Publisher::send` waits itself.
-    pub fn retry(
+    pub fn retry<B: Decides>(
         &mut self,
         number: u64,
         elapsed: u64,
-        handlers: &Handlers,
+        handlers: &B,
     ) -> Option<Result<Sent, SendError>>
-        ensures { AtPublisher number (RetriesOne (MayDecide (λ object. (⟦<dyn BackpressureFn as BackpressureFn>⟧ object.vtable).allows object.value) handlers.now.strategy handlers.now.backpressure) elapsed) (port_of number self.old.publishers) self.old result self.new }
+        ensures { AtPublisher number (RetriesOne (B.decides handlers.now) elapsed) (port_of number self.old.publishers) self.old result self.new }
     {
         let port = self.publishers.get_mut(number)?;
         let outcome = retry_one(port, elapsed, handlers)?;
@@ -105,13 +101,13 @@ impl<T: Copy, U: Copy> ServicePorts<T, U> {
 }
 
 // A publisher follows the list of subscribers.
-fn update_one<T: Copy, U: Copy>(
+fn update_one<T: Copy, U: Copy, D: Degrades>(
     port: &mut PublisherPort<T, U>,
     alloc: Global,
     list: &Roll<SubscriberEntry>,
-    handler: &DegradationHandler,
+    handler: &D,
 ) -> Option<Result<(), ConnectionFailure>>
-    ensures updates { UpdatesOne (Allowed (λ object. (⟦<dyn DegradationFn as DegradationFn>⟧ object.vtable).allows object.value) handler.now cause.FailedToEstablishConnection) list.now port.old result port.new }
+    ensures updates { UpdatesOne (D.degrades handler.now cause.FailedToEstablishConnection) list.now port.old result port.new }
     ensures none { result ≡ None → port.new ≡ port.old }
 {
     if !port.stands || port.sender.is_sending() {
@@ -121,26 +117,26 @@ fn update_one<T: Copy, U: Copy>(
 }
 
 // A publisher sends the loan in a slot.
-fn send_one<T: Copy, U: Copy>(
+fn send_one<T: Copy, U: Copy, B: Decides + Degrades>(
     port: &mut PublisherPort<T, U>,
     alloc: Global,
     slot: usize,
     list: &Roll<SubscriberEntry>,
-    handlers: &Handlers,
+    handlers: &B,
 ) -> Option<Result<Sent, SendError>>
-    ensures sends { SendsOne (Allowed (λ object. (⟦<dyn DegradationFn as DegradationFn>⟧ object.vtable).allows object.value) handlers.now.degradation cause.FailedToEstablishConnection) (MayDecide (λ object. (⟦<dyn BackpressureFn as BackpressureFn>⟧ object.vtable).allows object.value) handlers.now.strategy handlers.now.backpressure) list.now slot port.old result port.new }
+    ensures sends { SendsOne (B.degrades handlers.now cause.FailedToEstablishConnection) (B.decides handlers.now) list.now slot port.old result port.new }
     ensures none { result ≡ None → port.new ≡ port.old }
 {
     port.send(alloc, slot, list.listed(), list.changes(), handlers)
 }
 
 // A publisher tries its send again, if one waits.
-fn retry_one<T: Copy, U: Copy>(
+fn retry_one<T: Copy, U: Copy, B: Decides>(
     port: &mut PublisherPort<T, U>,
     elapsed: u64,
-    handlers: &Handlers,
+    handlers: &B,
 ) -> Option<Result<Sent, SendError>>
-    ensures retries { RetriesOne (MayDecide (λ object. (⟦<dyn BackpressureFn as BackpressureFn>⟧ object.vtable).allows object.value) handlers.now.strategy handlers.now.backpressure) elapsed port.old result port.new }
+    ensures retries { RetriesOne (B.decides handlers.now) elapsed port.old result port.new }
     ensures none { result ≡ None → port.new ≡ port.old }
 {
     if !port.sender.is_sending() {

@@ -1,6 +1,5 @@
 //! A subscriber follows the publishers, receives, releases and leaves.
 ghost use Rattle.std.specs.Prelude.{◌≡◌, None};
-ghost use Rattle.iox_domain_values.specs.DegradationAnswers.{Allowed};
 ghost use Rattle.iox_domain_values.specs.declared.degradation.DegradationCause.TheVariants as cause;
 ghost use Rattle.iox_domain_ports.specs.Ports.{AtSubscriber};
 ghost use Rattle.iox_domain_ports.specs.Subscribers.{subscriber_of};
@@ -9,8 +8,7 @@ ghost use Rattle.iox_domain_ports.specs.Subscribing.{UpdatesOne, HasSamplesOne, 
 use crate::roll::Roll;
 use crate::service_ports::ServicePorts;
 use iox_domain_subscriber::{PublisherEntry, Publishers, SubscriberPort, Taken};
-use iox_domain_values::degradation_handler::DegradationFn;
-use iox_domain_values::{ConnectionFailure, DegradationHandler, ReceiveError};
+use iox_domain_values::{ConnectionFailure, Degrades, ReceiveError};
 use std::alloc::Global;
 
 impl<T: Copy, U: Copy> ServicePorts<T, U> {
@@ -18,13 +16,13 @@ impl<T: Copy, U: Copy> ServicePorts<T, U> {
     /// happens, where the number is none of a subscriber that stands.
     ///
     /// Ported from `iceoryx2::port::subscriber::Subscriber::update_connections`.
-    pub fn update_subscriber(
+    pub fn update_subscriber<D: Degrades>(
         &mut self,
         alloc: Global,
         number: u64,
-        handler: &DegradationHandler,
+        handler: &D,
     ) -> Option<Result<(), ConnectionFailure>>
-        ensures { AtSubscriber number (UpdatesOne (Allowed (λ object. (⟦<dyn DegradationFn as DegradationFn>⟧ object.vtable).allows object.value) handler.now cause.FailedToEstablishConnection) self.old.publisher_list) (subscriber_of number self.old.subscribers) self.old result self.new }
+        ensures { AtSubscriber number (UpdatesOne (D.degrades handler.now cause.FailedToEstablishConnection) self.old.publisher_list) (subscriber_of number self.old.subscribers) self.old result self.new }
     {
         let port = self.subscribers.get_mut(number)?;
         update_one(
@@ -40,13 +38,13 @@ impl<T: Copy, U: Copy> ServicePorts<T, U> {
     /// when it fails. None, and nothing happens, where the number is none of a subscriber that stands.
     ///
     /// Ported from `iceoryx2::port::subscriber::Subscriber::has_samples`.
-    pub fn has_samples(
+    pub fn has_samples<D: Degrades>(
         &mut self,
         alloc: Global,
         number: u64,
-        handler: &DegradationHandler,
+        handler: &D,
     ) -> Option<Result<bool, ConnectionFailure>>
-        ensures { AtSubscriber number (HasSamplesOne (Allowed (λ object. (⟦<dyn DegradationFn as DegradationFn>⟧ object.vtable).allows object.value) handler.now cause.FailedToEstablishConnection) self.old.publisher_list) (subscriber_of number self.old.subscribers) self.old result self.new }
+        ensures { AtSubscriber number (HasSamplesOne (D.degrades handler.now cause.FailedToEstablishConnection) self.old.publisher_list) (subscriber_of number self.old.subscribers) self.old result self.new }
     {
         let port = self.subscribers.get_mut(number)?;
         has_samples_one(
@@ -62,13 +60,13 @@ impl<T: Copy, U: Copy> ServicePorts<T, U> {
     /// until it is released. None, and nothing happens, where the number is none of a subscriber that stands.
     ///
     /// Ported from `iceoryx2::port::subscriber::Subscriber::receive`.
-    pub fn receive(
+    pub fn receive<D: Degrades>(
         &mut self,
         alloc: Global,
         number: u64,
-        handler: &DegradationHandler,
+        handler: &D,
     ) -> Option<Result<Option<Taken>, ReceiveError>>
-        ensures { AtSubscriber number (ReceivesOne (Allowed (λ object. (⟦<dyn DegradationFn as DegradationFn>⟧ object.vtable).allows object.value) handler.now cause.FailedToEstablishConnection) self.old.publisher_list) (subscriber_of number self.old.subscribers) self.old result self.new }
+        ensures { AtSubscriber number (ReceivesOne (D.degrades handler.now cause.FailedToEstablishConnection) self.old.publisher_list) (subscriber_of number self.old.subscribers) self.old result self.new }
     {
         let port = self.subscribers.get_mut(number)?;
         receive_one(
@@ -132,14 +130,14 @@ impl<T: Copy, U: Copy> ServicePorts<T, U> {
 }
 
 // A subscriber follows the list of publishers.
-fn update_one<T: Copy, U: Copy>(
+fn update_one<T: Copy, U: Copy, D: Degrades>(
     port: &mut SubscriberPort,
     alloc: Global,
     list: &Roll<PublisherEntry>,
-    handler: &DegradationHandler,
+    handler: &D,
     publishers: &mut Publishers<T, U>,
 ) -> Option<Result<(), ConnectionFailure>>
-    ensures updates { UpdatesOne (Allowed (λ object. (⟦<dyn DegradationFn as DegradationFn>⟧ object.vtable).allows object.value) handler.now cause.FailedToEstablishConnection) list.now port.old publishers.old result port.new publishers.new }
+    ensures updates { UpdatesOne (D.degrades handler.now cause.FailedToEstablishConnection) list.now port.old publishers.old result port.new publishers.new }
     ensures port_stays { result ≡ None → port.new ≡ port.old }
     ensures publishers_stay { result ≡ None → publishers.new ≡ publishers.old }
 {
@@ -150,14 +148,14 @@ fn update_one<T: Copy, U: Copy>(
 }
 
 // Whether some connection of a subscriber has data.
-fn has_samples_one<T: Copy, U: Copy>(
+fn has_samples_one<T: Copy, U: Copy, D: Degrades>(
     port: &mut SubscriberPort,
     alloc: Global,
     list: &Roll<PublisherEntry>,
-    handler: &DegradationHandler,
+    handler: &D,
     publishers: &mut Publishers<T, U>,
 ) -> Option<Result<bool, ConnectionFailure>>
-    ensures has { HasSamplesOne (Allowed (λ object. (⟦<dyn DegradationFn as DegradationFn>⟧ object.vtable).allows object.value) handler.now cause.FailedToEstablishConnection) list.now port.old publishers.old result port.new publishers.new }
+    ensures has { HasSamplesOne (D.degrades handler.now cause.FailedToEstablishConnection) list.now port.old publishers.old result port.new publishers.new }
     ensures port_stays { result ≡ None → port.new ≡ port.old }
     ensures publishers_stay { result ≡ None → publishers.new ≡ publishers.old }
 {
@@ -168,14 +166,14 @@ fn has_samples_one<T: Copy, U: Copy>(
 }
 
 // A subscriber receives, and counts what it holds.
-fn receive_one<T: Copy, U: Copy>(
+fn receive_one<T: Copy, U: Copy, D: Degrades>(
     port: &mut SubscriberPort,
     alloc: Global,
     list: &Roll<PublisherEntry>,
-    handler: &DegradationHandler,
+    handler: &D,
     publishers: &mut Publishers<T, U>,
 ) -> Option<Result<Option<Taken>, ReceiveError>>
-    ensures receives { ReceivesOne (Allowed (λ object. (⟦<dyn DegradationFn as DegradationFn>⟧ object.vtable).allows object.value) handler.now cause.FailedToEstablishConnection) list.now port.old publishers.old result port.new publishers.new }
+    ensures receives { ReceivesOne (D.degrades handler.now cause.FailedToEstablishConnection) list.now port.old publishers.old result port.new publishers.new }
     ensures port_stays { result ≡ None → port.new ≡ port.old }
     ensures publishers_stay { result ≡ None → publishers.new ≡ publishers.old }
 {

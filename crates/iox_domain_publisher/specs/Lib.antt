@@ -1,7 +1,6 @@
 pub mod Places
 pub mod Ties
 pub mod Progress
-pub mod Answers
 pub mod Ports
 pub mod Updating
 pub mod Sending

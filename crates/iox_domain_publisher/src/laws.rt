@@ -1,23 +1,21 @@
 //! Laws of what a publisher does, in other words than its steps. They stand on functions that do nothing.
-ghost use Rattle.iox_domain_values.specs.DegradationAnswers.{Allowed};
 ghost use Rattle.iox_domain_values.specs.declared.degradation.DegradationCause.TheVariants as cause;
 ghost use Rattle.iox_domain_publisher.specs.LoanLaws.{LoanTells, NewSegmentIsFree};
 ghost use Rattle.iox_domain_publisher.specs.Memory.{NeedsNoMemory};
 ghost use Rattle.iox_domain_publisher.specs.UpdateLaws.{FollowsWhoIsListed};
 
-use iox_domain_values::DegradationHandler;
-use iox_domain_values::degradation_handler::DegradationFn;
+use iox_domain_values::Degrades;
 
 /// An update of a publisher goes by who is listed at which place, and not by where the list that it is lent ends; after one over a list that
 /// had changed, no place is tied that lists nobody.
-pub fn follows_who_is_listed<T, U>(_handler: &DegradationHandler)
-    ensures { FollowsWhoIsListed T U (Allowed (λ object. (⟦<dyn DegradationFn as DegradationFn>⟧ object.vtable).allows object.value) _handler.now cause.FailedToEstablishConnection) }
+pub fn follows_who_is_listed<T, U, D: Degrades>(_handler: &D)
+    ensures { FollowsWhoIsListed T U (D.degrades _handler.now cause.FailedToEstablishConnection) }
 {}
 
 /// An update of a publisher that has a connection to each listed subscriber and reaches its place never fails, whatever the handler
 /// would answer: it takes no memory.
-pub fn needs_no_memory<T, U>(_handler: &DegradationHandler)
-    ensures { NeedsNoMemory T U (Allowed (λ object. (⟦<dyn DegradationFn as DegradationFn>⟧ object.vtable).allows object.value) _handler.now cause.FailedToEstablishConnection) }
+pub fn needs_no_memory<T, U, D: Degrades>(_handler: &D)
+    ensures { NeedsNoMemory T U (D.degrades _handler.now cause.FailedToEstablishConnection) }
 {}
 
 /// What each answer of `PublisherPort::loan` tells: when each refusal comes, in which order, and what it leaves; and what a loan is.

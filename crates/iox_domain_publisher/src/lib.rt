@@ -6,7 +6,6 @@
 //! - [`reader`]: who a connection leads to.
 //! - [`subscriber_entry`]: what the list of subscribers tells of one.
 //! - [`progress`]: how far a send is.
-//! - [`handlers`]: who is asked at a full mailbox and where a connection failed.
 //! - [`publisher_port`]: a publisher.
 //! - [`connecting`]: its connections are made and ended.
 //! - [`leaving`]: it comes and leaves.
@@ -18,7 +17,6 @@
 #![tactic(auto)]
 
 pub mod connecting;
-pub mod handlers;
 pub mod laws;
 pub mod leaving;
 pub mod loaning;
@@ -33,7 +31,6 @@ pub mod ties;
 pub mod updating;
 pub mod writing;
 
-pub use handlers::Handlers;
 pub use meeting::{Meeting, Sent};
 pub use places::Places;
 pub use progress::Progress;

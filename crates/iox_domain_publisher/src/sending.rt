@@ -1,9 +1,7 @@
 //! A publisher sends.
 ghost use Rattle.std.specs.Prelude.{◌≡◌, ◌≢◌, ℕ, ◌+◌, ◌-◌, ◌<◌, ◌≤◌, ◌^◌, Ok, Err, length, get_or, is_some, true, None, Some, IfSome, IsSome};
-ghost use Rattle.iox_domain_values.specs.DegradationAnswers.{Allowed};
 ghost use Rattle.iox_domain_values.specs.declared.degradation.DegradationCause.TheVariants as cause;
 ghost use Rattle.iox_domain_sender.specs.Sending.{is_written_at};
-ghost use Rattle.iox_domain_publisher.specs.Answers.{MayDecide};
 ghost use Rattle.iox_domain_publisher.specs.declared.meeting.Meeting.TheVariants as meeting;
 ghost use Rattle.iox_domain_publisher.specs.declared.meeting.Sent.TheVariants as sent;
 ghost use Rattle.iox_domain_publisher.specs.Laws.{live_ties, ReachesAll};
@@ -13,14 +11,11 @@ ghost use Rattle.iox_domain_values.specs.declared.port_error.SendError.TheVarian
 ghost use Rattle.iox_domain_publisher.specs.Progress.{start, passed, counted, failing, tried_again};
 ghost use Rattle.iox_domain_publisher.specs.Sending.{meeting_of, meeting_at, put_at, met, with_progress, info_of, goes_on_by, decided_by, sent_answer, concluded, ready_loan, begun_at, dropped_at, Sends, Steps, Delivers, Finishes};
 
-use crate::handlers::Handlers;
 use crate::meeting::{Meeting, Sent};
 use crate::progress::Progress;
 use crate::publisher_port::PublisherPort;
 use crate::subscriber_entry::SubscriberEntry;
-use iox_domain_values::backpressure_handler::BackpressureFn;
-use iox_domain_values::degradation_handler::DegradationFn;
-use iox_domain_values::{BackpressureDecision, BackpressureInfo, SendError};
+use iox_domain_values::{BackpressureDecision, BackpressureInfo, Decides, Degrades, SendError};
 use iox_index_base::Member;
 use std::alloc::Global;
 
@@ -90,8 +85,8 @@ impl<T: Copy, U: Copy> PublisherPort<T, U> {
     }
 
     // Goes on to the next place; answers false where the send waits at a full mailbox, and where there is no place left.
-    fn step(&mut self, handlers: &Handlers) -> bool
-        ensures { Steps (MayDecide (λ object. (⟦<dyn BackpressureFn as BackpressureFn>⟧ object.vtable).allows object.value) handlers.now.strategy handlers.now.backpressure) (meeting_at self.old.progress.place self.old) (met self.old.progress.place self.old) result self.new }
+    fn step<B: Decides>(&mut self, handlers: &B) -> bool
+        ensures { Steps (B.decides handlers.now) (meeting_at self.old.progress.place self.old) (met self.old.progress.place self.old) result self.new }
     {
         match self.meet() {
             Meeting::Over => false,
@@ -112,8 +107,8 @@ impl<T: Copy, U: Copy> PublisherPort<T, U> {
     }
 
     // Goes over the places that are left, up to one where the send waits; answers whether it came to the end.
-    fn go_on(&mut self, handlers: &Handlers) -> bool
-        ensures { Delivers (MayDecide (λ object. (⟦<dyn BackpressureFn as BackpressureFn>⟧ object.vtable).allows object.value) handlers.now.strategy handlers.now.backpressure) (length self.old.ties.items - self.old.progress.place) self.old result self.new }
+    fn go_on<B: Decides>(&mut self, handlers: &B) -> bool
+        ensures { Delivers (B.decides handlers.now) (length self.old.ties.items - self.old.progress.place) self.old result self.new }
     {
         for _place in self.progress.place()..self.ties.len() {
             if !self.step(handlers) {
@@ -140,8 +135,8 @@ impl<T: Copy, U: Copy> PublisherPort<T, U> {
     }
 
     // Goes on with the send that is under way.
-    fn deliver(&mut self, handlers: &Handlers) -> Result<Sent, SendError>
-        ensures sends { Finishes (MayDecide (λ object. (⟦<dyn BackpressureFn as BackpressureFn>⟧ object.vtable).allows object.value) handlers.now.strategy handlers.now.backpressure) self.old result self.new }
+    fn deliver<B: Decides>(&mut self, handlers: &B) -> Result<Sent, SendError>
+        ensures sends { Finishes (B.decides handlers.now) self.old result self.new }
         ensures all { self.old.sender.uses.overflows ≡ true → is_some self.old.sender.uses.sending ≡ true → self.old.progress ≡ start → result ≡ Ok (sent.Delivered (live_ties self.new)) }
     {
         let arrived = self.go_on(handlers);
@@ -151,8 +146,8 @@ impl<T: Copy, U: Copy> PublisherPort<T, U> {
     /// Tries the place again at which the send waits, after so many nanoseconds, and goes on. Answers as `send` does.
     ///
     /// This port's own: `iceoryx2::port::publisher::Publisher::send` waits itself.
-    pub fn retry(&mut self, elapsed: u64, handlers: &Handlers) -> Result<Sent, SendError>
-        ensures { Finishes (MayDecide (λ object. (⟦<dyn BackpressureFn as BackpressureFn>⟧ object.vtable).allows object.value) handlers.now.strategy handlers.now.backpressure) (with_progress (tried_again elapsed self.old.progress) self.old) result self.new }
+    pub fn retry<B: Decides>(&mut self, elapsed: u64, handlers: &B) -> Result<Sent, SendError>
+        ensures { Finishes (B.decides handlers.now) (with_progress (tried_again elapsed self.old.progress) self.old) result self.new }
     {
         self.try_again(elapsed);
         self.deliver(handlers)
@@ -219,15 +214,15 @@ impl<T: Copy, U: Copy> PublisherPort<T, U> {
     /// followed, which never is for want of memory where all that it needs is there; then the loan is given up, and nothing is sent. `UnableToDeliver` where a handler said so; what was delivered stays.
     ///
     /// Ported from `iceoryx2::port::publisher::Publisher::send`.
-    pub fn send(
+    pub fn send<B: Decides + Degrades>(
         &mut self,
         alloc: Global,
         slot: usize,
         listed: &[Option<Member<SubscriberEntry>>],
         changes: u64,
-        handlers: &Handlers,
+        handlers: &B,
     ) -> Option<Result<Sent, SendError>>
-        ensures sends { Sends (Allowed (λ object. (⟦<dyn DegradationFn as DegradationFn>⟧ object.vtable).allows object.value) handlers.now.degradation cause.FailedToEstablishConnection) (MayDecide (λ object. (⟦<dyn BackpressureFn as BackpressureFn>⟧ object.vtable).allows object.value) handlers.now.strategy handlers.now.backpressure) listed.now changes (ready_loan slot self.old) self.old result self.new }
+        ensures sends { Sends (B.degrades handlers.now cause.FailedToEstablishConnection) (B.decides handlers.now) listed.now changes (ready_loan slot self.old) self.old result self.new }
         ensures all { self.old.sender.uses.overflows ≡ true → ReachesAll result self.new }
         ensures enough { HasRoom listed.now self.old → (failure : ConnectionFailure) → result ≢ Some (Err (sending.ConnectionError failure)) }
     {
@@ -236,7 +231,7 @@ impl<T: Copy, U: Copy> PublisherPort<T, U> {
             self.drop_loan(at);
             return Some(Err(SendError::ConnectionBrokenSinceSenderNoLongerExists));
         }
-        if let Err(failure) = self.update(alloc, listed, changes, &handlers.degradation) {
+        if let Err(failure) = self.update(alloc, listed, changes, handlers) {
             self.drop_loan(at);
             return Some(Err(SendError::ConnectionError(failure)));
         }

@@ -1,6 +1,5 @@
 //! A publisher follows the list of subscribers.
 ghost use Rattle.std.specs.Prelude.{◌≡◌, ℕ, ◌+◌, ◌-◌, ◌<◌, ◌≤◌, ◌^◌, Ok, IfOk, OnErr, length, get_or, None, Some};
-ghost use Rattle.iox_domain_values.specs.DegradationAnswers.{Allowed};
 ghost use Rattle.iox_domain_values.specs.declared.degradation.DegradationCause.TheVariants as cause;
 ghost use Rattle.iox_domain_publisher.specs.Places.{leads_to};
 ghost use Rattle.iox_domain_publisher.specs.Ports.{with_connections};
@@ -10,9 +9,8 @@ ghost use Rattle.iox_domain_publisher.specs.Updating.{is_tie_to, untied, untied_
 use crate::publisher_port::PublisherPort;
 use crate::reader::Reader;
 use crate::subscriber_entry::SubscriberEntry;
-use iox_domain_values::degradation_handler::DegradationFn;
 use iox_domain_values::{
-    ConnectionFailure, DegradationAction, DegradationCause, DegradationHandler, DegradationInfo,
+    ConnectionFailure, DegradationAction, DegradationCause, DegradationInfo, Degrades,
     ZeroCopyCreationError,
 };
 use iox_index_base::Member;
@@ -109,14 +107,14 @@ impl<T: Copy, U: Copy> PublisherPort<T, U> {
     }
 
     // Asks the handler where a connection failed; answers the failure that was found so far.
-    fn ask(
+    fn ask<D: Degrades>(
         &self,
         listed: &Option<Member<SubscriberEntry>>,
         is_made: bool,
         found: Option<ConnectionFailure>,
-        handler: &DegradationHandler,
+        handler: &D,
     ) -> Option<ConnectionFailure>
-        ensures { Asks (Allowed (λ object. (⟦<dyn DegradationFn as DegradationFn>⟧ object.vtable).allows object.value) handler.now cause.FailedToEstablishConnection) listed.now self.now found is_made result }
+        ensures { Asks (D.degrades handler.now cause.FailedToEstablishConnection) listed.now self.now found is_made result }
     {
         let Some(member) = listed else {
             return found;
@@ -125,7 +123,7 @@ impl<T: Copy, U: Copy> PublisherPort<T, U> {
             return found;
         }
         let info = self.told(member.value);
-        let action = handler.call(DegradationCause::FailedToEstablishConnection, &info);
+        let action = handler.degrade(DegradationCause::FailedToEstablishConnection, &info);
         first_failure(
             found,
             ConnectionFailure::FailedToEstablishConnection(ZeroCopyCreationError::OutOfMemory),
@@ -134,13 +132,13 @@ impl<T: Copy, U: Copy> PublisherPort<T, U> {
     }
 
     // Follows each place of the list, and lets go of what places behind its end are tied to.
-    fn follow_all(
+    fn follow_all<D: Degrades>(
         &mut self,
         alloc: Global,
         listed: &[Option<Member<SubscriberEntry>>],
-        handler: &DegradationHandler,
+        handler: &D,
     ) -> Result<(), ConnectionFailure>
-        ensures follows { FollowsAll (Allowed (λ object. (⟦<dyn DegradationFn as DegradationFn>⟧ object.vtable).allows object.value) handler.now cause.FailedToEstablishConnection) 0 listed.now None self.old result self.new }
+        ensures follows { FollowsAll (D.degrades handler.now cause.FailedToEstablishConnection) 0 listed.now None self.old result self.new }
         ensures only { OnlyConnections self.old self.new }
     {
         let mut found = None;
@@ -158,14 +156,14 @@ impl<T: Copy, U: Copy> PublisherPort<T, U> {
     /// takes none where it is there already; and at a place behind as many subscribers as the publisher was made for.
     ///
     /// Ported from `iceoryx2::port::publisher::Publisher::update_connections`.
-    pub fn update(
+    pub fn update<D: Degrades>(
         &mut self,
         alloc: Global,
         listed: &[Option<Member<SubscriberEntry>>],
         changes: u64,
-        handler: &DegradationHandler,
+        handler: &D,
     ) -> Result<(), ConnectionFailure>
-        ensures updates { Updates (Allowed (λ object. (⟦<dyn DegradationFn as DegradationFn>⟧ object.vtable).allows object.value) handler.now cause.FailedToEstablishConnection) listed.now changes self.old result self.new }
+        ensures updates { Updates (D.degrades handler.now cause.FailedToEstablishConnection) listed.now changes self.old result self.new }
         ensures enough { HasRoom listed.now self.old → result ≡ Ok tt }
         ensures only { OnlyConnections self.old self.new }
     {

@@ -1,11 +1,11 @@
 //! A publisher and the list of its subscribers.
 use crate::messages::identity;
-use iox_domain_publisher::{Handlers, PublisherPort, Sent, SubscriberEntry};
+use iox_domain_publisher::{PublisherPort, Sent, SubscriberEntry};
 use iox_domain_sender::SenderConfig;
 use iox_domain_slots::Stage;
 use iox_domain_values::{
     AllocationStrategy, BackpressureAction, BackpressureHandler, BackpressureStrategy,
-    DegradationHandler, SendError,
+    DegradationHandler, Handlers, SendError,
 };
 use iox_index_base::{Container, OwnerId, ReleaseMode};
 use std::alloc::{AllocError, Global};

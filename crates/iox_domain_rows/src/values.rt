@@ -5,9 +5,9 @@ ghost use Rattle.iox_domain_values.specs.declared.backpressure.BackpressureActio
 use iox_domain_values::{
     BackpressureAction, BackpressureFn, BackpressureHandler, BackpressureInfo,
     BackpressureStrategy, ConnectionFailure, DegradationAction, DegradationCause, DegradationFn,
-    DegradationHandler, DegradationInfo, DomainError, LoanError, PreallocatedSamplesFn,
+    DegradationHandler, DegradationInfo, Degrades, DomainError, LoanError, PreallocatedSamplesFn,
     PreallocatedSamplesOverride, PublisherCreateError, ReceiveError, SendError,
-    SubscriberCreateError, ZeroCopyCreationError,
+    SubscriberCreateError, ZeroCopyCreationError, number_of_places,
 };
 use serde_json::Error;
 use std::alloc::{AllocError, Global};
@@ -273,13 +273,13 @@ fn objects_are_asked_once_a_call(rt: HostRuntime) -> Result<(), Fail> {
 // Whether a new object is told of the connection.
 fn is_told_of_it(handler: &DegradationHandler) -> bool {
     let cause = DegradationCause::FailedToEstablishConnection;
-    handler.call(cause, &DEGRADATION) == DegradationAction::Ignore
-        && handler.call(cause, &DEGRADATION) == DegradationAction::DegradeAndFail
+    handler.degrade(cause, &DEGRADATION) == DegradationAction::Ignore
+        && handler.degrade(cause, &DEGRADATION) == DegradationAction::DegradeAndFail
 }
 
 // Whether a new object is told of the places.
 fn is_told_of_places(places: &PreallocatedSamplesOverride) -> bool {
-    places.number_of_places(10) == 5 && places.number_of_places(10) == 10
+    number_of_places(places, 10) == 5 && number_of_places(places, 10) == 10
 }
 
 #[test]

@@ -1,6 +1,5 @@
 //! A subscriber follows the list of publishers.
 ghost use Rattle.std.specs.Prelude.{◌≡◌, ◌+◌, ◌<◌, ◌^◌, length, None};
-ghost use Rattle.iox_domain_values.specs.DegradationAnswers.{Allowed};
 ghost use Rattle.iox_domain_values.specs.declared.degradation.DegradationCause.TheVariants as cause;
 ghost use Rattle.iox_domain_publisher.specs.Updating.{first_failure, update_answer};
 ghost use Rattle.iox_domain_subscriber.specs.Updating.{told_of, is_listed, FollowsOne, AsksOf, FollowsFrom, FollowsNoneIf, FollowsNones, FollowsList, Updates, HasSamplesAfter, HasSamples, ReceivesAfter, ReceivesNext};
@@ -9,9 +8,8 @@ use crate::attached::Taken;
 use crate::publisher_entry::PublisherEntry;
 use crate::publishers::Publishers;
 use crate::subscriber_port::SubscriberPort;
-use iox_domain_values::degradation_handler::DegradationFn;
 use iox_domain_values::{
-    ConnectionFailure, DegradationAction, DegradationCause, DegradationHandler, DegradationInfo,
+    ConnectionFailure, DegradationAction, DegradationCause, DegradationInfo, Degrades,
     ReceiveError, ZeroCopyCreationError,
 };
 use iox_index_base::Member;
@@ -47,14 +45,14 @@ impl SubscriberPort {
     }
 
     // Asks the handler where a connection failed; answers the failure that was found so far.
-    fn ask(
+    fn ask<D: Degrades>(
         &self,
         listed: &Option<Member<PublisherEntry>>,
         outcome: Result<(), ZeroCopyCreationError>,
         found: Option<ConnectionFailure>,
-        handler: &DegradationHandler,
+        handler: &D,
     ) -> Option<ConnectionFailure>
-        ensures { AsksOf (Allowed (λ object. (⟦<dyn DegradationFn as DegradationFn>⟧ object.vtable).allows object.value) handler.now cause.FailedToEstablishConnection) listed.now self.now found outcome result }
+        ensures { AsksOf (D.degrades handler.now cause.FailedToEstablishConnection) listed.now self.now found outcome result }
     {
         let Some(member) = listed else {
             return found;
@@ -63,7 +61,7 @@ impl SubscriberPort {
             return found;
         };
         let info = self.told(member.value);
-        let action = handler.call(DegradationCause::FailedToEstablishConnection, &info);
+        let action = handler.degrade(DegradationCause::FailedToEstablishConnection, &info);
         first_failure(
             found,
             ConnectionFailure::FailedToEstablishConnection(failure),
@@ -72,14 +70,14 @@ impl SubscriberPort {
     }
 
     // Follows each place that lists a publisher.
-    fn follow_all<T: Copy, U: Copy>(
+    fn follow_all<T: Copy, U: Copy, D: Degrades>(
         &mut self,
         alloc: Global,
         listed: &[Option<Member<PublisherEntry>>],
-        handler: &DegradationHandler,
+        handler: &D,
         publishers: &mut Publishers<T, U>,
     ) -> Option<ConnectionFailure>
-        ensures { FollowsFrom (Allowed (λ object. (⟦<dyn DegradationFn as DegradationFn>⟧ object.vtable).allows object.value) handler.now cause.FailedToEstablishConnection) 0 listed.now None self.old publishers.old result self.new publishers.new }
+        ensures { FollowsFrom (D.degrades handler.now cause.FailedToEstablishConnection) 0 listed.now None self.old publishers.old result self.new publishers.new }
     {
         let mut found = None;
         for place in 0..listed.len() {
@@ -118,14 +116,14 @@ impl SubscriberPort {
     }
 
     // Follows the list of publishers.
-    fn follow_list<T: Copy, U: Copy>(
+    fn follow_list<T: Copy, U: Copy, D: Degrades>(
         &mut self,
         alloc: Global,
         listed: &[Option<Member<PublisherEntry>>],
-        handler: &DegradationHandler,
+        handler: &D,
         publishers: &mut Publishers<T, U>,
     ) -> Result<(), ConnectionFailure>
-        ensures { FollowsList (Allowed (λ object. (⟦<dyn DegradationFn as DegradationFn>⟧ object.vtable).allows object.value) handler.now cause.FailedToEstablishConnection) listed.now self.old publishers.old result self.new publishers.new }
+        ensures { FollowsList (D.degrades handler.now cause.FailedToEstablishConnection) listed.now self.old publishers.old result self.new publishers.new }
     {
         let found = self.follow_all(alloc, listed, handler, publishers);
         self.follow_nones(listed, publishers);
@@ -139,15 +137,15 @@ impl SubscriberPort {
     /// can't expire.
     ///
     /// Ported from `iceoryx2::port::subscriber::Subscriber::update_connections`.
-    pub fn update<T: Copy, U: Copy>(
+    pub fn update<T: Copy, U: Copy, D: Degrades>(
         &mut self,
         alloc: Global,
         listed: &[Option<Member<PublisherEntry>>],
         changes: u64,
-        handler: &DegradationHandler,
+        handler: &D,
         publishers: &mut Publishers<T, U>,
     ) -> Result<(), ConnectionFailure>
-        ensures { Updates (Allowed (λ object. (⟦<dyn DegradationFn as DegradationFn>⟧ object.vtable).allows object.value) handler.now cause.FailedToEstablishConnection) listed.now changes self.old publishers.old result self.new publishers.new }
+        ensures { Updates (D.degrades handler.now cause.FailedToEstablishConnection) listed.now changes self.old publishers.old result self.new publishers.new }
     {
         if self.seen == changes && !self.again {
             return Ok(());
@@ -160,15 +158,15 @@ impl SubscriberPort {
     /// Updates, and answers whether some connection has data, an expired one too. It fails where the update does.
     ///
     /// Ported from `iceoryx2::port::subscriber::Subscriber::has_samples`.
-    pub fn has_samples<T: Copy, U: Copy>(
+    pub fn has_samples<T: Copy, U: Copy, D: Degrades>(
         &mut self,
         alloc: Global,
         listed: &[Option<Member<PublisherEntry>>],
         changes: u64,
-        handler: &DegradationHandler,
+        handler: &D,
         publishers: &mut Publishers<T, U>,
     ) -> Result<bool, ConnectionFailure>
-        ensures { HasSamples (Allowed (λ object. (⟦<dyn DegradationFn as DegradationFn>⟧ object.vtable).allows object.value) handler.now cause.FailedToEstablishConnection) listed.now changes self.old publishers.old result self.new publishers.new }
+        ensures { HasSamples (D.degrades handler.now cause.FailedToEstablishConnection) listed.now changes self.old publishers.old result self.new publishers.new }
     {
         let updated = self.update(alloc, listed, changes, handler, publishers);
         self.has_samples_after(updated, publishers)
@@ -194,15 +192,15 @@ impl SubscriberPort {
     /// one that gave, or all if none gave, and have neither data nor borrows.
     ///
     /// Ported from `iceoryx2::port::subscriber::Subscriber::receive`.
-    pub fn receive<T: Copy, U: Copy>(
+    pub fn receive<T: Copy, U: Copy, D: Degrades>(
         &mut self,
         alloc: Global,
         listed: &[Option<Member<PublisherEntry>>],
         changes: u64,
-        handler: &DegradationHandler,
+        handler: &D,
         publishers: &mut Publishers<T, U>,
     ) -> Result<Option<Taken>, ReceiveError>
-        ensures { ReceivesNext (Allowed (λ object. (⟦<dyn DegradationFn as DegradationFn>⟧ object.vtable).allows object.value) handler.now cause.FailedToEstablishConnection) listed.now changes self.old publishers.old result self.new publishers.new }
+        ensures { ReceivesNext (D.degrades handler.now cause.FailedToEstablishConnection) listed.now changes self.old publishers.old result self.new publishers.new }
     {
         let updated = self.update(alloc, listed, changes, handler, publishers);
         self.receive_after(updated, publishers)

@@ -6,3 +6,4 @@ pub mod OverrideAnswers
 pub mod Strategy
 pub mod Sizes
 pub mod Segments
+pub mod HandlersAnswers

@@ -21,6 +21,17 @@ pub trait DegradationFn: Drop {
         ensures { allows self.now cause info.now result };
 }
 
+/// What decides where a connection failed. It names, for each cause and info, the actions that it may answer.
+///
+/// Ports take whatever decides, and not a box: so neither they nor what holds them have a `dyn` in them.
+pub trait Degrades: Drop {
+    ghost degrades: { Self → DegradationCause → DegradationInfo → DegradationAction → Type 0 };
+
+    /// What is to be done about this connection: an action that may be answered.
+    fn degrade(&self, cause: DegradationCause, info: &DegradationInfo) -> DegradationAction
+        ensures { degrades self.now cause info.now result };
+}
+
 /// Who decides where a connection failed: the same action each time, or an object that the caller made.
 ///
 /// Ported from `iceoryx2::port::DegradationHandler`.
@@ -56,11 +67,12 @@ impl DegradationHandler {
             DegradationHandler::Boxed(_) => None,
         }
     }
+}
 
-    /// What is to be done about this connection: an action that the handler may answer.
-    pub fn call(&self, cause: DegradationCause, info: &DegradationInfo) -> DegradationAction
-        ensures { Allowed (λ object. allows object) self.now cause info.now result }
-    {
+impl Degrades for DegradationHandler {
+    ghost degrades = { Allowed (λ object. (DegradationFn-box object).allows object.value) };
+
+    fn degrade(&self, cause: DegradationCause, info: &DegradationInfo) -> DegradationAction {
         match self {
             DegradationHandler::Fixed(action) => *action,
             DegradationHandler::Boxed(object) => object.call(cause, info),

@@ -12,6 +12,7 @@
 //! | `connection_failure`, `port_error`, `create_error` | why a connection fails, a loan, a send or a receive is refused, a port or a domain isn't made |
 //! | `laws` | what the definitions come to, in other words |
 //! | `backpressure_handler`, `degradation_handler`, `samples_override` | the objects that are handed in, or one fixed answer in their place |
+//! | `handlers` | who decides for a publisher: its strategy and its handlers |
 //!
 //! Each error displays as its type's name, `::` and the variant, an inner variant in parentheses, at any depth.
 #![tactic(auto)]
@@ -24,6 +25,7 @@ pub mod create_error;
 pub mod data_segment;
 pub mod degradation;
 pub mod degradation_handler;
+pub mod handlers;
 pub mod laws;
 pub mod port_error;
 pub mod port_owner;
@@ -39,8 +41,11 @@ pub use connection_failure::{ConnectionFailure, ZeroCopyCreationError};
 pub use create_error::{DomainError, PublisherCreateError, SubscriberCreateError};
 pub use data_segment::{AllocationStrategy, DataSegmentType};
 pub use degradation::{DegradationAction, DegradationCause, DegradationInfo};
-pub use degradation_handler::{DegradationFn, DegradationHandler};
+pub use degradation_handler::{DegradationFn, DegradationHandler, Degrades};
+pub use handlers::{Decides, Handlers};
 pub use port_error::{LoanError, ReceiveError, SendError};
 pub use port_owner::{PortIdentity, PortOwner};
-pub use samples_override::{PreallocatedSamplesFn, PreallocatedSamplesOverride};
+pub use samples_override::{
+    Overrides, PreallocatedSamplesFn, PreallocatedSamplesOverride, number_of_places,
+};
 pub use service_sizes::ServiceSizes;

@@ -15,6 +15,17 @@ pub trait PreallocatedSamplesFn: Drop {
         ensures { allows self.now worst_case result };
 }
 
+/// What decides how many places a publisher gets. It names, for each number of places that are needed in the worst case, the numbers
+/// that it may answer.
+pub trait Overrides: Drop {
+    ghost overrides: { Self → ℕ → ℕ → Type 0 };
+
+    /// A number that may be answered, where so many places are needed in the worst case. It may be 0, or above the worst
+    /// case.
+    fn number(&self, worst_case: usize) -> usize
+        ensures { overrides self.now worst_case result };
+}
+
 /// Who decides how many places a publisher gets: as many as are needed in the worst case, a number, or an object that the
 /// caller made.
 ///
@@ -43,29 +54,29 @@ impl PreallocatedSamplesOverride {
     {
         PreallocatedSamplesOverride::Boxed(object)
     }
+}
 
-    /// A number that may be answered, where so many places are needed in the worst case. It may be 0, or above the worst
-    /// case.
-    pub fn call(&self, worst_case: usize) -> usize
-        ensures { Allowed (λ object. allows object) self.now worst_case result }
-    {
+impl Overrides for PreallocatedSamplesOverride {
+    ghost overrides = { Allowed (λ object. (PreallocatedSamplesFn-box object).allows object.value) };
+
+    fn number(&self, worst_case: usize) -> usize {
         match self {
             PreallocatedSamplesOverride::WorstCase => worst_case,
             PreallocatedSamplesOverride::Fixed(number) => *number,
             PreallocatedSamplesOverride::Boxed(object) => object.call(worst_case),
         }
     }
+}
 
-    /// How many places a publisher gets that needs so many in the worst case: a number that may be answered, but at least 1
-    /// and at most the worst case.
-    pub fn number_of_places(&self, worst_case: usize) -> usize
-        requires { 1 ≤ worst_case }
-        ensures number { (answer : ℕ) × Allowed (λ object. allows object) self.now worst_case answer × (result ≡ places worst_case answer) }
-        ensures least { 1 ≤ result }
-        ensures most { result ≤ worst_case }
-    {
-        self.call(worst_case).clamp(1, worst_case)
-    }
+/// How many places a publisher gets that needs so many in the worst case: a number that may be answered, but at least 1
+/// and at most the worst case.
+pub fn number_of_places<O: Overrides>(overriding: &O, worst_case: usize) -> usize
+    requires { 1 ≤ worst_case }
+    ensures number { (answer : ℕ) × O.overrides overriding.now worst_case answer × (result ≡ places worst_case answer) }
+    ensures least { 1 ≤ result }
+    ensures most { result ≤ worst_case }
+{
+    overriding.number(worst_case).clamp(1, worst_case)
 }
 
 /// What a publisher has where none is named: as many as are needed in the worst case.

@@ -1,10 +1,10 @@
 //! Ports of publish-subscribe, as far as they are there: one publisher with its messages and connections, and what ports take and answer.
-pub use iox_domain_publisher::{Handlers, PublisherPort, Sent, SubscriberEntry};
+pub use iox_domain_publisher::{PublisherPort, Sent, SubscriberEntry};
 pub use iox_domain_sender::{Sender, SenderConfig};
 pub use iox_domain_values::{
     AllocationStrategy, BackpressureAction, BackpressureDecision, BackpressureHandler,
     BackpressureInfo, BackpressureStrategy, BackpressureToReceiverAction, ConnectionFailure,
-    DataSegmentType, DegradationAction, DegradationCause, DegradationHandler, DegradationInfo,
+    DataSegmentType, DegradationAction, DegradationCause, DegradationHandler, DegradationInfo, Handlers,
     LoanError, PreallocatedSamplesOverride, PublisherCreateError, ReceiveError, SendError,
     SubscriberCreateError, ZeroCopyCreationError,
 };

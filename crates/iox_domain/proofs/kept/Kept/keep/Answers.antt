@@ -1,5 +1,5 @@
-use Rattle.std.proofs.Common.{rules, ap, ◌≡◌, ◌∙◌}
-use Rattle.iox_domain.specs.Kept.{kept_under, kept, put_back}
+use Rattle.std.proofs.Common.{rules, ◌≡◌}
+use Rattle.iox_domain.specs.Kept.{kept_under, kept}
 use Rattle.iox_domain.proofs.Keeping.{undone}
 use Rattle.iox_domain.proofs.kept.Kept.keep.Goals as goal
 

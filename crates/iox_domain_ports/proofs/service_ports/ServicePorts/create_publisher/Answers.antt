@@ -1,12 +1,10 @@
 use Rattle.std.proofs.Common.{sym, ◌∙◌, Ok}
-use Rattle.iox_domain_values.specs.DegradationAnswers.{Allowed}
 use Rattle.iox_domain_values.specs.declared.degradation.DegradationCause.TheVariants as cause
-use Rattle.iox_domain_values.specs.OverrideAnswers as overriding_of
 use Rattle.iox_domain_ports.proofs.Coming.{creates_publisher}
 use Rattle.iox_domain_ports.proofs.service_ports.ServicePorts.create_publisher.Goals as goal
 
 pub returns-in-Ok : goal.returns-in-Ok
 returns-in-Ok g c =
-    creates_publisher (overriding_of.Allowed (λ object. (goal.PreallocatedSamplesFn-dyn g (object.vtable, object.value)).allows object.value) c.args.overriding.now) (Allowed (λ object. (goal.DegradationFn-dyn g (object.vtable, object.value)).allows object.value) c.args.handler.now cause.FailedToEstablishConnection) c.args.config c.args.user_header c.args.self.now c.add_publisher.new.self c.in-Some.needed
+    creates_publisher (g.O.Overrides.overrides c.args.overriding.now) (g.D.Degrades.degrades c.args.handler.now cause.FailedToEstablishConnection) c.args.config c.args.user_header c.args.self.now c.add_publisher.new.self c.in-Some.needed
     c.in-Some-publisher_place.place c.max.result c.number_of_places-slots.result (Ok c.in-Ok.number) (sym c.slots_needed.ensures.slots ∙ c.in-Some.is) (sym c.publisher_place.ensures.place ∙ c.in-Some-publisher_place.is)
     c.max.ensures c.number_of_places-slots.ensures.number c.in-Ok.ensures

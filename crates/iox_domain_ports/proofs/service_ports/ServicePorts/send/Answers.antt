@@ -1,7 +1,5 @@
 use Rattle.std.proofs.Common.{rules, refl, ap, ◌≡◌, Some}
-use Rattle.iox_domain_values.specs.DegradationAnswers.{Allowed}
 use Rattle.iox_domain_values.specs.declared.degradation.DegradationCause.TheVariants as cause
-use Rattle.iox_domain_publisher.specs.Answers.{MayDecide}
 use Rattle.iox_domain_subscriber.specs.Publishers.{port_of}
 use Rattle.iox_domain_ports.specs.Publishing.{SendsOne}
 use Rattle.iox_domain_ports.proofs.Lifting.{at_publisher, at_publisher-none}
@@ -11,10 +9,10 @@ pub returns-in_err-outcome : goal.returns-in_err-outcome
 returns-in_err-outcome g c =
     let there : port_of c.args.number c.args.self.now.publishers ≡ Some c.in_ok-port.port.now = search (rules, c.in_ok-port.ensures.value) in
     rw c.from_residual-in_err-outcome.ensures
-    (at_publisher-none c.args.number (SendsOne (Allowed (λ object. (goal.DegradationFn-dyn g (object.vtable, object.value)).allows object.value) c.args.handlers.now.degradation cause.FailedToEstablishConnection) (MayDecide (λ object. (goal.BackpressureFn-dyn g (object.vtable, object.value)).allows object.value) c.args.handlers.now.strategy c.args.handlers.now.backpressure) c.args.self.now.subscriber_list c.args.slot) c.args.self.now _ c.in_ok-port.port.now c.send_one.new.port there c.in_err-outcome.ensures.sends (c.in_err-outcome.ensures.none refl) refl)
+    (at_publisher-none c.args.number (SendsOne (g.B.Degrades.degrades c.args.handlers.now cause.FailedToEstablishConnection) (g.B.Decides.decides c.args.handlers.now) c.args.self.now.subscriber_list c.args.slot) c.args.self.now _ c.in_ok-port.port.now c.send_one.new.port there c.in_err-outcome.ensures.sends (c.in_err-outcome.ensures.none refl) refl)
 
 pub returns : goal.returns
 returns g c =
     let there : port_of c.args.number c.args.self.now.publishers ≡ Some c.in_ok-port.port.now = search (rules, c.in_ok-port.ensures.value) in
-    at_publisher c.args.number (SendsOne (Allowed (λ object. (goal.DegradationFn-dyn g (object.vtable, object.value)).allows object.value) c.args.handlers.now.degradation cause.FailedToEstablishConnection) (MayDecide (λ object. (goal.BackpressureFn-dyn g (object.vtable, object.value)).allows object.value) c.args.handlers.now.strategy c.args.handlers.now.backpressure) c.args.self.now.subscriber_list c.args.slot) c.args.self.now _ c.in_ok-port.port.now c.send_one.new.port c.in_ok-outcome.outcome there
+    at_publisher c.args.number (SendsOne (g.B.Degrades.degrades c.args.handlers.now cause.FailedToEstablishConnection) (g.B.Decides.decides c.args.handlers.now) c.args.self.now.subscriber_list c.args.slot) c.args.self.now _ c.in_ok-port.port.now c.send_one.new.port c.in_ok-outcome.outcome there
     c.in_ok-outcome.ensures.sends (ap (λ publishers. record c.args.self.now { publishers = publishers }) c.settle.ensures)

@@ -1,5 +1,4 @@
 use Rattle.std.proofs.Common.{rules, refl, ap, ◌≡◌, Some}
-use Rattle.iox_domain_values.specs.DegradationAnswers.{Allowed}
 use Rattle.iox_domain_values.specs.declared.degradation.DegradationCause.TheVariants as cause
 use Rattle.iox_domain_subscriber.specs.Publishers.{port_of}
 use Rattle.iox_domain_ports.specs.Publishing.{UpdatesOne}
@@ -10,10 +9,10 @@ pub returns-in_err-outcome : goal.returns-in_err-outcome
 returns-in_err-outcome g c =
     let there : port_of c.args.number c.args.self.now.publishers ≡ Some c.in_ok-port.port.now = search (rules, c.in_ok-port.ensures.value) in
     rw c.from_residual-in_err-outcome.ensures
-    (at_publisher-none c.args.number (UpdatesOne (Allowed (λ object. (goal.DegradationFn-dyn g (object.vtable, object.value)).allows object.value) c.args.handler.now cause.FailedToEstablishConnection) c.args.self.now.subscriber_list) c.args.self.now _ c.in_ok-port.port.now c.update_one.new.port there c.in_err-outcome.ensures.updates (c.in_err-outcome.ensures.none refl) refl)
+    (at_publisher-none c.args.number (UpdatesOne (g.D.Degrades.degrades c.args.handler.now cause.FailedToEstablishConnection) c.args.self.now.subscriber_list) c.args.self.now _ c.in_ok-port.port.now c.update_one.new.port there c.in_err-outcome.ensures.updates (c.in_err-outcome.ensures.none refl) refl)
 
 pub returns : goal.returns
 returns g c =
     let there : port_of c.args.number c.args.self.now.publishers ≡ Some c.in_ok-port.port.now = search (rules, c.in_ok-port.ensures.value) in
-    at_publisher c.args.number (UpdatesOne (Allowed (λ object. (goal.DegradationFn-dyn g (object.vtable, object.value)).allows object.value) c.args.handler.now cause.FailedToEstablishConnection) c.args.self.now.subscriber_list) c.args.self.now _ c.in_ok-port.port.now c.update_one.new.port c.in_ok-outcome.outcome there
+    at_publisher c.args.number (UpdatesOne (g.D.Degrades.degrades c.args.handler.now cause.FailedToEstablishConnection) c.args.self.now.subscriber_list) c.args.self.now _ c.in_ok-port.port.now c.update_one.new.port c.in_ok-outcome.outcome there
     c.in_ok-outcome.ensures.updates (ap (λ publishers. record c.args.self.now { publishers = publishers }) c.settle.ensures)

@@ -1,5 +1,4 @@
 use Rattle.std.proofs.Common.{rules, sym}
-use Rattle.iox_domain_publisher.specs.Answers.{MayDecide}
 use Rattle.iox_domain_publisher.proofs.Asked.{sends_refused, sends_sent, finishes_else}
 use Rattle.iox_domain_publisher.proofs.publisher_port.PublisherPort.send.Goals as goal
 
@@ -11,4 +10,4 @@ returns-clause-sends g c = sends_sent _ _ _ _ _ c.in_ok-at.at _ c.update.new.sel
 
 pub returns-clause-enough : goal.returns-clause-enough
 returns-clause-enough g c = λ room failure.
-    finishes_else (MayDecide (λ object. (goal.BackpressureFn-dyn g (object.vtable, object.value)).allows object.value) c.args.handlers.now.strategy c.args.handlers.now.backpressure) c.begin.new.self c.deliver.new.self c.deliver.result c.deliver.ensures.sends failure
+    finishes_else (g.B.Decides.decides c.args.handlers.now) c.begin.new.self c.deliver.new.self c.deliver.result c.deliver.ensures.sends failure

@@ -1,0 +1,3 @@
+-- The definitions that contracts about commands and replies cite.
+pub mod Patterns
+pub mod RefusalText

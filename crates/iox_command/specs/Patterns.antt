@@ -1,0 +1,11 @@
+-- The pattern of a service's options.
+use Rattle.iox_describe_base.specs.declared.pattern.MessagingPattern.{MessagingPattern}
+use Rattle.iox_describe_base.specs.declared.pattern.MessagingPattern.TheVariants as pattern
+use Rattle.iox_command.specs.declared.service.ServiceOptions.{ServiceOptions}
+use Rattle.iox_command.specs.declared.service.ServiceOptions.TheVariants as options
+
+-- the pattern whose options these are
+abbrev pub pattern_of : ServiceOptions → MessagingPattern
+pattern_of (options.PublishSubscribe o) = pattern.PublishSubscribe
+pattern_of (options.Event o) = pattern.Event
+pattern_of (options.RequestResponse o) = pattern.RequestResponse

@@ -1,0 +1,31 @@
+//! What may be asked of a hub, and what it replies: one variant of `Command` for each kind of line, one of `Reply` for each
+//! kind of reply.
+//!
+//! | Module | What it has |
+//! |---|---|
+//! | `command` | the commands |
+//! | `service` | the settings of a service that a command names, by its pattern |
+//! | `port` | the options of a publisher and of a subscriber |
+//! | `step` | what a foreign process does between the accesses of a command |
+//! | `values` | the values of a message |
+//! | `reply` | the replies |
+//! | `refusal` | why a command was refused |
+#![tactic(auto)]
+
+pub mod command;
+pub mod port;
+pub mod refusal;
+pub mod reply;
+pub mod service;
+pub mod step;
+pub mod values;
+
+pub use command::Command;
+pub use port::{PortNumber, PublisherOptions, SubscriberOptions};
+pub use refusal::{HubError, Refusal};
+pub use reply::Reply;
+pub use service::{
+    EventOptions, NumberOrOff, PublishSubscribeOptions, RequestResponseOptions, ServiceOptions,
+};
+pub use step::{ForeignStep, StepBefore};
+pub use values::Values;

@@ -1,0 +1,5 @@
+-- The definitions that contracts about words cite.
+pub mod Words
+pub mod Numbers
+pub mod Options
+pub mod Values

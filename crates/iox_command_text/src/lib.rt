@@ -1,0 +1,16 @@
+//! The words of a script line: what is written in single words, and options in any order.
+//!
+//! | Module | What it has |
+//! |---|---|
+//! | `words` | the words of a line, one after the other |
+//! | `number` | numbers, and those of made values |
+//! | `options` | options of the form `key=value`, in any order |
+//! | `value` | what an option may be set to |
+#![tactic(auto)]
+
+pub mod number;
+pub mod options;
+pub mod value;
+pub mod words;
+
+pub use words::Words;

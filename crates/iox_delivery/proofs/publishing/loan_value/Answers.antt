@@ -1,0 +1,12 @@
+use Rattle.std.proofs.Common.{◌∷◌, [], length, refl}
+use Rattle.std.proofs.Math.Dec.{eqb}
+use Rattle.iox_domain_sender.specs.Messages.{write_value}
+use Rattle.iox_delivery.proofs.Lent.{ready_there}
+use Rattle.iox_delivery.proofs.publishing.loan_value.Goals as goal
+
+pub returns-clause-ready : goal.returns-clause-ready
+returns-clause-ready g c =
+    let home = g.H.Home in
+    let port = c.args.port in
+    ready_there (λ held. home.ports_of port.domain held) (λ ports held. home.with_ports port.domain ports held) (λ ports held. g.met.H.Home.put_is_there port.domain ports held) port.number 1 1 c.in_ok-slot.slot (c.args.value ∷ [])
+    (λ loan. eqb 1 (length loan.values)) (write_value 0 c.args.value) c.args.home.now c.loan.new.home c.write.new.home c.in_ok-slot.ensures c.write.ensures (λ loan. refl) (λ user_header. refl) (λ user_header. refl)

@@ -1,0 +1,29 @@
+-- What a loan comes to that was just made.
+use Rattle.std.specs.Prelude.{ℕ, ◌≡◌, true, false, List, map, Option, Some, Ok}
+use Rattle.iox_domain_sender.specs.Messages.{new_loan}
+use Rattle.iox_domain_publisher.specs.declared.publisher_port.PublisherPort.{PublisherPort}
+use Rattle.iox_domain_ports.specs.Lending.{loan_in, loan_header_in, passes}
+use Rattle.iox_domain_ports.specs.Publishing.{is_blocked}
+use Rattle.iox_domain_ports.specs.declared.service_ports.ServicePorts.{ServicePorts}
+use Rattle.iox_domain_subscriber.specs.Publishers.{port_of}
+use Rattle.iox_domain_home.specs.Steps.{LoansBy}
+use Rattle.iox_delivery.specs.Holding.{loan_found, publisher_blocked}
+
+-- A loan is found in its slot that was just made: none of its values is written, and it has the user header that its publisher gives new
+-- loans. Its header names that publisher, which still stands, and no send of it waits.
+abbrev pub IsFresh : {T U : Type 0} → ℕ → ℕ → ℕ → ℕ → ServicePorts T U → ServicePorts T U → Type 0
+IsFresh {T} {U} number values elements slot old new =
+    (port : PublisherPort T U) × (port_of number old.publishers ≡ Some port)
+    × (loan_in number slot new ≡ Some (new_loan slot values elements port.sender.user_header))
+    × (loan_header_in number slot new ≡ Some (record { node_id = port.owner.node_id; publisher_id = port.number; number_of_elements = elements }))
+    × (passes number (λ port. port.stands) new ≡ true) × (passes number is_blocked new ≡ false)
+
+-- A loan that was just made is such a one.
+abbrev pub LoanIsFresh : (T U : Type 0) → Type 0
+LoanIsFresh T U = (number values elements slot : ℕ) (old new : ServicePorts T U) → LoansBy number values elements old (Some (Ok slot)) new → IsFresh number values elements slot old new
+
+-- The loan in a slot has just these values, each written, and so many elements; and no send of its publisher waits.
+abbrev pub IsReady : {T U : Type 0} → ℕ → List T → ℕ → ℕ → Option (ServicePorts T U) → Type 0
+IsReady {T} {U} number values elements slot ports =
+    (user_header : U) × (loan_found number slot ports ≡ Some (record { slot = slot; elements = elements; user_header = user_header; values = map Some values }))
+    × (publisher_blocked number ports ≡ false)

@@ -1,0 +1,106 @@
+-- How ports are made by builders.
+use Rattle.std.specs.Prelude.{ℕ, Option, None, Some, Result, Ok, Err}
+use Rattle.iox_domain_values.specs.Sizes.{buffer_of}
+use Rattle.iox_domain_values.specs.declared.backpressure_handler.BackpressureHandler.{BackpressureHandler}
+use Rattle.iox_domain_values.specs.declared.backpressure_strategy.BackpressureStrategy.{BackpressureStrategy}
+use Rattle.iox_domain_values.specs.declared.backpressure_strategy.BackpressureStrategy.TheVariants.{RetryUntilDelivered}
+use Rattle.iox_domain_values.specs.declared.create_error.PublisherCreateError.{PublisherCreateError}
+use Rattle.iox_domain_values.specs.declared.create_error.SubscriberCreateError.{SubscriberCreateError}
+use Rattle.iox_domain_values.specs.declared.data_segment.AllocationStrategy.TheVariants.{Static}
+use Rattle.iox_domain_values.specs.declared.degradation.DegradationAction.TheVariants.{Warn}
+use Rattle.iox_domain_values.specs.declared.degradation_handler.DegradationHandler.{DegradationHandler}
+use Rattle.iox_domain_values.specs.declared.degradation_handler.DegradationHandler.TheVariants.{Fixed}
+use Rattle.iox_domain_values.specs.declared.handlers.Handlers.{Handlers}
+use Rattle.iox_domain_values.specs.declared.port_owner.PortOwner.{PortOwner}
+use Rattle.iox_domain_values.specs.declared.samples_override.PreallocatedSamplesOverride.{PreallocatedSamplesOverride}
+use Rattle.iox_domain_values.specs.declared.samples_override.PreallocatedSamplesOverride.TheVariants.{WorstCase}
+use Rattle.iox_domain_settings.specs.PortSettings.{publisher_defaults, subscriber_defaults}
+use Rattle.iox_domain_settings.specs.declared.publisher_settings.PublisherSettings.{PublisherSettings}
+use Rattle.iox_domain_settings.specs.declared.subscriber_settings.SubscriberSettings.{SubscriberSettings}
+use Rattle.iox_domain_ports.specs.declared.making.PublisherConfig.{PublisherConfig}
+use Rattle.iox_domain_ports.specs.declared.making.SubscriberConfig.{SubscriberConfig}
+use Rattle.iox_domain_ports.specs.declared.service_ports.ServicePorts.{ServicePorts}
+use Rattle.iox_domain_home.specs.declared.domain_id.DomainId.{DomainId}
+use Rattle.iox_delivery.specs.declared.publisher.Publisher.{Publisher}
+use Rattle.iox_delivery_slices.specs.declared.publisher.Publisher.{Publisher as SlicePublisher}
+use Rattle.iox_delivery_slices.specs.declared.subscriber.Subscriber.{Subscriber as SliceSubscriber}
+use Rattle.iox_delivery.specs.declared.subscriber.Subscriber.{Subscriber}
+use Rattle.iox_delivery_factories.specs.declared.publisher.PortFactoryPublisher.{PortFactoryPublisher}
+use Rattle.iox_delivery_factories.specs.declared.subscriber.PortFactorySubscriber.{PortFactorySubscriber}
+
+-- who decides for a publisher of this strategy where nobody is named: no handler at a full mailbox, and a warning where a connection fails
+abbrev pub nobody_named : {X Y : Type 0} {F : X → Type 0} {G : Y → Type 0} → BackpressureStrategy → Handlers X Y F G
+nobody_named strategy = record { strategy = strategy; backpressure = None; degradation = Fixed Warn }
+
+-- a builder of publishers where nothing is named
+abbrev pub new_publisher_builder : {T U X Y Z : Type 0} {F : X → Type 0} {G : Y → Type 0} {K : Z → Type 0} → DomainId → ℕ → ℕ → PortFactoryPublisher T U (Handlers X Y F G) (PreallocatedSamplesOverride Z K)
+new_publisher_builder domain node_id owner =
+    record { domain = domain; owner = record { number = owner; node_id = node_id }; settings = publisher_defaults; handlers = nobody_named RetryUntilDelivered; overriding = WorstCase; of = record {} }
+
+-- a builder of subscribers where nothing is named
+abbrev pub new_subscriber_builder : {T U Y : Type 0} {G : Y → Type 0} → DomainId → ℕ → ℕ → PortFactorySubscriber T U (DegradationHandler Y G)
+new_subscriber_builder domain node_id owner =
+    record { domain = domain; owner = record { number = owner; node_id = node_id }; settings = subscriber_defaults; handler = Fixed Warn; of = record {} }
+
+-- a builder with this strategy
+abbrev pub with_strategy : {T U X Y O : Type 0} {F : X → Type 0} {G : Y → Type 0} → BackpressureStrategy → PortFactoryPublisher T U (Handlers X Y F G) O → PortFactoryPublisher T U (Handlers X Y F G) O
+with_strategy strategy builder = record builder { settings = record builder.settings { strategy = strategy }; handlers = record builder.handlers { strategy = strategy } }
+
+-- a builder where this one is asked where a connection failed
+abbrev pub with_degradation : {T U X Y O : Type 0} {F : X → Type 0} {G : Y → Type 0} → DegradationHandler Y G → PortFactoryPublisher T U (Handlers X Y F G) O → PortFactoryPublisher T U (Handlers X Y F G) O
+with_degradation handler builder = record builder { handlers = record builder.handlers { degradation = handler } }
+
+-- a builder where this one is asked at a full mailbox
+abbrev pub with_backpressure : {T U X Y O : Type 0} {F : X → Type 0} {G : Y → Type 0} → Option (BackpressureHandler X F) → PortFactoryPublisher T U (Handlers X Y F G) O → PortFactoryPublisher T U (Handlers X Y F G) O
+with_backpressure handler builder = record builder { handlers = record builder.handlers { backpressure = handler } }
+
+-- the same settings with nobody asked
+abbrev pub cloned : {T U X Y Z : Type 0} {F : X → Type 0} {G : Y → Type 0} {K : Z → Type 0} → PortFactoryPublisher T U (Handlers X Y F G) (PreallocatedSamplesOverride Z K) → PortFactoryPublisher T U (Handlers X Y F G) (PreallocatedSamplesOverride Z K)
+cloned builder = record builder { handlers = nobody_named builder.settings.strategy; overriding = WorstCase }
+
+-- the same settings with a warning where a connection fails
+abbrev pub subscriber_cloned : {T U Y : Type 0} {G : Y → Type 0} → PortFactorySubscriber T U (DegradationHandler Y G) → PortFactorySubscriber T U (DegradationHandler Y G)
+subscriber_cloned builder = record builder { handler = Fixed Warn }
+
+-- what a publisher of single values is made with
+abbrev pub single_config : PortOwner → PublisherSettings → PublisherConfig
+single_config owner settings = record { owner = owner; max_loaned_samples = settings.max_loaned_samples; values = 1; allocation = Static }
+
+-- what a publisher of slices is made with
+abbrev pub slice_config : PortOwner → PublisherSettings → PublisherConfig
+slice_config owner settings = record { owner = owner; max_loaned_samples = settings.max_loaned_samples; values = settings.initial_max_slice_len; allocation = settings.allocation }
+
+-- what a subscriber is made with
+abbrev pub subscriber_config : PortOwner → SubscriberSettings → SubscriberConfig
+subscriber_config owner settings = record { owner = owner; buffer_size = settings.buffer_size }
+
+-- how many messages may wait for a subscriber, where the service allows them
+abbrev pub allowed : Result ℕ SubscriberCreateError → ℕ
+allowed (Ok buffer_size) = buffer_size
+allowed (Err refusal) = 0
+
+-- how many messages of one publisher may wait for a subscriber, in the service that is found
+abbrev pub buffer_at : {T U : Type 0} → SubscriberSettings → Option (ServicePorts T U) → ℕ
+buffer_at settings None = 0
+buffer_at settings (Some ports) = allowed (buffer_of settings.buffer_size ports.sizes)
+
+-- the publisher that came, as a value
+abbrev pub publisher_of : {T U : Type 0} → DomainId → PublisherSettings → Result ℕ PublisherCreateError → Result (Publisher T U) PublisherCreateError
+publisher_of domain settings (Ok number) = Ok (record { port = record { domain = domain; number = number }; strategy = settings.strategy; of = record {} })
+publisher_of domain settings (Err error) = Err error
+
+-- the publisher of slices that came, as a value
+abbrev pub slice_publisher_of : {T U : Type 0} → DomainId → PublisherSettings → Result ℕ PublisherCreateError → Result (SlicePublisher T U) PublisherCreateError
+slice_publisher_of domain settings (Ok number) =
+    Ok (record { port = record { domain = domain; number = number }; strategy = settings.strategy; initial_max_slice_len = settings.initial_max_slice_len; of = record {} })
+slice_publisher_of domain settings (Err error) = Err error
+
+-- the subscriber that came, as a value
+abbrev pub subscriber_of : {T U : Type 0} → DomainId → ℕ → Result ℕ SubscriberCreateError → Result (Subscriber T U) SubscriberCreateError
+subscriber_of domain buffer_size (Ok number) = Ok (record { port = record { domain = domain; number = number }; buffer_size = buffer_size; of = record {} })
+subscriber_of domain buffer_size (Err error) = Err error
+
+-- the subscriber of slices that came, as a value
+abbrev pub slice_subscriber_of : {T U : Type 0} → DomainId → ℕ → Result ℕ SubscriberCreateError → Result (SliceSubscriber T U) SubscriberCreateError
+slice_subscriber_of domain buffer_size (Ok number) = Ok (record { port = record { domain = domain; number = number }; buffer_size = buffer_size; of = record {} })
+slice_subscriber_of domain buffer_size (Err error) = Err error

@@ -1,0 +1,64 @@
+//! A builder for the ports of a domain.
+ghost use Rattle.std.specs.Prelude.{◌≡◌};
+ghost use Rattle.iox_delivery_factories.specs.Factories.{new_publisher_builder, new_subscriber_builder};
+
+use crate::publisher::PortFactoryPublisher;
+use crate::subscriber::PortFactorySubscriber;
+use iox_domain::Domain;
+use iox_domain_settings::{PublisherSettings, SubscriberSettings};
+use iox_domain_values::{
+    BackpressureStrategy, DegradationAction, DegradationHandler, Handlers, PortOwner,
+    PreallocatedSamplesOverride,
+};
+use std::marker::PhantomData;
+
+/// What makes publishers of a domain, for a node and an owner: two loans, sends that wait for room, slices of one value, a room that doesn't
+/// grow, as many slots as are needed in the worst case, nobody asked at a full mailbox, and a warning where a connection fails.
+///
+/// Ported from `iceoryx2::service::port_factory::publish_subscribe::PortFactory::publisher_builder`.
+pub fn publisher_builder<T, U, B, D>(
+    domain: &Domain<T, U, B, D>,
+    node_id: u64,
+    owner: u64,
+) -> PortFactoryPublisher<T, U>
+    ensures { result ≡ new_publisher_builder domain.now.id node_id owner }
+{
+    PortFactoryPublisher {
+        domain: domain.id,
+        owner: PortOwner {
+            number: owner,
+            node_id,
+        },
+        settings: PublisherSettings::default(),
+        handlers: Handlers {
+            strategy: BackpressureStrategy::RetryUntilDelivered,
+            backpressure: None,
+            degradation: DegradationHandler::Fixed(DegradationAction::Warn),
+        },
+        overriding: PreallocatedSamplesOverride::WorstCase,
+        of: PhantomData,
+    }
+}
+
+/// What makes subscribers of a domain, for a node and an owner: as many messages may wait as the service allows, and a warning comes where
+/// a connection fails.
+///
+/// Ported from `iceoryx2::service::port_factory::publish_subscribe::PortFactory::subscriber_builder`.
+pub fn subscriber_builder<T, U, B, D>(
+    domain: &Domain<T, U, B, D>,
+    node_id: u64,
+    owner: u64,
+) -> PortFactorySubscriber<T, U>
+    ensures { result ≡ new_subscriber_builder domain.now.id node_id owner }
+{
+    PortFactorySubscriber {
+        domain: domain.id,
+        owner: PortOwner {
+            number: owner,
+            node_id,
+        },
+        settings: SubscriberSettings::default(),
+        handler: DegradationHandler::Fixed(DegradationAction::Warn),
+        of: PhantomData,
+    }
+}

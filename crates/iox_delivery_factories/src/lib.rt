@@ -1,0 +1,16 @@
+//! How ports are made: builders that name what a port is to have, and make it in the home of its domain.
+//!
+//! | Module | What it has |
+//! |---|---|
+//! | `builders` | a builder for the ports of a domain |
+//! | `publisher` | makes a publisher of single values, or of slices |
+//! | `subscriber` | makes a subscriber of single values, or of slices |
+#![tactic(auto)]
+
+pub mod builders;
+pub mod publisher;
+pub mod subscriber;
+
+pub use builders::{publisher_builder, subscriber_builder};
+pub use publisher::PortFactoryPublisher;
+pub use subscriber::PortFactorySubscriber;

@@ -1,0 +1,221 @@
+//! What makes a publisher.
+ghost use Rattle.std.specs.Prelude.{◌≡◌, ℕ, IsSome, Some, Result};
+ghost use Rattle.iox_domain_values.specs.declared.degradation.DegradationCause.TheVariants.{FailedToEstablishConnection};
+ghost use Rattle.iox_domain_home.specs.Homes.{MakesAt};
+ghost use Rattle.iox_domain_home.specs.Steps.{PublisherComes, why_no_publisher};
+ghost use Rattle.iox_domain_values.specs.declared.create_error.PublisherCreateError.{PublisherCreateError};
+ghost use Rattle.iox_delivery_factories.specs.Factories.{single_config, slice_config, publisher_of, slice_publisher_of, with_strategy, with_degradation, with_backpressure, cloned};
+
+use iox_delivery::{PortId, Publisher};
+use iox_delivery_slices as slice;
+use iox_domain_home::{DomainId, MakesPorts};
+use iox_domain_ports::PublisherConfig;
+use iox_domain_settings::PublisherSettings;
+use iox_domain_values::{
+    AllocationStrategy, BackpressureHandler, BackpressureStrategy, Degrades, DegradationAction,
+    DegradationHandler, Handlers, Overrides, PortOwner, PreallocatedSamplesOverride,
+    PublisherCreateError,
+};
+use std::alloc::Global;
+use std::marker::PhantomData;
+
+/// What makes a publisher of a domain: what it is to have, and who decides for it.
+///
+/// Ported from `iceoryx2::service::port_factory::publisher::PortFactoryPublisher`.
+#[derive(Drop)]
+pub struct PortFactoryPublisher<T, U, B = Handlers, O = PreallocatedSamplesOverride> {
+    /// The domain that it is made in.
+    pub domain: DomainId,
+    /// Who it belongs to.
+    pub owner: PortOwner,
+    /// What it is to have.
+    pub settings: PublisherSettings,
+    /// Who decides for it.
+    pub handlers: B,
+    /// Who decides how many slots it gets.
+    pub overriding: O,
+    /// Of which values and user headers it is.
+    pub of: PhantomData<(T, U)>,
+}
+
+impl<T, U> PortFactoryPublisher<T, U, Handlers, PreallocatedSamplesOverride> {
+    /// Names who decides how many slots the publisher gets.
+    ///
+    /// Ported from `PortFactoryPublisher::override_sample_preallocation`.
+    pub fn override_sample_preallocation(mut self, overriding: PreallocatedSamplesOverride) -> Self
+        ensures { result ≡ record self { overriding = overriding } }
+    {
+        self.overriding = overriding;
+        self
+    }
+
+    /// Names how many loans may be out at once.
+    ///
+    /// Ported from `PortFactoryPublisher::max_loaned_samples`.
+    pub fn max_loaned_samples(mut self, value: usize) -> Self
+        ensures { result ≡ record self { settings = record self.settings { max_loaned_samples = value } } }
+    {
+        self.settings.max_loaned_samples = value;
+        self
+    }
+
+    /// Names what is done at a full mailbox where the service doesn't overflow and no handler decides.
+    ///
+    /// Ported from `PortFactoryPublisher::backpressure_strategy`.
+    pub fn backpressure_strategy(mut self, strategy: BackpressureStrategy) -> Self
+        ensures { result ≡ with_strategy strategy self }
+    {
+        self.settings.strategy = strategy;
+        self.handlers.strategy = strategy;
+        self
+    }
+
+    /// Names who is asked where a connection failed.
+    ///
+    /// Ported from `PortFactoryPublisher::set_degradation_handler`.
+    pub fn set_degradation_handler(mut self, handler: DegradationHandler) -> Self
+        ensures { result ≡ with_degradation handler self }
+    {
+        self.handlers.degradation = handler;
+        self
+    }
+
+    /// Names who is asked at a full mailbox.
+    ///
+    /// Ported from `PortFactoryPublisher::set_backpressure_handler`.
+    pub fn set_backpressure_handler(mut self, handler: BackpressureHandler) -> Self
+        ensures { result ≡ with_backpressure (Some handler) self }
+    {
+        self.handlers.backpressure = Some(handler);
+        self
+    }
+
+    /// Names how many values a loan of a slice may have at first.
+    ///
+    /// Ported from `PortFactoryPublisher::initial_max_slice_len`.
+    pub fn initial_max_slice_len(mut self, value: usize) -> Self
+        ensures { result ≡ record self { settings = record self.settings { initial_max_slice_len = value } } }
+    {
+        self.settings.initial_max_slice_len = value;
+        self
+    }
+
+    /// Names what a loan of a longer slice does.
+    ///
+    /// Ported from `PortFactoryPublisher::allocation_strategy`.
+    pub fn allocation_strategy(mut self, value: AllocationStrategy) -> Self
+        ensures { result ≡ record self { settings = record self.settings { allocation = value } } }
+    {
+        self.settings.allocation = value;
+        self
+    }
+
+    /// The same settings once more, with nobody asked: as many slots as are needed in the worst case, no handler at a full mailbox, and a
+    /// warning where a connection fails.
+    ///
+    /// Ported from `PortFactoryPublisher::__internal_partial_clone`, whose name stands for a macro's here.
+    pub fn partial_clone(&self) -> Self
+        ensures { result ≡ cloned self.now }
+    {
+        PortFactoryPublisher {
+            domain: self.domain,
+            owner: self.owner,
+            settings: self.settings,
+            handlers: Handlers {
+                strategy: self.settings.strategy,
+                backpressure: None,
+                degradation: DegradationHandler::Fixed(DegradationAction::Warn),
+            },
+            overriding: PreallocatedSamplesOverride::WorstCase,
+            of: PhantomData,
+        }
+    }
+}
+
+impl<T: Copy, U: Copy + Default, B: Degrades, O: Overrides> PortFactoryPublisher<T, U, B, O> {
+    /// Makes the publisher, of single values, in the home of its domain. It gets as many slots as it needs in the worst case, or fewer as
+    /// the override answers, and is connected to the subscribers that are there; where a connection isn't made its handler is asked, and it
+    /// comes nevertheless.
+    ///
+    /// Refused with `UnableToCreateDataSegment` if the slots of the worst case are 2^32 or more; else with
+    /// `ExceedsMaxSupportedPublishers` if no place is free; else with `UnableToCreateDataSegment` where memory is wanting. Then nothing
+    /// has changed.
+    ///
+    /// Ported from `PortFactoryPublisher::create`.
+    pub fn create<D: Degrades, H: MakesPorts<T, U, B, D>>(
+        self,
+        alloc: Global,
+        home: &mut H,
+    ) -> Result<Publisher<T, U>, PublisherCreateError>
+        requires { IsSome (H.ports_of self.domain home.old) }
+        ensures { (user_header : U) × U.is_default user_header × (answer : Result ℕ PublisherCreateError)
+            × MakesAt (λ after. H.with_ports self.domain after home.old) (λ number. H.with_publisher self.domain number self.handlers)
+            (PublisherComes (O.overrides self.overriding) (B.degrades self.handlers FailedToEstablishConnection) (single_config self.owner self.settings) user_header) (why_no_publisher (single_config self.owner self.settings))
+            (H.ports_of self.domain home.old) home.old (Some answer) home.new × (result ≡ publisher_of self.domain self.settings answer) }
+    {
+        let PortFactoryPublisher {
+            domain,
+            owner,
+            settings,
+            handlers,
+            overriding,
+            of: _,
+        } = self;
+        let config = PublisherConfig {
+            owner,
+            max_loaned_samples: settings.max_loaned_samples,
+            values: 1,
+            allocation: AllocationStrategy::Static,
+        };
+        match home.create_publisher(alloc, domain, config, U::default(), &overriding, handlers) {
+            Some(Ok(number)) => Ok(Publisher::of_port(
+                PortId { domain, number },
+                settings.strategy,
+            )),
+            Some(Err(error)) => Err(error),
+            None => unreachable!(),
+        }
+    }
+
+    /// Makes the publisher, of slices, in the home of its domain, as `create` does. A slot holds as many values as a loan may have at
+    /// first.
+    ///
+    /// Refused as `create` is, and with `UnableToCreateDataSegment` also if a loan may have 2^32 values or more at first.
+    ///
+    /// Ported from `PortFactoryPublisher::create`.
+    pub fn create_slice<D: Degrades, H: MakesPorts<T, U, B, D>>(
+        self,
+        alloc: Global,
+        home: &mut H,
+    ) -> Result<slice::Publisher<T, U>, PublisherCreateError>
+        requires { IsSome (H.ports_of self.domain home.old) }
+        ensures { (user_header : U) × U.is_default user_header × (answer : Result ℕ PublisherCreateError)
+            × MakesAt (λ after. H.with_ports self.domain after home.old) (λ number. H.with_publisher self.domain number self.handlers)
+            (PublisherComes (O.overrides self.overriding) (B.degrades self.handlers FailedToEstablishConnection) (slice_config self.owner self.settings) user_header) (why_no_publisher (slice_config self.owner self.settings))
+            (H.ports_of self.domain home.old) home.old (Some answer) home.new × (result ≡ slice_publisher_of self.domain self.settings answer) }
+    {
+        let PortFactoryPublisher {
+            domain,
+            owner,
+            settings,
+            handlers,
+            overriding,
+            of: _,
+        } = self;
+        let config = PublisherConfig {
+            owner,
+            max_loaned_samples: settings.max_loaned_samples,
+            values: settings.initial_max_slice_len,
+            allocation: settings.allocation,
+        };
+        match home.create_publisher(alloc, domain, config, U::default(), &overriding, handlers) {
+            Some(Ok(number)) => Ok(slice::Publisher::of_port(
+                PortId { domain, number },
+                settings.strategy,
+                settings.initial_max_slice_len,
+            )),
+            Some(Err(error)) => Err(error),
+            None => unreachable!(),
+        }
+    }
+}

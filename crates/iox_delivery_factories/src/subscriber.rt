@@ -1,0 +1,162 @@
+//! What makes a subscriber.
+ghost use Rattle.std.specs.Prelude.{◌≡◌, ℕ, IsSome, Some, Result};
+ghost use Rattle.iox_domain_values.specs.declared.create_error.SubscriberCreateError.{SubscriberCreateError};
+ghost use Rattle.iox_domain_values.specs.declared.degradation.DegradationCause.TheVariants.{FailedToEstablishConnection};
+ghost use Rattle.iox_domain_home.specs.Homes.{MakesAt};
+ghost use Rattle.iox_domain_home.specs.Steps.{SubscriberComes, why_no_subscriber};
+ghost use Rattle.iox_delivery_factories.specs.Factories.{subscriber_config, buffer_at, subscriber_of, slice_subscriber_of, subscriber_cloned};
+
+use iox_delivery::{PortId, Subscriber};
+use iox_delivery_slices as slice;
+use iox_domain_home::{DomainId, MakesPorts};
+use iox_domain_ports::SubscriberConfig;
+use iox_domain_settings::SubscriberSettings;
+use iox_domain_values::{
+    DegradationAction, DegradationHandler, Degrades, PortOwner, SubscriberCreateError,
+};
+use std::alloc::Global;
+use std::marker::PhantomData;
+
+/// What makes a subscriber of a domain: what it is to have, and who decides for it.
+///
+/// Ported from `iceoryx2::service::port_factory::subscriber::PortFactorySubscriber`.
+#[derive(Drop)]
+pub struct PortFactorySubscriber<T, U, D = DegradationHandler> {
+    /// The domain that it is made in.
+    pub domain: DomainId,
+    /// Who it belongs to.
+    pub owner: PortOwner,
+    /// What it is to have.
+    pub settings: SubscriberSettings,
+    /// Who decides for it.
+    pub handler: D,
+    /// Of which values and user headers it is.
+    pub of: PhantomData<(T, U)>,
+}
+
+impl<T, U> PortFactorySubscriber<T, U, DegradationHandler> {
+    /// Names how many messages of one publisher may wait for it; 0 stands for 1.
+    ///
+    /// Ported from `PortFactorySubscriber::buffer_size`.
+    pub fn buffer_size(mut self, value: usize) -> Self
+        ensures { result ≡ record self { settings = record { buffer_size = Some value } } }
+    {
+        self.settings.buffer_size = Some(value);
+        self
+    }
+
+    /// Names who is asked where a connection failed.
+    ///
+    /// Ported from `PortFactorySubscriber::set_degradation_handler`.
+    pub fn set_degradation_handler(mut self, handler: DegradationHandler) -> Self
+        ensures { result ≡ record self { handler = handler } }
+    {
+        self.handler = handler;
+        self
+    }
+
+    /// The same settings once more, with a warning where a connection fails.
+    ///
+    /// Ported from `PortFactorySubscriber::__internal_partial_clone`, whose name stands for a macro's here.
+    pub fn partial_clone(&self) -> Self
+        ensures { result ≡ subscriber_cloned self.now }
+    {
+        PortFactorySubscriber {
+            domain: self.domain,
+            owner: self.owner,
+            settings: self.settings,
+            handler: DegradationHandler::Fixed(DegradationAction::Warn),
+            of: PhantomData,
+        }
+    }
+}
+
+impl<T: Copy, U: Copy, D: Degrades> PortFactorySubscriber<T, U, D> {
+    /// Makes the subscriber, of single values, in the home of its domain. It is connected to the publishers that are there; where a
+    /// connection isn't made its handler is asked, and it comes nevertheless.
+    ///
+    /// Refused with `BufferSizeExceedsMaxSupportedBufferSizeOfService` if more messages are to wait than the service allows; else with
+    /// `ExceedsMaxSupportedSubscribers` if no place is free; else with `OutOfMemory` where memory is wanting. Then nothing has changed.
+    ///
+    /// Ported from `PortFactorySubscriber::create`.
+    pub fn create<B: Degrades, H: MakesPorts<T, U, B, D>>(
+        self,
+        alloc: Global,
+        home: &mut H,
+    ) -> Result<Subscriber<T, U>, SubscriberCreateError>
+        requires { IsSome (H.ports_of self.domain home.old) }
+        ensures { (answer : Result ℕ SubscriberCreateError)
+            × MakesAt (λ after. H.with_ports self.domain after home.old) (λ number. H.with_subscriber self.domain number self.handler)
+            (SubscriberComes (D.degrades self.handler FailedToEstablishConnection) (subscriber_config self.owner self.settings)) (why_no_subscriber (subscriber_config self.owner self.settings))
+            (H.ports_of self.domain home.old) home.old (Some answer) home.new
+            × (result ≡ subscriber_of self.domain (buffer_at self.settings (H.ports_of self.domain home.old)) answer) }
+    {
+        let buffer_size = self.buffer_size_in(home);
+        let PortFactorySubscriber {
+            domain,
+            owner,
+            settings,
+            handler,
+            of: _,
+        } = self;
+        let config = SubscriberConfig {
+            owner,
+            buffer_size: settings.buffer_size,
+        };
+        match home.create_subscriber(alloc, domain, config, handler) {
+            Some(Ok(number)) => Ok(Subscriber::of_port(PortId { domain, number }, buffer_size)),
+            Some(Err(error)) => Err(error),
+            None => unreachable!(),
+        }
+    }
+
+    /// Makes the subscriber, of slices, in the home of its domain, as `create` does, and refused as it is.
+    ///
+    /// Ported from `PortFactorySubscriber::create`.
+    pub fn create_slice<B: Degrades, H: MakesPorts<T, U, B, D>>(
+        self,
+        alloc: Global,
+        home: &mut H,
+    ) -> Result<slice::Subscriber<T, U>, SubscriberCreateError>
+        requires { IsSome (H.ports_of self.domain home.old) }
+        ensures { (answer : Result ℕ SubscriberCreateError)
+            × MakesAt (λ after. H.with_ports self.domain after home.old) (λ number. H.with_subscriber self.domain number self.handler)
+            (SubscriberComes (D.degrades self.handler FailedToEstablishConnection) (subscriber_config self.owner self.settings)) (why_no_subscriber (subscriber_config self.owner self.settings))
+            (H.ports_of self.domain home.old) home.old (Some answer) home.new
+            × (result ≡ slice_subscriber_of self.domain (buffer_at self.settings (H.ports_of self.domain home.old)) answer) }
+    {
+        let buffer_size = self.buffer_size_in(home);
+        let PortFactorySubscriber {
+            domain,
+            owner,
+            settings,
+            handler,
+            of: _,
+        } = self;
+        let config = SubscriberConfig {
+            owner,
+            buffer_size: settings.buffer_size,
+        };
+        match home.create_subscriber(alloc, domain, config, handler) {
+            Some(Ok(number)) => Ok(slice::Subscriber::of_port(
+                PortId { domain, number },
+                buffer_size,
+            )),
+            Some(Err(error)) => Err(error),
+            None => unreachable!(),
+        }
+    }
+
+    // How many messages of one publisher may wait for it, in the service of its domain: 0 where the service refuses it.
+    fn buffer_size_in<B: Degrades, H: MakesPorts<T, U, B, D>>(&self, home: &H) -> usize
+        ensures { result ≡ buffer_at self.now.settings (H.ports_of self.now.domain home.now) }
+    {
+        match home.ports(self.domain) {
+            Some(ports) => self
+                .settings
+                .buffer_size_within(&ports.sizes)
+                .unwrap_or(0),
+            None => 0,
+        }
+    }
+}

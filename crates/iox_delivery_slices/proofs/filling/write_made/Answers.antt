@@ -1,0 +1,14 @@
+use Rattle.std.proofs.Common.{sym}
+use Rattle.iox_delivery_slices.proofs.Filled.{puts_each}
+use Rattle.iox_delivery_slices.proofs.filling.write_made.Goals as goal
+
+pub returns-clause-writes : goal.returns-clause-writes
+returns-clause-writes g c =
+    let made = c.write_each.ensures.writes in (
+      made.0,
+      made.1,
+      made.2,
+      puts_each (λ held. g.H.Home.ports_of c.args.port.domain held) (λ ports held. g.H.Home.with_ports c.args.port.domain ports held) (λ ports held. g.met.H.Home.put_is_there c.args.port.domain ports held)
+          c.args.port.number c.args.slot made.0 c.args.home.now c.in-Some.ports.now c.in-Some-get_mut.publisher.now c.write_each.new.publisher
+          (sym c.in-Some.ensures.value) (sym c.in-Some-get_mut.ensures.value) made.3,
+    )

@@ -1,0 +1,16 @@
+use Rattle.std.proofs.Common.{length}
+use Rattle.iox_delivery.proofs.Lent.{ready_is_written, ready_is_free}
+use Rattle.iox_delivery_slices.proofs.Filled.{written_is_ready}
+use Rattle.iox_delivery_slices.proofs.publisher.Publisher.send_slice.Goals as goal
+
+pub send-requires-clause-holds : goal.send-requires-clause-holds
+send-requires-clause-holds g c =
+    ready_is_written c.args.self.now.port.number (length c.args.values.now) c.in_ok-slot.slot c.args.values.now (g.H.Home.ports_of c.args.self.now.port.domain c.write_all.new.home)
+    (written_is_ready (λ held. g.H.Home.ports_of c.args.self.now.port.domain held) (λ ports held. g.H.Home.with_ports c.args.self.now.port.domain ports held) (λ ports held. g.met.H.Home.put_is_there c.args.self.now.port.domain ports held)
+    c.args.self.now.port.number (length c.args.values.now) c.in_ok-slot.slot c.args.values.now c.args.home.now c.loan.new.home c.write_all.new.home c.in_ok-slot.ensures c.write_all.ensures)
+
+pub send-requires-clause-free : goal.send-requires-clause-free
+send-requires-clause-free g c =
+    ready_is_free c.args.self.now.port.number (length c.args.values.now) c.in_ok-slot.slot c.args.values.now (g.H.Home.ports_of c.args.self.now.port.domain c.write_all.new.home)
+    (written_is_ready (λ held. g.H.Home.ports_of c.args.self.now.port.domain held) (λ ports held. g.H.Home.with_ports c.args.self.now.port.domain ports held) (λ ports held. g.met.H.Home.put_is_there c.args.self.now.port.domain ports held)
+    c.args.self.now.port.number (length c.args.values.now) c.in_ok-slot.slot c.args.values.now c.args.home.now c.loan.new.home c.write_all.new.home c.in_ok-slot.ensures c.write_all.ensures)

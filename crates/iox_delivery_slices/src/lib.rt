@@ -1,0 +1,23 @@
+//! The ports of a service of slices as values, as those of single values are in `iox_delivery`.
+//!
+//! - [`publisher`]: a publisher of slices.
+//! - [`sample_mut_uninit`]: a slice that is lent to be written.
+//! - [`sample_mut`]: a slice that is lent and written.
+//! - [`subscriber`]: a subscriber of slices.
+//! - [`sample`]: a slice that was received.
+//!
+//! No port, loan or sample may be let go: it is spent by the call that ends it.
+#![tactic(auto)]
+
+mod filling;
+pub mod publisher;
+pub mod sample;
+pub mod sample_mut;
+pub mod sample_mut_uninit;
+pub mod subscriber;
+
+pub use publisher::Publisher;
+pub use sample::Sample;
+pub use sample_mut::SampleMut;
+pub use sample_mut_uninit::SampleMutUninit;
+pub use subscriber::Subscriber;

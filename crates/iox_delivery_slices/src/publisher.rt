@@ -1,0 +1,188 @@
+//! A publisher of slices.
+ghost use Rattle.std.specs.Prelude.{◌≡◌, true, false, replicate, IfOk};
+ghost use Rattle.iox_delivery.specs.Lent.{IsReady};
+ghost use Rattle.iox_delivery.specs.Holding.{publisher_stands, publisher_blocked};
+ghost use Rattle.iox_delivery.specs.Publishing.{FollowsSubscribers, PublisherGoes};
+ghost use Rattle.iox_delivery_slices.specs.Slices.{LendsSlice, LendsDefaults, SendsSlice};
+
+use crate::filling;
+use crate::sample_mut::SampleMut;
+use crate::sample_mut_uninit::SampleMutUninit;
+use iox_delivery::{PortId, Sent, lending, publishing};
+use iox_domain_home::{DomainId, Home};
+use iox_domain_values::{BackpressureStrategy, ConnectionFailure, LoanError, SendError};
+use std::alloc::Global;
+use std::marker::PhantomData;
+
+/// A publisher of slices. It stands until it leaves.
+///
+/// Ported from `iceoryx2::port::publisher::Publisher`.
+pub struct Publisher<T, U> {
+    port: PortId,
+    strategy: BackpressureStrategy,
+    initial_max_slice_len: usize,
+    of: PhantomData<(T, U)>,
+}
+
+impl<T: Copy, U: Copy> Publisher<T, U> {
+    /// The publisher that was made under a number, as a value. It is to be had once.
+    ///
+    /// This port's own: what makes ports by number hands them out so.
+    pub fn of_port(
+        port: PortId,
+        strategy: BackpressureStrategy,
+        initial_max_slice_len: usize,
+    ) -> Self
+        ensures port { result.port ≡ port }
+        ensures strategy { result.strategy ≡ strategy }
+        ensures initial_max_slice_len { result.initial_max_slice_len ≡ initial_max_slice_len }
+    {
+        Publisher {
+            port,
+            strategy,
+            initial_max_slice_len,
+            of: PhantomData,
+        }
+    }
+
+    /// Its number in its domain.
+    ///
+    /// Ported from `iceoryx2::port::publisher::Publisher::id`, with a number of 64 bits.
+    pub fn id(&self) -> u64
+        ensures { result ≡ self.now.port.number }
+    {
+        self.port.number
+    }
+
+    /// The id of its domain.
+    pub fn domain(&self) -> DomainId
+        ensures { result ≡ self.now.port.domain }
+    {
+        self.port.domain
+    }
+
+    /// What it does at a full mailbox where no handler decides.
+    ///
+    /// Ported from `iceoryx2::port::publisher::Publisher::backpressure_strategy`.
+    pub fn backpressure_strategy(&self) -> BackpressureStrategy
+        ensures { result ≡ self.now.strategy }
+    {
+        self.strategy
+    }
+
+    /// How many values a loan might have at first.
+    ///
+    /// Ported from `iceoryx2::port::publisher::Publisher::initial_max_slice_len`.
+    pub fn initial_max_slice_len(&self) -> usize
+        ensures { result ≡ self.now.initial_max_slice_len }
+    {
+        self.initial_max_slice_len
+    }
+
+    /// Whether it stands in this home: the condition of its calls.
+    pub fn holds<H: Home<T, U>>(&self, home: &H) -> bool
+        ensures { result ≡ publisher_stands self.now.port.number (H.ports_of self.now.port.domain home.now) }
+    {
+        publishing::holds(self.port, home)
+    }
+
+    /// Whether a send of it waits: that it doesn't is the condition of its calls.
+    pub fn is_blocked<H: Home<T, U>>(&self, home: &H) -> bool
+        ensures { result ≡ publisher_blocked self.now.port.number (H.ports_of self.now.port.domain home.now) }
+    {
+        publishing::is_blocked(self.port, home)
+    }
+
+    /// Lends so many values to be written. It is refused as `ServicePorts::loan` says: with `ExceedsMaxLoanSize` where that is more than its
+    /// room allows and the room doesn't grow, else with `ExceedsMaxLoans` where as many loans are out as it may have, else with
+    /// `OutOfMemory` where each slot is in use or a new segment isn't made.
+    ///
+    /// Ported from `iceoryx2::port::publisher::Publisher::loan_slice_uninit`.
+    pub fn loan_slice_uninit<H: Home<T, U>>(
+        &self,
+        alloc: Global,
+        home: &mut H,
+        len: usize,
+    ) -> Result<SampleMutUninit<T, U>, LoanError>
+        requires holds { publisher_stands self.now.port.number (H.ports_of self.now.port.domain home.old) ≡ true }
+        requires free { publisher_blocked self.now.port.number (H.ports_of self.now.port.domain home.old) ≡ false }
+        ensures { LendsSlice H.ports_of H.with_ports self.now.port len home.old result home.new }
+    {
+        let slot = publishing::loan(self.port, alloc, home, len, len as u64)?;
+        Ok(SampleMutUninit::of_loan(self.port, slot, len))
+    }
+
+    /// Lends so many values that are written: each is one default. It is refused as `loan_slice_uninit` is. It may be sent at once: it is a slice
+    /// that is written, and no send waits.
+    ///
+    /// Ported from `iceoryx2::port::publisher::Publisher::loan_slice`.
+    pub fn loan_slice<H: Home<T, U>>(
+        &self,
+        alloc: Global,
+        home: &mut H,
+        len: usize,
+    ) -> Result<SampleMut<T, U>, LoanError>
+    where
+        T: Default,
+        requires holds { publisher_stands self.now.port.number (H.ports_of self.now.port.domain home.old) ≡ true }
+        requires free { publisher_blocked self.now.port.number (H.ports_of self.now.port.domain home.old) ≡ false }
+        ensures lends { LendsDefaults H.ports_of H.with_ports T.is_default self.now.port len home.old result home.new }
+        ensures ready { IfOk result (λ sample. (value : T) × T.is_default value × IsReady self.now.port.number (replicate len value) len sample.slot (H.ports_of self.now.port.domain home.new)) }
+    {
+        let slot = filling::loan_filled(self.port, alloc, home, len, T::default())?;
+        Ok(SampleMut::of_loan(self.port, slot))
+    }
+
+    /// Lends as many values, writes them and sends them. A loan that is refused as `loan_slice_uninit` is, is `SendError::LoanError`, and nothing is
+    /// sent; else it answers as `SampleMut::send` does.
+    ///
+    /// This port's own: `iceoryx2::port::publisher::Publisher::send_copy` for slices.
+    pub fn send_slice<H: Home<T, U>>(
+        &self,
+        alloc: Global,
+        home: &mut H,
+        values: &[T],
+    ) -> Result<Sent<T, U>, SendError>
+        requires holds { publisher_stands self.now.port.number (H.ports_of self.now.port.domain home.old) ≡ true }
+        requires free { publisher_blocked self.now.port.number (H.ports_of self.now.port.domain home.old) ≡ false }
+        ensures { SendsSlice H.ports_of H.with_ports H.publisher_degrades H.publisher_decides self.now.port values.now home.old result home.new }
+    {
+        let len = values.len();
+        let slot = publishing::loan(self.port, alloc, home, len, len as u64)?;
+        filling::write_all(self.port, slot, home, values);
+        lending::send(self.port, slot, alloc, home)
+    }
+
+    /// Follows the subscribers that came and left: `ServicePorts::update_publisher` says what that does. It fails as a handler says where a
+    /// connection isn't made.
+    ///
+    /// Ported from `iceoryx2::port::update_connections::UpdateConnections`.
+    pub fn update_connections<H: Home<T, U>>(
+        &self,
+        alloc: Global,
+        home: &mut H,
+    ) -> Result<(), ConnectionFailure>
+        requires holds { publisher_stands self.now.port.number (H.ports_of self.now.port.domain home.old) ≡ true }
+        requires free { publisher_blocked self.now.port.number (H.ports_of self.now.port.domain home.old) ≡ false }
+        ensures { FollowsSubscribers H.ports_of H.with_ports H.publisher_degrades self.now.port home.old result home.new }
+    {
+        publishing::update(self.port, alloc, home)
+    }
+
+    /// Leaves: what was sent stays to be read, and what is lent can't be sent any longer. Its handlers are dropped.
+    ///
+    /// Ported from dropping an `iceoryx2::port::publisher::Publisher`.
+    pub fn leave<H: Home<T, U>>(self, home: &mut H)
+        requires holds { publisher_stands self.port.number (H.ports_of self.port.domain home.old) ≡ true }
+        requires free { publisher_blocked self.port.number (H.ports_of self.port.domain home.old) ≡ false }
+        ensures { PublisherGoes H.ports_of H.with_ports H.without_publisher self.port home.old home.new }
+    {
+        let Publisher {
+            port,
+            strategy: _,
+            initial_max_slice_len: _,
+            of: _,
+        } = self;
+        publishing::leave(port, home);
+    }
+}

@@ -1,0 +1,130 @@
+//! A subscriber of slices.
+ghost use Rattle.std.specs.Prelude.{◌≡◌, true};
+ghost use Rattle.iox_delivery.specs.Holding.{subscriber_stands};
+ghost use Rattle.iox_delivery.specs.Subscribing.{FollowsPublishers, TellsSamples, SubscriberGoes};
+ghost use Rattle.iox_delivery_slices.specs.Slices.{ReceivesSlice};
+
+use crate::sample::Sample;
+use iox_delivery::{PortId, subscribing};
+use iox_domain_home::{DomainId, Home};
+use iox_domain_values::{ConnectionFailure, ReceiveError};
+use std::alloc::Global;
+use std::marker::PhantomData;
+
+/// A subscriber of slices. It stands until it leaves.
+///
+/// Ported from `iceoryx2::port::subscriber::Subscriber`.
+pub struct Subscriber<T, U> {
+    port: PortId,
+    buffer_size: usize,
+    of: PhantomData<(T, U)>,
+}
+
+impl<T: Copy, U: Copy> Subscriber<T, U> {
+    /// The subscriber that was made under a number, as a value. It is to be had once.
+    ///
+    /// This port's own: what makes ports by number hands them out so.
+    pub fn of_port(port: PortId, buffer_size: usize) -> Self
+        ensures port { result.port ≡ port }
+        ensures buffer_size { result.buffer_size ≡ buffer_size }
+    {
+        Subscriber {
+            port,
+            buffer_size,
+            of: PhantomData,
+        }
+    }
+
+    /// Its number in its domain.
+    ///
+    /// Ported from `iceoryx2::port::subscriber::Subscriber::id`, with a number of 64 bits.
+    pub fn id(&self) -> u64
+        ensures { result ≡ self.now.port.number }
+    {
+        self.port.number
+    }
+
+    /// The id of its domain.
+    pub fn domain(&self) -> DomainId
+        ensures { result ≡ self.now.port.domain }
+    {
+        self.port.domain
+    }
+
+    /// How many messages of one publisher may wait for it.
+    ///
+    /// Ported from `iceoryx2::port::subscriber::Subscriber::buffer_size`.
+    pub fn buffer_size(&self) -> usize
+        ensures { result ≡ self.now.buffer_size }
+    {
+        self.buffer_size
+    }
+
+    /// Whether it stands in this home: the condition of its calls.
+    pub fn holds<H: Home<T, U>>(&self, home: &H) -> bool
+        ensures { result ≡ subscriber_stands self.now.port.number (H.ports_of self.now.port.domain home.now) }
+    {
+        subscribing::holds(self.port, home)
+    }
+
+    /// Whether some connection of it has data, after it followed the publishers: it fails where that does.
+    ///
+    /// Ported from `iceoryx2::port::subscriber::Subscriber::has_samples`.
+    pub fn has_samples<H: Home<T, U>>(
+        &self,
+        alloc: Global,
+        home: &mut H,
+    ) -> Result<bool, ConnectionFailure>
+        requires { subscriber_stands self.now.port.number (H.ports_of self.now.port.domain home.old) ≡ true }
+        ensures { TellsSamples H.ports_of H.with_ports H.subscriber_degrades self.now.port home.old result home.new }
+    {
+        subscribing::has_samples(self.port, alloc, home)
+    }
+
+    /// Receives the next message, if one waits: `ServicePorts::receive` says which, and when it is refused. It is held until it is released.
+    ///
+    /// Ported from `iceoryx2::port::subscriber::Subscriber::receive`.
+    pub fn receive<H: Home<T, U>>(
+        &self,
+        alloc: Global,
+        home: &mut H,
+    ) -> Result<Option<Sample<T, U>>, ReceiveError>
+        requires { subscriber_stands self.now.port.number (H.ports_of self.now.port.domain home.old) ≡ true }
+        ensures { ReceivesSlice H.ports_of H.with_ports H.subscriber_degrades self.now.port home.old result home.new }
+    {
+        match subscribing::take(self.port, alloc, home)? {
+            Some(taken) => Ok(Some(Sample::of_taken(self.port, taken))),
+            None => Ok(None),
+        }
+    }
+
+    /// Follows the publishers that came and left: `ServicePorts::update_subscriber` says what that does. It fails as a handler says where a
+    /// connection isn't made.
+    ///
+    /// Ported from `iceoryx2::port::update_connections::UpdateConnections`.
+    pub fn update_connections<H: Home<T, U>>(
+        &self,
+        alloc: Global,
+        home: &mut H,
+    ) -> Result<(), ConnectionFailure>
+        requires { subscriber_stands self.now.port.number (H.ports_of self.now.port.domain home.old) ≡ true }
+        ensures { FollowsPublishers H.ports_of H.with_ports H.subscriber_degrades self.now.port home.old result home.new }
+    {
+        subscribing::update(self.port, alloc, home)
+    }
+
+    /// Leaves: the samples that it holds stay to be read and released. Its handler is dropped.
+    ///
+    /// Ported from dropping an `iceoryx2::port::subscriber::Subscriber`.
+    pub fn leave<H: Home<T, U>>(self, home: &mut H)
+        requires { subscriber_stands self.port.number (H.ports_of self.port.domain home.old) ≡ true }
+        ensures { SubscriberGoes H.ports_of H.with_ports H.without_subscriber self.port home.old home.new }
+    {
+        let Subscriber {
+            port,
+            buffer_size: _,
+            of: _,
+        } = self;
+        subscribing::leave(port, home);
+    }
+}

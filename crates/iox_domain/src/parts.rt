@@ -1,0 +1,139 @@
+//! What a domain is made of.
+ghost use Rattle.std.specs.Prelude.{◌≡◌, true};
+ghost use Rattle.iox_domain.specs.Parts.{parts_of, domain_of, agrees};
+
+use crate::domain::Domain;
+use crate::kept::Kept;
+use iox_describe_settings::publish_subscribe::StaticConfig;
+use iox_domain_home::DomainId;
+use iox_domain_ports::{Roll, ServicePorts, Subscribers};
+use iox_domain_publisher::SubscriberEntry;
+use iox_domain_subscriber::{PublisherEntry, Publishers};
+use iox_domain_values::{DegradationHandler, Handlers, ServiceSizes};
+
+/// What a domain is made of: its settings, the places of its ports, the publishers with their slots, connections and histories, the
+/// subscribers, and who decides for them. Each part is the domain's own, so neither way takes memory.
+///
+/// This port's own.
+#[derive(Drop)]
+pub struct DomainParts<T, U, B = Handlers, D = DegradationHandler> {
+    /// Which domain it is.
+    pub id: DomainId,
+    /// What its nodes agreed on.
+    pub agreed: StaticConfig,
+    /// The number of its service.
+    pub service: u64,
+    /// How much it allows.
+    pub sizes: ServiceSizes,
+    /// The number that the next port gets.
+    pub next_port: u64,
+    /// Which publishers are listed, each at its place.
+    pub publisher_places: Roll<PublisherEntry>,
+    /// Which subscribers are listed, each at its place.
+    pub subscriber_places: Roll<SubscriberEntry>,
+    /// The publishers, with their slots, connections and histories.
+    pub publishers: Publishers<T, U>,
+    /// The subscribers.
+    pub subscribers: Subscribers,
+    /// Who decides for each publisher.
+    pub publisher_handlers: Kept<B>,
+    /// Who decides for each subscriber.
+    pub subscriber_handlers: Kept<D>,
+    /// What fills a slot that was never written.
+    pub blank: T,
+}
+
+impl<T, U, B, D> DomainParts<T, U, B, D> {
+    /// Whether these are parts of one domain: they are of its service, and allow as much as its nodes agreed on.
+    pub fn agrees(&self) -> bool
+        ensures { result ≡ agrees self.now }
+    {
+        let sizes = self.sizes;
+        let agreed = self.agreed;
+        self.service == self.id.service
+            && sizes.max_publishers as u64 == agreed.max_publishers
+            && sizes.max_subscribers as u64 == agreed.max_subscribers
+            && sizes.subscriber_max_buffer_size as u64 == agreed.subscriber_max_buffer_size
+            && sizes.subscriber_max_borrowed_samples as u64 == agreed.subscriber_max_borrowed_samples
+            && sizes.history_size as u64 == agreed.history_size
+            && sizes.enable_safe_overflow == agreed.enable_safe_overflow
+            && agreed.subscriber_max_borrowed_samples <= sizes.expired_connections as u64
+    }
+}
+
+impl<T, U, B, D> Domain<T, U, B, D> {
+    /// What it is made of.
+    pub fn into_parts(self) -> DomainParts<T, U, B, D>
+        ensures { result ≡ parts_of self }
+    {
+        let Domain {
+            id,
+            agreed,
+            ports,
+            publisher_handlers,
+            subscriber_handlers,
+            blank,
+        } = self;
+        let ServicePorts {
+            service,
+            sizes,
+            next_port,
+            publisher_list,
+            subscriber_list,
+            publishers,
+            subscribers,
+        } = ports;
+        DomainParts {
+            id,
+            agreed,
+            service,
+            sizes,
+            next_port,
+            publisher_places: publisher_list,
+            subscriber_places: subscriber_list,
+            publishers,
+            subscribers,
+            publisher_handlers,
+            subscriber_handlers,
+            blank,
+        }
+    }
+
+    /// The domain of these parts, which agree. Of the parts of a domain it is that domain.
+    pub fn of_parts(parts: DomainParts<T, U, B, D>) -> Self
+        requires { agrees parts ≡ true }
+        ensures domain { result ≡ domain_of parts }
+        ensures parts { parts_of result ≡ parts }
+    {
+        let DomainParts {
+            id,
+            agreed,
+            service,
+            sizes,
+            next_port,
+            publisher_places,
+            subscriber_places,
+            publishers,
+            subscribers,
+            publisher_handlers,
+            subscriber_handlers,
+            blank,
+        } = parts;
+        Domain {
+            id,
+            agreed,
+            ports: ServicePorts {
+                service,
+                sizes,
+                next_port,
+                publisher_list: publisher_places,
+                subscriber_list: subscriber_places,
+                publishers,
+                subscribers,
+            },
+            publisher_handlers,
+            subscriber_handlers,
+            blank,
+        }
+    }
+}

@@ -1,0 +1,161 @@
+-- What each call of a publisher leaves held.
+use Rattle.std.proofs.Common.{◌≡◌, ◌+◌, ◌-◌, ◌==◌, ◌∷◌, [], ℕ, zero, suc, Bool, true, false, List, get_or, length, Option, None, Some, Result, Ok, Err, refl, ap}
+use Rattle.std.specs.declared.alloc.AllocError.{AllocError}
+use Rattle.iox_index_base.specs.declared.container.Member.{Member}
+use Rattle.iox_domain_values.specs.declared.backpressure.BackpressureDecision.{BackpressureDecision}
+use Rattle.iox_domain_values.specs.declared.backpressure.BackpressureInfo.{BackpressureInfo}
+use Rattle.iox_domain_values.specs.declared.connection_failure.ConnectionFailure.{ConnectionFailure}
+use Rattle.iox_domain_values.specs.declared.degradation.DegradationAction.{DegradationAction}
+use Rattle.iox_domain_values.specs.declared.degradation.DegradationInfo.{DegradationInfo}
+use Rattle.iox_domain_values.specs.declared.port_error.LoanError.{LoanError}
+use Rattle.iox_domain_values.specs.declared.port_error.SendError.{SendError}
+use Rattle.iox_domain_slots.specs.Uses.{welcomed}
+use Rattle.iox_domain_sender.specs.Messages.{Message, Loan}
+use Rattle.iox_domain_publisher.specs.Leaving.{parted_at, parted_from, departed}
+use Rattle.iox_domain_publisher.specs.Places.{is_attached}
+use Rattle.iox_domain_publisher.specs.Ports.{connection_of, connection_to, is_live, greeted_at, welcomed_at, Joins, Attaches, detached_at}
+use Rattle.iox_domain_publisher.specs.Sending.{ready_loan}
+use Rattle.iox_domain_publisher.specs.Ties.{tie_put}
+use Rattle.iox_domain_publisher.specs.Updating.{let_go_of, untied, untied_from, within_reach, tied, is_tie_to, Ties, Follows, FollowsTo, FollowsAll, UpdatesIf, Updates}
+use Rattle.iox_domain_publisher.specs.Writing.{changed_if, given_up}
+use Rattle.iox_domain_publisher.specs.declared.meeting.Sent.{Sent}
+use Rattle.iox_domain_publisher.specs.declared.publisher_port.PublisherPort.{PublisherPort}
+use Rattle.iox_domain_publisher.specs.declared.subscriber_entry.SubscriberEntry.{SubscriberEntry}
+use Rattle.iox_domain_subscriber.specs.Reading.{taken_at}
+use Rattle.iox_domain_ports.specs.Lending.{LoansOne}
+use Rattle.iox_domain_ports.specs.Publishing.{is_blocked, is_free, UpdatesOne, SendsOne, RetriesOne, GivesUpOne}
+use Rattle.iox_domain_ports.specs.Publishing as publishing
+use Rattle.iox_domain_ports.specs.Rolls.{RollState}
+use Rattle.iox_domain_laws.proofs.Carrying.{Carries, carry_loans, carry_changed, carry_given_up, carry_retries, carry_gives_up, carry_sends}
+use Rattle.iox_domain_laws.proofs.Keeping.{PortKeeps, port_stays, port_same, port_is, port_on, port_to, port_set, port_placed, port_if, port_ended, keeps_taken, keeps_waiting}
+
+-- a place is untied
+port_let_go : {T U : Type 0} (place : ℕ) (tie : Option ℕ) (port : PublisherPort T U) → PortKeeps port (let_go_of place tie port)
+port_let_go place None port = port_stays port
+port_let_go {T} {U} place (Some index) port =
+    let gone : PublisherPort T U = record port { ties = tie_put place None port.ties } in
+    port_on port gone _ (port_same port gone refl) (port_ended index gone)
+
+port_untied : {T U : Type 0} (place : ℕ) (port : PublisherPort T U) → PortKeeps port (untied place port)
+port_untied place port = port_let_go place (get_or port.ties.items place None) port
+
+port_untied_from : {T U : Type 0} (count place : ℕ) (port : PublisherPort T U) → PortKeeps port (untied_from count place port)
+port_untied_from zero place port = port_stays port
+port_untied_from (suc count) place port = port_on port (untied place port) _ (port_untied place port) (port_untied_from count (place + 1) (untied place port))
+
+-- a connection is greeted
+port_greeted : {T U : Type 0} (index : ℕ) (waiting : List (Message T U)) (port : PublisherPort T U) → is_live index port ≡ true → PortKeeps port (greeted_at index waiting port)
+port_greeted index [] port live =
+    port_set port _ index (welcomed port.sender.uses.history (connection_of index port)) refl (keeps_waiting (connection_of index port) _ live)
+port_greeted index (message ∷ waiting) port live = port_stays port
+
+port_welcomed : {T U : Type 0} (index : ℕ) (port : PublisherPort T U) → PortKeeps port (welcomed_at index port)
+port_welcomed index port =
+    port_if (is_live index port) port _ port (λ live. port_greeted index (connection_of index port).waiting port live) (λ dead. port_stays port)
+
+-- a connection is made, or joined
+port_connects : {T U : Type 0} (subscriber limit : ℕ) (found : Option ℕ) (old new : PublisherPort T U) (answer : Result ℕ AllocError) → Joins subscriber limit found old answer new → PortKeeps old new
+port_connects subscriber limit (Some index) old new answer joins = port_is old new joins.1
+port_connects subscriber limit None old new (Err error) joins = port_is old new joins
+port_connects subscriber limit None old new (Ok index) joins = port_placed old new index limit joins.0 (ap (λ port. port.sender.uses.connections) joins.2)
+
+pub port_attaches : {T U : Type 0} (subscriber limit : ℕ) (old new : PublisherPort T U) (answer : Result ℕ AllocError) → Attaches subscriber limit old answer new → PortKeeps old new
+port_attaches subscriber limit old new (Err error) attaches = port_is old new attaches.1
+port_attaches {T} {U} subscriber limit old new (Ok index) attaches =
+    let joined : PublisherPort T U = attaches.0 in
+    port_on old joined new (port_connects subscriber limit (connection_to subscriber old) old joined (Ok index) attaches.1) (port_same joined new (ap (λ port. port.sender.uses.connections) attaches.2))
+
+-- a place is tied, or followed
+port_ties : {T U : Type 0} (place : ℕ) (entry : SubscriberEntry) (old new : PublisherPort T U) (outcome : Result (Unit {0}) AllocError) → Ties place entry old outcome new → PortKeeps old new
+port_ties place entry old new (Err error) ties = port_is old new ties.1
+port_ties {T} {U} place entry old new (Ok done) ties =
+    let (index, joined, joins, is) = ties in
+    let given : PublisherPort T U = record joined { ties = tie_put place (Some index) joined.ties } in
+    port_on old joined new
+    (port_on old (within_reach place old) joined (port_same old (within_reach place old) refl) (port_connects entry.subscriber _ (connection_to entry.subscriber old) (within_reach place old) joined (Ok index) joins))
+    (port_to joined (tied place index joined) new is (port_on joined given _ (port_same joined given refl) (port_welcomed index given)))
+
+port_follows_to : {T U : Type 0} (place : ℕ) (entry : SubscriberEntry) (is_tie : Bool) (old new : PublisherPort T U) (outcome : Result (Unit {0}) AllocError) → FollowsTo place entry is_tie old outcome new → PortKeeps old new
+port_follows_to place entry true old new outcome follows = port_is old new follows.1
+port_follows_to place entry false old new outcome follows = port_on old (untied place old) new (port_untied place old) (port_ties place entry (untied place old) new outcome follows)
+
+port_follows : {T U : Type 0} (place : ℕ) (listed : Option (Member SubscriberEntry)) (old new : PublisherPort T U) (outcome : Result (Unit {0}) AllocError) → Follows place listed old outcome new → PortKeeps old new
+port_follows place None old new outcome follows = port_to old (untied place old) new follows.1 (port_untied place old)
+port_follows place (Some member) old new outcome follows =
+    port_follows_to place member.value (is_tie_to member.value.subscriber (get_or old.ties.items place None) old) old new outcome follows
+
+port_follows_all : {T U : Type 0} (may : DegradationInfo → DegradationAction → Type 0) (place : ℕ) (listed : List (Option (Member SubscriberEntry))) (found : Option ConnectionFailure) (old new : PublisherPort T U) (answer : Result (Unit {0}) ConnectionFailure)
+    → FollowsAll may place listed found old answer new → PortKeeps old new
+port_follows_all may place [] found old new answer follows = port_to old _ new follows.1 (port_untied_from (length old.ties.items - place) place old)
+port_follows_all {T} {U} may place (listed ∷ rest) found old new answer follows =
+    let (outcome, next, after, one, asks, further) = follows in
+    port_on old next new (port_follows place listed old next outcome one) (port_follows_all may (place + 1) rest after next new answer further)
+
+port_updates_if : {T U : Type 0} (is_seen : Bool) (may : DegradationInfo → DegradationAction → Type 0) (listed : List (Option (Member SubscriberEntry))) (changes : ℕ) (old new : PublisherPort T U) (answer : Result (Unit {0}) ConnectionFailure)
+    → UpdatesIf is_seen may listed changes old answer new → PortKeeps old new
+port_updates_if true may listed changes old new answer updates = port_is old new updates.1
+port_updates_if {T} {U} false may listed changes old new answer updates =
+    let begun : PublisherPort T U = record old { seen = changes } in
+    port_on old begun new (port_same old begun refl) (port_follows_all may 0 listed None begun new answer updates)
+
+pub port_updates : {T U : Type 0} (may : DegradationInfo → DegradationAction → Type 0) (listed : List (Option (Member SubscriberEntry))) (changes : ℕ) (old new : PublisherPort T U) (answer : Result (Unit {0}) ConnectionFailure)
+    → Updates may listed changes old answer new → PortKeeps old new
+port_updates may listed changes old new answer updates = port_updates_if (old.seen == changes) may listed changes old new answer updates
+
+-- it is so with each step of a publisher that follows no list
+port_carries : {T U : Type 0} → Carries (λ (old : PublisherPort T U) (new : PublisherPort T U). PortKeeps old new)
+port_carries = record {
+  is = port_is;
+  on = port_on;
+  still = λ old new connections ties readers stands. port_same old new connections;
+  waiting = λ index waiting port live. port_set port _ index (record (connection_of index port) { waiting = waiting }) refl (keeps_waiting (connection_of index port) waiting live);
+}
+
+pub port_loans : {T U : Type 0} (values elements : ℕ) (old new : PublisherPort T U) (answer : Option (Result ℕ LoanError)) → LoansOne values elements old answer new → PortKeeps old new
+port_loans values elements old new answer loans = carry_loans port_carries values elements old new answer loans
+
+pub port_changed : {T U : Type 0} (allowed : Bool) (slot : ℕ) (change : Loan T U → Loan T U) (port : PublisherPort T U) → PortKeeps port (changed_if allowed slot change port)
+port_changed allowed slot change port = carry_changed port_carries allowed slot change port
+
+pub port_given_up : {T U : Type 0} (slot : ℕ) (port : PublisherPort T U) → PortKeeps port (given_up slot port)
+port_given_up slot port = carry_given_up port_carries slot port
+
+pub port_retries : {T U : Type 0} (may : BackpressureInfo → BackpressureDecision → Type 0) (elapsed : ℕ) (old new : PublisherPort T U) (answer : Option (Result Sent SendError)) → RetriesOne may elapsed old answer new → PortKeeps old new
+port_retries may elapsed old new answer retries = carry_retries port_carries may elapsed old new answer retries
+
+pub port_gives_up : {T U : Type 0} (old new : PublisherPort T U) (answer : Option ℕ) → GivesUpOne old answer new → PortKeeps old new
+port_gives_up old new answer gives = carry_gives_up port_carries old new answer gives
+
+-- it leaves
+port_parted : {T U : Type 0} (index : ℕ) (port : PublisherPort T U) → PortKeeps port (parted_at index port)
+port_parted index port = port_if (is_attached (get_or port.readers index None)) port port _ (λ reads. port_stays port) (λ reads. port_ended index port)
+
+port_parted_from : {T U : Type 0} (count index : ℕ) (port : PublisherPort T U) → PortKeeps port (parted_from count index port)
+port_parted_from zero index port = port_stays port
+port_parted_from (suc count) index port = port_on port (parted_at index port) _ (port_parted index port) (port_parted_from count (index + 1) (parted_at index port))
+
+pub port_departed : {T U : Type 0} (port : PublisherPort T U) → PortKeeps port (departed port)
+port_departed {T} {U} port =
+    let left : PublisherPort T U = record port { stands = false } in
+    port_on port left _ (port_same port left refl) (port_parted_from (length port.sender.uses.connections) 0 left)
+
+-- a subscriber reads there, or no longer
+pub port_detached : {T U : Type 0} (index : ℕ) (port : PublisherPort T U) → PortKeeps port (detached_at index port)
+port_detached index port = port_same port _ refl
+
+pub port_taken : {T U : Type 0} (index : ℕ) (port : PublisherPort T U) → PortKeeps port (taken_at index port)
+port_taken index port = port_set port _ index _ refl (keeps_taken (connection_of index port))
+
+-- the calls by number
+updates_one : {T U : Type 0} (free : Bool) (may : DegradationInfo → DegradationAction → Type 0) (list : RollState SubscriberEntry) (old new : PublisherPort T U) (answer : Option (Result (Unit {0}) ConnectionFailure))
+    → publishing.UpdatesIf free may list old answer new → PortKeeps old new
+updates_one false may list old new answer updates = port_is old new updates.1
+updates_one true may list old new answer updates = port_updates may updates.0 list.changes old new updates.2 updates.3
+
+pub port_updates_one : {T U : Type 0} (may : DegradationInfo → DegradationAction → Type 0) (list : RollState SubscriberEntry) (old new : PublisherPort T U) (answer : Option (Result (Unit {0}) ConnectionFailure)) → UpdatesOne may list old answer new → PortKeeps old new
+port_updates_one may list old new answer updates = updates_one (is_free old) may list old new answer updates
+
+pub port_sends_one : {T U : Type 0} (may_degrade : DegradationInfo → DegradationAction → Type 0) (may : BackpressureInfo → BackpressureDecision → Type 0) (list : RollState SubscriberEntry) (slot : ℕ) (old new : PublisherPort T U)
+    (answer : Option (Result Sent SendError)) → SendsOne may_degrade may list slot old answer new → PortKeeps old new
+port_sends_one may_degrade may list slot old new answer sends =
+    carry_sends port_carries may_degrade may sends.0 list.changes (ready_loan slot old) old new answer (λ stands outcome updated updates. port_updates may_degrade sends.0 list.changes old updated outcome updates) sends.2

@@ -1,0 +1,13 @@
+//! What the calls of the ports of a service come to, in other words than theirs.
+//!
+//! Each law is the contract of a function that does nothing: it is proved of the definitions that the contracts of the calls name.
+//!
+//! - [`messages`]: a held sample stays, a message comes into a mailbox at most once, a connection gives in the order of sending, and who has a
+//!   connection needs no memory.
+//! - [`living`]: how much lives.
+//! - [`numbering`]: each number is given to one port.
+#![tactic(auto)]
+
+pub mod living;
+pub mod messages;
+pub mod numbering;

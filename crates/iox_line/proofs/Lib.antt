@@ -1,0 +1,4 @@
+pub mod PortOptionLemmas
+pub mod ReadingLemmas
+pub mod LineLemmas
+pub mod PrintLemmas

@@ -1,0 +1,8 @@
+-- What a reply says of a line that is no command.
+use Rattle.std.specs.Prelude.{ℕ, List, codes}
+use Rattle.iox_line.specs.declared.error.LineError.{LineError}
+use Rattle.iox_line.specs.declared.error.LineError.TheVariants as fault
+
+abbrev pub fault_text : LineError → List ℕ
+fault_text fault.Faulty = codes "faulty line"
+fault_text fault.TooLong = codes "line too long"

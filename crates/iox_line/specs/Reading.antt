@@ -1,0 +1,146 @@
+-- How a line is read, word for word.
+use Rattle.std.specs.Prelude.{ℕ, ◌+◌, ◌==◌, length, codes, List, [], ◌∷◌, Option, None, Some, if◌then◌else◌}
+use Rattle.std.specs.Option.{option_map}
+use Rattle.iox_command.specs.declared.command.Command.{Command}
+use Rattle.iox_command.specs.declared.command.Command.TheVariants as command
+use Rattle.iox_command.specs.declared.port.PortNumber.{PortNumber}
+use Rattle.iox_command.specs.declared.port.PortNumber.TheVariants as port
+use Rattle.iox_command_text.specs.Words.{no_words, words_of}
+use Rattle.iox_command_text.specs.Numbers.{number_of, tagged}
+use Rattle.iox_command.specs.declared.port.PublisherOptions.{PublisherOptions}
+use Rattle.iox_command.specs.declared.port.SubscriberOptions.{SubscriberOptions}
+use Rattle.iox_domain_values.specs.declared.backpressure_strategy.BackpressureStrategy.{BackpressureStrategy}
+use Rattle.iox_domain_values.specs.declared.data_segment.AllocationStrategy.{AllocationStrategy}
+use Rattle.iox_domain_values.specs.declared.backpressure.BackpressureAction.{BackpressureAction}
+use Rattle.iox_domain_values.specs.declared.degradation.DegradationAction.{DegradationAction}
+use Rattle.iox_command_text.specs.Options.{or_else, find, named}
+use Rattle.iox_command_text.specs.Values.{strategy_of, allocation_of, handler_of, degradation_of}
+use Rattle.iox_line.specs.declared.verb.Verb.{Verb}
+use Rattle.iox_line.specs.declared.verb.Verb.TheVariants as verb
+use Rattle.iox_line.specs.Verbs.{verb_of}
+
+-- two parts, if both are read
+abbrev pub both : {X Y : Type 0} → Option X → Option Y → Option (X × Y)
+both None y = None
+both (Some x) None = None
+both (Some x) (Some y) = Some (x, y)
+
+-- the options of a publisher, by their parts
+abbrev pub publisher_options : Option ℕ → Option BackpressureStrategy → Option ℕ → Option ℕ → Option AllocationStrategy → Option BackpressureAction → Option DegradationAction → PublisherOptions
+publisher_options a b c d e f g = record {
+  max_loaned_samples = a;
+  backpressure_strategy = b;
+  preallocated_samples = c;
+  initial_max_slice_len = d;
+  allocation_strategy = e;
+  backpressure_handler = f;
+  degradation_handler = g;
+}
+
+-- the options of a subscriber, by their parts
+abbrev pub subscriber_options : Option ℕ → Option DegradationAction → SubscriberOptions
+subscriber_options a b = record { buffer_size = a; degradation_handler = b }
+
+-- three numbers, if all are read
+abbrev pub three : Option ℕ → Option ℕ → Option ℕ → Option (ℕ × ℕ × ℕ)
+three None y z = None
+three (Some x) None z = None
+three (Some x) (Some y) None = None
+three (Some x) (Some y) (Some z) = Some (x, y, z)
+
+-- one made value
+abbrev pub only : ℕ → List (List ℕ) → Option ℕ
+only letter (w ∷ []) = tagged letter w
+only letter words = None
+
+-- a made value and a number
+abbrev pub with_number : ℕ → List (List ℕ) → Option (ℕ × ℕ)
+with_number letter (w ∷ v ∷ []) = both (tagged letter w) (number_of v)
+with_number letter words = None
+
+-- a made value and two numbers
+abbrev pub with_two : ℕ → List (List ℕ) → Option (ℕ × ℕ × ℕ)
+with_two letter (w ∷ v ∷ u ∷ []) = three (tagged letter w) (number_of v) (number_of u)
+with_two letter words = None
+
+-- numbers
+abbrev pub numbers : List (List ℕ) → Option (List ℕ)
+numbers [] = Some []
+numbers (w ∷ ws) = option_map (λ p. p.0 ∷ p.1) (both (number_of w) (numbers ws))
+
+-- a made value and numbers, at least one
+abbrev pub with_values : ℕ → List (List ℕ) → Option (ℕ × List ℕ)
+with_values letter [] = None
+with_values letter (w ∷ []) = None
+with_values letter (w ∷ v ∷ ws) = both (tagged letter w) (numbers (v ∷ ws))
+
+-- one port
+abbrev pub port_of : List (List ℕ) → Option PortNumber
+port_of words = or_else (option_map (λ n. port.Publisher n) (only 112 words)) (option_map (λ n. port.Subscriber n) (only 115 words))
+
+-- what a first part makes of what is read, if it is read
+abbrev pub bind : {X Y : Type 0} → Option X → (X → Option Y) → Option Y
+bind None make = None
+bind (Some x) make = make x
+
+-- one where there is a value
+abbrev pub one : {X : Type 0} → Option X → ℕ
+one None = 0
+one (Some x) = 1
+
+-- the options of a publisher, but the words have to be as many as they
+abbrev pub publisher_of : List (List ℕ) → Option PublisherOptions
+publisher_of ws =
+    bind (named number_of (find (codes "loans=") ws)) (λ a. bind (named strategy_of (find (codes "strategy=") ws)) (λ b.
+    bind (named number_of (find (codes "slots=") ws)) (λ c. bind (named number_of (find (codes "slice=") ws)) (λ d.
+    bind (named allocation_of (find (codes "alloc=") ws)) (λ e. bind (named handler_of (find (codes "handler=") ws)) (λ f.
+    bind (named degradation_of (find (codes "degrade=") ws)) (λ g.
+    if length ws == one a + one b + one c + one d + one e + one f + one g then Some (publisher_options a b c d e f g) else None)))))))
+
+-- the options of a subscriber, but the words have to be as many as they
+abbrev pub subscriber_of : List (List ℕ) → Option SubscriberOptions
+subscriber_of ws =
+    bind (named number_of (find (codes "buffer=") ws)) (λ a. bind (named degradation_of (find (codes "degrade=") ws)) (λ b.
+    if length ws == one a + one b then Some (subscriber_options a b) else None))
+
+-- a factory and the options of a publisher
+abbrev pub publisher_command : List (List ℕ) → Option (Command ℕ)
+publisher_command [] = None
+publisher_command (w ∷ ws) = option_map (λ p. command.Publisher p.0 p.1) (both (tagged 102 w) (publisher_of ws))
+
+-- a factory and the options of a subscriber
+abbrev pub subscriber_command : List (List ℕ) → Option (Command ℕ)
+subscriber_command [] = None
+subscriber_command (w ∷ ws) = option_map (λ p. command.Subscriber p.0 p.1) (both (tagged 102 w) (subscriber_of ws))
+
+-- the command of a verb and the words after it
+abbrev pub of_verb : Verb → List (List ℕ) → Option (Command ℕ)
+of_verb verb.Node words = if no_words words then Some command.Node else None
+of_verb verb.Close words = option_map (λ n. command.Close n) (only 102 words)
+of_verb verb.Loan words = option_map (λ p. command.Loan p.0 p.1) (with_number 112 words)
+of_verb verb.LoanUninit words = option_map (λ p. command.LoanUninit p.0 p.1) (with_number 112 words)
+of_verb verb.Set words = option_map (λ p. command.Set p.0 p.1 p.2) (with_two 108 words)
+of_verb verb.Fill words = option_map (λ p. command.Fill p.0 p.1) (with_values 108 words)
+of_verb verb.Drop words = option_map (λ n. command.Drop n) (only 108 words)
+of_verb verb.Send words = option_map (λ n. command.Send n) (only 108 words)
+of_verb verb.Put words = option_map (λ p. command.Put p.0 p.1) (with_values 112 words)
+of_verb verb.Retry words = option_map (λ p. command.Retry p.0 p.1) (with_number 112 words)
+of_verb verb.GiveUp words = option_map (λ n. command.GiveUp n) (only 112 words)
+of_verb verb.Receive words = option_map (λ n. command.Receive n) (only 115 words)
+of_verb verb.Read words = option_map (λ n. command.Read n) (only 109 words)
+of_verb verb.Release words = option_map (λ n. command.Release n) (only 109 words)
+of_verb verb.Update words = option_map (λ p. command.Update p) (port_of words)
+of_verb verb.Leave words = option_map (λ p. command.Leave p) (port_of words)
+of_verb verb.Has words = option_map (λ n. command.Has n) (only 115 words)
+of_verb verb.Publisher words = publisher_command words
+of_verb verb.Subscriber words = subscriber_command words
+
+-- the command of a verb that was read, and the words after it
+abbrev pub of_read : Option Verb → List (List ℕ) → Option (Command ℕ)
+of_read None words = None
+of_read (Some verb) words = of_verb verb words
+
+-- the command of all words
+abbrev pub of_words : List (List ℕ) → Option (Command ℕ)
+of_words [] = None
+of_words (w ∷ ws) = of_read (verb_of w) ws

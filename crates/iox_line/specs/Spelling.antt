@@ -1,0 +1,81 @@
+-- Which bytes spell a command: how a command is written, word for word. A letter is its code: f is 102, l 108, m 109, p 112 and s 115.
+use Rattle.std.specs.Prelude.{ℕ, ◌<◌, ◌≡◌, List, [], ◌∷◌, length, codes, decimal, map}
+use Rattle.iox_command.specs.declared.command.Command.{Command}
+use Rattle.iox_command.specs.declared.command.Command.TheVariants as command
+use Rattle.iox_command.specs.declared.port.PortNumber.{PortNumber}
+use Rattle.iox_command.specs.declared.port.PortNumber.TheVariants as port
+use Rattle.iox_command_text.specs.Words.{AreWords, spaced}
+use Rattle.iox_command_text.specs.Numbers.{IsNumber, tag}
+use Rattle.iox_command_text.specs.Options.{AnyOrder}
+use Rattle.iox_line.specs.PortOptions.{IfNumber, PublisherFits, publisher_words, subscriber_words}
+
+-- numbers of 64 bits
+abbrev pub AreNumbers : List ℕ → Type 0
+AreNumbers [] = Unit {0}
+AreNumbers (n ∷ ns) = IsNumber n × AreNumbers ns
+
+-- how the number of a port is written
+abbrev pub port_word : PortNumber → List ℕ
+port_word (port.Publisher n) = tag 112 n
+port_word (port.Subscriber n) = tag 115 n
+
+-- the number of a port has 64 bits
+abbrev pub IsPort : PortNumber → Type 0
+IsPort (port.Publisher n) = IsNumber n
+IsPort (port.Subscriber n) = IsNumber n
+
+-- a command whose numbers have 64 bits, and whose message has a value
+abbrev pub Fits : Command ℕ → Type 0
+Fits (command.Close factory) = IsNumber factory
+Fits (command.Loan publisher long) = IsNumber publisher × IsNumber long
+Fits (command.LoanUninit publisher long) = IsNumber publisher × IsNumber long
+Fits (command.Set loan place value) = IsNumber loan × IsNumber place × IsNumber value
+Fits (command.Fill loan values) = IsNumber loan × (0 < length values) × AreNumbers values
+Fits (command.Drop loan) = IsNumber loan
+Fits (command.Send loan) = IsNumber loan
+Fits (command.Put publisher values) = IsNumber publisher × (0 < length values) × AreNumbers values
+Fits (command.Retry publisher nanoseconds) = IsNumber publisher × IsNumber nanoseconds
+Fits (command.GiveUp publisher) = IsNumber publisher
+Fits (command.Receive subscriber) = IsNumber subscriber
+Fits (command.Read sample) = IsNumber sample
+Fits (command.Release sample) = IsNumber sample
+Fits (command.Update port) = IsPort port
+Fits (command.Leave port) = IsPort port
+Fits (command.Has subscriber) = IsNumber subscriber
+Fits (command.Publisher factory options) = IsNumber factory × PublisherFits options
+Fits (command.Subscriber factory options) = IsNumber factory × IfNumber options.buffer_size
+Fits other = Unit {0}
+
+-- these words write the command
+abbrev pub Writes : Command ℕ → List (List ℕ) → Type 0
+Writes command.Node words = words ≡ codes "node" ∷ []
+Writes (command.Close factory) words = words ≡ codes "close" ∷ tag 102 factory ∷ []
+Writes (command.Loan publisher long) words = words ≡ codes "loan" ∷ tag 112 publisher ∷ decimal long ∷ []
+Writes (command.LoanUninit publisher long) words = words ≡ codes "loan_uninit" ∷ tag 112 publisher ∷ decimal long ∷ []
+Writes (command.Set loan place value) words = words ≡ codes "set" ∷ tag 108 loan ∷ decimal place ∷ decimal value ∷ []
+Writes (command.Fill loan values) words = words ≡ codes "fill" ∷ tag 108 loan ∷ map decimal values
+Writes (command.Drop loan) words = words ≡ codes "drop" ∷ tag 108 loan ∷ []
+Writes (command.Send loan) words = words ≡ codes "send" ∷ tag 108 loan ∷ []
+Writes (command.Put publisher values) words = words ≡ codes "put" ∷ tag 112 publisher ∷ map decimal values
+Writes (command.Retry publisher nanoseconds) words = words ≡ codes "retry" ∷ tag 112 publisher ∷ decimal nanoseconds ∷ []
+Writes (command.GiveUp publisher) words = words ≡ codes "giveup" ∷ tag 112 publisher ∷ []
+Writes (command.Receive subscriber) words = words ≡ codes "receive" ∷ tag 115 subscriber ∷ []
+Writes (command.Read sample) words = words ≡ codes "read" ∷ tag 109 sample ∷ []
+Writes (command.Release sample) words = words ≡ codes "release" ∷ tag 109 sample ∷ []
+Writes (command.Update port) words = words ≡ codes "update" ∷ port_word port ∷ []
+Writes (command.Leave port) words = words ≡ codes "leave" ∷ port_word port ∷ []
+Writes (command.Has subscriber) words = words ≡ codes "has" ∷ tag 115 subscriber ∷ []
+Writes (command.Publisher factory options) words = (chosen : List (List ℕ)) × AnyOrder chosen (publisher_words options)
+    × (words ≡ codes "publisher" ∷ tag 102 factory ∷ chosen)
+Writes (command.Subscriber factory options) words = (chosen : List (List ℕ)) × AnyOrder chosen (subscriber_words options)
+    × (words ≡ codes "subscriber" ∷ tag 102 factory ∷ chosen)
+-- not spelled yet: services and foreign steps
+Writes other words = ⊥
+
+-- the line is the words of the command, with one space between each two
+pub record Spells (line : List ℕ) (c : Command ℕ) : Type 0 where
+  pub words : List (List ℕ)
+  pub fits : Fits c
+  pub writes : Writes c words
+  pub are_words : AreWords words
+  pub spaced_so : line ≡ spaced words

@@ -1,0 +1,46 @@
+-- The first word of a line.
+use Rattle.std.specs.Prelude.{ℕ, List, [], ◌∷◌, ◌++◌, Option, codes}
+use Rattle.iox_command_text.specs.Words.{choice}
+use Rattle.iox_line.specs.declared.verb.Verb.{Verb}
+use Rattle.iox_line.specs.declared.verb.Verb.TheVariants as verb
+
+-- how a verb is written
+abbrev pub verb_word : Verb → List ℕ
+verb_word verb.Node = codes "node"
+verb_word verb.Close = codes "close"
+verb_word verb.Publisher = codes "publisher"
+verb_word verb.Subscriber = codes "subscriber"
+verb_word verb.Loan = codes "loan"
+verb_word verb.LoanUninit = codes "loan_uninit"
+verb_word verb.Set = codes "set"
+verb_word verb.Fill = codes "fill"
+verb_word verb.Drop = codes "drop"
+verb_word verb.Send = codes "send"
+verb_word verb.Put = codes "put"
+verb_word verb.Retry = codes "retry"
+verb_word verb.GiveUp = codes "giveup"
+verb_word verb.Receive = codes "receive"
+verb_word verb.Read = codes "read"
+verb_word verb.Release = codes "release"
+verb_word verb.Update = codes "update"
+verb_word verb.Leave = codes "leave"
+verb_word verb.Has = codes "has"
+
+-- verbs that are seldom met, each beside its text
+abbrev pub seldom_verbs : List (List ℕ × Verb)
+seldom_verbs = (codes "node", verb.Node) ∷ (codes "close", verb.Close) ∷ (codes "publisher", verb.Publisher) ∷ (codes "subscriber", verb.Subscriber)
+    ∷ (codes "loan_uninit", verb.LoanUninit) ∷ (codes "drop", verb.Drop) ∷ (codes "retry", verb.Retry) ∷ (codes "giveup", verb.GiveUp)
+    ∷ (codes "leave", verb.Leave) ∷ []
+
+-- all verbs, each beside its text
+abbrev pub verbs : List (List ℕ × Verb)
+verbs = (codes "put", verb.Put) ∷ (codes "receive", verb.Receive) ∷ (codes "release", verb.Release) ∷ (codes "loan", verb.Loan) ∷ (codes "send", verb.Send)
+    ∷ (codes "fill", verb.Fill) ∷ (codes "set", verb.Set) ∷ (codes "read", verb.Read) ∷ (codes "has", verb.Has) ∷ (codes "update", verb.Update) ∷ seldom_verbs
+
+-- the verb that a word is, of those seldom met
+abbrev pub seldom_verb_of : List ℕ → Option Verb
+seldom_verb_of word = choice seldom_verbs word
+
+-- the verb that a word is
+abbrev pub verb_of : List ℕ → Option Verb
+verb_of word = choice verbs word

@@ -1,0 +1,29 @@
+//! Script lines: from the bytes of a line to the command that it spells, and from a reply to the bytes of its line.
+//!
+//! Which bytes spell a command is in `specs/Spelling.antt`, the bytes of each reply in `specs/ReplyText.antt`.
+//!
+//! | Module | What it has |
+//! |---|---|
+//! | `verb` | the first word of a line |
+//! | `scratch` | room for the values of a line |
+//! | `arguments` | the numbers after the first word |
+//! | `port_options` | the options of a publisher and of a subscriber |
+//! | `read` | from a line to its command |
+//! | `laws` | that a line spells one command at most |
+//! | `print` | from a reply to its line |
+//! | `error` | why a line is no command |
+#![tactic(auto)]
+
+mod arguments;
+pub mod error;
+pub mod laws;
+mod port_options;
+pub mod print;
+pub mod read;
+pub mod scratch;
+pub mod verb;
+
+pub use error::LineError;
+pub use print::print_reply;
+pub use read::read_command;
+pub use scratch::Scratch;

@@ -1,0 +1,61 @@
+//! Room for the values of a line.
+ghost use Rattle.std.specs.Prelude.{◌≡◌, ◌<◌, [], ◌∷◌, ◌++◌, length, IfOk};
+
+use std::alloc::{AllocError, Global};
+use std::marker::Model;
+
+/// The most values that a line of 1,024 bytes could have, and more than it has.
+const MOST_VALUES: usize = 1_025;
+
+/// Room for the values of one line, which is taken once and used for line after line.
+/// Contracts see it as the list of the values in it.
+///
+/// This port's own.
+#[derive(Debug, Drop)]
+pub struct Scratch {
+    room: Vec<u64>,
+}
+
+impl Model for Scratch {
+    ghost use Rattle.std.specs.Prelude.{ℕ, ◌≤◌, List, length};
+    ghost use Rattle.std.specs.Vec.{vec_items, vec_capacity};
+
+    ghost Value = { List ℕ };
+
+    ghost view = { λ scratch. vec_items scratch.room };
+
+    ghost invariant = { λ scratch. 1025 ≤ vec_capacity scratch.room };
+}
+
+impl Scratch {
+    /// Room for the values of any line. Refused only for want of memory.
+    pub fn new(alloc: Global) -> Result<Self, AllocError>
+        ensures { IfOk result (λ scratch. scratch ≡ []) }
+    {
+        Ok(Scratch {
+            room: Vec::with_capacity(alloc, MOST_VALUES)?,
+        })
+    }
+
+    /// Lets all values go.
+    pub(crate) fn clear(&mut self)
+        ensures { self.new ≡ [] }
+    {
+        self.room.clear();
+    }
+
+    /// Appends a value.
+    pub(crate) fn push(&mut self, value: u64)
+        requires { length self.old < 1025 }
+        ensures { self.new ≡ self.old ++ value ∷ [] }
+    {
+        self.room.push_reserved(value);
+    }
+
+    /// The values.
+    pub(crate) fn as_slice(&self) -> &[u64]
+        ensures { result.now ≡ self.now }
+    {
+        self.room.as_slice()
+    }
+}

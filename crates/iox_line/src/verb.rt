@@ -1,0 +1,104 @@
+//! The first word of a line.
+ghost use Rattle.std.specs.Prelude.{◌≡◌};
+ghost use Rattle.iox_line.specs.Verbs.{verb_of, seldom_verb_of};
+
+use iox_command_text::words::is;
+
+/// What a line asks for. This port's own.
+#[derive(Clone, Copy, Debug, PartialEq, Eq)]
+pub enum Verb {
+    /// `node`
+    Node,
+    /// `close`
+    Close,
+    /// `publisher`
+    Publisher,
+    /// `subscriber`
+    Subscriber,
+    /// `loan`
+    Loan,
+    /// `loan_uninit`
+    LoanUninit,
+    /// `set`
+    Set,
+    /// `fill`
+    Fill,
+    /// `drop`
+    Drop,
+    /// `send`
+    Send,
+    /// `put`
+    Put,
+    /// `retry`
+    Retry,
+    /// `giveup`
+    GiveUp,
+    /// `receive`
+    Receive,
+    /// `read`
+    Read,
+    /// `release`
+    Release,
+    /// `update`
+    Update,
+    /// `leave`
+    Leave,
+    /// `has`
+    Has,
+}
+
+/// What a first word asks for; `None` if nothing that there is.
+pub fn first_verb(word: &[u8]) -> Option<Verb>
+    ensures { result ≡ verb_of word.now }
+{
+    if is(word, b"put") {
+        Some(Verb::Put)
+    } else if is(word, b"receive") {
+        Some(Verb::Receive)
+    } else if is(word, b"release") {
+        Some(Verb::Release)
+    } else if is(word, b"loan") {
+        Some(Verb::Loan)
+    } else if is(word, b"send") {
+        Some(Verb::Send)
+    } else if is(word, b"fill") {
+        Some(Verb::Fill)
+    } else if is(word, b"set") {
+        Some(Verb::Set)
+    } else if is(word, b"read") {
+        Some(Verb::Read)
+    } else if is(word, b"has") {
+        Some(Verb::Has)
+    } else if is(word, b"update") {
+        Some(Verb::Update)
+    } else {
+        seldom_verb(word)
+    }
+}
+
+/// The same for the words that are seldom met.
+fn seldom_verb(word: &[u8]) -> Option<Verb>
+    ensures { result ≡ seldom_verb_of word.now }
+{
+    if is(word, b"node") {
+        Some(Verb::Node)
+    } else if is(word, b"close") {
+        Some(Verb::Close)
+    } else if is(word, b"publisher") {
+        Some(Verb::Publisher)
+    } else if is(word, b"subscriber") {
+        Some(Verb::Subscriber)
+    } else if is(word, b"loan_uninit") {
+        Some(Verb::LoanUninit)
+    } else if is(word, b"drop") {
+        Some(Verb::Drop)
+    } else if is(word, b"retry") {
+        Some(Verb::Retry)
+    } else if is(word, b"giveup") {
+        Some(Verb::GiveUp)
+    } else if is(word, b"leave") {
+        Some(Verb::Leave)
+    } else {
+        None
+    }
+}

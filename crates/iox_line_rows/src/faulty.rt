@@ -1,0 +1,110 @@
+//! The ways in which a line is none.
+use iox_line::{LineError, Scratch, read_command};
+use std::test::Fail;
+
+const FAULTY: [&str; 58] = [
+    "",
+    " ",
+    "nod",
+    "Node",
+    "node ",
+    " node",
+    "node 1",
+    "node\r",
+    "close",
+    "close f",
+    "close 1",
+    "close p1",
+    "close f1 ",
+    "close  f1",
+    "close f1 f2",
+    "close f01",
+    "close f00",
+    "close f+1",
+    "close f-1",
+    "close f1x",
+    "close f18446744073709551616",
+    "close f99999999999999999999999",
+    "publisher",
+    "publisher f1 ",
+    "publisher f1 loans",
+    "publisher f1 loans=",
+    "publisher f1 loans=x",
+    "publisher f1 loans=01",
+    "publisher f1 loans=1 loans=1",
+    "publisher f1 loans=1 slots=2 loans=1",
+    "publisher f1 Loans=1",
+    "publisher f1 buffer=1",
+    "publisher f1 strategy=best",
+    "publisher f1 strategy=Retry",
+    "publisher f1 alloc=retry",
+    "publisher f1 handler=warn",
+    "publisher f1 degrade=discard",
+    "publisher p1",
+    "subscriber f1 loans=1",
+    "subscriber f1 buffer=1 buffer=2",
+    "subscriber f1 degrade=",
+    "loan p1",
+    "loan p1 1 1",
+    "loan_uninit p1",
+    "set l1 0",
+    "set l1 0 1 2",
+    "set l1 1 01",
+    "fill l1",
+    "put p1",
+    "put p1 ",
+    "put p1 1 x",
+    "put s1 1",
+    "retry p1",
+    "giveup s1",
+    "receive p1",
+    "update f1",
+    "leave m1",
+    "has p1",
+];
+
+fn is_faulty(line: &[u8], scratch: &mut Scratch) -> bool {
+    match read_command(line, scratch) {
+        Err(LineError::Faulty) => true,
+        _ => false,
+    }
+}
+
+fn is_too_long(line: &[u8], scratch: &mut Scratch) -> bool {
+    match read_command(line, scratch) {
+        Err(LineError::TooLong) => true,
+        _ => false,
+    }
+}
+
+#[test]
+fn a_line_that_is_nearly_one_is_faulty(rt: HostRuntime) -> Result<(), Fail> {
+    let mut scratch = Scratch::new(rt.alloc())?;
+    for line in FAULTY {
+        assert!(rt; is_faulty(line.as_bytes(), &mut scratch), "{line}");
+    }
+    Ok(())
+}
+
+#[test]
+fn a_line_is_too_long_from_1025_bytes_on(rt: HostRuntime) -> Result<(), Fail> {
+    let mut scratch = Scratch::new(rt.alloc())?;
+    let mut line = Vec::new(rt.alloc());
+    line.extend_from_slice(b"put p1")?;
+    for _ in 0..509 {
+        line.extend_from_slice(b" 1")?;
+    }
+    assert!(rt; line.len() == 1_024);
+    assert!(rt; !is_faulty(line.as_slice(), &mut scratch));
+    assert!(rt; !is_too_long(line.as_slice(), &mut scratch));
+    line.extend_from_slice(b"1")?;
+    assert!(rt; is_too_long(line.as_slice(), &mut scratch));
+    Ok(())
+}
+
+#[test]
+fn a_fault_says_so(rt: HostRuntime) -> Result<(), Fail> {
+    assert!(rt; LineError::Faulty.text() == "faulty line");
+    assert!(rt; LineError::TooLong.text() == "line too long");
+    Ok(())
+}

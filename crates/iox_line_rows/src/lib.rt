@@ -1,0 +1,12 @@
+//! Script lines and replies, held against rows from outside: what no contract of `iox_line` can say.
+//!
+//! It has no items of its own, only tests: `lines` holds each kind of line with its options, `faulty` the ways in which
+//! a line is none, `replies` the text of each reply.
+#![tactic(auto)]
+
+#[cfg(test)]
+mod faulty;
+#[cfg(test)]
+mod lines;
+#[cfg(test)]
+mod replies;
