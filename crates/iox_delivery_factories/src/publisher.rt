@@ -12,8 +12,8 @@ use iox_domain_home::{DomainId, MakesPorts};
 use iox_domain_ports::PublisherConfig;
 use iox_domain_settings::PublisherSettings;
 use iox_domain_values::{
-    AllocationStrategy, BackpressureHandler, BackpressureStrategy, Degrades, DegradationAction,
-    DegradationHandler, Handlers, Overrides, PortOwner, PreallocatedSamplesOverride,
+    AllocationStrategy, BackpressureHandler, BackpressureStrategy, DegradationAction,
+    DegradationHandler, Degrades, Handlers, Overrides, PortOwner, PreallocatedSamplesOverride,
     PublisherCreateError,
 };
 use std::alloc::Global;

@@ -152,10 +152,7 @@ impl<T: Copy, U: Copy, D: Degrades> PortFactorySubscriber<T, U, D> {
         ensures { result ≡ buffer_at self.now.settings (H.ports_of self.now.domain home.now) }
     {
         match home.ports(self.domain) {
-            Some(ports) => self
-                .settings
-                .buffer_size_within(&ports.sizes)
-                .unwrap_or(0),
+            Some(ports) => self.settings.buffer_size_within(&ports.sizes).unwrap_or(0),
             None => 0,
         }
     }

@@ -167,8 +167,10 @@ fn ports_are_made_as_they_are_named(rt: HostRuntime) -> Result<(), Fail> {
         return Ok(());
     };
     let too_much = subscriber_builder(&domain, 4, 3).buffer_size(3);
-    assert!(rt; refusal(&rt, too_much, rt.alloc(), &mut domain)
-        == Some(SubscriberCreateError::BufferSizeExceedsMaxSupportedBufferSizeOfService));
+    assert!(rt;
+        refusal(&rt, too_much, rt.alloc(), &mut domain)
+            == Some(SubscriberCreateError::BufferSizeExceedsMaxSupportedBufferSizeOfService)
+    );
     let one = subscriber_builder(&domain, 4, 3)
         .buffer_size(0)
         .set_degradation_handler(DegradationHandler::Fixed(DegradationAction::Ignore));

@@ -7,8 +7,8 @@ use iox_domain_ports::ServicePorts;
 use iox_domain_publisher::Sent;
 use iox_domain_subscriber::Taken;
 use iox_domain_values::{
-    BackpressureStrategy, ConnectionFailure, DegradationAction, DegradationHandler, Handlers, LoanError,
-    ReceiveError, SendError,
+    BackpressureStrategy, ConnectionFailure, DegradationAction, DegradationHandler, Handlers,
+    LoanError, ReceiveError, SendError,
 };
 use std::alloc::Global;
 

@@ -88,9 +88,12 @@ publisher_at_home : {T U B D : Type 0} (overrides : ℕ → ℕ → Type 0) (may
     → MakesAt (λ ports. with_own_ports id ports old) (λ number. with_own_publisher id number handlers) (PublisherComes overrides may config user_header) (why_no_publisher config) (Some old.ports) old (Some answer) new
 publisher_at_home overrides may config user_header handlers id old new (Err error) is makes = makes
 publisher_at_home overrides may config user_header handlers id old new (Ok number) is (comes, rest) =
-    let next : number ≡ old.ports.next_port = publisher_number overrides may config user_header (slots_needed config old.ports) (publisher_place old.ports) old.ports number new.ports comes in
-    (new.ports, comes, rest ∙ ap (λ number. record (with_ports new.ports old) { publisher_handlers = kept number handlers old.publisher_handlers }) (sym next)
-    ∙ sym (ap (with_own_publisher id number handlers) (put id new.ports old is) ∙ ap (λ here. cond here (record (with_ports new.ports old) { publisher_handlers = kept number handlers old.publisher_handlers }) (with_ports new.ports old)) is))
+    let next : number ≡ old.ports.next_port = publisher_number overrides may config user_header (slots_needed config old.ports) (publisher_place old.ports) old.ports number new.ports comes in (
+      new.ports,
+      comes,
+      rest ∙ ap (λ number. record (with_ports new.ports old) { publisher_handlers = kept number handlers old.publisher_handlers }) (sym next)
+          ∙ sym (ap (with_own_publisher id number handlers) (put id new.ports old is) ∙ ap (λ here. cond here (record (with_ports new.ports old) { publisher_handlers = kept number handlers old.publisher_handlers }) (with_ports new.ports old)) is),
+    )
 
 pub publisher_comes : {T U B D : Type 0} (overrides : ℕ → ℕ → Type 0) (may : DegradationInfo → DegradationAction → Type 0) (config : PublisherConfig) (user_header : U) (handlers : B) (id : DomainId) (old new : Domain T U B D) (answer : Result ℕ PublisherCreateError)
     → same_id old.id id ≡ true → MakesPublisher overrides may config user_header handlers old answer new
@@ -105,9 +108,12 @@ subscriber_at_home : {T U B D : Type 0} (may : DegradationInfo → DegradationAc
     → MakesAt (λ ports. with_own_ports id ports old) (λ number. with_own_subscriber id number handler) (SubscriberComes may config) (why_no_subscriber config) (Some old.ports) old (Some answer) new
 subscriber_at_home may config handler id old new (Err error) is makes = makes
 subscriber_at_home may config handler id old new (Ok number) is (comes, rest) =
-    let next : number ≡ old.ports.next_port = subscriber_number may config.owner (buffer_of config.buffer_size old.ports.sizes) (subscriber_place old.ports) old.ports number new.ports comes in
-    (new.ports, comes, rest ∙ ap (λ number. record (with_ports new.ports old) { subscriber_handlers = kept number handler old.subscriber_handlers }) (sym next)
-    ∙ sym (ap (with_own_subscriber id number handler) (put id new.ports old is) ∙ ap (λ here. cond here (record (with_ports new.ports old) { subscriber_handlers = kept number handler old.subscriber_handlers }) (with_ports new.ports old)) is))
+    let next : number ≡ old.ports.next_port = subscriber_number may config.owner (buffer_of config.buffer_size old.ports.sizes) (subscriber_place old.ports) old.ports number new.ports comes in (
+      new.ports,
+      comes,
+      rest ∙ ap (λ number. record (with_ports new.ports old) { subscriber_handlers = kept number handler old.subscriber_handlers }) (sym next)
+          ∙ sym (ap (with_own_subscriber id number handler) (put id new.ports old is) ∙ ap (λ here. cond here (record (with_ports new.ports old) { subscriber_handlers = kept number handler old.subscriber_handlers }) (with_ports new.ports old)) is),
+    )
 
 pub subscriber_comes : {T U B D : Type 0} (may : DegradationInfo → DegradationAction → Type 0) (config : SubscriberConfig) (handler : D) (id : DomainId) (old new : Domain T U B D) (answer : Result ℕ SubscriberCreateError)
     → same_id old.id id ≡ true → MakesSubscriber may config handler old answer new

@@ -93,7 +93,12 @@ impl<T: Copy, U: Copy, B: Decides + Degrades, D: Degrades> Home<T, U> for Domain
         self.send(alloc, number, slot)
     }
 
-    fn retry(&mut self, id: DomainId, number: u64, elapsed: u64) -> Option<Result<Sent, SendError>> {
+    fn retry(
+        &mut self,
+        id: DomainId,
+        number: u64,
+        elapsed: u64,
+    ) -> Option<Result<Sent, SendError>> {
         if !is(self.id, id) {
             return None;
         }
@@ -168,8 +173,7 @@ impl<T: Copy, U: Copy, B: Decides + Degrades, D: Degrades> Home<T, U> for Domain
 }
 
 impl<T: Copy, U: Copy, B: Decides + Degrades, D: Degrades> MakesPorts<T, U, B, D>
-    for Domain<T, U, B, D>
-{
+    for Domain<T, U, B, D> {
     ghost with_publisher = { with_own_publisher };
 
     ghost with_subscriber = { with_own_subscriber };

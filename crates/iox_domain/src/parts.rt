@@ -54,7 +54,8 @@ impl<T, U, B, D> DomainParts<T, U, B, D> {
             && sizes.max_publishers as u64 == agreed.max_publishers
             && sizes.max_subscribers as u64 == agreed.max_subscribers
             && sizes.subscriber_max_buffer_size as u64 == agreed.subscriber_max_buffer_size
-            && sizes.subscriber_max_borrowed_samples as u64 == agreed.subscriber_max_borrowed_samples
+            && sizes.subscriber_max_borrowed_samples as u64
+                == agreed.subscriber_max_borrowed_samples
             && sizes.history_size as u64 == agreed.history_size
             && sizes.enable_safe_overflow == agreed.enable_safe_overflow
             && agreed.subscriber_max_borrowed_samples <= sizes.expired_connections as u64

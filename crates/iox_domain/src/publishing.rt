@@ -88,14 +88,8 @@ impl<T: Copy, U: Copy, B: Decides + Degrades, D: Degrades> Domain<T, U, B, D> {
         ensures rest { self.new ≡ with_ports self.new.ports self.old }
     {
         match self.publisher_handlers.get(number) {
-            Some(kept) => self
-                .ports
-                .update_publisher(alloc, number, kept),
-            None => self.ports.update_publisher(
-                alloc,
-                number,
-                &Nobody,
-            ),
+            Some(kept) => self.ports.update_publisher(alloc, number, kept),
+            None => self.ports.update_publisher(alloc, number, &Nobody),
         }
     }
 

@@ -63,11 +63,7 @@ impl<T: Copy, U: Copy, B: Decides + Degrades, D: Degrades> Domain<T, U, B, D> {
     {
         match self.subscriber_handlers.get(number) {
             Some(kept) => self.ports.update_subscriber(alloc, number, kept),
-            None => self.ports.update_subscriber(
-                alloc,
-                number,
-                &Nobody,
-            ),
+            None => self.ports.update_subscriber(alloc, number, &Nobody),
         }
     }
 
@@ -84,11 +80,7 @@ impl<T: Copy, U: Copy, B: Decides + Degrades, D: Degrades> Domain<T, U, B, D> {
     {
         match self.subscriber_handlers.get(number) {
             Some(kept) => self.ports.has_samples(alloc, number, kept),
-            None => self.ports.has_samples(
-                alloc,
-                number,
-                &Nobody,
-            ),
+            None => self.ports.has_samples(alloc, number, &Nobody),
         }
     }
 
@@ -105,11 +97,7 @@ impl<T: Copy, U: Copy, B: Decides + Degrades, D: Degrades> Domain<T, U, B, D> {
     {
         match self.subscriber_handlers.get(number) {
             Some(kept) => self.ports.receive(alloc, number, kept),
-            None => self.ports.receive(
-                alloc,
-                number,
-                &Nobody,
-            ),
+            None => self.ports.receive(alloc, number, &Nobody),
         }
     }
 

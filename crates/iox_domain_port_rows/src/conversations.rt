@@ -4,8 +4,9 @@ use iox_domain_publisher::Sent;
 use iox_domain_subscriber::Taken;
 use iox_domain_values::{
     AllocationStrategy, BackpressureStrategy, ConnectionFailure, DegradationAction,
-    DegradationHandler, Handlers, LoanError, PortOwner, PreallocatedSamplesOverride, PublisherCreateError,
-    ReceiveError, SendError, ServiceSizes, SubscriberCreateError, ZeroCopyCreationError,
+    DegradationHandler, Handlers, LoanError, PortOwner, PreallocatedSamplesOverride,
+    PublisherCreateError, ReceiveError, SendError, ServiceSizes, SubscriberCreateError,
+    ZeroCopyCreationError,
 };
 use std::alloc::{AllocError, Global};
 use std::test::Fail;

@@ -10,8 +10,8 @@ use iox_domain_publisher::{PublisherPort, SubscriberEntry};
 use iox_domain_sender::SenderConfig;
 use iox_domain_subscriber::{PublisherEntry, SubscriberPort};
 use iox_domain_values::{
-    AllocationStrategy, Degrades, Overrides, PortIdentity, PortOwner,
-    PublisherCreateError, SubscriberCreateError, number_of_places,
+    AllocationStrategy, Degrades, Overrides, PortIdentity, PortOwner, PublisherCreateError,
+    SubscriberCreateError, number_of_places,
 };
 use std::alloc::{AllocError, Global};
 

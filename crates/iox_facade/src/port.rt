@@ -4,7 +4,7 @@ pub use iox_domain_sender::{Sender, SenderConfig};
 pub use iox_domain_values::{
     AllocationStrategy, BackpressureAction, BackpressureDecision, BackpressureHandler,
     BackpressureInfo, BackpressureStrategy, BackpressureToReceiverAction, ConnectionFailure,
-    DataSegmentType, DegradationAction, DegradationCause, DegradationHandler, DegradationInfo, Handlers,
-    LoanError, PreallocatedSamplesOverride, PublisherCreateError, ReceiveError, SendError,
-    SubscriberCreateError, ZeroCopyCreationError,
+    DataSegmentType, DegradationAction, DegradationCause, DegradationHandler, DegradationInfo,
+    Handlers, LoanError, PreallocatedSamplesOverride, PublisherCreateError, ReceiveError,
+    SendError, SubscriberCreateError, ZeroCopyCreationError,
 };
