@@ -385,6 +385,7 @@ fn an_expired_connection_has_samples(rt: HostRuntime) -> Result<(), Fail> {
     assert!(rt; receives(&rt, alloc, &mut home, &subscriber) == Some((1, 5)));
     assert!(rt; subscriber.holds(&home));
     assert!(rt; subscriber.has_samples(alloc, &mut home) == Ok(false));
+    assert!(rt; subscriber.holds(&home));
     subscriber.leave(&mut home);
     Ok(())
 }
