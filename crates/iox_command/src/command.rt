@@ -2,6 +2,7 @@
 use crate::port::{PortNumber, PublisherOptions, SubscriberOptions};
 use crate::service::ServiceOptions;
 use crate::step::{ForeignStep, StepBefore};
+use crate::steps::Steps;
 use crate::values::Values;
 use iox_describe_base::{AttributeSpecifier, AttributeVerifier, MessagingPattern, ServiceName};
 
@@ -18,7 +19,7 @@ pub enum Command<'a, T> {
         name: ServiceName,
         options: ServiceOptions,
         attributes: AttributeSpecifier,
-        steps: Vec<StepBefore>,
+        steps: Steps<StepBefore>,
     },
     /// Opens a service that stands, if it meets what is named.
     Open {
@@ -26,7 +27,7 @@ pub enum Command<'a, T> {
         name: ServiceName,
         options: ServiceOptions,
         requirements: AttributeVerifier,
-        steps: Vec<StepBefore>,
+        steps: Steps<StepBefore>,
     },
     /// Opens a service that stands, or creates it where none does.
     OpenOrCreate {
@@ -34,13 +35,13 @@ pub enum Command<'a, T> {
         name: ServiceName,
         options: ServiceOptions,
         requirements: AttributeVerifier,
-        steps: Vec<StepBefore>,
+        steps: Steps<StepBefore>,
     },
     /// Runs steps of foreign processes.
     Foreign {
         pattern: MessagingPattern,
         name: ServiceName,
-        steps: Vec<ForeignStep>,
+        steps: Steps<ForeignStep>,
     },
     /// Closes a factory.
     Close {

@@ -7,6 +7,7 @@
 //! | `service` | the settings of a service that a command names, by its pattern |
 //! | `port` | the options of a publisher and of a subscriber |
 //! | `step` | what a foreign process does between the accesses of a command |
+//! | `steps` | a list of such steps |
 //! | `values` | the values of a message |
 //! | `reply` | the replies |
 //! | `refusal` | why a command was refused |
@@ -18,6 +19,7 @@ pub mod refusal;
 pub mod reply;
 pub mod service;
 pub mod step;
+pub mod steps;
 pub mod values;
 
 pub use command::Command;
@@ -28,4 +30,5 @@ pub use service::{
     EventOptions, NumberOrOff, PublishSubscribeOptions, RequestResponseOptions, ServiceOptions,
 };
 pub use step::{ForeignStep, StepBefore};
+pub use steps::Steps;
 pub use values::Values;

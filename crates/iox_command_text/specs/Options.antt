@@ -36,6 +36,11 @@ abbrev pub named : {A : Type 0} → (List ℕ → Option A) → Option (List ℕ
 named of None = Some None
 named of (Some text) = option_map (λ a. Some a) (of text)
 
+-- one where there is a value
+abbrev pub one : {A : Type 0} → Option A → ℕ
+one None = 0
+one (Some a) = 1
+
 -- how many values are there
 abbrev pub count : {A : Type 0} → List (Option A) → ℕ
 count [] = 0

@@ -1,7 +1,7 @@
 //! Options of the form `key=value`, in any order.
-ghost use Rattle.std.specs.Prelude.{◌≡◌, MatchOption, None, Some};
+ghost use Rattle.std.specs.Prelude.{◌≡◌, ◌≤◌, MatchOption, None, Some};
 ghost use Rattle.std.specs.Option.{option_map};
-ghost use Rattle.iox_command_text.specs.Options.{after, find};
+ghost use Rattle.iox_command_text.specs.Options.{after, find, one};
 
 use crate::words::Words;
 
@@ -23,4 +23,15 @@ pub fn find<'a>(key: &[u8], words: &Words<'a>) -> Option<&'a [u8]>
         }
     }
     None
+}
+
+/// One where there is a value.
+pub fn one<T: Copy>(option: Option<T>) -> usize
+    ensures value { result ≡ one option }
+    ensures few { result ≤ 1 }
+{
+    match option {
+        Some(_) => 1,
+        None => 0,
+    }
 }

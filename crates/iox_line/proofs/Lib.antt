@@ -2,3 +2,4 @@ pub mod PortOptionLemmas
 pub mod ReadingLemmas
 pub mod LineLemmas
 pub mod PrintLemmas
+pub mod HasLineLemmas

@@ -1,11 +1,11 @@
 -- A line is read as the command that it spells.
-use Rattle.std.proofs.Common.{◌≡◌, ℕ, ◌+◌, ◌≤◌, ◌==◌, Bool, true, false, List, [], ◌∷◌, Option, None, Some, refl, cond, sym, ap, ◌∙◌, subst, length, arith}
+use Rattle.std.proofs.Common.{◌≡◌, ℕ, ◌+◌, ◌≤◌, ◌==◌, Bool, true, false, List, [], ◌∷◌, None, Some, refl, cond, sym, ap, ◌∙◌, length, arith}
 use Rattle.std.proofs.lemmas.Grind.{common_steps}
 use Rattle.iox_command.specs.declared.command.Command.{Command}
-use Rattle.iox_command_text.specs.Words.{words_of, spaced, onto_first, AreWords, has_no_space}
+use Rattle.iox_command_text.specs.Words.{words_of, spaced, onto_first, AreWords}
 use Rattle.iox_command_text.proofs.SpacedLemmas.{spaced-words_of, words_of-spaced}
 use Rattle.iox_line.specs.Reading.{of_words}
-use Rattle.iox_line.specs.Spelling.{Fits, Writes, Spells}
+use Rattle.iox_line.specs.Spelling.{Spells}
 use Rattle.iox_line.proofs.ReadingLemmas.{words_sound, words_complete}
 
 onto_words : (b : ℕ) (ws : List (List ℕ)) → (b == 32) ≡ false → AreWords ws → AreWords (onto_first b ws)

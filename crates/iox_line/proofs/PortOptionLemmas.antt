@@ -12,14 +12,14 @@ use Rattle.iox_domain_values.specs.declared.backpressure.BackpressureAction.{Bac
 use Rattle.iox_domain_values.specs.declared.backpressure.BackpressureAction.TheVariants as handler
 use Rattle.iox_domain_values.specs.declared.degradation.DegradationAction.{DegradationAction}
 use Rattle.iox_domain_values.specs.declared.degradation.DegradationAction.TheVariants as degradation
-use Rattle.iox_command_text.specs.Numbers.{IsNumber, number_of}
-use Rattle.iox_command_text.specs.Options.{AnyOrder, find, named, count}
+use Rattle.iox_command_text.specs.Numbers.{IsNumber, IfNumber, number_of}
+use Rattle.iox_command_text.specs.Options.{AnyOrder, find, named, count, one}
 use Rattle.iox_command_text.specs.Values.{strategy_word, allocation_word, handler_word, degradation_word, strategies, allocations, handlers, degradations, strategy_of, allocation_of, handler_of, degradation_of}
 use Rattle.iox_command_text.proofs.NumberLemmas.{number_some, number_own}
 use Rattle.iox_command_text.proofs.ChoiceLemmas.{choice_some, named_some, named_own, IfThere}
 use Rattle.iox_command_text.proofs.OptionLemmas.{options_sound, options_complete}
-use Rattle.iox_line.specs.PortOptions.{IfNumber, PublisherFits, publisher_keys, publisher_values, publisher_words, subscriber_keys, subscriber_values, subscriber_words}
-use Rattle.iox_line.specs.Reading.{bind, one, publisher_of, subscriber_of, publisher_options, subscriber_options}
+use Rattle.iox_line.specs.PortOptions.{PublisherFits, publisher_keys, publisher_values, publisher_words, subscriber_keys, subscriber_values, subscriber_words}
+use Rattle.iox_line.specs.Reading.{bind, publisher_of, subscriber_of, publisher_options, subscriber_options}
 
 -- a subscriber's number has 64 bits
 abbrev pub SubscriberFits : SubscriberOptions → Type 0

@@ -1,11 +1,16 @@
 -- What is read of words is what they write, and what is written is read.
-use Rattle.std.proofs.Common.{◌≡◌, ℕ, ◌<◌, ◌==◌, Bool, true, false, List, [], ◌∷◌, ◌++◌, Option, None, Some, refl, cond, sym, ap, ◌∙◌, subst, length, decimal, map, codes, arith}
+use Rattle.std.proofs.Common.{◌≡◌, ℕ, ◌<◌, List, [], ◌∷◌, Option, None, Some, refl, cond, sym, ap, ◌∙◌, subst, length, decimal, map, codes, arith}
 use Rattle.std.specs.Option.{option_map}
 use Rattle.iox_command.specs.declared.command.Command.{Command}
 use Rattle.iox_command.specs.declared.command.Command.TheVariants as command
 use Rattle.iox_command.specs.declared.port.PortNumber.{PortNumber}
 use Rattle.iox_command.specs.declared.port.PortNumber.TheVariants as port
-use Rattle.iox_command_text.specs.Words.{choice, no_words, words_of, spaced, AreWritten}
+use Rattle.iox_command.specs.declared.service.ServiceOptions.{ServiceOptions}
+use Rattle.iox_describe_base.specs.Attributes.{required}
+use Rattle.iox_line_services.specs.Services.{IsName, ServiceFits, Names}
+use Rattle.iox_line_services.specs.Reading.{service_of}
+use Rattle.iox_line_services.proofs.ServiceLemmas.{service_some, service_own}
+use Rattle.iox_command_text.specs.Words.{no_words, AreWritten}
 use Rattle.iox_command_text.specs.Numbers.{IsNumber, tag, number_of, tagged}
 use Rattle.iox_command_text.specs.Options.{or_else}
 use Rattle.iox_command_text.proofs.NumberLemmas.{number_some, number_own, tagged_some, tagged_own}
@@ -187,9 +192,21 @@ subscriber_sound (w ∷ ws) c h =
     let r = subscriber_some ws m.0.1 b.1 in
     subst (λ d. Fits d × Writes d (codes "subscriber" ∷ w ∷ ws)) m.2 ((s.0, r.0), (ws, r.1, ap (λ x. codes "subscriber" ∷ x ∷ ws) s.1))
 
+-- commands of a service
+one_service : (make : ℕ → List ℕ → ServiceOptions → Command ℕ) (text : List ℕ) (ws : List (List ℕ)) (c : Command ℕ)
+    → ((n : ℕ) (a : List ℕ) (o : ServiceOptions) → IsNumber n × IsName a × ServiceFits o → Fits (make n a o))
+    → ((n : ℕ) (a : List ℕ) (o : ServiceOptions) → Names n a o ws → Writes (make n a o) (text ∷ ws)) → option_map (λ p. make p.0 p.1 p.2) (service_of ws) ≡ Some c → Fits c × Writes c (text ∷ ws)
+one_service make text ws c fits writes h =
+    let m = map_some (λ p. make p.0 p.1 p.2) (service_of ws) c h in
+    let s = service_some ws m.0 m.1 in
+    subst (λ d. Fits d × Writes d (text ∷ ws)) m.2 (fits m.0.0 m.0.1 m.0.2 s.0, writes m.0.0 m.0.1 m.0.2 s.1)
+
 -- a verb and the words after it write what they are read as
 verb_sound : (v : Verb) (ws : List (List ℕ)) (c : Command ℕ) → of_verb v ws ≡ Some c → Fits c × Writes c (verb_word v ∷ ws)
 verb_sound verb.Node ws c h = node_some ws c h
+verb_sound verb.Create ws c h = one_service (λ n a o. command.Create n a o [] []) (codes "create") ws c (λ n a o f. (f.0, f.1, f.2, refl, refl)) (λ n a o w. (ws, w, refl)) h
+verb_sound verb.Open ws c h = one_service (λ n a o. command.Open n a o (required [] []) []) (codes "open") ws c (λ n a o f. (f.0, f.1, f.2, refl, refl)) (λ n a o w. (ws, w, refl)) h
+verb_sound verb.OpenOrCreate ws c h = one_service (λ n a o. command.OpenOrCreate n a o (required [] []) []) (codes "open_or_create") ws c (λ n a o f. (f.0, f.1, f.2, refl, refl)) (λ n a o w. (ws, w, refl)) h
 verb_sound verb.Close ws c h = one_made (λ n. command.Close n) 102 (codes "close") ws c (λ n f. f) (λ n. refl) h
 verb_sound verb.Publisher ws c h = publisher_sound ws c h
 verb_sound verb.Subscriber ws c h = subscriber_sound ws c h
@@ -210,7 +227,7 @@ verb_sound verb.Leave ws c h = one_port (λ p. command.Leave p) (codes "leave") 
 verb_sound verb.Has ws c h = one_made (λ n. command.Has n) 115 (codes "has") ws c (λ n f. f) (λ n. refl) h
 
 verbs_written : AreWritten verb_word verbs
-verbs_written = (refl, (refl, (refl, (refl, (refl, (refl, (refl, (refl, (refl, (refl, (refl, (refl, (refl, (refl, (refl, (refl, (refl, (refl, (refl, tt)))))))))))))))))))
+verbs_written = (refl, (refl, (refl, (refl, (refl, (refl, (refl, (refl, (refl, (refl, (refl, (refl, (refl, (refl, (refl, (refl, (refl, (refl, (refl, (refl, (refl, (refl, tt))))))))))))))))))))))
 
 read_at : (w : List ℕ) (ws : List (List ℕ)) (c : Command ℕ) (v : Option Verb) → verb_of w ≡ v → of_read v ws ≡ Some c → Fits c × Writes c (w ∷ ws)
 read_at w ws c None e h = cc
@@ -224,6 +241,12 @@ words_sound (w ∷ ws) c h = read_at w ws c (verb_of w) refl h
 -- words that write a command are read as it
 pub words_complete : (c : Command ℕ) (ws : List (List ℕ)) → Fits c → Writes c ws → of_words ws ≡ Some c
 words_complete command.Node ws f w = ap of_words w
+words_complete (command.Create n a o t s) ws f w = ap of_words w.2 ∙ ap (option_map (λ p. command.Create p.0 p.1 p.2 [] [])) (service_own w.0 n a o f.0 f.1 f.2 w.1)
+    ∙ ap (λ x. Some (command.Create n a o x [])) (sym f.3) ∙ ap (λ x. Some (command.Create n a o t x)) (sym f.4)
+words_complete (command.Open n a o t s) ws f w = ap of_words w.2 ∙ ap (option_map (λ p. command.Open p.0 p.1 p.2 (required [] []) [])) (service_own w.0 n a o f.0 f.1 f.2 w.1)
+    ∙ ap (λ x. Some (command.Open n a o x [])) (sym f.3) ∙ ap (λ x. Some (command.Open n a o t x)) (sym f.4)
+words_complete (command.OpenOrCreate n a o t s) ws f w = ap of_words w.2 ∙ ap (option_map (λ p. command.OpenOrCreate p.0 p.1 p.2 (required [] []) [])) (service_own w.0 n a o f.0 f.1 f.2 w.1)
+    ∙ ap (λ x. Some (command.OpenOrCreate n a o x [])) (sym f.3) ∙ ap (λ x. Some (command.OpenOrCreate n a o t x)) (sym f.4)
 words_complete (command.Close n) ws f w = ap of_words w ∙ ap (option_map (λ n. command.Close n)) (tagged_own 102 n f)
 words_complete (command.Loan n m) ws f w = ap of_words w ∙ ap (option_map (λ p. command.Loan p.0 p.1)) (number_pair_own 112 n m f.0 f.1)
 words_complete (command.LoanUninit n m) ws f w = ap of_words w ∙ ap (option_map (λ p. command.LoanUninit p.0 p.1)) (number_pair_own 112 n m f.0 f.1)
@@ -244,4 +267,4 @@ words_complete (command.Publisher n o) ws f w = ap of_words w.2 ∙ ap (option_m
     (both_own (tagged 102 (tag 102 n)) (publisher_of w.0) n o (tagged_own 102 n f.0) (publisher_own w.0 o f.1 w.1))
 words_complete (command.Subscriber n o) ws f w = ap of_words w.2 ∙ ap (option_map (λ p. command.Subscriber p.0 p.1))
     (both_own (tagged 102 (tag 102 n)) (subscriber_of w.0) n o (tagged_own 102 n f.0) (subscriber_own w.0 o f.1 w.1))
-words_complete other ws f w = absurd w
+words_complete (command.Foreign p a s) ws f w = absurd w

@@ -5,7 +5,7 @@ use Rattle.iox_command.specs.declared.command.Command.{Command}
 use Rattle.iox_command.specs.declared.command.Command.TheVariants as command
 use Rattle.iox_command.specs.declared.port.PortNumber.{PortNumber}
 use Rattle.iox_command.specs.declared.port.PortNumber.TheVariants as port
-use Rattle.iox_command_text.specs.Words.{no_words, words_of}
+use Rattle.iox_command_text.specs.Words.{no_words}
 use Rattle.iox_command_text.specs.Numbers.{number_of, tagged}
 use Rattle.iox_command.specs.declared.port.PublisherOptions.{PublisherOptions}
 use Rattle.iox_command.specs.declared.port.SubscriberOptions.{SubscriberOptions}
@@ -13,8 +13,10 @@ use Rattle.iox_domain_values.specs.declared.backpressure_strategy.BackpressureSt
 use Rattle.iox_domain_values.specs.declared.data_segment.AllocationStrategy.{AllocationStrategy}
 use Rattle.iox_domain_values.specs.declared.backpressure.BackpressureAction.{BackpressureAction}
 use Rattle.iox_domain_values.specs.declared.degradation.DegradationAction.{DegradationAction}
-use Rattle.iox_command_text.specs.Options.{or_else, find, named}
+use Rattle.iox_command_text.specs.Options.{or_else, find, named, one}
 use Rattle.iox_command_text.specs.Values.{strategy_of, allocation_of, handler_of, degradation_of}
+use Rattle.iox_describe_base.specs.Attributes.{required}
+use Rattle.iox_line_services.specs.Reading.{service_of}
 use Rattle.iox_line.specs.declared.verb.Verb.{Verb}
 use Rattle.iox_line.specs.declared.verb.Verb.TheVariants as verb
 use Rattle.iox_line.specs.Verbs.{verb_of}
@@ -83,11 +85,6 @@ abbrev pub bind : {X Y : Type 0} → Option X → (X → Option Y) → Option Y
 bind None make = None
 bind (Some x) make = make x
 
--- one where there is a value
-abbrev pub one : {X : Type 0} → Option X → ℕ
-one None = 0
-one (Some x) = 1
-
 -- the options of a publisher, but the words have to be as many as they
 abbrev pub publisher_of : List (List ℕ) → Option PublisherOptions
 publisher_of ws =
@@ -113,9 +110,24 @@ abbrev pub subscriber_command : List (List ℕ) → Option (Command ℕ)
 subscriber_command [] = None
 subscriber_command (w ∷ ws) = option_map (λ p. command.Subscriber p.0 p.1) (both (tagged 102 w) (subscriber_of ws))
 
+-- a service that is created, without attributes and lists
+abbrev pub create_command : List (List ℕ) → Option (Command ℕ)
+create_command words = option_map (λ p. command.Create p.0 p.1 p.2 [] []) (service_of words)
+
+-- a service that is opened, without attributes and lists
+abbrev pub open_command : List (List ℕ) → Option (Command ℕ)
+open_command words = option_map (λ p. command.Open p.0 p.1 p.2 (required [] []) []) (service_of words)
+
+-- a service that is opened or created, without attributes and lists
+abbrev pub open_or_create_command : List (List ℕ) → Option (Command ℕ)
+open_or_create_command words = option_map (λ p. command.OpenOrCreate p.0 p.1 p.2 (required [] []) []) (service_of words)
+
 -- the command of a verb and the words after it
 abbrev pub of_verb : Verb → List (List ℕ) → Option (Command ℕ)
 of_verb verb.Node words = if no_words words then Some command.Node else None
+of_verb verb.Create words = create_command words
+of_verb verb.Open words = open_command words
+of_verb verb.OpenOrCreate words = open_or_create_command words
 of_verb verb.Close words = option_map (λ n. command.Close n) (only 102 words)
 of_verb verb.Loan words = option_map (λ p. command.Loan p.0 p.1) (with_number 112 words)
 of_verb verb.LoanUninit words = option_map (λ p. command.LoanUninit p.0 p.1) (with_number 112 words)

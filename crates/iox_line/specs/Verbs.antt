@@ -1,5 +1,5 @@
 -- The first word of a line.
-use Rattle.std.specs.Prelude.{ℕ, List, [], ◌∷◌, ◌++◌, Option, codes}
+use Rattle.std.specs.Prelude.{ℕ, List, [], ◌∷◌, Option, codes}
 use Rattle.iox_command_text.specs.Words.{choice}
 use Rattle.iox_line.specs.declared.verb.Verb.{Verb}
 use Rattle.iox_line.specs.declared.verb.Verb.TheVariants as verb
@@ -7,6 +7,9 @@ use Rattle.iox_line.specs.declared.verb.Verb.TheVariants as verb
 -- how a verb is written
 abbrev pub verb_word : Verb → List ℕ
 verb_word verb.Node = codes "node"
+verb_word verb.Create = codes "create"
+verb_word verb.Open = codes "open"
+verb_word verb.OpenOrCreate = codes "open_or_create"
 verb_word verb.Close = codes "close"
 verb_word verb.Publisher = codes "publisher"
 verb_word verb.Subscriber = codes "subscriber"
@@ -28,7 +31,8 @@ verb_word verb.Has = codes "has"
 
 -- verbs that are seldom met, each beside its text
 abbrev pub seldom_verbs : List (List ℕ × Verb)
-seldom_verbs = (codes "node", verb.Node) ∷ (codes "close", verb.Close) ∷ (codes "publisher", verb.Publisher) ∷ (codes "subscriber", verb.Subscriber)
+seldom_verbs = (codes "node", verb.Node) ∷ (codes "create", verb.Create) ∷ (codes "open", verb.Open) ∷ (codes "open_or_create", verb.OpenOrCreate)
+    ∷ (codes "close", verb.Close) ∷ (codes "publisher", verb.Publisher) ∷ (codes "subscriber", verb.Subscriber)
     ∷ (codes "loan_uninit", verb.LoanUninit) ∷ (codes "drop", verb.Drop) ∷ (codes "retry", verb.Retry) ∷ (codes "giveup", verb.GiveUp)
     ∷ (codes "leave", verb.Leave) ∷ []
 

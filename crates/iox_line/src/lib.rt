@@ -9,7 +9,7 @@
 //! | `arguments` | the numbers after the first word |
 //! | `port_options` | the options of a publisher and of a subscriber |
 //! | `read` | from a line to its command |
-//! | `laws` | that a line spells one command at most |
+//! | `laws` | that a line spells one command at most, and that each command has one |
 //! | `print` | from a reply to its line |
 //! | `error` | why a line is no command |
 #![tactic(auto)]

@@ -1,23 +1,13 @@
 //! The options of a publisher and of a subscriber.
-ghost use Rattle.std.specs.Prelude.{◌≡◌, ◌≤◌};
-ghost use Rattle.iox_line.specs.Reading.{one, publisher_of, subscriber_of};
+ghost use Rattle.std.specs.Prelude.{◌≡◌};
+ghost use Rattle.iox_line.specs.Reading.{publisher_of, subscriber_of};
 
 use iox_command::{PublisherOptions, SubscriberOptions};
 use iox_command_text::Words;
+use iox_command_text::options::one;
 use iox_command_text::value::{
     named_allocation, named_degradation, named_handler, named_number, named_strategy,
 };
-
-/// One where there is a value.
-fn one<T: Copy>(option: Option<T>) -> usize
-    ensures value { result ≡ one option }
-    ensures few { result ≤ 1 }
-{
-    match option {
-        Some(_) => 1,
-        None => 0,
-    }
-}
 
 /// The options of a publisher; `None` if a word is none of them, or one stands twice.
 pub(crate) fn publisher_options(words: &Words) -> Option<PublisherOptions>

@@ -1,6 +1,6 @@
 //! From the bytes of a line to the command that they spell.
 ghost use Rattle.std.specs.Prelude.{◌≡◌, ◌≤◌, length};
-ghost use Rattle.iox_line.specs.Reading.{of_verb, of_words, publisher_command, subscriber_command};
+ghost use Rattle.iox_line.specs.Reading.{of_verb, of_words, create_command, open_command, open_or_create_command, publisher_command, subscriber_command};
 ghost use Rattle.iox_line.specs.Outcome.{Answers};
 
 use crate::arguments::{only, port, with_number, with_two, with_values};
@@ -8,15 +8,17 @@ use crate::error::LineError;
 use crate::port_options::{publisher_options, subscriber_options};
 use crate::scratch::Scratch;
 use crate::verb::{Verb, first_verb};
-use iox_command::Command;
+use iox_command::{Command, Steps};
 use iox_command_text::Words;
 use iox_command_text::number::numbered;
+use iox_describe_base::{AttributeSpecifier, AttributeVerifier};
+use iox_line_services::named_service;
 
 /// The command that a line spells, without its newline. It takes no memory: the values of a message are put into the
 /// scratch.
 ///
 /// Refused with `LineError::TooLong` if the line has more than 1,024 bytes, else with `LineError::Faulty` if it spells no
-/// command. The lines of services and of foreign steps are none yet.
+/// command. Attributes, lists of foreign steps and `foreign` aren't spelled yet.
 pub fn read_command<'a>(
     line: &[u8],
     scratch: &'a mut Scratch,
@@ -56,6 +58,9 @@ fn of_verb<'a>(verb: Verb, words: Words, scratch: &'a mut Scratch) -> Option<Com
         } else {
             None
         },
+        Verb::Create => create_line(words),
+        Verb::Open => open_line(words),
+        Verb::OpenOrCreate => open_or_create_line(words),
         Verb::Close => {
             let factory = only(b'f', words)?;
             Some(Command::Close { factory })
@@ -126,6 +131,45 @@ fn of_verb<'a>(verb: Verb, words: Words, scratch: &'a mut Scratch) -> Option<Com
         Verb::Publisher => publisher_line(words),
         Verb::Subscriber => subscriber_line(words),
     }
+}
+
+fn create_line<'a>(words: Words) -> Option<Command<'a, u64>>
+    ensures { result ≡ create_command words.entry }
+{
+    let (node, name, options) = named_service(words)?;
+    Some(Command::Create {
+        node,
+        name,
+        options,
+        attributes: AttributeSpecifier::new(),
+        steps: Steps::new(),
+    })
+}
+
+fn open_line<'a>(words: Words) -> Option<Command<'a, u64>>
+    ensures { result ≡ open_command words.entry }
+{
+    let (node, name, options) = named_service(words)?;
+    Some(Command::Open {
+        node,
+        name,
+        options,
+        requirements: AttributeVerifier::new(),
+        steps: Steps::new(),
+    })
+}
+
+fn open_or_create_line<'a>(words: Words) -> Option<Command<'a, u64>>
+    ensures { result ≡ open_or_create_command words.entry }
+{
+    let (node, name, options) = named_service(words)?;
+    Some(Command::OpenOrCreate {
+        node,
+        name,
+        options,
+        requirements: AttributeVerifier::new(),
+        steps: Steps::new(),
+    })
 }
 
 fn publisher_line<'a>(words: Words) -> Option<Command<'a, u64>>

@@ -9,6 +9,12 @@ use iox_command_text::words::is;
 pub enum Verb {
     /// `node`
     Node,
+    /// `create`
+    Create,
+    /// `open`
+    Open,
+    /// `open_or_create`
+    OpenOrCreate,
     /// `close`
     Close,
     /// `publisher`
@@ -82,6 +88,12 @@ fn seldom_verb(word: &[u8]) -> Option<Verb>
 {
     if is(word, b"node") {
         Some(Verb::Node)
+    } else if is(word, b"create") {
+        Some(Verb::Create)
+    } else if is(word, b"open") {
+        Some(Verb::Open)
+    } else if is(word, b"open_or_create") {
+        Some(Verb::OpenOrCreate)
     } else if is(word, b"close") {
         Some(Verb::Close)
     } else if is(word, b"publisher") {

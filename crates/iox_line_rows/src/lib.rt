@@ -1,7 +1,7 @@
 //! Script lines and replies, held against rows from outside: what no contract of `iox_line` can say.
 //!
-//! It has no items of its own, only tests: `lines` holds each kind of line with its options, `faulty` the ways in which
-//! a line is none, `replies` the text of each reply.
+//! It has no items of its own, only tests: `lines` holds each kind of line with its options, `services` those that create
+//! and open services, `faulty` the ways in which a line is none, `replies` the text of each reply.
 #![tactic(auto)]
 
 #[cfg(test)]
@@ -10,3 +10,5 @@ mod faulty;
 mod lines;
 #[cfg(test)]
 mod replies;
+#[cfg(test)]
+mod services;

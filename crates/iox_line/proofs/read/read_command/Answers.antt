@@ -1,5 +1,4 @@
-use Rattle.std.proofs.Common.{◌∙◌, ap, sym, arith, subst, ◌≡◌, Some, None, length, ◌≤◌, ◌+◌}
-use Rattle.iox_command_text.specs.Words.{words_of}
+use Rattle.std.proofs.Common.{◌∙◌, ap, sym, arith}
 use Rattle.iox_line.specs.Reading.{of_words}
 use Rattle.iox_line.proofs.LineLemmas.{line_sound, unread, words_length}
 use Rattle.iox_line.proofs.read.read_command.Goals as goal

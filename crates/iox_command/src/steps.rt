@@ -1,0 +1,41 @@
+//! A list of steps.
+ghost use Rattle.std.specs.Prelude.{◌≡◌, []};
+
+use std::marker::Model;
+
+/// Steps of foreign processes, in their order; no steps take no memory.
+/// Contracts see them as their list.
+///
+/// This port's own.
+#[derive(Debug, Drop)]
+pub struct Steps<T: Copy> {
+    room: Option<Vec<T>>,
+}
+
+impl<T: Copy> Model for Steps<T> {
+    ghost use Rattle.std.specs.Prelude.{List};
+    ghost use Rattle.iox_command.specs.Held.{held};
+
+    ghost Value = { List T };
+
+    ghost view = { λ steps. held steps.room };
+}
+
+impl<T: Copy> Steps<T> {
+    /// No steps. They take no memory.
+    pub fn new() -> Self
+        ensures { result ≡ [] }
+    {
+        Steps { room: None }
+    }
+
+    /// The steps, in their order.
+    pub fn as_slice(&self) -> &[T]
+        ensures { result.now ≡ self.now }
+    {
+        match &self.room {
+            Some(room) => room.as_slice(),
+            None => &[],
+        }
+    }
+}

@@ -1,0 +1,3 @@
+pub mod ServiceOptionLemmas
+pub mod ServiceLemmas
+pub mod NoSpaceLemmas

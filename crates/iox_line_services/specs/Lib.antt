@@ -1,0 +1,3 @@
+-- The definitions that contracts about services in lines cite.
+pub mod Services
+pub mod Reading

@@ -1,0 +1,4 @@
+pub mod NumberLaws
+pub mod NumberTable
+pub mod NumberedLends
+pub mod Places
