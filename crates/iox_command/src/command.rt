@@ -9,7 +9,7 @@ use iox_describe_base::{AttributeSpecifier, AttributeVerifier, MessagingPattern,
 /// One command. It names what was made before by its number, each kind counted from 1.
 ///
 /// This port's own.
-#[derive(Debug, Drop)]
+#[derive(Drop)]
 pub enum Command<'a, T> {
     /// Makes a node.
     Node,

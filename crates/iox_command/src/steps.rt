@@ -1,6 +1,7 @@
 //! A list of steps.
-ghost use Rattle.std.specs.Prelude.{◌≡◌, []};
+ghost use Rattle.std.specs.Prelude.{◌≡◌, [], ◌∷◌, ◌++◌, OnOk, OnErr};
 
+use std::alloc::{AllocError, Global};
 use std::marker::Model;
 
 /// Steps of foreign processes, in their order; no steps take no memory.
@@ -27,6 +28,21 @@ impl<T: Copy> Steps<T> {
         ensures { result ≡ [] }
     {
         Steps { room: None }
+    }
+
+    /// Appends a step. Refused only for want of memory, and then nothing changes.
+    pub fn push(&mut self, alloc: Global, step: T) -> Result<(), AllocError>
+        ensures ok { OnOk result (self.new ≡ self.old ++ step ∷ []) }
+        ensures err { OnErr result (self.new ≡ self.old) }
+    {
+        if let Some(room) = &mut self.room {
+            room.push(step)?;
+            return Ok(());
+        }
+        let mut room = Vec::new(alloc);
+        room.push(step)?;
+        self.room = Some(room);
+        Ok(())
     }
 
     /// The steps, in their order.

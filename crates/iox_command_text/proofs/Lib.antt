@@ -1,6 +1,9 @@
 pub mod WordLemmas
 pub mod SpacedLemmas
-pub mod NumberLemmas
 pub mod AfterLemmas
+pub mod MarkLemmas
+pub mod NumberLemmas
+pub mod VisibleLemmas
 pub mod OptionLemmas
 pub mod ChoiceLemmas
+pub mod GatherLemmas

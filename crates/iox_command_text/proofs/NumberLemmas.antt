@@ -1,9 +1,10 @@
 -- A word is read as the number that it writes, and as no other.
-use Rattle.std.proofs.Common.{◌≡◌, ℕ, zero, suc, ◌+◌, ◌-◌, ◌*◌, ◌^◌, ◌==◌, ◌<◌, Bool, true, false, ◌&&◌, List, [], ◌∷◌, Option, None, Some, refl, cond, sym, ap, ◌∙◌, rules, arith, length, get_or, nat_lt, decimal, eqb-true}
+use Rattle.std.proofs.Common.{◌≡◌, ℕ, zero, suc, ◌+◌, ◌-◌, ◌*◌, ◌^◌, ◌==◌, ◌<◌, Bool, true, false, not, ◌&&◌, List, [], ◌∷◌, Option, None, Some, refl, cond, sym, ap, ◌∙◌, rules, arith, length, get_or, nat_lt, decimal, eqb-true}
 use Rattle.std.proofs.lemmas.Grind.{common_steps}
 use Rattle.std.proofs.lemmas.Str.Parse.{IsNumeralModel, numerals_by_fold}
 use Rattle.std.proofs.lemmas.Fmt.{digits_decimal, digits_value-decimal, decimal-digits_value, decimal_nonempty, first_decimal, length-decimal-le_succ}
-use Rattle.iox_command_text.specs.Words.{has_no_space}
+use Rattle.iox_command_text.specs.Words.{has_no_space, lacks}
+use Rattle.iox_command_text.proofs.AfterLemmas.{and_left, and_right}
 use Rattle.iox_command_text.specs.Numbers.{is_digit, digits_from, below_limit, number_of, tagged, tag, IsNumber}
 
 -- whether all bytes are digits
@@ -93,13 +94,20 @@ tagged_some letter (b ∷ bs) n h = tagged_at letter b bs n (b == letter) refl h
 pub tagged_own : (letter n : ℕ) → IsNumber n → tagged letter (tag letter n) ≡ Some n
 tagged_own letter n small = grind (arith, common_steps, number_own n small)
 
-space_at : (b : ℕ) (bs : List ℕ) → (is_digit b && all_digits bs) ≡ true → (all_digits bs ≡ true → has_no_space bs ≡ true) → has_no_space (b ∷ bs) ≡ true
-space_at b bs h more = grind (arith, common_steps, h, more)
+differ_at : (byte b : ℕ) (t : Bool) → (b == byte) ≡ t → is_digit b ≡ true → is_digit byte ≡ false → t ≡ false
+differ_at byte b true e d n = let bad : true ≡ false = sym d ∙ ap is_digit (eqb-true b byte e) ∙ n in cc
+differ_at byte b false e d n = refl
 
-digits_no_space : (ds : List ℕ) → all_digits ds ≡ true → has_no_space ds ≡ true
-digits_no_space [] h = refl
-digits_no_space (b ∷ bs) h = space_at b bs h (digits_no_space bs)
+digits_lack : (byte : ℕ) (ds : List ℕ) → is_digit byte ≡ false → all_digits ds ≡ true → lacks byte ds ≡ true
+digits_lack byte [] n h = refl
+digits_lack byte (b ∷ bs) n h =
+    ap (λ t. not t && lacks byte bs) (differ_at byte b (b == byte) refl (and_left (is_digit b) (all_digits bs) h) n)
+    ∙ digits_lack byte bs n (and_right (is_digit b) (all_digits bs) h)
+
+-- a number is written with digits alone
+pub decimal_lacks : (byte n : ℕ) → is_digit byte ≡ false → IsNumber n → lacks byte (decimal n) ≡ true
+decimal_lacks byte n d small = digits_lack byte (decimal n) d (digits_decimal own n small)
 
 -- a number is written without a space
 pub decimal_no_space : (n : ℕ) → IsNumber n → has_no_space (decimal n) ≡ true
-decimal_no_space n small = digits_no_space (decimal n) (digits_decimal own n small)
+decimal_no_space n small = decimal_lacks 32 n refl small

@@ -3,3 +3,5 @@ pub mod Words
 pub mod Numbers
 pub mod Options
 pub mod Values
+pub mod Visible
+pub mod Memory

@@ -2,15 +2,17 @@
 //!
 //! | Module | What it has |
 //! |---|---|
-//! | `words` | the words of a line, one after the other |
+//! | `words` | the words of a line, one after the other, and other pieces of a text |
 //! | `number` | numbers, and those of made values |
 //! | `options` | options of the form `key=value`, in any order |
 //! | `value` | what an option may be set to |
+//! | `visible` | texts of visible bytes |
 #![tactic(auto)]
 
 pub mod number;
 pub mod options;
 pub mod value;
+pub mod visible;
 pub mod words;
 
 pub use words::Words;

@@ -17,6 +17,7 @@ use Rattle.iox_domain_sender.specs.Sending.{SenderState, slots_of, is_written_lo
 use Rattle.iox_domain_publisher.proofs.Finding.{no_loan}
 use Rattle.iox_domain_publisher.proofs.Lent.{loan_tells}
 use Rattle.iox_domain_publisher.specs.Loaning as loaning
+use Rattle.iox_domain_publisher.specs.Lengths.{extent}
 use Rattle.iox_domain_publisher.specs.Loaning.{with_sender, first_refusal, LendsHere, LendsBeyond, LendsWhere, LendsUnless, Lends}
 use Rattle.iox_domain_publisher.specs.Writing.{loan_of, changed_there, changed_if}
 use Rattle.iox_domain_publisher.specs.declared.publisher_port.PublisherPort.{PublisherPort}
@@ -58,11 +59,11 @@ stays_where false allocation values elements slot old new lends = stays_beyond l
 stays_unless : {T U : Type 0} (refusal : Option LoanError) (allocation : AllocationStrategy) (values elements slot : ℕ) (old new : PublisherPort T U)
     → LendsUnless refusal allocation values elements old (Ok slot) new → Stays old new
 stays_unless (Some error) allocation values elements slot old new lends = absurd (not_refused slot error lends.0)
-stays_unless None allocation values elements slot old new lends = stays_where (nat_le values old.sender.room) allocation values elements slot old new lends
+stays_unless None allocation values elements slot old new lends = stays_where (nat_le (extent old.unit values elements) old.sender.room) allocation values elements slot old new lends
 
 stays_lent : {T U : Type 0} (lent : Result ℕ LoanError) (allocation : AllocationStrategy) (values elements slot : ℕ) (old new : PublisherPort T U)
     → Some (Ok slot) ≡ Some lent → Lends allocation values elements old lent new → Stays old new
-stays_lent (Ok other) allocation values elements slot old new is lends = stays_unless (first_refusal allocation values old) allocation values elements other old new lends
+stays_lent (Ok other) allocation values elements slot old new is lends = stays_unless (first_refusal allocation values elements old) allocation values elements other old new lends
 stays_lent (Err error) allocation values elements slot old new is lends = absurd (not_refused slot error (ap (λ some. unwrap_or some (Ok slot)) is))
 
 stays_if : {T U : Type 0} (waits : Bool) (allocation : AllocationStrategy) (values elements slot : ℕ) (old new : PublisherPort T U)

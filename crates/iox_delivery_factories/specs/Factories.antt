@@ -25,6 +25,7 @@ use Rattle.iox_delivery.specs.declared.publisher.Publisher.{Publisher}
 use Rattle.iox_delivery_slices.specs.declared.publisher.Publisher.{Publisher as SlicePublisher}
 use Rattle.iox_delivery_slices.specs.declared.subscriber.Subscriber.{Subscriber as SliceSubscriber}
 use Rattle.iox_delivery.specs.declared.subscriber.Subscriber.{Subscriber}
+use Rattle.iox_delivery_factories.specs.Elements.{room_of}
 use Rattle.iox_delivery_factories.specs.declared.publisher.PortFactoryPublisher.{PortFactoryPublisher}
 use Rattle.iox_delivery_factories.specs.declared.subscriber.PortFactorySubscriber.{PortFactorySubscriber}
 
@@ -32,10 +33,10 @@ use Rattle.iox_delivery_factories.specs.declared.subscriber.PortFactorySubscribe
 abbrev pub nobody_named : {X Y : Type 0} {F : X → Type 0} {G : Y → Type 0} → BackpressureStrategy → Handlers X Y F G
 nobody_named strategy = record { strategy = strategy; backpressure = None; degradation = Fixed Warn }
 
--- a builder of publishers where nothing is named
-abbrev pub new_publisher_builder : {T U X Y Z : Type 0} {F : X → Type 0} {G : Y → Type 0} {K : Z → Type 0} → DomainId → ℕ → ℕ → PortFactoryPublisher T U (Handlers X Y F G) (PreallocatedSamplesOverride Z K)
-new_publisher_builder domain node_id owner =
-    record { domain = domain; owner = record { number = owner; node_id = node_id }; settings = publisher_defaults; handlers = nobody_named RetryUntilDelivered; overriding = WorstCase; of = record {} }
+-- a builder of publishers of elements of so many values, where nothing is named
+abbrev pub new_publisher_builder : {T U X Y Z : Type 0} {F : X → Type 0} {G : Y → Type 0} {K : Z → Type 0} → DomainId → ℕ → ℕ → ℕ → PortFactoryPublisher T U (Handlers X Y F G) (PreallocatedSamplesOverride Z K)
+new_publisher_builder domain unit node_id owner =
+    record { domain = domain; owner = record { number = owner; node_id = node_id }; unit = unit; settings = publisher_defaults; handlers = nobody_named RetryUntilDelivered; overriding = WorstCase; of = record {} }
 
 -- a builder of subscribers where nothing is named
 abbrev pub new_subscriber_builder : {T U Y : Type 0} {G : Y → Type 0} → DomainId → ℕ → ℕ → PortFactorySubscriber T U (DegradationHandler Y G)
@@ -64,11 +65,12 @@ subscriber_cloned builder = record builder { handler = Fixed Warn }
 
 -- what a publisher of single values is made with
 abbrev pub single_config : PortOwner → PublisherSettings → PublisherConfig
-single_config owner settings = record { owner = owner; max_loaned_samples = settings.max_loaned_samples; values = 1; allocation = Static }
+single_config owner settings = record { owner = owner; max_loaned_samples = settings.max_loaned_samples; values = 1; unit = 1; allocation = Static }
 
--- what a publisher of slices is made with
-abbrev pub slice_config : PortOwner → PublisherSettings → PublisherConfig
-slice_config owner settings = record { owner = owner; max_loaned_samples = settings.max_loaned_samples; values = settings.initial_max_slice_len; allocation = settings.allocation }
+-- what a publisher of slices of elements of so many values is made with
+abbrev pub slice_config : PortOwner → ℕ → PublisherSettings → PublisherConfig
+slice_config owner unit settings =
+    record { owner = owner; max_loaned_samples = settings.max_loaned_samples; values = room_of unit settings.initial_max_slice_len; unit = unit; allocation = settings.allocation }
 
 -- what a subscriber is made with
 abbrev pub subscriber_config : PortOwner → SubscriberSettings → SubscriberConfig

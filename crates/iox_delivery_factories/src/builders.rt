@@ -1,9 +1,11 @@
 //! A builder for the ports of a domain.
 ghost use Rattle.std.specs.Prelude.{◌≡◌};
+ghost use Rattle.iox_delivery_factories.specs.Elements.{values_each};
 ghost use Rattle.iox_delivery_factories.specs.Factories.{new_publisher_builder, new_subscriber_builder};
 
 use crate::publisher::PortFactoryPublisher;
 use crate::subscriber::PortFactorySubscriber;
+use iox_describe_base::{TypeVariant, ZeroCopySend};
 use iox_domain::Domain;
 use iox_domain_settings::{PublisherSettings, SubscriberSettings};
 use iox_domain_values::{
@@ -13,15 +15,16 @@ use iox_domain_values::{
 use std::marker::PhantomData;
 
 /// What makes publishers of a domain, for a node and an owner: two loans, sends that wait for room, slices of one value, a room that doesn't
-/// grow, as many slots as are needed in the worst case, nobody asked at a full mailbox, and a warning where a connection fails.
+/// grow, as many slots as are needed in the worst case, nobody asked at a full mailbox, and a warning where a connection fails. An element has
+/// as many values as its agreed size has of theirs: more than one only where they are the bytes of a payload that the description tells.
 ///
 /// Ported from `iceoryx2::service::port_factory::publish_subscribe::PortFactory::publisher_builder`.
-pub fn publisher_builder<T, U, B, D>(
+pub fn publisher_builder<T: ZeroCopySend, U, B, D>(
     domain: &Domain<T, U, B, D>,
     node_id: u64,
     owner: u64,
 ) -> PortFactoryPublisher<T, U>
-    ensures { result ≡ new_publisher_builder domain.now.id node_id owner }
+    ensures { result ≡ new_publisher_builder domain.now.id (values_each domain.now.agreed.types.payload.size T.size) node_id owner }
 {
     PortFactoryPublisher {
         domain: domain.id,
@@ -29,6 +32,10 @@ pub fn publisher_builder<T, U, B, D>(
             number: owner,
             node_id,
         },
+        unit: values_each(
+            domain.agreed.types.payload.size(),
+            T::type_detail(TypeVariant::FixedSize).size(),
+        ),
         settings: PublisherSettings::default(),
         handlers: Handlers {
             strategy: BackpressureStrategy::RetryUntilDelivered,
@@ -61,4 +68,14 @@ pub fn subscriber_builder<T, U, B, D>(
         handler: DegradationHandler::Fixed(DegradationAction::Warn),
         of: PhantomData,
     }
+}
+
+// How many values of this size an element of a size has.
+fn values_each(element: u64, value: u64) -> usize
+    ensures { result ≡ values_each element value }
+{
+    if value == 0 {
+        return 1;
+    }
+    (element / value) as usize
 }

@@ -3,11 +3,13 @@
 //! | Module | What it has |
 //! |---|---|
 //! | `builders` | a builder for the ports of a domain |
+//! | `laws` | what builders come to, in other words |
 //! | `publisher` | makes a publisher of single values, or of slices |
 //! | `subscriber` | makes a subscriber of single values, or of slices |
 #![tactic(auto)]
 
 pub mod builders;
+pub mod laws;
 pub mod publisher;
 pub mod subscriber;
 

@@ -4,12 +4,14 @@ ghost use Rattle.iox_domain_values.specs.declared.degradation.DegradationCause.T
 ghost use Rattle.iox_domain_home.specs.Homes.{MakesAt};
 ghost use Rattle.iox_domain_home.specs.Steps.{PublisherComes, why_no_publisher};
 ghost use Rattle.iox_domain_values.specs.declared.create_error.PublisherCreateError.{PublisherCreateError};
+ghost use Rattle.iox_delivery_factories.specs.Elements.{room_of};
 ghost use Rattle.iox_delivery_factories.specs.Factories.{single_config, slice_config, publisher_of, slice_publisher_of, with_strategy, with_degradation, with_backpressure, cloned};
 
 use iox_delivery::{PortId, Publisher};
 use iox_delivery_slices as slice;
 use iox_domain_home::{DomainId, MakesPorts};
 use iox_domain_ports::PublisherConfig;
+use iox_domain_publisher::lengths::span;
 use iox_domain_settings::PublisherSettings;
 use iox_domain_values::{
     AllocationStrategy, BackpressureHandler, BackpressureStrategy, DegradationAction,
@@ -28,6 +30,8 @@ pub struct PortFactoryPublisher<T, U, B = Handlers, O = PreallocatedSamplesOverr
     pub domain: DomainId,
     /// Who it belongs to.
     pub owner: PortOwner,
+    /// How many values an element has: 1, but where the values are the bytes of a payload that only the description tells.
+    pub unit: usize,
     /// What it is to have.
     pub settings: PublisherSettings,
     /// Who decides for it.
@@ -120,6 +124,7 @@ impl<T, U> PortFactoryPublisher<T, U, Handlers, PreallocatedSamplesOverride> {
         PortFactoryPublisher {
             domain: self.domain,
             owner: self.owner,
+            unit: self.unit,
             settings: self.settings,
             handlers: Handlers {
                 strategy: self.settings.strategy,
@@ -153,34 +158,23 @@ impl<T: Copy, U: Copy + Default, B: Degrades, O: Overrides> PortFactoryPublisher
             (PublisherComes (O.overrides self.overriding) (B.degrades self.handlers FailedToEstablishConnection) (single_config self.owner self.settings) user_header) (why_no_publisher (single_config self.owner self.settings))
             (H.ports_of self.domain home.old) home.old (Some answer) home.new × (result ≡ publisher_of self.domain self.settings answer) }
     {
-        let PortFactoryPublisher {
-            domain,
-            owner,
-            settings,
-            handlers,
-            overriding,
-            of: _,
-        } = self;
+        let domain = self.domain;
+        let settings = self.settings;
         let config = PublisherConfig {
-            owner,
+            owner: self.owner,
             max_loaned_samples: settings.max_loaned_samples,
             values: 1,
+            unit: 1,
             allocation: AllocationStrategy::Static,
         };
-        match home.create_publisher(alloc, domain, config, U::default(), &overriding, handlers) {
-            Some(Ok(number)) => Ok(Publisher::of_port(
-                PortId { domain, number },
-                settings.strategy,
-            )),
-            Some(Err(error)) => Err(error),
-            None => unreachable!(),
-        }
+        let number = self.make(alloc, home, config)?;
+        Ok(Publisher::of_port(PortId { domain, number }, settings.strategy))
     }
 
-    /// Makes the publisher, of slices, in the home of its domain, as `create` does. A slot holds as many values as a loan may have at
+    /// Makes the publisher, of slices, in the home of its domain, as `create` does. A slot holds as many elements as a loan may have at
     /// first.
     ///
-    /// Refused as `create` is, and with `UnableToCreateDataSegment` also if a loan may have 2^32 values or more at first.
+    /// Refused as `create` is, and with `UnableToCreateDataSegment` also if a loan may have 2^32 elements or values or more at first.
     ///
     /// Ported from `PortFactoryPublisher::create`.
     pub fn create_slice<D: Degrades, H: MakesPorts<T, U, B, D>>(
@@ -191,31 +185,58 @@ impl<T: Copy, U: Copy + Default, B: Degrades, O: Overrides> PortFactoryPublisher
         requires { IsSome (H.ports_of self.domain home.old) }
         ensures { (user_header : U) × U.is_default user_header × (answer : Result ℕ PublisherCreateError)
             × MakesAt (λ after. H.with_ports self.domain after home.old) (λ number. H.with_publisher self.domain number self.handlers)
-            (PublisherComes (O.overrides self.overriding) (B.degrades self.handlers FailedToEstablishConnection) (slice_config self.owner self.settings) user_header) (why_no_publisher (slice_config self.owner self.settings))
+            (PublisherComes (O.overrides self.overriding) (B.degrades self.handlers FailedToEstablishConnection) (slice_config self.owner self.unit self.settings) user_header) (why_no_publisher (slice_config self.owner self.unit self.settings))
             (H.ports_of self.domain home.old) home.old (Some answer) home.new × (result ≡ slice_publisher_of self.domain self.settings answer) }
+    {
+        let domain = self.domain;
+        let settings = self.settings;
+        let config = PublisherConfig {
+            owner: self.owner,
+            max_loaned_samples: settings.max_loaned_samples,
+            values: room_of(self.unit, settings.initial_max_slice_len),
+            unit: self.unit,
+            allocation: settings.allocation,
+        };
+        let number = self.make(alloc, home, config)?;
+        Ok(slice::Publisher::of_port(
+            PortId { domain, number },
+            settings.strategy,
+            settings.initial_max_slice_len,
+        ))
+    }
+
+    // Makes the publisher by what its slots are to be, and answers its number.
+    fn make<D: Degrades, H: MakesPorts<T, U, B, D>>(
+        self,
+        alloc: Global,
+        home: &mut H,
+        config: PublisherConfig,
+    ) -> Result<u64, PublisherCreateError>
+        requires { IsSome (H.ports_of self.domain home.old) }
+        ensures { (user_header : U) × U.is_default user_header
+            × MakesAt (λ after. H.with_ports self.domain after home.old) (λ number. H.with_publisher self.domain number self.handlers)
+            (PublisherComes (O.overrides self.overriding) (B.degrades self.handlers FailedToEstablishConnection) config user_header) (why_no_publisher config)
+            (H.ports_of self.domain home.old) home.old (Some result) home.new }
     {
         let PortFactoryPublisher {
             domain,
-            owner,
-            settings,
+            owner: _,
+            unit: _,
+            settings: _,
             handlers,
             overriding,
             of: _,
         } = self;
-        let config = PublisherConfig {
-            owner,
-            max_loaned_samples: settings.max_loaned_samples,
-            values: settings.initial_max_slice_len,
-            allocation: settings.allocation,
-        };
         match home.create_publisher(alloc, domain, config, U::default(), &overriding, handlers) {
-            Some(Ok(number)) => Ok(slice::Publisher::of_port(
-                PortId { domain, number },
-                settings.strategy,
-                settings.initial_max_slice_len,
-            )),
-            Some(Err(error)) => Err(error),
+            Some(answer) => answer,
             None => unreachable!(),
         }
     }
+}
+
+// How many values so many elements have, as far as they are counted.
+fn room_of(unit: usize, elements: usize) -> usize
+    ensures { result ≡ room_of unit elements }
+{
+    span(unit, elements as u64).min(usize::MAX as u128) as usize
 }

@@ -91,23 +91,10 @@ impl<T: Copy, U: Copy, D: Degrades> PortFactorySubscriber<T, U, D> {
             (H.ports_of self.domain home.old) home.old (Some answer) home.new
             × (result ≡ subscriber_of self.domain (buffer_at self.settings (H.ports_of self.domain home.old)) answer) }
     {
+        let domain = self.domain;
         let buffer_size = self.buffer_size_in(home);
-        let PortFactorySubscriber {
-            domain,
-            owner,
-            settings,
-            handler,
-            of: _,
-        } = self;
-        let config = SubscriberConfig {
-            owner,
-            buffer_size: settings.buffer_size,
-        };
-        match home.create_subscriber(alloc, domain, config, handler) {
-            Some(Ok(number)) => Ok(Subscriber::of_port(PortId { domain, number }, buffer_size)),
-            Some(Err(error)) => Err(error),
-            None => unreachable!(),
-        }
+        let number = self.make(alloc, home)?;
+        Ok(Subscriber::of_port(PortId { domain, number }, buffer_size))
     }
 
     /// Makes the subscriber, of slices, in the home of its domain, as `create` does, and refused as it is.
@@ -125,7 +112,23 @@ impl<T: Copy, U: Copy, D: Degrades> PortFactorySubscriber<T, U, D> {
             (H.ports_of self.domain home.old) home.old (Some answer) home.new
             × (result ≡ slice_subscriber_of self.domain (buffer_at self.settings (H.ports_of self.domain home.old)) answer) }
     {
+        let domain = self.domain;
         let buffer_size = self.buffer_size_in(home);
+        let number = self.make(alloc, home)?;
+        Ok(slice::Subscriber::of_port(PortId { domain, number }, buffer_size))
+    }
+
+    // Makes the subscriber, and answers its number.
+    fn make<B: Degrades, H: MakesPorts<T, U, B, D>>(
+        self,
+        alloc: Global,
+        home: &mut H,
+    ) -> Result<u64, SubscriberCreateError>
+        requires { IsSome (H.ports_of self.domain home.old) }
+        ensures { MakesAt (λ after. H.with_ports self.domain after home.old) (λ number. H.with_subscriber self.domain number self.handler)
+            (SubscriberComes (D.degrades self.handler FailedToEstablishConnection) (subscriber_config self.owner self.settings)) (why_no_subscriber (subscriber_config self.owner self.settings))
+            (H.ports_of self.domain home.old) home.old (Some result) home.new }
+    {
         let PortFactorySubscriber {
             domain,
             owner,
@@ -138,11 +141,7 @@ impl<T: Copy, U: Copy, D: Degrades> PortFactorySubscriber<T, U, D> {
             buffer_size: settings.buffer_size,
         };
         match home.create_subscriber(alloc, domain, config, handler) {
-            Some(Ok(number)) => Ok(slice::Subscriber::of_port(
-                PortId { domain, number },
-                buffer_size,
-            )),
-            Some(Err(error)) => Err(error),
+            Some(answer) => answer,
             None => unreachable!(),
         }
     }

@@ -1,8 +1,8 @@
 //! Conversations between ports as values.
-use crate::plain_home::PlainHome;
+use crate::plain_home::{PlainHome, plain_home};
 use iox_delivery::{PortId, Publisher, Sent, Subscriber};
 use iox_domain_home::DomainId;
-use iox_domain_ports::{PublisherConfig, ServicePorts, SubscriberConfig};
+use iox_domain_ports::{PublisherConfig, SubscriberConfig};
 use iox_domain_values::{
     AllocationStrategy, BackpressureStrategy, DegradationHandler, PortOwner,
     PreallocatedSamplesOverride, ServiceSizes,
@@ -35,11 +35,7 @@ fn make_home(
         enable_safe_overflow: overflows,
         expired_connections: 2,
     };
-    let mut home = PlainHome {
-        id: DOMAIN,
-        ports: ServicePorts::new(alloc, 1, sizes)?,
-        blank: 0,
-    };
+    let mut home = plain_home(alloc, DOMAIN, sizes)?;
     let subscriber = SubscriberConfig {
         owner: OWNER,
         buffer_size: None,
@@ -48,6 +44,7 @@ fn make_home(
         owner: OWNER,
         max_loaned_samples: 2,
         values: 1,
+        unit: 1,
         allocation: AllocationStrategy::Static,
     };
     let handler = DegradationHandler::default();

@@ -50,6 +50,7 @@ fn publish(
         owner: OWNER,
         max_loaned_samples: 2,
         values: 1,
+        unit: 1,
         allocation: AllocationStrategy::Static,
     };
     let by = Handlers {

@@ -1,8 +1,9 @@
 //! Conversations between ports as values, as tests.
 //!
-//! - `plain_home`: a home of one domain whose ports ask nobody.
+//! - `plain_home`: a domain whose ports ask nobody.
 //! - `conversations`: what is said.
 //! - `builders`: ports that builders make.
+//! - `custom`: ports of a payload that only the description tells.
 //! - `domains`: one service with who decides for its ports.
 //! - `typed_calls`: each call of ports of single values.
 //! - `slices`: each call of ports of slices.
@@ -13,8 +14,11 @@ mod builders;
 #[cfg(test)]
 mod conversations;
 #[cfg(test)]
+mod custom;
+#[cfg(test)]
 mod domains;
-pub mod plain_home;
+#[cfg(test)]
+mod plain_home;
 #[cfg(test)]
 mod slices;
 #[cfg(test)]

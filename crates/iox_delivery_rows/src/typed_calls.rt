@@ -1,8 +1,8 @@
 //! Typed calls of ports of single values, each with ample memory.
-use crate::plain_home::PlainHome;
+use crate::plain_home::{PlainHome, plain_home};
 use iox_delivery::{BlockedSend, PortId, Publisher, SampleMut, SampleMutUninit, Sent, Subscriber};
 use iox_domain_home::DomainId;
-use iox_domain_ports::{PublisherConfig, ServicePorts, SubscriberConfig};
+use iox_domain_ports::{PublisherConfig, SubscriberConfig};
 use iox_domain_values::{
     AllocationStrategy, BackpressureStrategy, DegradationHandler, LoanError, PortOwner,
     PreallocatedSamplesOverride, SendError, ServiceSizes,
@@ -34,11 +34,7 @@ fn make_home(
         enable_safe_overflow: false,
         expired_connections: 2,
     };
-    let mut home = PlainHome {
-        id: DOMAIN,
-        ports: ServicePorts::new(alloc, 1, sizes)?,
-        blank: 0,
-    };
+    let mut home = plain_home(alloc, DOMAIN, sizes)?;
     let subscriber = SubscriberConfig {
         owner: OWNER,
         buffer_size: None,
@@ -47,6 +43,7 @@ fn make_home(
         owner: OWNER,
         max_loaned_samples: 2,
         values: 1,
+        unit: 1,
         allocation: AllocationStrategy::Static,
     };
     let handler = DegradationHandler::default();

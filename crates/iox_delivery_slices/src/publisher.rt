@@ -3,6 +3,7 @@ ghost use Rattle.std.specs.Prelude.{◌≡◌, true, false, replicate, IfOk};
 ghost use Rattle.iox_delivery.specs.Lent.{IsReady};
 ghost use Rattle.iox_delivery.specs.Holding.{publisher_stands, publisher_blocked};
 ghost use Rattle.iox_delivery.specs.Publishing.{FollowsSubscribers, PublisherGoes};
+ghost use Rattle.iox_delivery_slices.specs.Custom.{LendsElements, values_of};
 ghost use Rattle.iox_delivery_slices.specs.Slices.{LendsSlice, LendsDefaults, SendsSlice};
 
 use crate::filling;
@@ -10,6 +11,7 @@ use crate::sample_mut::SampleMut;
 use crate::sample_mut_uninit::SampleMutUninit;
 use iox_delivery::{PortId, Sent, lending, publishing};
 use iox_domain_home::{DomainId, Home};
+use iox_domain_settings::CustomPayloadMarker;
 use iox_domain_values::{BackpressureStrategy, ConnectionFailure, LoanError, SendError};
 use std::alloc::Global;
 use std::marker::PhantomData;
@@ -184,5 +186,40 @@ impl<T: Copy, U: Copy> Publisher<T, U> {
             of: _,
         } = self;
         publishing::leave(port, home);
+    }
+}
+
+impl<U: Copy> Publisher<CustomPayloadMarker, U> {
+    /// Lends so many elements of a payload that only the description tells: all of their bytes, to be written. The header of the message tells
+    /// so many elements. It is refused as `loan_slice_uninit` is, and there lengths are counted in elements.
+    ///
+    /// Ported from `iceoryx2::port::publisher::Publisher::loan_custom_payload`, which is unsafe and asks for one element where the payload
+    /// isn't a slice.
+    pub fn loan_custom_payload<H: Home<CustomPayloadMarker, U>>(
+        &self,
+        alloc: Global,
+        home: &mut H,
+        len: usize,
+    ) -> Result<SampleMutUninit<CustomPayloadMarker, U>, LoanError>
+        requires holds { publisher_stands self.now.port.number (H.ports_of self.now.port.domain home.old) ≡ true }
+        requires free { publisher_blocked self.now.port.number (H.ports_of self.now.port.domain home.old) ≡ false }
+        ensures { LendsElements H.ports_of H.with_ports self.now.port len home.old result home.new }
+    {
+        let bytes = values_of(self.port, len, home);
+        let slot = publishing::loan(self.port, alloc, home, bytes, len as u64)?;
+        Ok(SampleMutUninit::of_loan(self.port, slot, bytes))
+    }
+}
+
+// How many values so many elements of a publisher have.
+fn values_of<T: Copy, U: Copy, H: Home<T, U>>(port: PortId, elements: usize, home: &H) -> usize
+    ensures { result ≡ values_of port.number elements (H.ports_of port.domain home.now) }
+{
+    let Some(ports) = home.ports(port.domain) else {
+        return 0;
+    };
+    match ports.publishers.get(port.number) {
+        Some(publisher) => elements.saturating_mul(publisher.unit),
+        None => 0,
     }
 }

@@ -7,6 +7,7 @@ ghost use Rattle.iox_delivery_slices.specs.Slices.{ReceivesSlice};
 use crate::sample::Sample;
 use iox_delivery::{PortId, subscribing};
 use iox_domain_home::{DomainId, Home};
+use iox_domain_settings::CustomPayloadMarker;
 use iox_domain_values::{ConnectionFailure, ReceiveError};
 use std::alloc::Global;
 use std::marker::PhantomData;
@@ -126,5 +127,21 @@ impl<T: Copy, U: Copy> Subscriber<T, U> {
             of: _,
         } = self;
         subscribing::leave(port, home);
+    }
+}
+
+impl<U: Copy> Subscriber<CustomPayloadMarker, U> {
+    /// Receives the next message of a payload that only the description tells, as `receive` does: all bytes of its elements.
+    ///
+    /// Ported from `iceoryx2::port::subscriber::Subscriber::receive_custom_payload`, which is unsafe.
+    pub fn receive_custom_payload<H: Home<CustomPayloadMarker, U>>(
+        &self,
+        alloc: Global,
+        home: &mut H,
+    ) -> Result<Option<Sample<CustomPayloadMarker, U>>, ReceiveError>
+        requires { subscriber_stands self.now.port.number (H.ports_of self.now.port.domain home.old) ≡ true }
+        ensures { ReceivesSlice H.ports_of H.with_ports H.subscriber_degrades self.now.port home.old result home.new }
+    {
+        self.receive(alloc, home)
     }
 }

@@ -6,3 +6,4 @@ pub mod Subscribing
 pub mod AsHome
 pub mod HomeLaws
 pub mod Parts
+pub mod PartsLaws

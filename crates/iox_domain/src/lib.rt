@@ -5,6 +5,8 @@
 //! | `domain` | a domain: which service it is of, its ports and their handlers |
 //! | `home` | a domain as the home of its own ports |
 //! | `kept` | what is kept for ports, by their numbers |
+//! | `laws` | what its calls come to, in other words |
+//! | `living` | how many ports, loans and samples live |
 //! | `nobody` | who decides where nobody is named |
 //! | `parts` | what a domain is made of |
 //! | `publishing` | a publisher comes, follows the subscribers, sends and leaves |
@@ -16,6 +18,8 @@
 pub mod domain;
 pub mod home;
 pub mod kept;
+pub mod laws;
+pub mod living;
 pub mod nobody;
 pub mod parts;
 pub mod publishing;

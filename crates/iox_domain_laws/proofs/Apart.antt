@@ -145,7 +145,7 @@ added_apart : {T U : Type 0} (may : DegradationInfo → DegradationAction → Ty
 added_apart may config user_header place slots old new (Err error) adds = apart_same old new adds
 added_apart {T} {U} may config user_header place slots old new (Ok number) adds =
     let (listed, is_list, outcome, port, updates, is_number, is_new) = adds in
-    let first : PublisherPort T U = new_port (identity_of config.owner place old) old.sizes.max_subscribers config.allocation (sender_config config slots old) user_header in
+    let first : PublisherPort T U = new_port (identity_of config.owner place old) old.sizes.max_subscribers config.allocation config.unit (sender_config config slots old) user_header in
     apart_to old new _ is_new (record {
       apart = λ apart.
           let places = old.subscriber_list.places in

@@ -15,6 +15,7 @@ use Rattle.iox_domain_slots.specs.Uses.{nobody}
 use Rattle.iox_domain_sender.specs.Messages.{Message, Loan}
 use Rattle.iox_domain_sender.specs.Sending.{opened_for, is_written_at}
 use Rattle.iox_domain_publisher.proofs.Finding.{at_place}
+use Rattle.iox_domain_publisher.specs.Lengths.{extent}
 use Rattle.iox_domain_publisher.specs.Loaning.{with_sender, LendsHere, LendsInNew, LendsBeyond, LendsWhere, LendsUnless, LoansIf, first_refusal}
 use Rattle.iox_domain_publisher.specs.Progress.{tried_again}
 use Rattle.iox_domain_publisher.specs.Sending.{Finishes, with_progress, ready_at, ready_loan, begun_by, begun_at, dropped_at, SendsAfter, SendsIf, Sends}
@@ -109,11 +110,11 @@ quiet_where false allocation values elements old new answer lends = quiet_beyond
 
 quiet_unless : {T U : Type 0} (refused : Option LoanError) (allocation : AllocationStrategy) (values elements : ℕ) (old new : PublisherPort T U) (answer : Result ℕ LoanError) → LendsUnless refused allocation values elements old answer new → Quiet old new
 quiet_unless (Some error) allocation values elements old new answer lends = quiet_is old new lends.1
-quiet_unless None allocation values elements old new answer lends = quiet_where (nat_le values old.sender.room) allocation values elements old new answer lends
+quiet_unless None allocation values elements old new answer lends = quiet_where (nat_le (extent old.unit values elements) old.sender.room) allocation values elements old new answer lends
 
 quiet_if : {T U : Type 0} (sending : Bool) (allocation : AllocationStrategy) (values elements : ℕ) (old new : PublisherPort T U) (answer : Option (Result ℕ LoanError)) → LoansIf sending allocation values elements old answer new → Quiet old new
 quiet_if true allocation values elements old new answer loans = quiet_is old new loans.1
-quiet_if false allocation values elements old new answer loans = quiet_unless (first_refusal allocation values old) allocation values elements old new loans.0 loans.2
+quiet_if false allocation values elements old new answer loans = quiet_unless (first_refusal allocation values elements old) allocation values elements old new loans.0 loans.2
 
 quiet_one : {T U : Type 0} (stands : Bool) (values elements : ℕ) (old new : PublisherPort T U) (answer : Option (Result ℕ LoanError)) → lending.LoansIf stands values elements old answer new → Quiet old new
 quiet_one false values elements old new answer loans = quiet_is old new loans.1

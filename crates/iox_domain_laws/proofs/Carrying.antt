@@ -12,6 +12,7 @@ use Rattle.iox_domain_values.specs.declared.port_error.LoanError.{LoanError}
 use Rattle.iox_domain_values.specs.declared.port_error.SendError.{SendError}
 use Rattle.iox_domain_slots.specs.Uses.{offered}
 use Rattle.iox_domain_sender.specs.Messages.{Message, Loan}
+use Rattle.iox_domain_publisher.specs.Lengths.{extent}
 use Rattle.iox_domain_publisher.specs.Loaning.{with_sender, LendsHere, LendsInNew, LendsBeyond, LendsWhere, LendsUnless, LoansIf, first_refusal}
 use Rattle.iox_domain_sender.specs.Sending.{opened_for}
 use Rattle.iox_domain_publisher.specs.Ports.{connection_of, with_connection_of, is_live}
@@ -143,11 +144,11 @@ carry_lends_where w false allocation values elements old new answer lends =
 
 carry_lends_unless : {T U : Type 0} {R : PublisherPort T U → PublisherPort T U → Type 0} (w : Carries R) (refused : Option LoanError) (allocation : AllocationStrategy) (values elements : ℕ) (old new : PublisherPort T U) (answer : Result ℕ LoanError) → LendsUnless refused allocation values elements old answer new → R old new
 carry_lends_unless w (Some error) allocation values elements old new answer lends = w.is old new lends.1
-carry_lends_unless w None allocation values elements old new answer lends = carry_lends_where w (nat_le values old.sender.room) allocation values elements old new answer lends
+carry_lends_unless w None allocation values elements old new answer lends = carry_lends_where w (nat_le (extent old.unit values elements) old.sender.room) allocation values elements old new answer lends
 
 carry_loans_if : {T U : Type 0} {R : PublisherPort T U → PublisherPort T U → Type 0} (w : Carries R) (sending : Bool) (allocation : AllocationStrategy) (values elements : ℕ) (old new : PublisherPort T U) (answer : Option (Result ℕ LoanError)) → LoansIf sending allocation values elements old answer new → R old new
 carry_loans_if w true allocation values elements old new answer loans = w.is old new loans.1
-carry_loans_if w false allocation values elements old new answer loans = carry_lends_unless w (first_refusal allocation values old) allocation values elements old new loans.0 loans.2
+carry_loans_if w false allocation values elements old new answer loans = carry_lends_unless w (first_refusal allocation values elements old) allocation values elements old new loans.0 loans.2
 
 carry_loans_one : {T U : Type 0} {R : PublisherPort T U → PublisherPort T U → Type 0} (w : Carries R) (stands : Bool) (values elements : ℕ) (old new : PublisherPort T U) (answer : Option (Result ℕ LoanError)) → lending.LoansIf stands values elements old answer new → R old new
 carry_loans_one w false values elements old new answer loans = w.is old new loans.1

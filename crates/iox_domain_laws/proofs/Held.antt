@@ -117,7 +117,7 @@ added_keeps : {T U : Type 0} (spared : Taken → Type 0) (may : DegradationInfo 
 added_keeps spared may config user_header place slots old new (Err error) adds = call_same spared old new adds
 added_keeps {T} {U} spared may config user_header place slots old new (Ok number) adds =
     let (listed, is_list, outcome, port, updates, is_number, is_new) = adds in
-    let first : PublisherPort T U = new_port (identity_of config.owner place old) old.sizes.max_subscribers config.allocation (sender_config config slots old) user_header in
+    let first : PublisherPort T U = new_port (identity_of config.owner place old) old.sizes.max_subscribers config.allocation config.unit (sender_config config slots old) user_header in
     let tidy : IsTidy port = new_tidy first port refl (port_updates may listed old.subscriber_list.changes first port outcome updates) in
     call_to spared old new _ is_new (record {
       sound = λ sound. all_came (IsSoundEntry (old.next_port + 1)) old.next_port old.publishers port (omega arith, tidy) (λ one is. (is.0, tidy))

@@ -199,7 +199,7 @@ call_added : {T U : Type 0} (publisher index subscriber : ℕ) (led : Bool) (may
 call_added publisher index subscriber led may config user_header place slots old new (Err error) sound apart adds = call_same publisher index subscriber led [] [] old new refl refl adds
 call_added {T} {U} publisher index subscriber led may config user_header place slots old new (Ok number) sound apart adds =
     let (listed, is_list, outcome, port, updates, is_number, is_new) = adds in
-    let first : PublisherPort T U = new_port (identity_of config.owner place old) old.sizes.max_subscribers config.allocation (sender_config config slots old) user_header in
+    let first : PublisherPort T U = new_port (identity_of config.owner place old) old.sizes.max_subscribers config.allocation config.unit (sender_config config slots old) user_header in
     let are : new.publishers ≡ publishers.added old.next_port port old.publishers = ap (λ one. one.publishers) is_new in
     let next : new.next_port ≡ old.next_port + 1 = ap (λ one. one.next_port) is_new in
     let well : IsTiedWell old.next_port old.subscriber_list.places first = new_well old.next_port old.subscriber_list.places first refl refl (omega (arith, apart.places)) in

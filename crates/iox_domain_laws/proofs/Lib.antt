@@ -28,3 +28,4 @@ pub mod BookedLists
 pub mod BookedSends
 pub mod BookedTakes
 pub mod InOrder
+pub mod Serviced

@@ -158,4 +158,4 @@ lends_unless_life None allocation values elements old answer new lends = lends_w
 -- a loan that is made is one loan more, and nothing else changes of what lives
 pub lends_life : {T U : Type 0} (allocation : AllocationStrategy) (values elements : ℕ) (old : PublisherPort T U) (answer : Result ℕ LoanError) (new : PublisherPort T U)
     → Lends allocation values elements old answer new → life_of new ≡ with_loans (added answer) (life_of old)
-lends_life allocation values elements old answer new lends = lends_unless_life (first_refusal allocation values old) allocation values elements old answer new lends
+lends_life allocation values elements old answer new lends = lends_unless_life (first_refusal allocation values elements old) allocation values elements old answer new lends

@@ -198,7 +198,7 @@ publisher_adds overrides may config user_header None place number old new fresh 
 publisher_adds overrides may config user_header (Some needed) None number old new fresh creates = absurd (came number _ creates.0)
 publisher_adds overrides may config user_header (Some needed) (Some place) number old new fresh (slots, allowed, Err error, adds, is) = absurd (came number _ is)
 publisher_adds {T} {U} overrides may config user_header (Some needed) (Some place) number old new fresh (slots, allowed, Ok other, (listed, is_list, outcome, port, updates, next, made), is) = λ owner.
-    let first : PublisherPort T U = new_port (identity_of config.owner place old) old.sizes.max_subscribers config.allocation (sender_config config (places (max needed 1) slots) old) user_header in
+    let first : PublisherPort T U = new_port (identity_of config.owner place old) old.sizes.max_subscribers config.allocation config.unit (sender_config config (places (max needed 1) slots) old) user_header in
     let life = updates_life may listed old.subscriber_list.changes first outcome port updates in
     omega (arith, ap (living owner) made, summed_came (λ one. counts owner one) old.next_port port old.publishers fresh, count_of_life owner first port life)
 

@@ -4,3 +4,4 @@ pub mod LivingLaws
 pub mod LivingSteps
 pub mod NumberLaws
 pub mod Order
+pub mod ServiceLaws

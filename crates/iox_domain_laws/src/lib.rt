@@ -6,8 +6,10 @@
 //!   connection needs no memory.
 //! - [`living`]: how much lives.
 //! - [`numbering`]: each number is given to one port.
+//! - [`service`]: which service ports are of, and how much it allows.
 #![tactic(auto)]
 
 pub mod living;
 pub mod messages;
 pub mod numbering;
+pub mod service;

@@ -116,6 +116,7 @@ fn create(world: &mut World, alloc: Global, loans: usize) -> Result<u64, Publish
         owner: OWNER,
         max_loaned_samples: loans,
         values: 1,
+        unit: 1,
         allocation: AllocationStrategy::Static,
     };
     world

@@ -74,6 +74,7 @@ fn publish(world: &mut World, alloc: Global) -> bool {
         owner: owned_by(3),
         max_loaned_samples: 2,
         values: 2,
+        unit: 1,
         allocation: AllocationStrategy::Static,
     };
     let slots = PreallocatedSamplesOverride::WorstCase;

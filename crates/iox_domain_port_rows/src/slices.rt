@@ -62,6 +62,7 @@ fn create(world: &mut World, alloc: Global, values: usize) -> Result<u64, Publis
         owner: OWNER,
         max_loaned_samples: 2,
         values,
+        unit: 1,
         allocation: AllocationStrategy::Static,
     };
     let slots = PreallocatedSamplesOverride::WorstCase;

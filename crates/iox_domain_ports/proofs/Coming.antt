@@ -56,7 +56,7 @@ pub adds_publisher : {T U : Type 0} (may : DegradationInfo → DegradationAction
     (listed : List (Option (Member SubscriberEntry))) (changes : ℕ) (identity : PortIdentity) (sender : SenderConfig) (port after : PublisherPort T U) (outcome : Result (Unit {0}) ConnectionFailure)
     (publishers_after : List (ℕ × PublisherPort T U)) (answered : Option ℕ) (list_after : RollState PublisherEntry)
     → IsListOf listed old.subscriber_list → changes ≡ old.subscriber_list.changes → identity ≡ identity_of config.owner place old → sender ≡ sender_config config slots old
-    → port ≡ new_port identity old.sizes.max_subscribers config.allocation sender user_header → publisher.Updates may listed changes port outcome after → publishers_after ≡ added old.next_port after old.publishers
+    → port ≡ new_port identity old.sizes.max_subscribers config.allocation config.unit sender user_header → publisher.Updates may listed changes port outcome after → publishers_after ≡ added old.next_port after old.publishers
     → publisher_place old ≡ Some place → answered ≡ free_place old.publisher_list → IfSome answered (λ at. list_after ≡ entered at (record { publisher = old.next_port }) old.publisher_list)
     → AddsPublisher may config user_header place slots old (Ok old.next_port) (record old { next_port = old.next_port + 1; publisher_list = list_after; publishers = publishers_after })
 adds_publisher {T} {U} may config user_header place slots old listed changes identity sender port after outcome publishers_after answered list_after whole changes_is identity_is sender_is port_is updates publishers_is place_is free entered_is =

@@ -75,7 +75,7 @@ abbrev pub AddsPublisher : {T U : Type 0} → (DegradationInfo → DegradationAc
 AddsPublisher may config user_header place slots old (Err error) new = new ≡ old
 AddsPublisher {T} {U} may config user_header place slots old (Ok number) new =
     (listed : List (Option (Member SubscriberEntry))) × IsListOf listed old.subscriber_list × (outcome : Result (Unit {0}) ConnectionFailure) × (port : PublisherPort T U)
-    × publisher.Updates may listed old.subscriber_list.changes (new_port (identity_of config.owner place old) old.sizes.max_subscribers config.allocation (sender_config config slots old) user_header) outcome port
+    × publisher.Updates may listed old.subscriber_list.changes (new_port (identity_of config.owner place old) old.sizes.max_subscribers config.allocation config.unit (sender_config config slots old) user_header) outcome port
     × (number ≡ old.next_port)
     × (new ≡ record old {
       next_port = old.next_port + 1;

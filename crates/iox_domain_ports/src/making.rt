@@ -24,6 +24,8 @@ pub struct PublisherConfig {
     pub max_loaned_samples: usize,
     /// How many values stand in a slot at first: 1 where a message is a single value.
     pub values: usize,
+    /// How many values an element has: 1, but where the values are the bytes of a payload that only the description tells.
+    pub unit: usize,
     /// What a loan of more values does.
     pub allocation: AllocationStrategy,
 }
@@ -129,6 +131,7 @@ impl<T: Copy, U: Copy> ServicePorts<T, U> {
             self.identity(config.owner, place),
             self.sizes.max_subscribers as usize,
             config.allocation,
+            config.unit,
             self.sender_config(&config, slots),
             blank,
             user_header,

@@ -6,5 +6,6 @@ pub mod Reaching
 pub mod Beginning
 pub mod Listing
 pub mod Enough
+pub mod Counted
 pub mod Lent
 pub mod Finding

@@ -9,14 +9,15 @@ use Rattle.iox_domain_publisher.specs.Progress.{start}
 use Rattle.iox_domain_publisher.specs.Ports.{ended_at}
 use Rattle.iox_domain_publisher.specs.declared.publisher_port.PublisherPort.{PublisherPort}
 
--- a publisher that is connected to nobody, with room for so many subscribers
-abbrev pub new_port : {T U : Type 0} → PortIdentity → ℕ → AllocationStrategy → SenderConfig → U → PublisherPort T U
-new_port identity most_subscribers allocation config user_header = record {
+-- a publisher that is connected to nobody, with room for so many subscribers, whose elements have so many values each
+abbrev pub new_port : {T U : Type 0} → PortIdentity → ℕ → AllocationStrategy → ℕ → SenderConfig → U → PublisherPort T U
+new_port identity most_subscribers allocation unit config user_header = record {
   service = identity.service;
   number = identity.number;
   owner = identity.owner;
   place = identity.place;
   allocation = allocation;
+  unit = unit;
   stands = true;
   seen = 0;
   ties = no_ties most_subscribers;

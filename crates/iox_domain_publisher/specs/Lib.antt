@@ -4,6 +4,7 @@ pub mod Progress
 pub mod Ports
 pub mod Updating
 pub mod Sending
+pub mod Lengths
 pub mod Loaning
 pub mod Writing
 pub mod WritingLends

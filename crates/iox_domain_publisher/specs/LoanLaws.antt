@@ -1,6 +1,5 @@
 -- What a loan comes to, in other words than its steps.
 use Rattle.std.specs.Prelude.{ℕ, ◌+◌, ◌<◌, ◌≤◌, ◌≡◌, ◌⊎◌, ◌++◌, ◌∷◌, [], length, IsSome, Option, None, Some, Result, Ok, Err}
-use Rattle.iox_domain_values.specs.Segments.{SegmentLength}
 use Rattle.iox_domain_values.specs.declared.data_segment.AllocationStrategy.{AllocationStrategy}
 use Rattle.iox_domain_values.specs.declared.data_segment.AllocationStrategy.TheVariants as strategy
 use Rattle.iox_domain_values.specs.declared.port_error.LoanError.{LoanError}
@@ -9,6 +8,7 @@ use Rattle.iox_domain_slots.specs.Counting.{times}
 use Rattle.iox_domain_slots.specs.Uses.{in_use, worst_case}
 use Rattle.iox_domain_sender.specs.Messages.{new_loan}
 use Rattle.iox_domain_sender.specs.Sending.{SenderState, slots_of, opened_for}
+use Rattle.iox_domain_publisher.specs.Lengths.{extent, SegmentRoom}
 use Rattle.iox_domain_publisher.specs.Loaning.{with_sender, Loans}
 use Rattle.iox_domain_publisher.specs.declared.publisher_port.PublisherPort.{PublisherPort}
 
@@ -21,16 +21,16 @@ abbrev pub IsFull : {T U : Type 0} → SenderState T U → Type 0
 IsFull sender =
     (slot : ℕ) → sender.uses.first ≤ slot → slot < sender.uses.first + sender.uses.size → 0 < times slot (in_use (slots_of sender))
 
--- the slice isn't too long, or it may have a new segment
-abbrev pub MayBeLent : {T U : Type 0} → AllocationStrategy → ℕ → PublisherPort T U → Type 0
-MayBeLent allocation values port = allocation ≡ strategy.Static → values ≤ port.sender.room
+-- the loan isn't too long, or it may have a new segment
+abbrev pub MayBeLent : {T U : Type 0} → AllocationStrategy → ℕ → ℕ → PublisherPort T U → Type 0
+MayBeLent allocation values elements port = allocation ≡ strategy.Static → extent port.unit values elements ≤ port.sender.room
 
 -- The loan fits, but each slot is in use; or it is longer than fits, and then no segment was opened for it, or each slot of the new one is in use.
-abbrev pub LacksSlot : {T U : Type 0} → AllocationStrategy → ℕ → PublisherPort T U → PublisherPort T U → Type 0
-LacksSlot allocation values old new =
-    ((values ≤ old.sender.room) × IsFull old.sender × (new ≡ old))
-    ⊎ ((old.sender.room < values)
-    × ((new ≡ old) ⊎ ((room : ℕ) × SegmentLength allocation values (Some room) × (new ≡ with_sender (opened_for room old.sender) old) × IsFull new.sender)))
+abbrev pub LacksSlot : {T U : Type 0} → AllocationStrategy → ℕ → ℕ → PublisherPort T U → PublisherPort T U → Type 0
+LacksSlot allocation values elements old new =
+    ((extent old.unit values elements ≤ old.sender.room) × IsFull old.sender × (new ≡ old))
+    ⊎ ((old.sender.room < extent old.unit values elements)
+    × ((new ≡ old) ⊎ ((room : ℕ) × SegmentRoom allocation old.unit values elements (Some room) × (new ≡ with_sender (opened_for room old.sender) old) × IsFull new.sender)))
 
 -- A loan was made: none of its values is written, its slot was free, and it fits there; only it came, and if it didn't fit before, a segment.
 pub record IsLent {T U : Type 0} (allocation : AllocationStrategy) (values elements : ℕ) (old : PublisherPort T U) (slot : ℕ) (new : PublisherPort T U) : Type 0 where
@@ -38,10 +38,10 @@ pub record IsLent {T U : Type 0} (allocation : AllocationStrategy) (values eleme
   pub loan : new.sender.uses.loans ≡ old.sender.uses.loans ++ new_loan slot values elements old.sender.user_header ∷ []
   pub free : times slot (in_use (slots_of old.sender)) ≡ 0
   pub current : (new.sender.uses.first ≤ slot) × (slot < new.sender.uses.first + new.sender.uses.size)
-  pub fits : values ≤ new.sender.room
-  pub stays : values ≤ old.sender.room → (new.sender.room ≡ old.sender.room) × (new.sender.segments ≡ old.sender.segments)
-  pub grows : old.sender.room < values
-      → SegmentLength allocation values (Some new.sender.room) × (new.sender.segments ≡ old.sender.segments + 1) × (old.sender.segments < old.sender.most_segments)
+  pub fits : extent old.unit values elements ≤ new.sender.room
+  pub stays : extent old.unit values elements ≤ old.sender.room → (new.sender.room ≡ old.sender.room) × (new.sender.segments ≡ old.sender.segments)
+  pub grows : old.sender.room < extent old.unit values elements
+      → SegmentRoom allocation old.unit values elements (Some new.sender.room) × (new.sender.segments ≡ old.sender.segments + 1) × (old.sender.segments < old.sender.most_segments)
   pub connections : new.sender.uses.connections ≡ old.sender.uses.connections
   pub history : new.sender.uses.history ≡ old.sender.uses.history
 
@@ -49,15 +49,15 @@ pub record IsLent {T U : Type 0} (allocation : AllocationStrategy) (values eleme
 abbrev pub Tells : {T U : Type 0} → AllocationStrategy → ℕ → ℕ → PublisherPort T U → Option (Result ℕ LoanError) → PublisherPort T U → Type 0
 Tells allocation values elements old None new = IsSome old.sender.uses.sending × (new ≡ old)
 Tells allocation values elements old (Some (Err refusal.ExceedsMaxLoanSize)) new =
-    (old.sender.uses.sending ≡ None) × (allocation ≡ strategy.Static) × (old.sender.room < values) × (new ≡ old)
+    (old.sender.uses.sending ≡ None) × (allocation ≡ strategy.Static) × (old.sender.room < extent old.unit values elements) × (new ≡ old)
 Tells allocation values elements old (Some (Err refusal.ExceedsMaxLoans)) new =
-    (old.sender.uses.sending ≡ None) × MayBeLent allocation values old × (old.sender.uses.most_loans ≤ length old.sender.uses.loans) × (new ≡ old)
+    (old.sender.uses.sending ≡ None) × MayBeLent allocation values elements old × (old.sender.uses.most_loans ≤ length old.sender.uses.loans) × (new ≡ old)
 Tells allocation values elements old (Some (Err refusal.OutOfMemory)) new =
-    (old.sender.uses.sending ≡ None) × MayBeLent allocation values old × (length old.sender.uses.loans < old.sender.uses.most_loans)
-    × LacksSlot allocation values old new
+    (old.sender.uses.sending ≡ None) × MayBeLent allocation values elements old × (length old.sender.uses.loans < old.sender.uses.most_loans)
+    × LacksSlot allocation values elements old new
 Tells allocation values elements old (Some (Err refusal.InternalFailure)) new = ⊥
 Tells allocation values elements old (Some (Ok slot)) new =
-    (old.sender.uses.sending ≡ None) × MayBeLent allocation values old × IsLent allocation values elements old slot new
+    (old.sender.uses.sending ≡ None) × MayBeLent allocation values elements old × IsLent allocation values elements old slot new
 
 -- Each answer of a loan tells that.
 abbrev pub LoanTells : (T U : Type 0) → Type 0

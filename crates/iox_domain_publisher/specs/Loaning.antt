@@ -1,27 +1,27 @@
 -- A publisher lends a slot, and what lies in a loan is written and read.
 use Rattle.std.specs.Prelude.{ℕ, ◌≡◌, ◌⊎◌, Bool, true, false, length, is_some, nat_lt, nat_le, Option, None, Some, Result, Ok, Err, if◌then◌else◌}
-use Rattle.iox_domain_values.specs.Segments.{SegmentLength}
 use Rattle.iox_domain_values.specs.declared.data_segment.AllocationStrategy.{AllocationStrategy}
 use Rattle.iox_domain_values.specs.declared.data_segment.AllocationStrategy.TheVariants as strategy
 use Rattle.iox_domain_values.specs.declared.port_error.LoanError.{LoanError}
 use Rattle.iox_domain_values.specs.declared.port_error.LoanError.TheVariants as refusal
 use Rattle.iox_domain_sender.specs.Sending.{SenderState, LoanMade, opened_for}
+use Rattle.iox_domain_publisher.specs.Lengths.{extent, SegmentRoom}
 use Rattle.iox_domain_publisher.specs.declared.publisher_port.PublisherPort.{PublisherPort}
 
 -- other messages, and nothing else is changed
 abbrev pub with_sender : {T U : Type 0} → SenderState T U → PublisherPort T U → PublisherPort T U
 with_sender sender port = record port { sender = sender }
 
--- whether a slice is longer than loans may be, at a publisher whose room stays as it was made
-abbrev pub is_too_long : {T U : Type 0} → AllocationStrategy → ℕ → PublisherPort T U → Bool
-is_too_long strategy.BestFit values port = false
-is_too_long strategy.PowerOfTwo values port = false
-is_too_long strategy.Static values port = nat_lt port.sender.room values
+-- whether a loan is longer than loans may be, at a publisher whose room stays as it was made
+abbrev pub is_too_long : {T U : Type 0} → AllocationStrategy → ℕ → ℕ → PublisherPort T U → Bool
+is_too_long strategy.BestFit values elements port = false
+is_too_long strategy.PowerOfTwo values elements port = false
+is_too_long strategy.Static values elements port = nat_lt port.sender.room (extent port.unit values elements)
 
 -- the refusal that comes before any look at the slots: first that of a slice that is too long, then that of as many loans as may be out
-abbrev pub first_refusal : {T U : Type 0} → AllocationStrategy → ℕ → PublisherPort T U → Option LoanError
-first_refusal allocation values port =
-    if is_too_long allocation values port then Some refusal.ExceedsMaxLoanSize
+abbrev pub first_refusal : {T U : Type 0} → AllocationStrategy → ℕ → ℕ → PublisherPort T U → Option LoanError
+first_refusal allocation values elements port =
+    if is_too_long allocation values elements port then Some refusal.ExceedsMaxLoanSize
     else (if nat_lt (length port.sender.uses.loans) port.sender.uses.most_loans then None else Some refusal.ExceedsMaxLoans)
 
 -- A loan in the current segment, in any slot of it in which nothing in use stands; where there is none it is refused.
@@ -49,17 +49,17 @@ LendsBeyond (Some room) true values elements old answer new = LendsInNew room va
 abbrev pub LendsWhere : {T U : Type 0} → Bool → AllocationStrategy → ℕ → ℕ → PublisherPort T U → Result ℕ LoanError → PublisherPort T U → Type 0
 LendsWhere true allocation values elements old answer new = LendsHere values elements old answer new
 LendsWhere false allocation values elements old answer new =
-    (room : Option ℕ) × SegmentLength allocation values room
+    (room : Option ℕ) × SegmentRoom allocation old.unit values elements room
     × LendsBeyond room (nat_lt old.sender.segments old.sender.most_segments) values elements old answer new
 
 -- A loan, where it isn't refused before any look at the slots.
 abbrev pub LendsUnless : {T U : Type 0} → Option LoanError → AllocationStrategy → ℕ → ℕ → PublisherPort T U → Result ℕ LoanError → PublisherPort T U → Type 0
 LendsUnless (Some error) allocation values elements old answer new = (answer ≡ Err error) × (new ≡ old)
-LendsUnless None allocation values elements old answer new = LendsWhere (nat_le values old.sender.room) allocation values elements old answer new
+LendsUnless None allocation values elements old answer new = LendsWhere (nat_le (extent old.unit values elements) old.sender.room) allocation values elements old answer new
 
 -- what comes of a loan where no send waits
 abbrev pub Lends : {T U : Type 0} → AllocationStrategy → ℕ → ℕ → PublisherPort T U → Result ℕ LoanError → PublisherPort T U → Type 0
-Lends allocation values elements old answer new = LendsUnless (first_refusal allocation values old) allocation values elements old answer new
+Lends allocation values elements old answer new = LendsUnless (first_refusal allocation values elements old) allocation values elements old answer new
 
 -- nothing happens while a send waits
 abbrev pub LoansIf : {T U : Type 0} → Bool → AllocationStrategy → ℕ → ℕ → PublisherPort T U → Option (Result ℕ LoanError) → PublisherPort T U → Type 0

@@ -1,5 +1,6 @@
 //! Laws of what a publisher does, in other words than its steps. They stand on functions that do nothing.
 ghost use Rattle.iox_domain_values.specs.declared.degradation.DegradationCause.TheVariants as cause;
+ghost use Rattle.iox_domain_publisher.specs.Lengths.{CountsElements};
 ghost use Rattle.iox_domain_publisher.specs.LoanLaws.{LoanTells, NewSegmentIsFree};
 ghost use Rattle.iox_domain_publisher.specs.Memory.{NeedsNoMemory};
 ghost use Rattle.iox_domain_publisher.specs.UpdateLaws.{FollowsWhoIsListed};
@@ -21,6 +22,11 @@ pub fn needs_no_memory<T, U, D: Degrades>(_handler: &D)
 /// What each answer of `PublisherPort::loan` tells: when each refusal comes, in which order, and what it leaves; and what a loan is.
 pub fn loan_tells<T, U>()
     ensures { LoanTells T U }
+{}
+
+/// What the lengths of loans and segments come to where a loan has all values of its elements: they are counted in elements.
+pub fn counts_elements()
+    ensures { CountsElements }
 {}
 
 /// A segment that was just opened isn't full, where nothing in use stands past the segments before it.

@@ -12,12 +12,13 @@ use std::alloc::{AllocError, Global};
 
 impl<T: Copy, U: Copy> PublisherPort<T, U> {
     /// A publisher that is connected to nobody yet, and is to be listed at its place, with room for so many places of the list of
-    /// subscribers. It fails only where memory is wanting.
+    /// subscribers, whose elements have so many values each. It fails only where memory is wanting.
     pub fn new(
         alloc: Global,
         identity: PortIdentity,
         most_subscribers: usize,
         allocation: AllocationStrategy,
+        unit: usize,
         config: SenderConfig,
         blank: T,
         user_header: U,
@@ -27,7 +28,7 @@ impl<T: Copy, U: Copy> PublisherPort<T, U> {
         requires waiting { config.most_waiting < 2 ^ 32 }
         requires borrowed { config.most_borrowed < 2 ^ 32 }
         requires segments { 0 < config.most_segments }
-        ensures { IfOk result (λ port. port ≡ new_port identity most_subscribers allocation config user_header) }
+        ensures { IfOk result (λ port. port ≡ new_port identity most_subscribers allocation unit config user_header) }
     {
         Ok(PublisherPort {
             service: identity.service,
@@ -35,6 +36,7 @@ impl<T: Copy, U: Copy> PublisherPort<T, U> {
             owner: identity.owner,
             place: identity.place,
             allocation,
+            unit,
             stands: true,
             seen: 0,
             ties: Ties::new(alloc, most_subscribers)?,

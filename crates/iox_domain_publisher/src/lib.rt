@@ -9,6 +9,7 @@
 //! - [`publisher_port`]: a publisher.
 //! - [`connecting`]: its connections are made and ended.
 //! - [`leaving`]: it comes and leaves.
+//! - [`lengths`]: how long loans and segments are, counted in elements.
 //! - [`loaning`]: it lends a slot to be written.
 //! - [`writing`]: what lies in a loan is written and read, and a loan is given up.
 //! - [`laws`]: what its steps come to, in other words.
@@ -19,6 +20,7 @@
 pub mod connecting;
 pub mod laws;
 pub mod leaving;
+pub mod lengths;
 pub mod loaning;
 pub mod meeting;
 pub mod places;

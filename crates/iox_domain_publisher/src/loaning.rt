@@ -1,8 +1,10 @@
 //! A publisher lends a slot to be written.
-ghost use Rattle.std.specs.Prelude.{◌≡◌, ◌<◌, ◌≤◌, ℕ, length, false, None, Some, Ok, Err, IsOk, OnErr};
+ghost use Rattle.std.specs.Prelude.{◌≡◌, ◌<◌, ◌≤◌, ℕ, length, nat_le, true, false, None, Some, Ok, Err, IsOk, OnErr};
+ghost use Rattle.iox_domain_publisher.specs.Lengths.{extent};
 ghost use Rattle.iox_domain_publisher.specs.LoanLaws.{IsAmple};
 ghost use Rattle.iox_domain_publisher.specs.Loaning.{is_too_long, first_refusal, LendsHere, LendsWhere, Lends, Loans};
 
+use crate::lengths::{fits, segment_room};
 use crate::publisher_port::PublisherPort;
 use iox_domain_values::{AllocationStrategy, LoanError};
 use std::alloc::Global;
@@ -11,10 +13,11 @@ impl<T: Copy, U: Copy> PublisherPort<T, U> {
     /// Lends a slot for so many values, of which none is written, and answers the slot; the header of the message tells so many
     /// elements. None, and nothing happens, while a send of this publisher waits.
     ///
-    /// Refused, in this order, with `ExceedsMaxLoanSize` if the slice is longer than fits and the room stays as it was made; with
+    /// Refused, in this order, with `ExceedsMaxLoanSize` if the loan is longer than fits and the room stays as it was made; with
     /// `ExceedsMaxLoans` if as many loans are out as may be; with `OutOfMemory` if each slot of the current segment is in use. Other
-    /// strategies open a new segment for a longer slice, and for nothing else; `OutOfMemory` is then that the segment would be longer
-    /// than 2^32 - 1, that there are as many segments as may be, or want of memory. A loan that fits takes no memory. With as many slots
+    /// strategies open a new segment for a longer loan, and for nothing else; `OutOfMemory` is then that the segment would be longer
+    /// than 2^32 - 1, that there are as many segments as may be, or want of memory. Lengths are those of all values of so many elements,
+    /// and at least of so many values. A loan that fits takes no memory. With as many slots
     /// as the worst case needs one is always free, and a refusal changes nothing; with fewer a new segment may stay though nothing is
     /// lent. `blank` fills a new segment.
     ///
@@ -28,7 +31,7 @@ impl<T: Copy, U: Copy> PublisherPort<T, U> {
         blank: T,
     ) -> Option<Result<usize, LoanError>>
         ensures loans { Loans allocation values elements self.old result self.new }
-        ensures enough { IsAmple self.old → self.old.sender.uses.sending ≡ None → length self.old.sender.uses.loans < self.old.sender.uses.most_loans → values ≤ self.old.sender.room → (slot : ℕ) × (result ≡ Some (Ok slot)) }
+        ensures enough { IsAmple self.old → self.old.sender.uses.sending ≡ None → length self.old.sender.uses.loans < self.old.sender.uses.most_loans → extent self.old.unit values elements ≤ self.old.sender.room → (slot : ℕ) × (result ≡ Some (Ok slot)) }
         ensures unchanged { IsAmple self.old → (error : LoanError) → result ≡ Some (Err error) → self.new ≡ self.old }
     {
         if self.sender.is_sending() {
@@ -47,23 +50,28 @@ impl<T: Copy, U: Copy> PublisherPort<T, U> {
         blank: T,
     ) -> Result<usize, LoanError>
         ensures lends { Lends allocation values elements self.old result self.new }
-        ensures enough { IsAmple self.old → self.old.sender.uses.sending ≡ None → length self.old.sender.uses.loans < self.old.sender.uses.most_loans → values ≤ self.old.sender.room → IsOk result }
+        ensures enough { IsAmple self.old → self.old.sender.uses.sending ≡ None → length self.old.sender.uses.loans < self.old.sender.uses.most_loans → extent self.old.unit values elements ≤ self.old.sender.room → IsOk result }
         ensures unchanged { IsAmple self.old → self.old.sender.uses.sending ≡ None → OnErr result (self.new ≡ self.old) }
     {
-        if let Some(refusal) = self.refusal(values, allocation) {
+        if let Some(refusal) = self.refusal(values, elements, allocation) {
             return Err(refusal);
         }
-        if values <= self.sender.room() {
+        if self.has_room(values, elements) {
             return self.lend_here(values, elements);
         }
         self.lend_longer(alloc, values, elements, allocation, blank)
     }
 
     // Why nothing is lent, whichever slots are in use.
-    fn refusal(&self, values: usize, allocation: AllocationStrategy) -> Option<LoanError>
-        ensures { result ≡ first_refusal allocation values self.now }
+    fn refusal(
+        &self,
+        values: usize,
+        elements: u64,
+        allocation: AllocationStrategy,
+    ) -> Option<LoanError>
+        ensures { result ≡ first_refusal allocation values elements self.now }
     {
-        if self.is_too_long(values, allocation) {
+        if self.is_too_long(values, elements, allocation) {
             return Some(LoanError::ExceedsMaxLoanSize);
         }
         if !self.sender.may_loan() {
@@ -72,14 +80,22 @@ impl<T: Copy, U: Copy> PublisherPort<T, U> {
         None
     }
 
-    // Whether a slice is longer than loans may be, and no segment is opened for it.
-    fn is_too_long(&self, values: usize, allocation: AllocationStrategy) -> bool
-        ensures { result ≡ is_too_long allocation values self.now }
+    // Whether a loan is longer than loans may be, and no segment is opened for it.
+    fn is_too_long(&self, values: usize, elements: u64, allocation: AllocationStrategy) -> bool
+        ensures { result ≡ is_too_long allocation values elements self.now }
     {
         match allocation {
             AllocationStrategy::BestFit | AllocationStrategy::PowerOfTwo => false,
-            AllocationStrategy::Static => self.sender.room() < values,
+            AllocationStrategy::Static => !self.has_room(values, elements),
         }
+    }
+
+    // Whether a loan fits in the slots of the current segment.
+    fn has_room(&self, values: usize, elements: u64) -> bool
+        ensures room { result ≡ nat_le (extent self.now.unit values elements) self.now.sender.room }
+        ensures values { result ≡ true → values ≤ self.now.sender.room }
+    {
+        fits(self.unit, values, elements, self.sender.room())
     }
 
     // Lends a slot of the current segment.
@@ -108,7 +124,7 @@ impl<T: Copy, U: Copy> PublisherPort<T, U> {
         ensures lends { LendsWhere false allocation values elements self.old result self.new }
         ensures unchanged { IsAmple self.old → self.old.sender.uses.sending ≡ None → OnErr result (self.new ≡ self.old) }
     {
-        let Some(room) = allocation.segment_length(values) else {
+        let Some(room) = segment_room(allocation, self.unit, values, elements) else {
             return Err(LoanError::OutOfMemory);
         };
         if self.sender.segments_left() == 0 {

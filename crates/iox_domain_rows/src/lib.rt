@@ -23,3 +23,12 @@ mod slots;
 mod subscribers;
 #[cfg(test)]
 mod values;
+
+#[cfg(test)]
+use std::process::Abort;
+
+// Fails the test where the answer is false.
+#[cfg(test)]
+pub(crate) fn holds(rt: &impl Abort, answer: bool) {
+    assert!(rt; answer);
+}

@@ -3,7 +3,7 @@ use iox_domain_sender::{Sender, SenderConfig};
 use iox_domain_slots::Stage;
 use iox_domain_values::{PortIdentity, PortOwner};
 use std::alloc::{AllocError, Global};
-use std::test::Fail;
+use std::process::Abort;
 
 // Who the ports belong to.
 pub(crate) const OWNER: PortOwner = PortOwner {
@@ -142,64 +142,6 @@ fn publish(sender: &mut Sender<u64, u8>, index: usize, first: u64) -> bool {
     !early && written && !half && whole && send(sender, slot, index)
 }
 
-#[test]
-fn a_message_is_read_as_it_was_sent(rt: HostRuntime) -> Result<(), Fail> {
-    let mut sender = publisher(rt.alloc(), 4, 3)?;
-    let index = join(&mut sender, rt.alloc())?;
-    assert!(rt; publish(&mut sender, index, 10));
-    let held = receive(&mut sender, index);
-    assert!(rt; reads(&sender, held, &[10, 11, 12], 7));
-    for first in 20..26 {
-        assert!(rt; publish(&mut sender, index, first) && reads(&sender, held, &[10, 11, 12], 7));
-    }
-    Ok(())
-}
-
-// Whether a loan of three values is written at once, by as many, and is changed only where it is written.
-fn is_written_at_once(sender: &mut Sender<u64, u8>, slot: usize) -> bool {
-    let early = change(sender, slot, 0, 1) || write_all(sender, slot, &[1, 2]);
-    let whole = write_all(sender, slot, &[4, 5, 6]) && is_whole(sender, slot);
-    let changed = change(sender, slot, 1, 9) && !change(sender, slot, 3, 9);
-    !early && whole && changed && is_whole(sender, slot)
-}
-
-#[test]
-fn a_message_is_written_at_once(rt: HostRuntime) -> Result<(), Fail> {
-    let mut sender = publisher(rt.alloc(), 4, 3)?;
-    let index = join(&mut sender, rt.alloc())?;
-    let slot = lend(&mut sender, 3);
-    assert!(rt; is_written_at_once(&mut sender, slot) && send(&mut sender, slot, index));
-    let held = receive(&mut sender, index);
-    assert!(rt; held == slot && reads(&sender, held, &[4, 9, 6], 7));
-    assert!(rt; !write_all(&mut sender, held, &[1, 2, 3]) && !change(&mut sender, held, 0, 1));
-    Ok(())
-}
-
-// The pages of 512 values that two loans are written with.
-const PAGE: &[u64] = &[7; 512];
-
-const OTHER_PAGE: &[u64] = &[3; 512];
-
-// Whether two loans of a page are written at once, and one of them is read as it was sent.
-fn is_page_sent(sender: &mut Sender<u64, u8>, index: usize) -> bool {
-    let other = lend(sender, 512);
-    let slot = lend(sender, 512);
-    write_all(sender, other, OTHER_PAGE)
-        && write_all(sender, slot, PAGE)
-        && send(sender, slot, index)
-        && receive(sender, index) == slot
-        && reads(sender, slot, PAGE, 7)
-        && sender.has_place(other, 511)
-}
-
-#[test]
-fn a_page_is_written_at_once(rt: HostRuntime) -> Result<(), Fail> {
-    let mut sender = publisher(rt.alloc(), 2, 512)?;
-    let index = join(&mut sender, rt.alloc())?;
-    assert!(rt; is_page_sent(&mut sender, index));
-    Ok(())
-}
-
 // Writes the user header of a loan; whether the slot has one.
 fn write_header(sender: &mut Sender<u64, u8>, slot: usize, user_header: u8) -> bool {
     if !sender.has_loan(slot) {
@@ -207,35 +149,6 @@ fn write_header(sender: &mut Sender<u64, u8>, slot: usize, user_header: u8) -> b
     }
     sender.write_user_header(slot, user_header);
     true
-}
-
-// Whether a loan without values beside this one is whole, and a third is refused.
-fn stands_beside(sender: &mut Sender<u64, u8>, slot: usize) -> bool {
-    let other = lend(sender, 0);
-    slot != other
-        && is_whole(sender, other)
-        && !write(sender, other, 0, 5)
-        && sender.has_loan(slot)
-        && !sender.has_loan(9)
-        && lend(sender, 0) == usize::MAX
-}
-
-// Whether the message with this user header comes as it was written.
-fn comes_with(sender: &mut Sender<u64, u8>, slot: usize, index: usize, user_header: u8) -> bool {
-    write_header(sender, slot, user_header)
-        && write(sender, slot, 0, 5)
-        && send(sender, slot, index)
-        && receive(sender, index) == slot
-        && reads(sender, slot, &[5], user_header)
-}
-
-#[test]
-fn a_user_header_is_its_loans_own(rt: HostRuntime) -> Result<(), Fail> {
-    let mut sender = publisher(rt.alloc(), 3, 1)?;
-    let index = join(&mut sender, rt.alloc())?;
-    let slot = lend(&mut sender, 1);
-    assert!(rt; stands_beside(&mut sender, slot) && comes_with(&mut sender, slot, index, 9));
-    Ok(())
 }
 
 // Whether the last segment that there may be is opened, with this room.
@@ -247,21 +160,265 @@ fn is_opened(sender: &mut Sender<u64, u8>, alloc: Global, room: usize) -> Result
     Ok(sender.room() == room && sender.segments_left() == 0)
 }
 
-#[test]
-fn a_segment_is_opened_for_longer_loans(rt: HostRuntime) -> Result<(), Fail> {
-    let mut sender = publisher(rt.alloc(), 3, 1)?;
-    let index = join(&mut sender, rt.alloc())?;
-    let first = lend(&mut sender, 1);
-    assert!(rt; write(&mut sender, first, 0, 5) && send(&mut sender, first, index));
-    let held = receive(&mut sender, index);
-    let early = lend(&mut sender, 1);
-    assert!(rt; lend(&mut sender, 3) == usize::MAX && sender.segments_left() == 1);
-    assert!(rt; is_opened(&mut sender, rt.alloc(), 3)?);
-    assert!(rt; write_all(&mut sender, early, &[6]) && is_whole(&sender, early));
-    for number in 10..16 {
-        assert!(rt; publish(&mut sender, index, number) && reads(&sender, held, &[5], 7));
+// A publisher with a connection, and the slots that it lent and that were received, each at a place of its own.
+#[derive(Drop)]
+struct World {
+    sender: Sender<u64, u8>,
+    index: usize,
+    slots: [usize; 4],
+}
+
+// What is done to a publisher, and what it must come to. Slots are told by the places where they are kept.
+enum Step {
+    // A loan of so many values is made and kept; whether there was one.
+    Lends(usize, usize, bool),
+    // A value is written at a place of a loan, if it has that place.
+    Writes(usize, usize, u64, bool),
+    // All values are written at once, if there are as many.
+    WritesAll(usize, &'static [u64], bool),
+    // A value is changed where it is written.
+    Changes(usize, usize, u64, bool),
+    // The user header is written.
+    WritesHeader(usize, u8),
+    // Whether all values of a loan are written.
+    IsWhole(usize, bool),
+    // Whether there is a loan.
+    HasLoan(usize, bool),
+    // Whether a loan has a place of this number.
+    HasPlace(usize, usize, bool),
+    // A loan is sent; whether it was delivered.
+    Sends(usize, bool),
+    // The oldest message that waits is borrowed and kept: it stands in the slot at the other place.
+    Receives(usize, usize),
+    // A message of three values is lent, written and sent.
+    Publishes(u64),
+    // The values and the user header of a message.
+    Reads(usize, &'static [u64], u8),
+    // The last segment that there may be is opened, with this room.
+    Opens(usize),
+}
+
+fn slot_at(world: &World, place: usize) -> usize {
+    world.slots.get(place).copied().unwrap_or(usize::MAX)
+}
+
+// Keeps a slot at a place; whether it is one.
+fn keep(world: &mut World, place: usize, slot: usize) -> bool {
+    if place < 4 {
+        world.slots[place] = slot;
+    }
+    slot != usize::MAX
+}
+
+fn lends(world: &mut World, place: usize, values: usize) -> bool {
+    let slot = lend(&mut world.sender, values);
+    keep(world, place, slot)
+}
+
+fn receives(world: &mut World, place: usize, sent: usize) -> bool {
+    let slot = receive(&mut world.sender, world.index);
+    keep(world, place, slot) && slot == slot_at(world, sent)
+}
+
+// Whether a step on the slot of a loan goes so.
+fn goes_there(sender: &mut Sender<u64, u8>, slot: usize, step: &Step) -> bool {
+    match *step {
+        Step::Writes(_, place, value, done) => write(sender, slot, place, value) == done,
+        Step::WritesAll(_, values, done) => write_all(sender, slot, values) == done,
+        Step::Changes(_, place, value, done) => change(sender, slot, place, value) == done,
+        Step::WritesHeader(_, user_header) => write_header(sender, slot, user_header),
+        Step::IsWhole(_, whole) => is_whole(sender, slot) == whole,
+        Step::HasLoan(_, is_there) => sender.has_loan(slot) == is_there,
+        Step::HasPlace(_, place, is_there) => sender.has_place(slot, place) == is_there,
+        Step::Reads(_, values, user_header) => reads(sender, slot, values, user_header),
+        _ => false,
+    }
+}
+
+fn goes(world: &mut World, alloc: Global, step: &Step) -> Result<bool, AllocError> {
+    match *step {
+        Step::Lends(place, values, done) => Ok(lends(world, place, values) == done),
+        Step::Receives(place, sent) => Ok(receives(world, place, sent)),
+        Step::Publishes(first) => Ok(publish(&mut world.sender, world.index, first)),
+        Step::Opens(room) => is_opened(&mut world.sender, alloc, room),
+        Step::Sends(place, done) => {
+            let slot = slot_at(world, place);
+            Ok(send(&mut world.sender, slot, world.index) == done)
+        }
+        Step::Writes(place, _, _, _)
+        | Step::WritesAll(place, _, _)
+        | Step::Changes(place, _, _, _)
+        | Step::WritesHeader(place, _)
+        | Step::IsWhole(place, _)
+        | Step::HasLoan(place, _)
+        | Step::HasPlace(place, _, _)
+        | Step::Reads(place, _, _) => {
+            let slot = slot_at(world, place);
+            Ok(goes_there(&mut world.sender, slot, step))
+        }
+    }
+}
+
+fn go_on(
+    rt: &impl Abort,
+    alloc: Global,
+    world: &mut World,
+    steps: &[Step],
+) -> Result<(), AllocError> {
+    for (place, step) in steps.iter().enumerate() {
+        assert!(rt; goes(world, alloc, step)?, "step {place}");
     }
     Ok(())
+}
+
+// No slot of a publisher of a few.
+const NO_SLOT: usize = 9;
+
+// Takes the steps on a new publisher of so many slots with room for so many values, and a connection; each must come to what it says.
+fn go(
+    rt: &impl Abort,
+    alloc: Global,
+    slots: usize,
+    room: usize,
+    steps: &[Step],
+) -> Result<(), AllocError> {
+    let mut sender = publisher(alloc, slots, room)?;
+    let index = join(&mut sender, alloc)?;
+    let mut world = World {
+        sender,
+        index,
+        slots: [NO_SLOT; 4],
+    };
+    go_on(rt, alloc, &mut world, steps)
+}
+
+// A loan that isn't written whole isn't sent; a message that is held is read as it was sent, whatever is sent after it.
+const READ: [Step; 23] = [
+    Step::Lends(0, 3, true),
+    Step::IsWhole(0, false),
+    Step::Writes(0, 2, 12, true),
+    Step::Writes(0, 1, 11, true),
+    Step::IsWhole(0, false),
+    Step::Sends(0, false),
+    Step::Writes(0, 0, 10, true),
+    Step::IsWhole(0, true),
+    Step::Sends(0, true),
+    Step::Receives(1, 0),
+    Step::Reads(1, &[10, 11, 12], 7),
+    Step::Publishes(20),
+    Step::Reads(1, &[10, 11, 12], 7),
+    Step::Publishes(21),
+    Step::Reads(1, &[10, 11, 12], 7),
+    Step::Publishes(22),
+    Step::Reads(1, &[10, 11, 12], 7),
+    Step::Publishes(23),
+    Step::Reads(1, &[10, 11, 12], 7),
+    Step::Publishes(24),
+    Step::Reads(1, &[10, 11, 12], 7),
+    Step::Publishes(25),
+    Step::Reads(1, &[10, 11, 12], 7),
+];
+
+#[test]
+fn a_message_is_read_as_it_was_sent(rt: HostRuntime) -> Result<(), AllocError> {
+    go(&rt, rt.alloc(), 4, 3, &READ)
+}
+
+// A loan of three values is written at once, by as many, and is changed only where it is written, and until it is sent.
+const AT_ONCE: [Step; 13] = [
+    Step::Lends(0, 3, true),
+    Step::Changes(0, 0, 1, false),
+    Step::WritesAll(0, &[1, 2], false),
+    Step::WritesAll(0, &[4, 5, 6], true),
+    Step::IsWhole(0, true),
+    Step::Changes(0, 1, 9, true),
+    Step::Changes(0, 3, 9, false),
+    Step::IsWhole(0, true),
+    Step::Sends(0, true),
+    Step::Receives(1, 0),
+    Step::Reads(1, &[4, 9, 6], 7),
+    Step::WritesAll(1, &[1, 2, 3], false),
+    Step::Changes(1, 0, 1, false),
+];
+
+#[test]
+fn a_message_is_written_at_once(rt: HostRuntime) -> Result<(), AllocError> {
+    go(&rt, rt.alloc(), 4, 3, &AT_ONCE)
+}
+
+// The pages of 512 values that two loans are written with.
+const PAGE: &[u64] = &[7; 512];
+
+const OTHER_PAGE: &[u64] = &[3; 512];
+
+// Two loans of a page are written at once, and one of them is read as it was sent.
+const PAGES: [Step; 8] = [
+    Step::Lends(0, 512, true),
+    Step::Lends(1, 512, true),
+    Step::WritesAll(0, OTHER_PAGE, true),
+    Step::WritesAll(1, PAGE, true),
+    Step::Sends(1, true),
+    Step::Receives(2, 1),
+    Step::Reads(1, PAGE, 7),
+    Step::HasPlace(0, 511, true),
+];
+
+#[test]
+fn a_page_is_written_at_once(rt: HostRuntime) -> Result<(), AllocError> {
+    go(&rt, rt.alloc(), 2, 512, &PAGES)
+}
+
+// A loan without values beside another is whole, and a third is refused; the other's message comes with the user header that was written.
+const HEADERS: [Step; 13] = [
+    Step::Lends(0, 1, true),
+    Step::Lends(1, 0, true),
+    Step::IsWhole(1, true),
+    Step::IsWhole(0, false),
+    Step::Writes(1, 0, 5, false),
+    Step::HasLoan(0, true),
+    Step::HasLoan(2, false),
+    Step::Lends(2, 0, false),
+    Step::WritesHeader(0, 9),
+    Step::Writes(0, 0, 5, true),
+    Step::Sends(0, true),
+    Step::Receives(3, 0),
+    Step::Reads(3, &[5], 9),
+];
+
+#[test]
+fn a_user_header_is_its_loans_own(rt: HostRuntime) -> Result<(), AllocError> {
+    go(&rt, rt.alloc(), 3, 1, &HEADERS)
+}
+
+// A longer loan lacks room until a segment is opened for it; what was lent and received before stays as it was.
+const LONGER: [Step; 22] = [
+    Step::Lends(0, 1, true),
+    Step::Writes(0, 0, 5, true),
+    Step::Sends(0, true),
+    Step::Receives(1, 0),
+    Step::Lends(2, 1, true),
+    Step::Lends(3, 3, false),
+    Step::Opens(3),
+    Step::WritesAll(2, &[6], true),
+    Step::IsWhole(2, true),
+    Step::Publishes(10),
+    Step::Reads(1, &[5], 7),
+    Step::Publishes(11),
+    Step::Reads(1, &[5], 7),
+    Step::Publishes(12),
+    Step::Reads(1, &[5], 7),
+    Step::Publishes(13),
+    Step::Reads(1, &[5], 7),
+    Step::Publishes(14),
+    Step::Reads(1, &[5], 7),
+    Step::Publishes(15),
+    Step::Reads(1, &[5], 7),
+    Step::HasLoan(2, true),
+];
+
+#[test]
+fn a_segment_is_opened_for_longer_loans(rt: HostRuntime) -> Result<(), AllocError> {
+    go(&rt, rt.alloc(), 3, 1, &LONGER)
 }
 
 // Whether a publisher of so many slots and so much room has just these, joins, and opens a segment of twice the room.
@@ -291,10 +448,14 @@ fn have_ample(alloc: Global, slots: usize) -> Result<bool, AllocError> {
     Ok(true)
 }
 
-#[test]
-fn ample_memory_is_never_wanting_to_publishers(rt: HostRuntime) -> Result<(), Fail> {
+fn all_have_ample(rt: &impl Abort, alloc: Global) -> Result<(), AllocError> {
     for slots in &SLOTS {
-        assert!(rt; have_ample(rt.alloc(), *slots)?, "{slots}");
+        assert!(rt; have_ample(alloc, *slots)?, "{slots}");
     }
     Ok(())
+}
+
+#[test]
+fn ample_memory_is_never_wanting_to_publishers(rt: HostRuntime) -> Result<(), AllocError> {
+    all_have_ample(&rt, rt.alloc())
 }

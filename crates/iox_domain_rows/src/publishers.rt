@@ -9,7 +9,7 @@ use iox_domain_values::{
 };
 use iox_index_base::{Container, OwnerId, ReleaseMode};
 use std::alloc::{AllocError, Global};
-use std::test::Fail;
+use std::process::Abort;
 
 // A publisher, the list of its subscribers, and who decides at a full mailbox.
 #[derive(Drop)]
@@ -36,6 +36,7 @@ fn publisher(alloc: Global, overflows: bool) -> Result<PublisherPort<u64, u8>, A
         identity(5, 1),
         2,
         AllocationStrategy::Static,
+        1,
         config,
         0,
         0,
@@ -81,7 +82,7 @@ fn comes(world: &mut World, subscriber: u64, buffer_size: usize) -> bool {
 }
 
 // The subscriber at this place is listed no longer; whether it was.
-fn goes(world: &mut World, place: usize) -> bool {
+fn leaves_the_list(world: &mut World, place: usize) -> bool {
     let Some(handle) = world.list.handle(place) else {
         return false;
     };
@@ -111,21 +112,6 @@ fn write(port: &mut PublisherPort<u64, u8>, number: u64) -> Option<usize> {
     }
     port.sender.write(slot, 0, number);
     Some(slot)
-}
-
-// Whether a number is sent, and the send answers this.
-fn sends(world: &mut World, alloc: Global, number: u64, answer: Result<Sent, SendError>) -> bool {
-    publish(world, alloc, number) == Some(answer)
-}
-
-// Whether this number is the next that a subscriber reads.
-fn reads(world: &mut World, subscriber: u64, number: u64) -> bool {
-    read(&mut world.port, subscriber) == Some(number)
-}
-
-// Whether a subscriber has nothing to read.
-fn reads_nothing(world: &mut World, subscriber: u64) -> bool {
-    read(&mut world.port, subscriber) == None
 }
 
 // Borrows the oldest message that waits for a subscriber, reads its number, and gives it back.
@@ -171,121 +157,162 @@ fn attaches(world: &mut World, alloc: Global, subscriber: u64) -> bool {
     world.port.sender.most_waiting() >= 1 && world.port.attach(alloc, subscriber, 1).is_ok()
 }
 
-// Whether a subscriber in the place of another gets what was sent before it came.
-fn hands_on_the_history(world: &mut World, alloc: Global) -> bool {
-    comes(world, 10, 2)
-        && sends(world, alloc, 1, Ok(Sent::Delivered(1)))
-        && goes(world, 0)
-        && comes(world, 11, 2)
-        && sends(world, alloc, 2, Ok(Sent::Delivered(1)))
-        && reads_nothing(world, 10)
-        && reads(world, 11, 1)
-        && reads(world, 11, 2)
-        && reads_nothing(world, 11)
+// What is done to a publisher and its list, and what it must come to.
+enum Step {
+    // A subscriber is listed, with a buffer of this size.
+    Comes(u64, usize),
+    // The subscriber at this place is listed no longer.
+    Goes(usize),
+    // A subscriber attaches to the publisher.
+    Attaches(u64),
+    // A number is sent.
+    Sends(u64, Result<Sent, SendError>),
+    // No send of this number may begin.
+    MayNotSend(u64),
+    // A send that waits is tried again, after so long.
+    Retries(u64, Result<Sent, SendError>),
+    // It is given up, after so many deliveries.
+    GivesUp(usize),
+    // A subscriber reads its next number, if it has one.
+    Reads(u64, Option<u64>),
+    // The publisher leaves.
+    Leaves,
+    // It has so many loans.
+    HasLoans(usize),
 }
 
-#[test]
-fn a_subscriber_in_anothers_place_gets_the_history(rt: HostRuntime) -> Result<(), Fail> {
-    assert!(rt; hands_on_the_history(&mut make_world(rt.alloc(), true, None)?, rt.alloc()));
+fn leaves(port: &mut PublisherPort<u64, u8>) -> bool {
+    port.leave();
+    true
+}
+
+fn goes(world: &mut World, alloc: Global, step: &Step) -> bool {
+    match *step {
+        Step::Comes(subscriber, buffer_size) => comes(world, subscriber, buffer_size),
+        Step::Goes(place) => leaves_the_list(world, place),
+        Step::Attaches(subscriber) => attaches(world, alloc, subscriber),
+        Step::Sends(number, answer) => publish(world, alloc, number) == Some(answer),
+        Step::MayNotSend(number) => publish(world, alloc, number).is_none(),
+        Step::Retries(elapsed, answer) => world.port.retry(elapsed, &world.by) == answer,
+        Step::GivesUp(deliveries) => world.port.give_up() == deliveries,
+        Step::Reads(subscriber, number) => read(&mut world.port, subscriber) == number,
+        Step::Leaves => leaves(&mut world.port),
+        Step::HasLoans(loans) => world.port.sender.loans() == loans,
+    }
+}
+
+fn go_on(rt: &impl Abort, alloc: Global, world: &mut World, steps: &[Step]) {
+    for (place, step) in steps.iter().enumerate() {
+        assert!(rt; goes(world, alloc, step), "step {place}");
+    }
+}
+
+// Takes the steps on a new publisher; each must come to what it says.
+fn go(
+    rt: &impl Abort,
+    alloc: Global,
+    overflows: bool,
+    answer: Option<BackpressureAction>,
+    steps: &[Step],
+) -> Result<(), AllocError> {
+    go_on(rt, alloc, &mut make_world(alloc, overflows, answer)?, steps);
     Ok(())
 }
 
-// Whether the oldest message goes at each subscriber by its own buffer.
-fn lets_the_oldest_go(world: &mut World, alloc: Global) -> bool {
-    comes(world, 10, 1)
-        && comes(world, 11, 2)
-        && sends(world, alloc, 1, Ok(Sent::Delivered(2)))
-        && sends(world, alloc, 2, Ok(Sent::Delivered(2)))
-        && sends(world, alloc, 3, Ok(Sent::Delivered(2)))
-        && reads(world, 10, 3)
-        && reads_nothing(world, 10)
-        && reads(world, 11, 2)
-        && reads(world, 11, 3)
-}
+// A subscriber in the place of another gets what was sent before it came.
+const HISTORY: [Step; 9] = [
+    Step::Comes(10, 2),
+    Step::Sends(1, Ok(Sent::Delivered(1))),
+    Step::Goes(0),
+    Step::Comes(11, 2),
+    Step::Sends(2, Ok(Sent::Delivered(1))),
+    Step::Reads(10, None),
+    Step::Reads(11, Some(1)),
+    Step::Reads(11, Some(2)),
+    Step::Reads(11, None),
+];
 
 #[test]
-fn safe_overflow_lets_the_oldest_go_at_each_subscriber(rt: HostRuntime) -> Result<(), Fail> {
-    assert!(rt; lets_the_oldest_go(&mut make_world(rt.alloc(), true, None)?, rt.alloc()));
-    Ok(())
+fn a_subscriber_in_anothers_place_gets_the_history(rt: HostRuntime) -> Result<(), AllocError> {
+    go(&rt, rt.alloc(), true, None, &HISTORY)
 }
 
-// Whether a message at the full mailbox of a subscriber that doesn't read yet is let go, and the next waits once it reads.
-fn blocks_where_somebody_reads(world: &mut World, alloc: Global) -> bool {
-    comes(world, 10, 1)
-        && sends(world, alloc, 1, Ok(Sent::Delivered(1)))
-        && sends(world, alloc, 9, Ok(Sent::Delivered(0)))
-        && attaches(world, alloc, 10)
-        && sends(world, alloc, 2, Ok(Sent::Blocked))
-        && publish(world, alloc, 3) == None
-}
-
-// Whether a send that waits goes on once there is room, and the next can be given up.
-fn goes_on_where_it_is_read(world: &mut World, alloc: Global) -> bool {
-    world.port.retry(50, &world.by) == Ok(Sent::Blocked)
-        && reads(world, 10, 1)
-        && world.port.retry(70, &world.by) == Ok(Sent::Delivered(1))
-        && sends(world, alloc, 4, Ok(Sent::Blocked))
-        && world.port.give_up() == 0
-        && reads(world, 10, 2)
-        && reads_nothing(world, 10)
-}
-
-fn waits_at_a_full_mailbox(world: &mut World, alloc: Global) -> bool {
-    blocks_where_somebody_reads(world, alloc) && goes_on_where_it_is_read(world, alloc)
-}
+// The oldest message goes at each subscriber by its own buffer.
+const OVERFLOW: [Step; 9] = [
+    Step::Comes(10, 1),
+    Step::Comes(11, 2),
+    Step::Sends(1, Ok(Sent::Delivered(2))),
+    Step::Sends(2, Ok(Sent::Delivered(2))),
+    Step::Sends(3, Ok(Sent::Delivered(2))),
+    Step::Reads(10, Some(3)),
+    Step::Reads(10, None),
+    Step::Reads(11, Some(2)),
+    Step::Reads(11, Some(3)),
+];
 
 #[test]
-fn a_full_mailbox_blocks_where_somebody_reads(rt: HostRuntime) -> Result<(), Fail> {
-    assert!(rt; waits_at_a_full_mailbox(&mut make_world(rt.alloc(), false, None)?, rt.alloc()));
-    Ok(())
+fn safe_overflow_lets_the_oldest_go_at_each_subscriber(rt: HostRuntime) -> Result<(), AllocError> {
+    go(&rt, rt.alloc(), true, None, &OVERFLOW)
 }
 
-// Whether the other subscribers get what one of them can't take.
-fn goes_on_with_the_others(world: &mut World, alloc: Global) -> bool {
-    comes(world, 10, 1)
-        && comes(world, 11, 2)
-        && attaches(world, alloc, 10)
-        && sends(world, alloc, 1, Ok(Sent::Delivered(2)))
-        && sends(world, alloc, 2, Err(SendError::UnableToDeliver))
-        && reads(world, 10, 1)
-        && reads_nothing(world, 10)
-        && reads(world, 11, 1)
-        && reads(world, 11, 2)
-}
+// A message at the full mailbox of a subscriber that doesn't read yet is let go, and the next waits once it reads. A send that waits goes
+// on once there is room, and the next can be given up.
+const BLOCKED: [Step; 13] = [
+    Step::Comes(10, 1),
+    Step::Sends(1, Ok(Sent::Delivered(1))),
+    Step::Sends(9, Ok(Sent::Delivered(0))),
+    Step::Attaches(10),
+    Step::Sends(2, Ok(Sent::Blocked)),
+    Step::MayNotSend(3),
+    Step::Retries(50, Ok(Sent::Blocked)),
+    Step::Reads(10, Some(1)),
+    Step::Retries(70, Ok(Sent::Delivered(1))),
+    Step::Sends(4, Ok(Sent::Blocked)),
+    Step::GivesUp(0),
+    Step::Reads(10, Some(2)),
+    Step::Reads(10, None),
+];
 
 #[test]
-fn a_send_that_is_to_fail_goes_on_with_the_other_subscribers(rt: HostRuntime) -> Result<(), Fail> {
+fn a_full_mailbox_blocks_where_somebody_reads(rt: HostRuntime) -> Result<(), AllocError> {
+    go(&rt, rt.alloc(), false, None, &BLOCKED)
+}
+
+// The other subscribers get what one of them can't take.
+const OTHERS: [Step; 9] = [
+    Step::Comes(10, 1),
+    Step::Comes(11, 2),
+    Step::Attaches(10),
+    Step::Sends(1, Ok(Sent::Delivered(2))),
+    Step::Sends(2, Err(SendError::UnableToDeliver)),
+    Step::Reads(10, Some(1)),
+    Step::Reads(10, None),
+    Step::Reads(11, Some(1)),
+    Step::Reads(11, Some(2)),
+];
+
+#[test]
+fn a_send_that_is_to_fail_goes_on_with_the_other_subscribers(
+    rt: HostRuntime,
+) -> Result<(), AllocError> {
     let answer = Some(BackpressureAction::DiscardDataAndFail);
-    assert!(rt; goes_on_with_the_others(&mut make_world(rt.alloc(), false, answer)?, rt.alloc()));
-    Ok(())
+    go(&rt, rt.alloc(), false, answer, &OTHERS)
 }
 
-// Whether a publisher that left delivers nothing more, and what waits can still be read where a subscriber attached.
-fn sends_until_it_leaves(world: &mut World, alloc: Global) -> bool {
-    comes(world, 10, 2)
-        && comes(world, 11, 2)
-        && attaches(world, alloc, 11)
-        && sends(world, alloc, 1, Ok(Sent::Delivered(2)))
-}
-
-fn sends_no_more(world: &mut World, alloc: Global) -> bool {
-    world.port.leave();
-    sends(
-        world,
-        alloc,
-        2,
-        Err(SendError::ConnectionBrokenSinceSenderNoLongerExists),
-    ) && reads_nothing(world, 10)
-        && reads(world, 11, 1)
-        && world.port.sender.loans() == 0
-}
-
-fn leaves(world: &mut World, alloc: Global) -> bool {
-    sends_until_it_leaves(world, alloc) && sends_no_more(world, alloc)
-}
+// A publisher that left delivers nothing more, and what waits can still be read where a subscriber attached.
+const LEFT: [Step; 9] = [
+    Step::Comes(10, 2),
+    Step::Comes(11, 2),
+    Step::Attaches(11),
+    Step::Sends(1, Ok(Sent::Delivered(2))),
+    Step::Leaves,
+    Step::Sends(2, Err(SendError::ConnectionBrokenSinceSenderNoLongerExists)),
+    Step::Reads(10, None),
+    Step::Reads(11, Some(1)),
+    Step::HasLoans(0),
+];
 
 #[test]
-fn a_publisher_that_left_sends_no_more(rt: HostRuntime) -> Result<(), Fail> {
-    assert!(rt; leaves(&mut make_world(rt.alloc(), true, None)?, rt.alloc()));
-    Ok(())
+fn a_publisher_that_left_sends_no_more(rt: HostRuntime) -> Result<(), AllocError> {
+    go(&rt, rt.alloc(), true, None, &LEFT)
 }

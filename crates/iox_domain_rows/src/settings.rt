@@ -1,4 +1,5 @@
 //! What ports take from a description and from their users.
+use crate::holds;
 use iox_describe_base::{
     AttributeSpecifier, Header, MessageTypeDetails, ServiceName, TypeVariant, ZeroCopySend,
 };
@@ -11,7 +12,7 @@ use iox_domain_settings::{
 use iox_domain_values::{
     AllocationStrategy, BackpressureStrategy, ServiceSizes, SubscriberCreateError,
 };
-use std::test::Fail;
+use std::process::Abort;
 
 // The description of service A with these settings.
 fn described(settings: Settings) -> Option<Description> {
@@ -46,10 +47,9 @@ fn fits_its_types(variant: TypeVariant, slices: bool) -> bool {
 }
 
 #[test]
-fn a_description_fits_its_types_as_values_and_as_slices(rt: HostRuntime) -> Result<(), Fail> {
-    assert!(rt; fits_its_types(TypeVariant::FixedSize, false));
-    assert!(rt; fits_its_types(TypeVariant::Dynamic, true));
-    Ok(())
+fn a_description_fits_its_types_as_values_and_as_slices(rt: HostRuntime) {
+    holds(&rt, fits_its_types(TypeVariant::FixedSize, false));
+    holds(&rt, fits_its_types(TypeVariant::Dynamic, true));
 }
 
 // Whether nothing fits an event service.
@@ -63,9 +63,8 @@ fn nothing_fits_events() -> bool {
 }
 
 #[test]
-fn an_event_service_fits_nothing(rt: HostRuntime) -> Result<(), Fail> {
-    assert!(rt; nothing_fits_events());
-    Ok(())
+fn an_event_service_fits_nothing(rt: HostRuntime) {
+    holds(&rt, nothing_fits_events());
 }
 
 // How much the default settings allow to ports, with so many expired connections.
@@ -90,49 +89,68 @@ fn has_sizes(expired_connection_buffer: u32, sizes: Option<ServiceSizes>) -> boo
 }
 
 #[test]
-fn sizes_are_those_of_the_description(rt: HostRuntime) -> Result<(), Fail> {
-    assert!(rt; has_sizes(128, allowed(128)) && has_sizes(1, allowed(2)));
-    Ok(())
+fn sizes_are_those_of_the_description(rt: HostRuntime) {
+    holds(&rt, has_sizes(128, allowed(128)));
+    holds(&rt, has_sizes(1, allowed(2)));
 }
 
-// What a subscriber with these settings is given where two messages may wait.
-fn given(settings: SubscriberSettings) -> Option<Result<usize, SubscriberCreateError>> {
+const TOO_LARGE: SubscriberCreateError =
+    SubscriberCreateError::BufferSizeExceedsMaxSupportedBufferSizeOfService;
+
+// Buffers that a subscriber names, or doesn't, and what it is given where two messages may wait.
+const BUFFERS: [(Option<usize>, Result<usize, SubscriberCreateError>); 6] = [
+    (None, Ok(2)),
+    (Some(0), Ok(1)),
+    (Some(1), Ok(1)),
+    (Some(2), Ok(2)),
+    (Some(3), Err(TOO_LARGE)),
+    (Some(usize::MAX), Err(TOO_LARGE)),
+];
+
+// What a subscriber is given that names this buffer, if it names one.
+fn given(buffer: Option<usize>) -> Option<Result<usize, SubscriberCreateError>> {
+    let settings = match buffer {
+        Some(size) => SubscriberSettings::default().buffer_size(size),
+        None => SubscriberSettings::default(),
+    };
     Some(settings.buffer_size_within(&allowed(128)?))
 }
 
-// What one that names a buffer is given.
-fn named(buffer: usize) -> Option<Result<usize, SubscriberCreateError>> {
-    given(SubscriberSettings::default().buffer_size(buffer))
+fn buffers_are_given(rt: &impl Abort) {
+    for (buffer, answer) in &BUFFERS {
+        assert!(rt; given(*buffer) == Some(*answer), "{buffer:?}");
+    }
 }
 
 #[test]
-fn a_buffer_is_between_1_and_what_the_service_allows(rt: HostRuntime) -> Result<(), Fail> {
-    let error = SubscriberCreateError::BufferSizeExceedsMaxSupportedBufferSizeOfService;
-    assert!(rt; named(0) == Some(Ok(1)) && named(1) == Some(Ok(1)) && named(2) == Some(Ok(2)));
-    assert!(rt; named(3) == Some(Err(error)) && named(usize::MAX) == Some(Err(error)));
-    assert!(rt; given(SubscriberSettings::default()) == Some(Ok(2)));
-    Ok(())
+fn a_buffer_is_between_1_and_what_the_service_allows(rt: HostRuntime) {
+    buffers_are_given(&rt);
 }
 
-#[test]
-fn a_publisher_is_made_with_the_defaults_or_what_is_named(rt: HostRuntime) -> Result<(), Fail> {
-    let defaults = PublisherSettings {
-        max_loaned_samples: 2,
-        strategy: BackpressureStrategy::RetryUntilDelivered,
-        initial_max_slice_len: 1,
-        allocation: AllocationStrategy::Static,
-    };
-    let named = PublisherSettings {
-        max_loaned_samples: 0,
-        strategy: BackpressureStrategy::DiscardData,
-        initial_max_slice_len: 120,
-        allocation: AllocationStrategy::PowerOfTwo,
-    };
-    let made = PublisherSettings::default()
+const DEFAULTS: PublisherSettings = PublisherSettings {
+    max_loaned_samples: 2,
+    strategy: BackpressureStrategy::RetryUntilDelivered,
+    initial_max_slice_len: 1,
+    allocation: AllocationStrategy::Static,
+};
+
+const NAMED: PublisherSettings = PublisherSettings {
+    max_loaned_samples: 0,
+    strategy: BackpressureStrategy::DiscardData,
+    initial_max_slice_len: 120,
+    allocation: AllocationStrategy::PowerOfTwo,
+};
+
+fn made() -> PublisherSettings {
+    PublisherSettings::default()
         .max_loaned_samples(0)
         .backpressure_strategy(BackpressureStrategy::DiscardData)
         .initial_max_slice_len(120)
-        .allocation_strategy(AllocationStrategy::PowerOfTwo);
-    assert!(rt; PublisherSettings::default() == defaults && made == named);
-    Ok(())
+        .allocation_strategy(AllocationStrategy::PowerOfTwo)
+}
+
+#[test]
+fn a_publisher_is_made_with_the_defaults_or_what_is_named(rt: HostRuntime) {
+    holds(&rt, PublisherSettings::default() == DEFAULTS);
+    holds(&rt, made() == NAMED);
 }

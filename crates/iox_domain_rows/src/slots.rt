@@ -1,7 +1,7 @@
 //! The way of a message through the slots of a publisher.
 use iox_domain_slots::{SlotUses, Stage};
 use std::alloc::{AllocError, Global};
-use std::test::Fail;
+use std::process::Abort;
 
 // Makes a connection of this limit, where the publisher allows it.
 fn join(uses: &mut SlotUses, alloc: Global, limit: usize) -> Result<usize, AllocError> {
@@ -79,114 +79,239 @@ fn leave(uses: &mut SlotUses, index: usize) -> bool {
     true
 }
 
-// Whether a connection of one place lets its oldest message go for the third, once the first was received.
-fn lets_its_oldest_go(alloc: Global, uses: &mut SlotUses) -> Result<bool, AllocError> {
-    let index = join(uses, alloc, 1)?;
-    let first = publish(uses, index);
-    let received = first.is_some() && receive(uses, index) == first;
-    let second = publish(uses, index);
-    let third = publish(uses, index);
-    let sent = second.is_some() && third.is_some() && second != third;
-    Ok(received && sent && receive(uses, index) == third && third != first)
+// The uses of a publisher's slots, a connection, and slots that are kept, each at a place of its own.
+#[derive(Drop)]
+struct World {
+    uses: SlotUses,
+    index: usize,
+    slots: [usize; 4],
 }
 
-#[test]
-fn a_full_mailbox_lets_its_oldest_go(rt: HostRuntime) -> Result<(), Fail> {
-    let mut uses = SlotUses::new(rt.alloc(), true, 5, 2, 0, 1, 2)?;
-    assert!(rt; lets_its_oldest_go(rt.alloc(), &mut uses)?);
-    Ok(())
+// What is done, and what it must come to. Slots are told by the places where they are kept.
+enum Step {
+    // A connection of this limit is made, at the first index.
+    Joins(usize),
+    // It ends.
+    Leaves,
+    // So many come and go after one another.
+    ComeAndGo(usize, usize),
+    // A slot is lent and kept; whether there was one.
+    Lends(usize, bool),
+    // A loan is sent; whether it was delivered.
+    Sends(usize, bool),
+    // A slot is lent, kept and sent to the connection, which takes it.
+    Publishes(usize),
+    // The oldest message that waits is borrowed and kept; whether there was one.
+    Receives(usize, bool),
+    // A message is given back; whether it was borrowed.
+    Releases(usize, bool),
+    // Whether two slots are the same.
+    Same(usize, usize, bool),
+    // The connection goes on, and so many messages wait.
+    Waits(usize),
+    // It is given the history.
+    Welcomes,
 }
 
-// Whether so many sends, of which none is delivered to the ended connection, get other slots than the one held.
-fn are_other_slots(uses: &mut SlotUses, index: usize, held: usize) -> bool {
-    for _ in 0..3 {
-        let slot = lend(uses).unwrap_or(held);
-        if slot == held || send(uses, slot, index) {
-            return false;
-        }
+fn slot_at(world: &World, place: usize) -> usize {
+    world.slots.get(place).copied().unwrap_or(usize::MAX)
+}
+
+// Keeps a slot at a place; whether there is one.
+fn keep(world: &mut World, place: usize, slot: Option<usize>) -> bool {
+    if place < 4 {
+        world.slots[place] = slot.unwrap_or(usize::MAX);
     }
-    true
+    slot.is_some()
 }
 
-// Whether two slots are lent, and a third one only once the sample that is held was released, which happens once.
-fn is_lent_once_released(uses: &mut SlotUses, index: usize, held: usize) -> bool {
-    lend(uses).is_some()
-        && lend(uses).is_some()
-        && lend(uses).is_none()
-        && release(uses, index, held)
-        && !release(uses, index, held)
-        && lend(uses) == Some(held)
+fn lends(world: &mut World, place: usize) -> bool {
+    let slot = lend(&mut world.uses);
+    keep(world, place, slot)
 }
 
-// Whether the sample that a connection of one place holds outlives it.
-fn outlives(alloc: Global, uses: &mut SlotUses) -> Result<bool, AllocError> {
-    let index = join(uses, alloc, 1)?;
-    let sent = publish(uses, index);
-    let held = receive(uses, index).unwrap_or(usize::MAX);
-    let left = sent == Some(held) && leave(uses, index);
-    Ok(left && are_other_slots(uses, index, held) && is_lent_once_released(uses, index, held))
+fn publishes(world: &mut World, place: usize) -> bool {
+    let slot = publish(&mut world.uses, world.index);
+    keep(world, place, slot)
 }
 
-#[test]
-fn a_sample_outlives_its_subscriber(rt: HostRuntime) -> Result<(), Fail> {
-    let mut uses = SlotUses::new(rt.alloc(), true, 3, 3, 0, 1, 1)?;
-    assert!(rt; outlives(rt.alloc(), &mut uses)?);
-    Ok(())
+fn receives(world: &mut World, place: usize) -> bool {
+    let slot = receive(&mut world.uses, world.index);
+    keep(world, place, slot)
 }
 
-// Sends three messages to no connection; their slots, or none if one was delivered.
-fn three_sent(uses: &mut SlotUses) -> Option<[usize; 3]> {
-    let mut sent = [0; 3];
-    for place in 0..3 {
-        let slot = lend(uses).unwrap_or(usize::MAX);
-        if send(uses, slot, 0) {
-            return None;
-        }
-        sent[place] = slot;
-    }
-    Some(sent)
+fn joins(world: &mut World, alloc: Global, limit: usize) -> Result<bool, AllocError> {
+    world.index = join(&mut world.uses, alloc, limit)?;
+    Ok(world.index == 0)
 }
 
-// Whether a hundred connections of two places come and go, each at index 0.
-fn come_and_go(alloc: Global, uses: &mut SlotUses) -> Result<bool, AllocError> {
-    for _ in 0..100 {
-        let index = join(uses, alloc, 2)?;
-        if index != 0 || !leave(uses, index) {
+fn come_and_go(
+    world: &mut World,
+    alloc: Global,
+    times: usize,
+    limit: usize,
+) -> Result<bool, AllocError> {
+    for _ in 0..times {
+        if !joins(world, alloc, limit)? || !leave(&mut world.uses, world.index) {
             return Ok(false);
         }
     }
     Ok(true)
 }
 
-// Whether a new connection of two places gets the newest two of three messages, oldest first, once it is welcomed.
-fn gets_the_newest(
-    alloc: Global,
-    uses: &mut SlotUses,
-    sent: [usize; 3],
-) -> Result<bool, AllocError> {
-    let index = join(uses, alloc, 2)?;
+fn is_at(uses: &SlotUses, index: usize, waiting: usize) -> bool {
+    matches!(uses.stage(index), Stage::Live) && uses.waiting(index) == waiting
+}
+
+fn is_welcomed(uses: &mut SlotUses, index: usize) -> bool {
     if !matches!(uses.stage(index), Stage::Live) || uses.waiting(index) != 0 {
-        return Ok(false);
+        return false;
     }
     uses.welcome(index);
-    Ok(
-        receive(uses, index) == Some(sent[1])
-            && receive(uses, index) == Some(sent[2])
-            && receive(uses, index).is_none(),
+    true
+}
+
+// Whether a step that takes no memory goes so.
+fn goes_there(world: &mut World, step: &Step) -> bool {
+    match *step {
+        Step::Leaves => leave(&mut world.uses, world.index),
+        Step::Lends(place, some) => lends(world, place) == some,
+        Step::Publishes(place) => publishes(world, place),
+        Step::Receives(place, some) => receives(world, place) == some,
+        Step::Same(one, other, same) => (slot_at(world, one) == slot_at(world, other)) == same,
+        Step::Waits(waiting) => is_at(&world.uses, world.index, waiting),
+        Step::Welcomes => is_welcomed(&mut world.uses, world.index),
+        Step::Sends(place, took) => {
+            let slot = slot_at(world, place);
+            send(&mut world.uses, slot, world.index) == took
+        }
+        Step::Releases(place, done) => {
+            let slot = slot_at(world, place);
+            release(&mut world.uses, world.index, slot) == done
+        }
+        _ => false,
+    }
+}
+
+fn goes(world: &mut World, alloc: Global, step: &Step) -> Result<bool, AllocError> {
+    match *step {
+        Step::Joins(limit) => joins(world, alloc, limit),
+        Step::ComeAndGo(times, limit) => come_and_go(world, alloc, times, limit),
+        _ => Ok(goes_there(world, step)),
+    }
+}
+
+fn go_on(
+    rt: &impl Abort,
+    alloc: Global,
+    world: &mut World,
+    steps: &[Step],
+) -> Result<(), AllocError> {
+    for (place, step) in steps.iter().enumerate() {
+        assert!(rt; goes(world, alloc, step)?, "step {place}");
+    }
+    Ok(())
+}
+
+// Takes the steps on new slots; each must come to what it says.
+fn go(rt: &impl Abort, alloc: Global, uses: SlotUses, steps: &[Step]) -> Result<(), AllocError> {
+    let mut world = World {
+        uses,
+        index: 0,
+        slots: [usize::MAX; 4],
+    };
+    go_on(rt, alloc, &mut world, steps)
+}
+
+// A connection of one place lets its oldest message go for the third, once the first was received.
+const OLDEST_GOES: [Step; 10] = [
+    Step::Joins(1),
+    Step::Publishes(0),
+    Step::Receives(1, true),
+    Step::Same(0, 1, true),
+    Step::Publishes(2),
+    Step::Publishes(3),
+    Step::Same(2, 3, false),
+    Step::Receives(1, true),
+    Step::Same(1, 3, true),
+    Step::Same(0, 3, false),
+];
+
+#[test]
+fn a_full_mailbox_lets_its_oldest_go(rt: HostRuntime) -> Result<(), AllocError> {
+    let alloc = rt.alloc();
+    go(
+        &rt,
+        alloc,
+        SlotUses::new(alloc, true, 5, 2, 0, 1, 2)?,
+        &OLDEST_GOES,
     )
 }
 
-// Whether it does after those that came and went.
-fn is_welcomed(alloc: Global, uses: &mut SlotUses) -> Result<bool, AllocError> {
-    match three_sent(uses) {
-        Some(sent) => Ok(come_and_go(alloc, uses)? && gets_the_newest(alloc, uses, sent)?),
-        None => Ok(false),
-    }
-}
+// The sample that a connection of one place holds outlives it: sends, of which none is delivered to the ended connection, get other slots
+// than the one held. Two slots are lent, and a third one only once the sample was released, which happens once.
+const OUTLIVES: [Step; 21] = [
+    Step::Joins(1),
+    Step::Publishes(0),
+    Step::Receives(1, true),
+    Step::Same(0, 1, true),
+    Step::Leaves,
+    Step::Lends(2, true),
+    Step::Same(1, 2, false),
+    Step::Sends(2, false),
+    Step::Lends(2, true),
+    Step::Same(1, 2, false),
+    Step::Sends(2, false),
+    Step::Lends(2, true),
+    Step::Same(1, 2, false),
+    Step::Sends(2, false),
+    Step::Lends(2, true),
+    Step::Lends(2, true),
+    Step::Lends(3, false),
+    Step::Releases(1, true),
+    Step::Releases(1, false),
+    Step::Lends(3, true),
+    Step::Same(1, 3, true),
+];
 
 #[test]
-fn a_new_connection_gets_the_newest_of_the_history(rt: HostRuntime) -> Result<(), Fail> {
-    let mut uses = SlotUses::new(rt.alloc(), false, 9, 1, 3, 2, 2)?;
-    assert!(rt; is_welcomed(rt.alloc(), &mut uses)?);
-    Ok(())
+fn a_sample_outlives_its_subscriber(rt: HostRuntime) -> Result<(), AllocError> {
+    let alloc = rt.alloc();
+    go(
+        &rt,
+        alloc,
+        SlotUses::new(alloc, true, 3, 3, 0, 1, 1)?,
+        &OUTLIVES,
+    )
+}
+
+// Three messages are sent to nobody, and a hundred connections come and go at one index: then a new one of two places gets the newest two,
+// oldest first, once it is welcomed.
+const NEWEST: [Step; 15] = [
+    Step::Lends(0, true),
+    Step::Sends(0, false),
+    Step::Lends(1, true),
+    Step::Sends(1, false),
+    Step::Lends(2, true),
+    Step::Sends(2, false),
+    Step::ComeAndGo(100, 2),
+    Step::Joins(2),
+    Step::Waits(0),
+    Step::Welcomes,
+    Step::Receives(3, true),
+    Step::Same(3, 1, true),
+    Step::Receives(3, true),
+    Step::Same(3, 2, true),
+    Step::Receives(3, false),
+];
+
+#[test]
+fn a_new_connection_gets_the_newest_of_the_history(rt: HostRuntime) -> Result<(), AllocError> {
+    let alloc = rt.alloc();
+    go(
+        &rt,
+        alloc,
+        SlotUses::new(alloc, false, 9, 1, 3, 2, 2)?,
+        &NEWEST,
+    )
 }

@@ -5,14 +5,15 @@ use iox_domain_subscriber::{PublisherEntry, Publishers, SubscriberPort, Taken};
 use iox_domain_values::{AllocationStrategy, DegradationAction, DegradationHandler};
 use iox_index_base::{Member, OwnerId};
 use std::alloc::{AllocError, Global};
-use std::test::Fail;
+use std::process::Abort;
 
-// Publishers with a subscriber, and who is asked where it isn't connected.
+// Publishers with a subscriber, who is asked where it isn't connected, and what was received last.
 #[derive(Drop)]
 struct World {
     publishers: Publishers<u64, u8>,
     subscriber: SubscriberPort,
     handler: DegradationHandler,
+    got: Option<Taken>,
 }
 
 // A publisher that is on the list.
@@ -23,6 +24,7 @@ fn port(alloc: Global, number: u64) -> Result<PublisherPort<u64, u8>, AllocError
         owner: OWNER,
         place: 0,
         allocation: AllocationStrategy::Static,
+        unit: 1,
         stands: true,
         seen: 0,
         ties: Ties::new(alloc, 2)?,
@@ -41,6 +43,7 @@ fn make_world(alloc: Global, most_expired: usize) -> Result<World, AllocError> {
         publishers,
         subscriber: SubscriberPort::new(alloc, identity(1, 5), 2, 2, most_expired)?,
         handler: DegradationHandler::new_with(DegradationAction::DegradeAndFail),
+        got: None,
     })
 }
 
@@ -56,8 +59,8 @@ fn listed(publisher: u64) -> Option<Member<PublisherEntry>> {
     }
 }
 
-// Receives with this publisher on the list.
-fn receive(world: &mut World, alloc: Global, number: u64, changes: u64) -> Option<Taken> {
+// Receives with this publisher on the list; whether that went well.
+fn receive(world: &mut World, alloc: Global, number: u64, changes: u64) -> bool {
     let answer = world.subscriber.receive(
         alloc,
         &[listed(number)],
@@ -65,19 +68,13 @@ fn receive(world: &mut World, alloc: Global, number: u64, changes: u64) -> Optio
         &world.handler,
         &mut world.publishers,
     );
-    answer.unwrap_or(None)
-}
-
-// Whether receiving is refused with this publisher on the list.
-fn is_refused(world: &mut World, alloc: Global, number: u64, changes: u64) -> bool {
-    let answer = world.subscriber.receive(
-        alloc,
-        &[listed(number)],
-        changes,
-        &world.handler,
-        &mut world.publishers,
-    );
-    answer.is_err()
+    match answer {
+        Ok(got) => {
+            world.got = got;
+            true
+        }
+        Err(_) => false,
+    }
 }
 
 // Whether some connection has data, with this publisher on the list.
@@ -131,52 +128,105 @@ fn release(world: &mut World, got: Option<Taken>) -> bool {
         .give_back(taken.publisher, taken.index, taken.slot)
 }
 
-// Whether a message is received once it was sent, and a second one only once the first is given back.
-fn receives_in_turn(world: &mut World, alloc: Global) -> bool {
-    let early = has_samples(world, alloc, 7, 1);
-    let sent = publish(world, 7, 11) && has_samples(world, alloc, 7, 1);
-    let got = receive(world, alloc, 7, 1);
-    let refused = publish(world, 7, 12) && is_refused(world, alloc, 7, 1);
-    let held = read(world, got) == 11 && release(world, got);
-    !early && sent && refused && held
+// What is done to publishers and a subscriber, and what it must come to.
+enum Step {
+    // A publisher sends a value.
+    Publishes(u64, u64),
+    // A publisher leaves the list.
+    Leaves(u64),
+    // With this publisher on the list, which has changed so often: whether there is something to receive.
+    HasSamples(u64, u64, bool),
+    // The same: the next message is received, unless that is refused.
+    Receives(u64, u64, bool),
+    // What was received has this value.
+    Reads(u64),
+    // It is given back.
+    Releases,
+    // There is no publisher of this number.
+    IsGone(u64),
 }
 
-// Whether the next message has this value.
-fn comes_next(world: &mut World, alloc: Global, value: u64) -> bool {
-    let got = receive(world, alloc, 7, 1);
-    read(world, got) == value
-}
-
-#[test]
-fn a_subscriber_receives_in_turn(rt: HostRuntime) -> Result<(), Fail> {
-    let mut world = make_world(rt.alloc(), 2)?;
-    assert!(rt; receives_in_turn(&mut world, rt.alloc()) && comes_next(&mut world, rt.alloc(), 12));
-    Ok(())
-}
-
-// Whether a publisher left while its message is held, and another that came to its place is connected: `refused` says whether only once
-// the message is given back.
-fn comes_in_its_place(world: &mut World, alloc: Global, refused: bool) -> bool {
-    let sent = !has_samples(world, alloc, 7, 1) && publish(world, 7, 11);
-    let got = receive(world, alloc, 7, 1);
-    let left = leave(world, 7) && is_refused(world, alloc, 8, 2) == refused;
-    let held = read(world, got) == 11 && release(world, got);
-    sent && left && held
-}
-
-// Whether the other one gives, and the one that left is gone.
-fn gives_then(world: &mut World, alloc: Global) -> bool {
-    let sent = !has_samples(world, alloc, 8, 2) && publish(world, 8, 21);
-    let got = receive(world, alloc, 8, 2);
-    sent && read(world, got) == 21 && world.publishers.get(7).is_none()
-}
-
-#[test]
-fn a_publisher_that_left_is_gone_in_the_end(rt: HostRuntime) -> Result<(), Fail> {
-    for most_expired in [0, 1] {
-        let mut world = make_world(rt.alloc(), most_expired)?;
-        assert!(rt; comes_in_its_place(&mut world, rt.alloc(), most_expired == 0));
-        assert!(rt; gives_then(&mut world, rt.alloc()));
+fn goes(world: &mut World, alloc: Global, step: &Step) -> bool {
+    match *step {
+        Step::Publishes(number, value) => publish(world, number, value),
+        Step::Leaves(number) => leave(world, number),
+        Step::HasSamples(number, changes, some) => has_samples(world, alloc, number, changes)
+            == some,
+        Step::Receives(number, changes, well) => receive(world, alloc, number, changes) == well,
+        Step::Reads(value) => read(world, world.got) == value,
+        Step::Releases => release(world, world.got),
+        Step::IsGone(number) => world.publishers.get(number).is_none(),
     }
+}
+
+fn go_on(rt: &impl Abort, alloc: Global, world: &mut World, steps: &[Step]) {
+    for (place, step) in steps.iter().enumerate() {
+        assert!(rt; goes(world, alloc, step), "step {place}");
+    }
+}
+
+// Takes the steps on new publishers and a new subscriber; each must come to what it says.
+fn go(
+    rt: &impl Abort,
+    alloc: Global,
+    most_expired: usize,
+    steps: &[Step],
+) -> Result<(), AllocError> {
+    go_on(rt, alloc, &mut make_world(alloc, most_expired)?, steps);
     Ok(())
+}
+
+// A message is received once it was sent, and a second one only once the first is given back.
+const IN_TURN: [Step; 10] = [
+    Step::HasSamples(7, 1, false),
+    Step::Publishes(7, 11),
+    Step::HasSamples(7, 1, true),
+    Step::Receives(7, 1, true),
+    Step::Publishes(7, 12),
+    Step::Receives(7, 1, false),
+    Step::Reads(11),
+    Step::Releases,
+    Step::Receives(7, 1, true),
+    Step::Reads(12),
+];
+
+#[test]
+fn a_subscriber_receives_in_turn(rt: HostRuntime) -> Result<(), AllocError> {
+    go(&rt, rt.alloc(), 2, &IN_TURN)
+}
+
+// A publisher leaves while its message is held.
+const LEFT: [Step; 4] = [
+    Step::HasSamples(7, 1, false),
+    Step::Publishes(7, 11),
+    Step::Receives(7, 1, true),
+    Step::Leaves(7),
+];
+
+// Once the message is given back another that came to its place gives, and the one that left is gone.
+const GONE: [Step; 7] = [
+    Step::Reads(11),
+    Step::Releases,
+    Step::HasSamples(8, 2, false),
+    Step::Publishes(8, 21),
+    Step::Receives(8, 2, true),
+    Step::Reads(21),
+    Step::IsGone(7),
+];
+
+// Another comes to its place while that message is held: it is refused, unless one connection may outlive its publisher.
+fn goes_in_the_end(rt: &impl Abort, alloc: Global, most_expired: usize) -> Result<(), AllocError> {
+    let mut world = make_world(alloc, most_expired)?;
+    go_on(rt, alloc, &mut world, &LEFT);
+    let got = world.got;
+    assert!(rt; receive(&mut world, alloc, 8, 2) == (most_expired == 1));
+    world.got = got;
+    go_on(rt, alloc, &mut world, &GONE);
+    Ok(())
+}
+
+#[test]
+fn a_publisher_that_left_is_gone_in_the_end(rt: HostRuntime) -> Result<(), AllocError> {
+    goes_in_the_end(&rt, rt.alloc(), 0)?;
+    goes_in_the_end(&rt, rt.alloc(), 1)
 }

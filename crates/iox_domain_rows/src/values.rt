@@ -2,6 +2,7 @@
 ghost use Rattle.std.specs.Prelude.{◌≡◌, ◌≤◌, ◌⊎◌, ⊤};
 ghost use Rattle.iox_domain_values.specs.declared.backpressure.BackpressureAction.TheVariants as action;
 
+use crate::holds;
 use iox_domain_values::{
     BackpressureAction, BackpressureFn, BackpressureHandler, BackpressureInfo,
     BackpressureStrategy, ConnectionFailure, DegradationAction, DegradationCause, DegradationFn,
@@ -13,26 +14,31 @@ use serde_json::Error;
 use std::alloc::{AllocError, Global};
 use std::cell::Cell;
 use std::fmt::Display;
+use std::process::Abort;
 use std::test::Fail;
 
-// Whether the error displays so.
-fn displays<E: Display>(alloc: Global, error: &E, text: &str) -> Result<bool, AllocError> {
-    Ok(format!(in alloc; "{error}")?.as_str() == text)
+// The error must display so.
+fn displays<E: Display>(
+    rt: &impl Abort,
+    alloc: Global,
+    error: &E,
+    text: &str,
+) -> Result<(), AllocError> {
+    assert!(rt; format!(in alloc; "{error}")?.as_str() == text, "{text}");
+    Ok(())
 }
 
-// Whether the error displays as this name between these texts.
+// The error must display as this name between these texts.
 fn displays_in<E: Display>(
+    rt: &impl Abort,
     alloc: Global,
     error: &E,
     start: &str,
     name: &str,
     end: &str,
-) -> Result<bool, AllocError> {
-    displays(
-        alloc,
-        error,
-        format!(in alloc; "{start}{name}{end}")?.as_str(),
-    )
+) -> Result<(), AllocError> {
+    let text = format!(in alloc; "{start}{name}{end}")?;
+    displays(rt, alloc, error, text.as_str())
 }
 
 // Each failure of a connection with its variant's name.
@@ -59,37 +65,28 @@ const FAILURES: [(ConnectionFailure, &str); 4] = [
     ),
 ];
 
-// Whether the failure displays by this name, alone and inside those that it is made into.
-fn displays_at_any_depth(
-    alloc: Global,
-    failure: ConnectionFailure,
-    name: &str,
-) -> Result<bool, AllocError> {
-    let send = SendError::from(failure);
-    let receive = ReceiveError::from(failure);
-    Ok(
-        displays_in(alloc, &failure, "ConnectionFailure::", name, "")?
-            && displays_in(alloc, &send, "SendError::ConnectionError(", name, ")")?
-            && displays_in(
-                alloc,
-                &receive,
-                "ReceiveError::ConnectionFailure(",
-                name,
-                ")",
-            )?,
-    )
+// Each failure must display by its name, alone and inside those that it is made into.
+fn failures_display(rt: &impl Abort, alloc: Global) -> Result<(), AllocError> {
+    for (failure, name) in &FAILURES {
+        let send = SendError::from(*failure);
+        let receive = ReceiveError::from(*failure);
+        displays_in(rt, alloc, failure, "ConnectionFailure::", *name, "")?;
+        displays_in(rt, alloc, &send, "SendError::ConnectionError(", *name, ")")?;
+        displays_in(
+            rt,
+            alloc,
+            &receive,
+            "ReceiveError::ConnectionFailure(",
+            *name,
+            ")",
+        )?;
+    }
+    Ok(())
 }
 
 #[test]
-fn failures_of_connections_display_at_any_depth(rt: HostRuntime) -> Result<(), Fail> {
-    for row in &FAILURES {
-        assert!(rt;
-            displays_at_any_depth(rt.alloc(), row.0, row.1)?,
-            "{}",
-            row.1
-        );
-    }
-    Ok(())
+fn failures_of_connections_display_at_any_depth(rt: HostRuntime) -> Result<(), AllocError> {
+    failures_display(&rt, rt.alloc())
 }
 
 // Each refused loan with its variant's name.
@@ -100,55 +97,72 @@ const LOANS: [(LoanError, &str); 4] = [
     (LoanError::InternalFailure, "InternalFailure"),
 ];
 
-// Whether the refused loan displays by this name, alone and as a failed send.
-fn displays_as_loan(alloc: Global, error: LoanError, name: &str) -> Result<bool, AllocError> {
-    let send = SendError::from(error);
-    Ok(
-        displays_in(alloc, &error, "LoanError::", name, "")?
-            && displays_in(alloc, &send, "SendError::LoanError(", name, ")")?,
-    )
+// Each refused loan must display by its name, alone and as a failed send.
+fn loans_display(rt: &impl Abort, alloc: Global) -> Result<(), AllocError> {
+    for (error, name) in &LOANS {
+        displays_in(rt, alloc, error, "LoanError::", *name, "")?;
+        displays_in(
+            rt,
+            alloc,
+            &SendError::from(*error),
+            "SendError::LoanError(",
+            *name,
+            ")",
+        )?;
+    }
+    Ok(())
 }
+
+const INCOMPATIBLE: ZeroCopyCreationError = ZeroCopyCreationError::IncompatibleBufferSize;
 
 const NOT_DELIVERED: SendError = SendError::UnableToDeliver;
 
 const TOO_MANY: ReceiveError = ReceiveError::ExceedsMaxBorrows;
 
-// Whether one variant of each error of a call displays so.
-fn errors_of_calls_display(alloc: Global) -> Result<bool, AllocError> {
-    let error = ZeroCopyCreationError::IncompatibleBufferSize;
-    Ok(
-        displays(
-            alloc,
-            &error,
-            "ZeroCopyCreationError::IncompatibleBufferSize",
-        )? && displays(alloc, &NOT_DELIVERED, "SendError::UnableToDeliver")?
-            && displays(alloc, &TOO_MANY, "ReceiveError::ExceedsMaxBorrows")?,
-    )
+const NO_SEGMENT: PublisherCreateError = PublisherCreateError::UnableToCreateDataSegment;
+
+const NO_MEMORY: SubscriberCreateError = SubscriberCreateError::OutOfMemory;
+
+const NO_DOMAIN: DomainError = DomainError::OutOfMemory;
+
+// One variant of each error of a call must display so.
+fn errors_of_calls_display(rt: &impl Abort, alloc: Global) -> Result<(), AllocError> {
+    displays(
+        rt,
+        alloc,
+        &INCOMPATIBLE,
+        "ZeroCopyCreationError::IncompatibleBufferSize",
+    )?;
+    displays(rt, alloc, &NOT_DELIVERED, "SendError::UnableToDeliver")?;
+    displays(rt, alloc, &TOO_MANY, "ReceiveError::ExceedsMaxBorrows")
 }
 
-// Whether one variant of each error of a creation displays so.
-fn errors_of_creations_display(alloc: Global) -> Result<bool, AllocError> {
-    let publisher = PublisherCreateError::UnableToCreateDataSegment;
-    let subscriber = SubscriberCreateError::OutOfMemory;
-    Ok(
-        displays(
-            alloc,
-            &publisher,
-            "PublisherCreateError::UnableToCreateDataSegment",
-        )? && displays(alloc, &subscriber, "SubscriberCreateError::OutOfMemory")?
-            && displays(alloc, &DomainError::OutOfMemory, "DomainError::OutOfMemory")?,
-    )
+// One variant of each error of a creation must display so.
+fn errors_of_creations_display(rt: &impl Abort, alloc: Global) -> Result<(), AllocError> {
+    displays(
+        rt,
+        alloc,
+        &NO_SEGMENT,
+        "PublisherCreateError::UnableToCreateDataSegment",
+    )?;
+    displays(rt, alloc, &NO_MEMORY, "SubscriberCreateError::OutOfMemory")?;
+    displays(rt, alloc, &NO_DOMAIN, "DomainError::OutOfMemory")
 }
 
 #[test]
-fn other_errors_display_as_type_and_variant(rt: HostRuntime) -> Result<(), Fail> {
-    for row in &LOANS {
-        assert!(rt; displays_as_loan(rt.alloc(), row.0, row.1)?, "{}", row.1);
-    }
-    assert!(rt; errors_of_calls_display(rt.alloc())?);
-    assert!(rt; errors_of_creations_display(rt.alloc())?);
-    Ok(())
+fn other_errors_display_as_type_and_variant(rt: HostRuntime) -> Result<(), AllocError> {
+    loans_display(&rt, rt.alloc())?;
+    errors_of_calls_display(&rt, rt.alloc())?;
+    errors_of_creations_display(&rt, rt.alloc())
 }
+
+const STRATEGIES: [(BackpressureStrategy, &str); 2] = [
+    (
+        BackpressureStrategy::RetryUntilDelivered,
+        "\"RetryUntilDelivered\"",
+    ),
+    (BackpressureStrategy::DiscardData, "\"DiscardData\""),
+];
 
 // Whether a strategy is written so, and read back.
 fn goes_through(
@@ -160,26 +174,30 @@ fn goes_through(
     Ok(written && serde_json::from_str::<BackpressureStrategy>(alloc, json)? == strategy)
 }
 
+// Each strategy must.
+fn all_go_through(rt: &impl Abort, alloc: Global) -> Result<(), Error> {
+    for (strategy, json) in &STRATEGIES {
+        assert!(rt; goes_through(alloc, *strategy, *json)?, "{json}");
+    }
+    Ok(())
+}
+
 const NONE_OF_THEM: [&str; 5] = ["\"discardData\"", "\"Discard\"", "\"\"", "1", "null"];
 
-#[test]
-fn strategies_go_through_their_names(rt: HostRuntime) -> Result<(), Fail> {
-    let retries = BackpressureStrategy::RetryUntilDelivered;
-    assert!(rt; goes_through(rt.alloc(), retries, "\"RetryUntilDelivered\"")?);
-    assert!(rt;
-        goes_through(
-            rt.alloc(),
-            BackpressureStrategy::DiscardData,
-            "\"DiscardData\""
-        )?
-    );
+// Other texts must be refused.
+fn others_are_refused(rt: &impl Abort, alloc: Global) {
     for json in &NONE_OF_THEM {
         assert!(rt;
-            serde_json::from_str::<BackpressureStrategy>(rt.alloc(), *json).is_err(),
+            serde_json::from_str::<BackpressureStrategy>(alloc, *json).is_err(),
             "{json}"
         );
     }
-    Ok(())
+}
+
+#[test]
+fn strategies_go_through_their_names(rt: HostRuntime) -> Result<(), Error> {
+    others_are_refused(&rt, rt.alloc());
+    all_go_through(&rt, rt.alloc())
 }
 
 // Retries while it is told the number of its calls so far, and fails the send otherwise.
@@ -258,15 +276,16 @@ fn is_asked_once(handler: &BackpressureHandler) -> bool {
         && handler.call(&info) == BackpressureAction::DiscardDataAndFail
 }
 
+fn new_counting() -> Counting {
+    Counting {
+        calls: Cell::new(0),
+    }
+}
+
 #[test]
 fn objects_are_asked_once_a_call(rt: HostRuntime) -> Result<(), Fail> {
-    let object = Box::new(
-        rt.alloc(),
-        Counting {
-            calls: Cell::new(0),
-        },
-    )?;
-    assert!(rt; is_asked_once(&BackpressureHandler::boxed(object)));
+    let object = Box::new(rt.alloc(), new_counting())?;
+    holds(&rt, is_asked_once(&BackpressureHandler::boxed(object)));
     Ok(())
 }
 
@@ -284,19 +303,12 @@ fn is_told_of_places(places: &PreallocatedSamplesOverride) -> bool {
 
 #[test]
 fn objects_are_told_of_connections_and_places(rt: HostRuntime) -> Result<(), Fail> {
-    let object = Box::new(
-        rt.alloc(),
-        Counting {
-            calls: Cell::new(0),
-        },
-    )?;
-    assert!(rt; is_told_of_it(&DegradationHandler::boxed(object)));
-    let object = Box::new(
-        rt.alloc(),
-        Counting {
-            calls: Cell::new(0),
-        },
-    )?;
-    assert!(rt; is_told_of_places(&PreallocatedSamplesOverride::boxed(object)));
+    let object = Box::new(rt.alloc(), new_counting())?;
+    let other = Box::new(rt.alloc(), new_counting())?;
+    holds(&rt, is_told_of_it(&DegradationHandler::boxed(object)));
+    holds(
+        &rt,
+        is_told_of_places(&PreallocatedSamplesOverride::boxed(other)),
+    );
     Ok(())
 }

@@ -1,4 +1,5 @@
 //! Sets that threads share: each answer that they give, and guards in two threads.
+use crate::holds;
 use iox_index::{ReleaseMode, SharedIndexSet, UniqueIndexSet, UniqueIndexSetAcquireFailure};
 use std::alloc::Global;
 use std::test::Fail;
@@ -32,11 +33,14 @@ fn all_come_back(rt: &impl Threads, set: &SharedIndexSet) -> bool {
     here && there && set.borrowed_indices() == 0
 }
 
+/// Whether they give back what they take from a set of two.
+fn all_of_two_come_back(rt: &impl Threads, alloc: Global) -> Result<bool, Fail> {
+    Ok(all_come_back(rt, &shared_with_held(alloc, 2, 0)?))
+}
+
 #[test]
 fn guards_in_two_threads_give_all_back(rt: HostRuntime) -> Result<(), Fail> {
-    let set = UniqueIndexSet::new(rt.alloc(), 2)?;
-    assert!(rt; all_come_back(&rt, &shared(rt.alloc(), set)?));
-    Ok(())
+    holds(&rt, all_of_two_come_back(&rt, rt.alloc()))
 }
 
 /// A set of so many indices, of which the first ones are held.
@@ -46,6 +50,10 @@ fn with_held(alloc: Global, capacity: usize, held: usize) -> Result<UniqueIndexS
         set.acquire_raw_index()?;
     }
     Ok(set)
+}
+
+fn shared_with_held(alloc: Global, capacity: usize, held: usize) -> Result<SharedIndexSet, Fail> {
+    shared(alloc, with_held(alloc, capacity, held)?)
 }
 
 /// The same set, once its first index was released.
@@ -71,11 +79,14 @@ fn goes_on(set: &SharedIndexSet) -> Result<bool, Fail> {
     Ok(values && refused && next(set) == Ok(0))
 }
 
+fn shared_goes_on(alloc: Global) -> Result<bool, Fail> {
+    let plain = released(with_held(alloc, 3, 2)?, ReleaseMode::Default);
+    goes_on(&shared(alloc, plain)?)
+}
+
 #[test]
 fn a_shared_set_goes_on_where_the_plain_one_was(rt: HostRuntime) -> Result<(), Fail> {
-    let plain = released(with_held(rt.alloc(), 3, 2)?, ReleaseMode::Default);
-    assert!(rt; goes_on(&shared(rt.alloc(), plain)?)?);
-    Ok(())
+    holds(&rt, shared_goes_on(rt.alloc()))
 }
 
 /// Whether so many indices are held, after so many changes.
@@ -93,29 +104,27 @@ fn counts_its_changes(set: &SharedIndexSet) -> Result<bool, Fail> {
     Ok(before && acquired && refused && is_at(set, 1, 2) && set.head().head == 1)
 }
 
-fn shared_with_held(alloc: Global, capacity: usize, held: usize) -> Result<SharedIndexSet, Fail> {
-    shared(alloc, with_held(alloc, capacity, held)?)
+fn changes_are_counted(alloc: Global) -> Result<bool, Fail> {
+    counts_its_changes(&shared_with_held(alloc, 2, 1)?)
 }
 
-/// A set of one index, whose release locked it.
-fn shared_and_locked(alloc: Global) -> Result<SharedIndexSet, Fail> {
-    shared(
-        alloc,
-        released(with_held(alloc, 1, 1)?, ReleaseMode::LockIfLastIndex),
-    )
+/// Whether a set of one index, whose release locked it, says so.
+fn refuses_as_locked(alloc: Global) -> Result<bool, Fail> {
+    let plain = released(with_held(alloc, 1, 1)?, ReleaseMode::LockIfLastIndex);
+    let set = shared(alloc, plain)?;
+    Ok(set.is_locked() && next(&set) == Err(UniqueIndexSetAcquireFailure::IsLocked))
 }
 
-/// Whether a set that is locked says so.
-fn refuses_as_locked(set: &SharedIndexSet) -> bool {
-    set.is_locked() && next(set) == Err(UniqueIndexSetAcquireFailure::IsLocked)
+/// Whether a set of no index refuses.
+fn refuses_without_any(alloc: Global) -> Result<bool, Fail> {
+    Ok(next(&shared_with_held(alloc, 0, 0)?) == Err(NONE_LEFT))
 }
 
 #[test]
 fn a_shared_set_gives_each_answer(rt: HostRuntime) -> Result<(), Fail> {
-    assert!(rt; counts_its_changes(&shared_with_held(rt.alloc(), 2, 1)?)?);
-    assert!(rt; refuses_as_locked(&shared_and_locked(rt.alloc())?));
-    assert!(rt; next(&shared_with_held(rt.alloc(), 0, 0)?) == Err(NONE_LEFT));
-    Ok(())
+    holds(&rt, changes_are_counted(rt.alloc()))?;
+    holds(&rt, refuses_as_locked(rt.alloc()))?;
+    holds(&rt, refuses_without_any(rt.alloc()))
 }
 
 /// The largest number of indices that a head has room for.
@@ -130,13 +139,13 @@ fn comes_back(alloc: Global) -> Result<bool, Fail> {
 }
 
 /// Whether a set has all indices that a head has room for.
-fn is_largest(set: &SharedIndexSet) -> bool {
-    next(set) == Ok(0) && set.capacity() == MOST
+fn is_largest(alloc: Global) -> Result<bool, Fail> {
+    let set = shared_with_held(alloc, MOST, 0)?;
+    Ok(next(&set) == Ok(0) && set.capacity() == MOST)
 }
 
 #[test]
 fn a_set_that_a_head_has_no_room_for_is_not_shared(rt: HostRuntime) -> Result<(), Fail> {
-    assert!(rt; comes_back(rt.alloc())?);
-    assert!(rt; is_largest(&shared(rt.alloc(), UniqueIndexSet::new(rt.alloc(), MOST)?)?));
-    Ok(())
+    holds(&rt, comes_back(rt.alloc()))?;
+    holds(&rt, is_largest(rt.alloc()))
 }

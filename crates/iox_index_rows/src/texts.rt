@@ -4,7 +4,7 @@ use iox_index::{
 };
 use std::alloc::{AllocError, Global};
 use std::fmt::Display;
-use std::test::Fail;
+use std::process::Abort;
 
 const OF_SETS: [(UniqueIndexSetAcquireFailure, &str); 2] = [
     (
@@ -38,21 +38,22 @@ const OF_OWNERS: [(OwnerIdNewError, &str); 1] = [(
     "OwnerIdNewError::ValueReserved",
 )];
 
-/// Whether each error is told so.
-fn are_told<E: Display>(alloc: Global, rows: &[(E, &str)]) -> Result<bool, AllocError> {
-    for row in rows {
-        if format!(in alloc; "{}", row.0)?.as_str() != row.1 {
-            return Ok(false);
-        }
+/// Each error must be told so.
+fn are_told<E: Display>(
+    rt: &impl Abort,
+    alloc: Global,
+    rows: &[(E, &str)],
+) -> Result<(), AllocError> {
+    for (error, text) in rows {
+        assert!(rt; format!(in alloc; "{error}")?.as_str() == *text, "{text}");
     }
-    Ok(true)
+    Ok(())
 }
 
 #[test]
-fn each_error_names_its_type_and_its_variant(rt: HostRuntime) -> Result<(), Fail> {
-    assert!(rt; are_told(rt.alloc(), &OF_SETS)?);
-    assert!(rt; are_told(rt.alloc(), &OF_ADDING)?);
-    assert!(rt; are_told(rt.alloc(), &OF_REMOVING)?);
-    assert!(rt; are_told(rt.alloc(), &OF_OWNERS)?);
-    Ok(())
+fn each_error_names_its_type_and_its_variant(rt: HostRuntime) -> Result<(), AllocError> {
+    are_told(&rt, rt.alloc(), &OF_SETS)?;
+    are_told(&rt, rt.alloc(), &OF_ADDING)?;
+    are_told(&rt, rt.alloc(), &OF_REMOVING)?;
+    are_told(&rt, rt.alloc(), &OF_OWNERS)
 }

@@ -3,3 +3,4 @@ pub mod ReadingLemmas
 pub mod LineLemmas
 pub mod PrintLemmas
 pub mod HasLineLemmas
+mod MemoryLemmas

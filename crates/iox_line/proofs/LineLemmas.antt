@@ -1,25 +1,11 @@
 -- A line is read as the command that it spells.
-use Rattle.std.proofs.Common.{◌≡◌, ℕ, ◌+◌, ◌≤◌, ◌==◌, Bool, true, false, List, [], ◌∷◌, None, Some, refl, cond, sym, ap, ◌∙◌, length, arith}
-use Rattle.std.proofs.lemmas.Grind.{common_steps}
+use Rattle.std.proofs.Common.{◌≡◌, ℕ, ◌+◌, ◌≤◌, ◌==◌, Bool, true, false, List, [], ◌∷◌, None, Some, cond, sym, ap, ◌∙◌, length, arith}
 use Rattle.iox_command.specs.declared.command.Command.{Command}
 use Rattle.iox_command_text.specs.Words.{words_of, spaced, onto_first, AreWords}
-use Rattle.iox_command_text.proofs.SpacedLemmas.{spaced-words_of, words_of-spaced}
+use Rattle.iox_command_text.proofs.SpacedLemmas.{spaced-words_of, words_of-spaced, are_words}
 use Rattle.iox_line.specs.Reading.{of_words}
 use Rattle.iox_line.specs.Spelling.{Spells}
 use Rattle.iox_line.proofs.ReadingLemmas.{words_sound, words_complete}
-
-onto_words : (b : ℕ) (ws : List (List ℕ)) → (b == 32) ≡ false → AreWords ws → AreWords (onto_first b ws)
-onto_words b [] e a = grind (arith, common_steps, e)
-onto_words b (w ∷ ws) e a = (grind (arith, common_steps, e, a.0), a.1)
-
-words_at : (b : ℕ) (bs : List ℕ) (t : Bool) → (b == 32) ≡ t → AreWords (words_of bs) → AreWords (cond t ([] ∷ words_of bs) (onto_first b (words_of bs)))
-words_at b bs true e a = (refl, a)
-words_at b bs false e a = onto_words b (words_of bs) e a
-
--- no word of a line has a space
-pub are_words : (line : List ℕ) → AreWords (words_of line)
-are_words [] = (refl, tt)
-are_words (b ∷ bs) = words_at b bs (b == 32) refl (are_words bs)
 
 onto_length : (b : ℕ) (ws : List (List ℕ)) → length (onto_first b ws) ≤ 1 + length ws
 onto_length b [] = omega arith

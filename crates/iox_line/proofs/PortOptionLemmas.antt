@@ -25,7 +25,8 @@ use Rattle.iox_line.specs.Reading.{bind, publisher_of, subscriber_of, publisher_
 abbrev pub SubscriberFits : SubscriberOptions → Type 0
 SubscriberFits o = IfNumber o.buffer_size
 
-bind_some : {X Y : Type 0} (x : Option X) (make : X → Option Y) (y : Y) → bind x make ≡ Some y → (a : X) × (x ≡ Some a) × (make a ≡ Some y)
+-- of what is made of what is read, what is read
+pub bind_some : {X Y : Type 0} (x : Option X) (make : X → Option Y) (y : Y) → bind x make ≡ Some y → (a : X) × (x ≡ Some a) × (make a ≡ Some y)
 bind_some None make y h = cc
 bind_some (Some a) make y h = (a, refl, h)
 

@@ -6,20 +6,33 @@ use Rattle.iox_command.specs.declared.command.Command.TheVariants as command
 use Rattle.iox_command.specs.declared.port.PortNumber.{PortNumber}
 use Rattle.iox_command.specs.declared.port.PortNumber.TheVariants as port
 use Rattle.iox_command.specs.declared.service.ServiceOptions.{ServiceOptions}
-use Rattle.iox_describe_base.specs.Attributes.{required}
-use Rattle.iox_line_services.specs.Services.{IsName, ServiceFits, Names}
-use Rattle.iox_line_services.specs.Reading.{service_of}
-use Rattle.iox_line_services.proofs.ServiceLemmas.{service_some, service_own}
-use Rattle.iox_command_text.specs.Words.{no_words, AreWritten}
+use Rattle.iox_describe_base.specs.declared.pattern.MessagingPattern.{MessagingPattern}
+use Rattle.iox_command.specs.declared.step.ForeignStep.{ForeignStep}
+use Rattle.iox_command.specs.declared.step.StepBefore.{StepBefore}
+use Rattle.iox_command.specs.Patterns.{pattern_of}
+use Rattle.iox_line_services.specs.declared.service.NamedService.{NamedService}
+use Rattle.iox_line_services.specs.Services.{pattern_word, IsName, ServiceFits, Names}
+use Rattle.iox_line_services.specs.Reading.{pattern_named, name_of, named_service, service_of}
+use Rattle.iox_line_services.proofs.ServiceLemmas.{pattern_some, pattern_own, name_some, name_own, service_some, service_own}
+use Rattle.iox_line_attributes.specs.Attributes.{SpecifierFits, VerifierFits, Defines, Requires}
+use Rattle.iox_line_attributes.specs.Reading.{specifier_of, verifier_of}
+use Rattle.iox_line_attributes.proofs.SpellingLemmas.{specifier_some, specifier_own, verifier_some, verifier_own, AreMarked, defined_marked, required_marked, marked_unbarred, marked_starts}
+use Rattle.iox_line_steps.specs.Steps.{StepFits, WritesSteps, WritesLists, ListsFit}
+use Rattle.iox_line_steps.specs.Reading.{steps_of, lists_of}
+use Rattle.iox_line_steps.proofs.StepLemmas.{steps_some, steps_own}
+use Rattle.iox_line_steps.proofs.ListLemmas.{lists_some, lists_own, lists_start}
+use Rattle.iox_command_text.specs.Words.{AllOf, no_words, AreWritten}
 use Rattle.iox_command_text.specs.Numbers.{IsNumber, tag, number_of, tagged}
 use Rattle.iox_command_text.specs.Options.{or_else}
 use Rattle.iox_command_text.proofs.NumberLemmas.{number_some, number_own, tagged_some, tagged_own}
 use Rattle.iox_command_text.proofs.ChoiceLemmas.{choice_some, map_some}
 use Rattle.iox_line.specs.declared.verb.Verb.{Verb}
 use Rattle.iox_line.specs.declared.verb.Verb.TheVariants as verb
-use Rattle.iox_line.specs.Verbs.{verb_of, verbs, verb_word}
-use Rattle.iox_line.specs.Reading.{both, three, only, with_number, with_two, numbers, with_values, port_of, publisher_of, subscriber_of, publisher_command, subscriber_command, of_verb, of_read, of_words}
-use Rattle.iox_line.proofs.PortOptionLemmas.{publisher_some, publisher_own, subscriber_some, subscriber_own}
+use Rattle.iox_line.specs.declared.verb.ServiceVerb.{ServiceVerb}
+use Rattle.iox_line.specs.declared.verb.ServiceVerb.TheVariants as service
+use Rattle.iox_line.specs.Verbs.{verb_of, verbs, verb_word, service_verb_of, service_verbs, service_verb_word}
+use Rattle.iox_line.specs.Reading.{bind, both, three, only, with_number, with_two, numbers, with_values, port_of, publisher_of, subscriber_of, publisher_command, subscriber_command, service_command, create_command, open_command, open_or_create_command, foreign_parts, foreign_command, of_service, of_verb, of_read, of_words}
+use Rattle.iox_line.proofs.PortOptionLemmas.{bind_some, publisher_some, publisher_own, subscriber_some, subscriber_own}
 use Rattle.iox_line.specs.Spelling.{AreNumbers, port_word, IsPort, Fits, Writes}
 
 both_some : {X Y : Type 0} (x : Option X) (y : Option Y) (p : X × Y) → both x y ≡ Some p → (x ≡ Some p.0) × (y ≡ Some p.1)
@@ -193,20 +206,73 @@ subscriber_sound (w ∷ ws) c h =
     subst (λ d. Fits d × Writes d (codes "subscriber" ∷ w ∷ ws)) m.2 ((s.0, r.0), (ws, r.1, ap (λ x. codes "subscriber" ∷ x ∷ ws) s.1))
 
 -- commands of a service
-one_service : (make : ℕ → List ℕ → ServiceOptions → Command ℕ) (text : List ℕ) (ws : List (List ℕ)) (c : Command ℕ)
-    → ((n : ℕ) (a : List ℕ) (o : ServiceOptions) → IsNumber n × IsName a × ServiceFits o → Fits (make n a o))
-    → ((n : ℕ) (a : List ℕ) (o : ServiceOptions) → Names n a o ws → Writes (make n a o) (text ∷ ws)) → option_map (λ p. make p.0 p.1 p.2) (service_of ws) ≡ Some c → Fits c × Writes c (text ∷ ws)
-one_service make text ws c fits writes h =
-    let m = map_some (λ p. make p.0 p.1 p.2) (service_of ws) c h in
-    let s = service_some ws m.0 m.1 in
-    subst (λ d. Fits d × Writes d (text ∷ ws)) m.2 (fits m.0.0 m.0.1 m.0.2 s.0, writes m.0.0 m.0.1 m.0.2 s.1)
+
+service_sound : {A : Type 0} (make : NamedService → A → List StepBefore → Command ℕ) (read : List (List ℕ) → Option A) (Fit : A → Type 0) (Says : A → List (List ℕ) → Type 0) (text : List ℕ)
+    (ws : List (List ℕ)) (c : Command ℕ) → ((vs : List (List ℕ)) (a : A) → read vs ≡ Some a → Fit a × Says a vs)
+    → ((s : NamedService) (a : A) (t : List StepBefore) → IsNumber s.node × IsName s.name × ServiceFits s.options → Fit a → ListsFit (pattern_of s.options) 0 t → Fits (make s a t))
+    → ((s : NamedService) (a : A) (t : List StepBefore) → Says a s.attributes → WritesLists 0 t s.lists → Names s.node s.name s.options s.attributes s.lists ws → Writes (make s a t) (text ∷ ws))
+    → service_command make read ws ≡ Some c → Fits c × Writes c (text ∷ ws)
+service_sound make read Fit Says text ws c law fits writes h =
+    let s = bind_some (service_of ws) (λ s. option_map (λ p. make s p.0 p.1) (both (read s.attributes) (lists_of (pattern_of s.options) s.lists))) c h in
+    let m = map_some (λ p. make s.0 p.0 p.1) (both (read s.0.attributes) (lists_of (pattern_of s.0.options) s.0.lists)) c s.2 in
+    let b = both_some (read s.0.attributes) (lists_of (pattern_of s.0.options) s.0.lists) m.0 m.1 in
+    let n = service_some ws s.0 s.1 in
+    let a = law s.0.attributes m.0.0 b.0 in
+    let t = lists_some (pattern_of s.0.options) s.0.lists m.0.1 b.1 in
+    subst (λ d. Fits d × Writes d (text ∷ ws)) m.2 (fits s.0 m.0.0 m.0.1 n.0 a.0 t.0, writes s.0 m.0.0 m.0.1 a.1 t.1 n.1)
+
+service_complete : {A : Type 0} (make : NamedService → A → List StepBefore → Command ℕ) (read : List (List ℕ) → Option A) (named attributed listed : List (List ℕ)) (node : ℕ) (name : List ℕ) (o : ServiceOptions)
+    (a : A) (t : List StepBefore) → IsNumber node → IsName name → ServiceFits o → ListsFit (pattern_of o) 0 t → WritesLists 0 t listed → Names node name o attributed listed named → AreMarked attributed → read attributed ≡ Some a
+    → service_command make read named ≡ Some (make (named_service node name o attributed listed) a t)
+service_complete make read named attributed listed node name o a t n l f g w e m r =
+    ap (λ x. bind x (λ s. option_map (λ p. make s p.0 p.1) (both (read s.attributes) (lists_of (pattern_of s.options) s.lists))))
+    (service_own named attributed listed node name o n l f (marked_unbarred attributed m) (marked_starts attributed m) (lists_start (pattern_of o) t listed g w) e)
+    ∙ ap (option_map (λ p. make (named_service node name o attributed listed) p.0 p.1)) (both_own (read attributed) (lists_of (pattern_of o) listed) a t r (lists_own (pattern_of o) t listed g w))
+
+create_sound : (ws : List (List ℕ)) (c : Command ℕ) → create_command ws ≡ Some c → Fits c × Writes c (codes "create" ∷ ws)
+create_sound ws c h = service_sound (λ s a t. command.Create s.node s.name s.options a t) specifier_of SpecifierFits Defines (codes "create") ws c specifier_some
+    (λ s a t f g l. (f.0, f.1, f.2, g, l)) (λ s a t d l n. (s.attributes, s.lists, ws, d, l, n, refl)) h
+
+open_sound : (ws : List (List ℕ)) (c : Command ℕ) → open_command ws ≡ Some c → Fits c × Writes c (codes "open" ∷ ws)
+open_sound ws c h = service_sound (λ s a t. command.Open s.node s.name s.options a t) verifier_of VerifierFits Requires (codes "open") ws c verifier_some
+    (λ s a t f g l. (f.0, f.1, f.2, g, l)) (λ s a t d l n. (s.attributes, s.lists, ws, d, l, n, refl)) h
+
+open_or_create_sound : (ws : List (List ℕ)) (c : Command ℕ) → open_or_create_command ws ≡ Some c → Fits c × Writes c (codes "open_or_create" ∷ ws)
+open_or_create_sound ws c h = service_sound (λ s a t. command.OpenOrCreate s.node s.name s.options a t) verifier_of VerifierFits Requires (codes "open_or_create") ws c verifier_some
+    (λ s a t f g l. (f.0, f.1, f.2, g, l)) (λ s a t d l n. (s.attributes, s.lists, ws, d, l, n, refl)) h
+
+foreign_at : (w v : List ℕ) (ws : List (List ℕ)) (c : Command ℕ) (x : Option MessagingPattern) (y : Option (List ℕ)) → pattern_named w ≡ x → name_of v ≡ y → foreign_parts x y ws ≡ Some c
+    → Fits c × Writes c (codes "foreign" ∷ w ∷ v ∷ ws)
+foreign_at w v ws c None y e f h = cc
+foreign_at w v ws c (Some kind) None e f h = cc
+foreign_at w v ws c (Some kind) (Some name) e f h =
+    let m = map_some (λ s. command.Foreign kind name s) (steps_of kind ws) c h in
+    let n = name_some v name f in
+    let s = steps_some kind ws m.0 m.1 in
+    subst (λ d. Fits d × Writes d (codes "foreign" ∷ w ∷ v ∷ ws)) m.2
+    ((n.0, s.0.0, s.0.1), (ws, s.1, ap (λ x. codes "foreign" ∷ x ∷ v ∷ ws) (pattern_some w kind e) ∙ ap (λ x. codes "foreign" ∷ pattern_word kind ∷ x ∷ ws) n.1))
+
+foreign_sound : (ws : List (List ℕ)) (c : Command ℕ) → foreign_command ws ≡ Some c → Fits c × Writes c (codes "foreign" ∷ ws)
+foreign_sound [] c h = cc
+foreign_sound (w ∷ []) c h = cc
+foreign_sound (w ∷ v ∷ ws) c h = foreign_at w v ws c (pattern_named w) (name_of v) refl refl h
+
+foreign_complete : (kind : MessagingPattern) (name : List ℕ) (ss : List ForeignStep) (ws : List (List ℕ)) → IsName name → 0 < length ss → AllOf (StepFits kind) ss → WritesSteps ss ws
+    → foreign_command (pattern_word kind ∷ name ∷ ws) ≡ Some (command.Foreign kind name ss)
+foreign_complete kind name ss ws n l f e =
+    ap (λ x. foreign_parts x (name_of name) ws) (pattern_own kind) ∙ ap (λ x. foreign_parts (Some kind) x ws) (name_own name n)
+    ∙ ap (option_map (λ s. command.Foreign kind name s)) (steps_own kind ss ws l f e)
+
+-- a verb that names a service and the words after it write what they are read as
+named_sound : (v : ServiceVerb) (ws : List (List ℕ)) (c : Command ℕ) → of_service v ws ≡ Some c → Fits c × Writes c (service_verb_word v ∷ ws)
+named_sound service.Create ws c h = create_sound ws c h
+named_sound service.Open ws c h = open_sound ws c h
+named_sound service.OpenOrCreate ws c h = open_or_create_sound ws c h
+named_sound service.Foreign ws c h = foreign_sound ws c h
 
 -- a verb and the words after it write what they are read as
 verb_sound : (v : Verb) (ws : List (List ℕ)) (c : Command ℕ) → of_verb v ws ≡ Some c → Fits c × Writes c (verb_word v ∷ ws)
 verb_sound verb.Node ws c h = node_some ws c h
-verb_sound verb.Create ws c h = one_service (λ n a o. command.Create n a o [] []) (codes "create") ws c (λ n a o f. (f.0, f.1, f.2, refl, refl)) (λ n a o w. (ws, w, refl)) h
-verb_sound verb.Open ws c h = one_service (λ n a o. command.Open n a o (required [] []) []) (codes "open") ws c (λ n a o f. (f.0, f.1, f.2, refl, refl)) (λ n a o w. (ws, w, refl)) h
-verb_sound verb.OpenOrCreate ws c h = one_service (λ n a o. command.OpenOrCreate n a o (required [] []) []) (codes "open_or_create") ws c (λ n a o f. (f.0, f.1, f.2, refl, refl)) (λ n a o w. (ws, w, refl)) h
 verb_sound verb.Close ws c h = one_made (λ n. command.Close n) 102 (codes "close") ws c (λ n f. f) (λ n. refl) h
 verb_sound verb.Publisher ws c h = publisher_sound ws c h
 verb_sound verb.Subscriber ws c h = subscriber_sound ws c h
@@ -227,26 +293,30 @@ verb_sound verb.Leave ws c h = one_port (λ p. command.Leave p) (codes "leave") 
 verb_sound verb.Has ws c h = one_made (λ n. command.Has n) 115 (codes "has") ws c (λ n f. f) (λ n. refl) h
 
 verbs_written : AreWritten verb_word verbs
-verbs_written = (refl, (refl, (refl, (refl, (refl, (refl, (refl, (refl, (refl, (refl, (refl, (refl, (refl, (refl, (refl, (refl, (refl, (refl, (refl, (refl, (refl, (refl, tt))))))))))))))))))))))
+verbs_written = (refl, (refl, (refl, (refl, (refl, (refl, (refl, (refl, (refl, (refl, (refl, (refl, (refl, (refl, (refl, (refl, (refl, (refl, (refl, tt)))))))))))))))))))
 
-read_at : (w : List ℕ) (ws : List (List ℕ)) (c : Command ℕ) (v : Option Verb) → verb_of w ≡ v → of_read v ws ≡ Some c → Fits c × Writes c (w ∷ ws)
-read_at w ws c None e h = cc
-read_at w ws c (Some v) e h = subst (λ x. Fits c × Writes c (x ∷ ws)) (sym (choice_some verb_word verbs w v verbs_written e)) (verb_sound v ws c h)
+service_verbs_written : AreWritten service_verb_word service_verbs
+service_verbs_written = (refl, (refl, (refl, (refl, tt))))
+
+read_at : (w : List ℕ) (ws : List (List ℕ)) (c : Command ℕ) (v : Option Verb) (u : Option ServiceVerb) → verb_of w ≡ v → service_verb_of w ≡ u → of_read v u ws ≡ Some c → Fits c × Writes c (w ∷ ws)
+read_at w ws c (Some v) u e f h = subst (λ x. Fits c × Writes c (x ∷ ws)) (sym (choice_some verb_word verbs w v verbs_written e)) (verb_sound v ws c h)
+read_at w ws c None (Some u) e f h = subst (λ x. Fits c × Writes c (x ∷ ws)) (sym (choice_some service_verb_word service_verbs w u service_verbs_written f)) (named_sound u ws c h)
+read_at w ws c None None e f h = cc
 
 -- words that are read as a command write it
 pub words_sound : (ws : List (List ℕ)) (c : Command ℕ) → of_words ws ≡ Some c → Fits c × Writes c ws
 words_sound [] c h = cc
-words_sound (w ∷ ws) c h = read_at w ws c (verb_of w) refl h
+words_sound (w ∷ ws) c h = read_at w ws c (verb_of w) (service_verb_of w) refl refl h
 
 -- words that write a command are read as it
 pub words_complete : (c : Command ℕ) (ws : List (List ℕ)) → Fits c → Writes c ws → of_words ws ≡ Some c
 words_complete command.Node ws f w = ap of_words w
-words_complete (command.Create n a o t s) ws f w = ap of_words w.2 ∙ ap (option_map (λ p. command.Create p.0 p.1 p.2 [] [])) (service_own w.0 n a o f.0 f.1 f.2 w.1)
-    ∙ ap (λ x. Some (command.Create n a o x [])) (sym f.3) ∙ ap (λ x. Some (command.Create n a o t x)) (sym f.4)
-words_complete (command.Open n a o t s) ws f w = ap of_words w.2 ∙ ap (option_map (λ p. command.Open p.0 p.1 p.2 (required [] []) [])) (service_own w.0 n a o f.0 f.1 f.2 w.1)
-    ∙ ap (λ x. Some (command.Open n a o x [])) (sym f.3) ∙ ap (λ x. Some (command.Open n a o t x)) (sym f.4)
-words_complete (command.OpenOrCreate n a o t s) ws f w = ap of_words w.2 ∙ ap (option_map (λ p. command.OpenOrCreate p.0 p.1 p.2 (required [] []) [])) (service_own w.0 n a o f.0 f.1 f.2 w.1)
-    ∙ ap (λ x. Some (command.OpenOrCreate n a o x [])) (sym f.3) ∙ ap (λ x. Some (command.OpenOrCreate n a o t x)) (sym f.4)
+words_complete (command.Create n a o t s) ws f w = ap of_words w.6
+    ∙ service_complete (λ x y z. command.Create x.node x.name x.options y z) specifier_of w.2 w.0 w.1 n a o t s f.0 f.1 f.2 f.4 w.4 w.5 (defined_marked w.0 t w.3) (specifier_own w.0 t f.3 w.3)
+words_complete (command.Open n a o t s) ws f w = ap of_words w.6
+    ∙ service_complete (λ x y z. command.Open x.node x.name x.options y z) verifier_of w.2 w.0 w.1 n a o t s f.0 f.1 f.2 f.4 w.4 w.5 (required_marked w.0 t w.3) (verifier_own w.0 t f.3 w.3)
+words_complete (command.OpenOrCreate n a o t s) ws f w = ap of_words w.6
+    ∙ service_complete (λ x y z. command.OpenOrCreate x.node x.name x.options y z) verifier_of w.2 w.0 w.1 n a o t s f.0 f.1 f.2 f.4 w.4 w.5 (required_marked w.0 t w.3) (verifier_own w.0 t f.3 w.3)
 words_complete (command.Close n) ws f w = ap of_words w ∙ ap (option_map (λ n. command.Close n)) (tagged_own 102 n f)
 words_complete (command.Loan n m) ws f w = ap of_words w ∙ ap (option_map (λ p. command.Loan p.0 p.1)) (number_pair_own 112 n m f.0 f.1)
 words_complete (command.LoanUninit n m) ws f w = ap of_words w ∙ ap (option_map (λ p. command.LoanUninit p.0 p.1)) (number_pair_own 112 n m f.0 f.1)
@@ -267,4 +337,4 @@ words_complete (command.Publisher n o) ws f w = ap of_words w.2 ∙ ap (option_m
     (both_own (tagged 102 (tag 102 n)) (publisher_of w.0) n o (tagged_own 102 n f.0) (publisher_own w.0 o f.1 w.1))
 words_complete (command.Subscriber n o) ws f w = ap of_words w.2 ∙ ap (option_map (λ p. command.Subscriber p.0 p.1))
     (both_own (tagged 102 (tag 102 n)) (subscriber_of w.0) n o (tagged_own 102 n f.0) (subscriber_own w.0 o f.1 w.1))
-words_complete (command.Foreign p a s) ws f w = absurd w
+words_complete (command.Foreign p a s) ws f w = ap of_words w.2 ∙ foreign_complete p a s w.0 f.0 f.1 f.2 w.1

@@ -1,5 +1,5 @@
 -- How a line is read, word for word.
-use Rattle.std.specs.Prelude.{ℕ, ◌+◌, ◌==◌, length, codes, List, [], ◌∷◌, Option, None, Some, if◌then◌else◌}
+use Rattle.std.specs.Prelude.{ℕ, ◌+◌, ◌==◌, length, codes, List, [], ◌∷◌, Option, None, Some, Result, Ok, Err, if◌then◌else◌}
 use Rattle.std.specs.Option.{option_map}
 use Rattle.iox_command.specs.declared.command.Command.{Command}
 use Rattle.iox_command.specs.declared.command.Command.TheVariants as command
@@ -15,11 +15,19 @@ use Rattle.iox_domain_values.specs.declared.backpressure.BackpressureAction.{Bac
 use Rattle.iox_domain_values.specs.declared.degradation.DegradationAction.{DegradationAction}
 use Rattle.iox_command_text.specs.Options.{or_else, find, named, one}
 use Rattle.iox_command_text.specs.Values.{strategy_of, allocation_of, handler_of, degradation_of}
-use Rattle.iox_describe_base.specs.Attributes.{required}
-use Rattle.iox_line_services.specs.Reading.{service_of}
+use Rattle.std.specs.declared.alloc.AllocError.{AllocError}
+use Rattle.iox_describe_base.specs.declared.pattern.MessagingPattern.{MessagingPattern}
+use Rattle.iox_command.specs.declared.step.StepBefore.{StepBefore}
+use Rattle.iox_command.specs.Patterns.{pattern_of}
+use Rattle.iox_line_services.specs.declared.service.NamedService.{NamedService}
+use Rattle.iox_line_services.specs.Reading.{pattern_named, name_of, service_of}
+use Rattle.iox_line_attributes.specs.Reading.{specifier_of, verifier_of}
+use Rattle.iox_line_steps.specs.Reading.{steps_of, lists_of}
 use Rattle.iox_line.specs.declared.verb.Verb.{Verb}
 use Rattle.iox_line.specs.declared.verb.Verb.TheVariants as verb
-use Rattle.iox_line.specs.Verbs.{verb_of}
+use Rattle.iox_line.specs.declared.verb.ServiceVerb.{ServiceVerb}
+use Rattle.iox_line.specs.declared.verb.ServiceVerb.TheVariants as service
+use Rattle.iox_line.specs.Verbs.{verb_of, service_verb_of}
 
 -- two parts, if both are read
 abbrev pub both : {X Y : Type 0} → Option X → Option Y → Option (X × Y)
@@ -110,24 +118,44 @@ abbrev pub subscriber_command : List (List ℕ) → Option (Command ℕ)
 subscriber_command [] = None
 subscriber_command (w ∷ ws) = option_map (λ p. command.Subscriber p.0 p.1) (both (tagged 102 w) (subscriber_of ws))
 
--- a service that is created, without attributes and lists
+-- the command that is made of a service, of its attributes and of its lists of steps, if all are read
+abbrev pub service_command : {A : Type 0} → (NamedService → A → List StepBefore → Command ℕ) → (List (List ℕ) → Option A) → List (List ℕ) → Option (Command ℕ)
+service_command make read words = bind (service_of words) (λ s. option_map (λ p. make s p.0 p.1) (both (read s.attributes) (lists_of (pattern_of s.options) s.lists)))
+
+-- a service that is created
 abbrev pub create_command : List (List ℕ) → Option (Command ℕ)
-create_command words = option_map (λ p. command.Create p.0 p.1 p.2 [] []) (service_of words)
+create_command words = service_command (λ s a t. command.Create s.node s.name s.options a t) specifier_of words
 
--- a service that is opened, without attributes and lists
+-- a service that is opened
 abbrev pub open_command : List (List ℕ) → Option (Command ℕ)
-open_command words = option_map (λ p. command.Open p.0 p.1 p.2 (required [] []) []) (service_of words)
+open_command words = service_command (λ s a t. command.Open s.node s.name s.options a t) verifier_of words
 
--- a service that is opened or created, without attributes and lists
+-- a service that is opened or created
 abbrev pub open_or_create_command : List (List ℕ) → Option (Command ℕ)
-open_or_create_command words = option_map (λ p. command.OpenOrCreate p.0 p.1 p.2 (required [] []) []) (service_of words)
+open_or_create_command words = service_command (λ s a t. command.OpenOrCreate s.node s.name s.options a t) verifier_of words
+
+-- steps of foreign processes, if the pattern and the name are read
+abbrev pub foreign_parts : Option MessagingPattern → Option (List ℕ) → List (List ℕ) → Option (Command ℕ)
+foreign_parts None name words = None
+foreign_parts (Some kind) None words = None
+foreign_parts (Some kind) (Some name) words = option_map (λ s. command.Foreign kind name s) (steps_of kind words)
+
+-- steps of foreign processes
+abbrev pub foreign_command : List (List ℕ) → Option (Command ℕ)
+foreign_command [] = None
+foreign_command (w ∷ []) = None
+foreign_command (w ∷ v ∷ ws) = foreign_parts (pattern_named w) (name_of v) ws
+
+-- the command of a verb that names a service, and the words after it
+abbrev pub of_service : ServiceVerb → List (List ℕ) → Option (Command ℕ)
+of_service service.Create words = create_command words
+of_service service.Open words = open_command words
+of_service service.OpenOrCreate words = open_or_create_command words
+of_service service.Foreign words = foreign_command words
 
 -- the command of a verb and the words after it
 abbrev pub of_verb : Verb → List (List ℕ) → Option (Command ℕ)
 of_verb verb.Node words = if no_words words then Some command.Node else None
-of_verb verb.Create words = create_command words
-of_verb verb.Open words = open_command words
-of_verb verb.OpenOrCreate words = open_or_create_command words
 of_verb verb.Close words = option_map (λ n. command.Close n) (only 102 words)
 of_verb verb.Loan words = option_map (λ p. command.Loan p.0 p.1) (with_number 112 words)
 of_verb verb.LoanUninit words = option_map (λ p. command.LoanUninit p.0 p.1) (with_number 112 words)
@@ -148,11 +176,22 @@ of_verb verb.Publisher words = publisher_command words
 of_verb verb.Subscriber words = subscriber_command words
 
 -- the command of a verb that was read, and the words after it
-abbrev pub of_read : Option Verb → List (List ℕ) → Option (Command ℕ)
-of_read None words = None
-of_read (Some verb) words = of_verb verb words
+abbrev pub of_read : Option Verb → Option ServiceVerb → List (List ℕ) → Option (Command ℕ)
+of_read (Some verb) other words = of_verb verb words
+of_read None (Some verb) words = of_service verb words
+of_read None None words = None
 
 -- the command of all words
 abbrev pub of_words : List (List ℕ) → Option (Command ℕ)
 of_words [] = None
-of_words (w ∷ ws) = of_read (verb_of w) ws
+of_words (w ∷ ws) = of_read (verb_of w) (service_verb_of w) ws
+
+-- both of what was read, if both are there; what is no command comes before want of memory
+abbrev pub together : {A B : Type 0} → Result (Option A) AllocError → Result (Option B) AllocError → Result (Option (A × B)) AllocError
+together (Ok None) second = Ok None
+together (Ok (Some a)) (Ok None) = Ok None
+together (Ok (Some a)) (Ok (Some b)) = Ok (Some (a, b))
+together (Ok (Some a)) (Err lacking) = Err lacking
+together (Err lacking) (Ok None) = Ok None
+together (Err lacking) (Ok (Some b)) = Err lacking
+together (Err lacking) (Err other) = Err lacking

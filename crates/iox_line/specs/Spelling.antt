@@ -4,11 +4,13 @@ use Rattle.iox_command.specs.declared.command.Command.{Command}
 use Rattle.iox_command.specs.declared.command.Command.TheVariants as command
 use Rattle.iox_command.specs.declared.port.PortNumber.{PortNumber}
 use Rattle.iox_command.specs.declared.port.PortNumber.TheVariants as port
-use Rattle.iox_describe_base.specs.Attributes.{required}
-use Rattle.iox_command_text.specs.Words.{AreWords, spaced}
+use Rattle.iox_command.specs.Patterns.{pattern_of}
+use Rattle.iox_command_text.specs.Words.{AllOf, AreWords, spaced}
 use Rattle.iox_command_text.specs.Numbers.{IsNumber, IfNumber, tag}
 use Rattle.iox_command_text.specs.Options.{AnyOrder}
-use Rattle.iox_line_services.specs.Services.{IsName, ServiceFits, Names}
+use Rattle.iox_line_services.specs.Services.{pattern_word, IsName, ServiceFits, Names}
+use Rattle.iox_line_attributes.specs.Attributes.{SpecifierFits, VerifierFits, Defines, Requires}
+use Rattle.iox_line_steps.specs.Steps.{StepFits, WritesSteps, WritesLists, ListsFit}
 use Rattle.iox_line.specs.PortOptions.{PublisherFits, publisher_words, subscriber_words}
 
 -- numbers of 64 bits
@@ -26,12 +28,15 @@ abbrev pub IsPort : PortNumber → Type 0
 IsPort (port.Publisher n) = IsNumber n
 IsPort (port.Subscriber n) = IsNumber n
 
--- a command whose numbers have 64 bits, whose name can be written, and whose message has a value
+-- a command whose numbers have 64 bits, whose name and attributes are within the limits, whose message has a value, whose lists are in their order, and whose foreign steps are at least one
 abbrev pub Fits : Command ℕ → Type 0
--- attributes and lists of foreign steps aren't spelled yet
-Fits (command.Create node name options attributes steps) = IsNumber node × IsName name × ServiceFits options × (attributes ≡ []) × (steps ≡ [])
-Fits (command.Open node name options requirements steps) = IsNumber node × IsName name × ServiceFits options × (requirements ≡ required [] []) × (steps ≡ [])
-Fits (command.OpenOrCreate node name options requirements steps) = IsNumber node × IsName name × ServiceFits options × (requirements ≡ required [] []) × (steps ≡ [])
+Fits (command.Create node name options attributes steps) = IsNumber node × IsName name × ServiceFits options × SpecifierFits attributes
+    × ListsFit (pattern_of options) 0 steps
+Fits (command.Open node name options requirements steps) = IsNumber node × IsName name × ServiceFits options × VerifierFits requirements
+    × ListsFit (pattern_of options) 0 steps
+Fits (command.OpenOrCreate node name options requirements steps) = IsNumber node × IsName name × ServiceFits options × VerifierFits requirements
+    × ListsFit (pattern_of options) 0 steps
+Fits (command.Foreign pattern name steps) = IsName name × (0 < length steps) × AllOf (StepFits pattern) steps
 Fits (command.Close factory) = IsNumber factory
 Fits (command.Loan publisher long) = IsNumber publisher × IsNumber long
 Fits (command.LoanUninit publisher long) = IsNumber publisher × IsNumber long
@@ -51,18 +56,18 @@ Fits (command.Has subscriber) = IsNumber subscriber
 Fits (command.Publisher factory options) = IsNumber factory × PublisherFits options
 Fits (command.Subscriber factory options) = IsNumber factory × IfNumber options.buffer_size
 Fits command.Node = Unit {0}
--- nor are lines of foreign steps
-Fits (command.Foreign pattern name steps) = ⊥
 
 -- these words write the command
 abbrev pub Writes : Command ℕ → List (List ℕ) → Type 0
 Writes command.Node words = words ≡ codes "node" ∷ []
-Writes (command.Create node name options attributes steps) words = (named : List (List ℕ)) × Names node name options named
-    × (words ≡ codes "create" ∷ named)
-Writes (command.Open node name options requirements steps) words = (named : List (List ℕ)) × Names node name options named
-    × (words ≡ codes "open" ∷ named)
-Writes (command.OpenOrCreate node name options requirements steps) words = (named : List (List ℕ)) × Names node name options named
-    × (words ≡ codes "open_or_create" ∷ named)
+Writes (command.Create node name options attributes steps) words = (attributed : List (List ℕ)) × (listed : List (List ℕ)) × (named : List (List ℕ))
+    × Defines attributes attributed × WritesLists 0 steps listed × Names node name options attributed listed named × (words ≡ codes "create" ∷ named)
+Writes (command.Open node name options requirements steps) words = (attributed : List (List ℕ)) × (listed : List (List ℕ)) × (named : List (List ℕ))
+    × Requires requirements attributed × WritesLists 0 steps listed × Names node name options attributed listed named × (words ≡ codes "open" ∷ named)
+Writes (command.OpenOrCreate node name options requirements steps) words = (attributed : List (List ℕ)) × (listed : List (List ℕ)) × (named : List (List ℕ))
+    × Requires requirements attributed × WritesLists 0 steps listed × Names node name options attributed listed named × (words ≡ codes "open_or_create" ∷ named)
+Writes (command.Foreign pattern name steps) words = (stepped : List (List ℕ)) × WritesSteps steps stepped
+    × (words ≡ codes "foreign" ∷ pattern_word pattern ∷ name ∷ stepped)
 Writes (command.Close factory) words = words ≡ codes "close" ∷ tag 102 factory ∷ []
 Writes (command.Loan publisher long) words = words ≡ codes "loan" ∷ tag 112 publisher ∷ decimal long ∷ []
 Writes (command.LoanUninit publisher long) words = words ≡ codes "loan_uninit" ∷ tag 112 publisher ∷ decimal long ∷ []
@@ -83,7 +88,6 @@ Writes (command.Publisher factory options) words = (chosen : List (List ℕ)) ×
     × (words ≡ codes "publisher" ∷ tag 102 factory ∷ chosen)
 Writes (command.Subscriber factory options) words = (chosen : List (List ℕ)) × AnyOrder chosen (subscriber_words options)
     × (words ≡ codes "subscriber" ∷ tag 102 factory ∷ chosen)
-Writes (command.Foreign pattern name steps) words = ⊥
 
 -- the line is the words of the command, with one space between each two
 pub record Spells (line : List ℕ) (c : Command ℕ) : Type 0 where

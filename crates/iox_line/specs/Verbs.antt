@@ -3,13 +3,12 @@ use Rattle.std.specs.Prelude.{ℕ, List, [], ◌∷◌, Option, codes}
 use Rattle.iox_command_text.specs.Words.{choice}
 use Rattle.iox_line.specs.declared.verb.Verb.{Verb}
 use Rattle.iox_line.specs.declared.verb.Verb.TheVariants as verb
+use Rattle.iox_line.specs.declared.verb.ServiceVerb.{ServiceVerb}
+use Rattle.iox_line.specs.declared.verb.ServiceVerb.TheVariants as service
 
 -- how a verb is written
 abbrev pub verb_word : Verb → List ℕ
 verb_word verb.Node = codes "node"
-verb_word verb.Create = codes "create"
-verb_word verb.Open = codes "open"
-verb_word verb.OpenOrCreate = codes "open_or_create"
 verb_word verb.Close = codes "close"
 verb_word verb.Publisher = codes "publisher"
 verb_word verb.Subscriber = codes "subscriber"
@@ -31,12 +30,11 @@ verb_word verb.Has = codes "has"
 
 -- verbs that are seldom met, each beside its text
 abbrev pub seldom_verbs : List (List ℕ × Verb)
-seldom_verbs = (codes "node", verb.Node) ∷ (codes "create", verb.Create) ∷ (codes "open", verb.Open) ∷ (codes "open_or_create", verb.OpenOrCreate)
-    ∷ (codes "close", verb.Close) ∷ (codes "publisher", verb.Publisher) ∷ (codes "subscriber", verb.Subscriber)
+seldom_verbs = (codes "node", verb.Node) ∷ (codes "close", verb.Close) ∷ (codes "publisher", verb.Publisher) ∷ (codes "subscriber", verb.Subscriber)
     ∷ (codes "loan_uninit", verb.LoanUninit) ∷ (codes "drop", verb.Drop) ∷ (codes "retry", verb.Retry) ∷ (codes "giveup", verb.GiveUp)
     ∷ (codes "leave", verb.Leave) ∷ []
 
--- all verbs, each beside its text
+-- all verbs but those that name a service, each beside its text
 abbrev pub verbs : List (List ℕ × Verb)
 verbs = (codes "put", verb.Put) ∷ (codes "receive", verb.Receive) ∷ (codes "release", verb.Release) ∷ (codes "loan", verb.Loan) ∷ (codes "send", verb.Send)
     ∷ (codes "fill", verb.Fill) ∷ (codes "set", verb.Set) ∷ (codes "read", verb.Read) ∷ (codes "has", verb.Has) ∷ (codes "update", verb.Update) ∷ seldom_verbs
@@ -48,3 +46,19 @@ seldom_verb_of word = choice seldom_verbs word
 -- the verb that a word is
 abbrev pub verb_of : List ℕ → Option Verb
 verb_of word = choice verbs word
+
+-- how a verb that names a service is written
+abbrev pub service_verb_word : ServiceVerb → List ℕ
+service_verb_word service.Create = codes "create"
+service_verb_word service.Open = codes "open"
+service_verb_word service.OpenOrCreate = codes "open_or_create"
+service_verb_word service.Foreign = codes "foreign"
+
+-- each verb that names a service beside its text
+abbrev pub service_verbs : List (List ℕ × ServiceVerb)
+service_verbs = (codes "create", service.Create) ∷ (codes "open", service.Open) ∷ (codes "open_or_create", service.OpenOrCreate)
+    ∷ (codes "foreign", service.Foreign) ∷ []
+
+-- the verb that a word is, of those that name a service
+abbrev pub service_verb_of : List ℕ → Option ServiceVerb
+service_verb_of word = choice service_verbs word

@@ -8,6 +8,7 @@
 //! | `scratch` | room for the values of a line |
 //! | `arguments` | the numbers after the first word |
 //! | `port_options` | the options of a publisher and of a subscriber |
+//! | `service` | lines that name a service |
 //! | `read` | from a line to its command |
 //! | `laws` | that a line spells one command at most, and that each command has one |
 //! | `print` | from a reply to its line |
@@ -21,6 +22,7 @@ mod port_options;
 pub mod print;
 pub mod read;
 pub mod scratch;
+mod service;
 pub mod verb;
 
 pub use error::LineError;

@@ -1,51 +1,61 @@
 //! From the bytes of a line to the command that they spell.
 ghost use Rattle.std.specs.Prelude.{◌≡◌, ◌≤◌, length};
-ghost use Rattle.iox_line.specs.Reading.{of_verb, of_words, create_command, open_command, open_or_create_command, publisher_command, subscriber_command};
-ghost use Rattle.iox_line.specs.Outcome.{Answers};
+ghost use Rattle.iox_line.specs.Reading.{of_verb, of_words, publisher_command, subscriber_command};
+ghost use Rattle.iox_command_text.specs.Memory.{MayLack};
+ghost use Rattle.iox_line.specs.Outcome.{Answers, takes_memory};
 
 use crate::arguments::{only, port, with_number, with_two, with_values};
 use crate::error::LineError;
 use crate::port_options::{publisher_options, subscriber_options};
 use crate::scratch::Scratch;
-use crate::verb::{Verb, first_verb};
-use iox_command::{Command, Steps};
+use crate::service::of_service;
+use crate::verb::{Verb, first_verb, service_verb};
+use iox_command::Command;
 use iox_command_text::Words;
 use iox_command_text::number::numbered;
-use iox_describe_base::{AttributeSpecifier, AttributeVerifier};
-use iox_line_services::named_service;
+use std::alloc::{AllocError, Global};
 
-/// The command that a line spells, without its newline. It takes no memory: the values of a message are put into the
-/// scratch.
+/// The command that a line spells, without its newline. The values of a message are put into the scratch.
 ///
-/// Refused with `LineError::TooLong` if the line has more than 1,024 bytes, else with `LineError::Faulty` if it spells no
-/// command. Attributes, lists of foreign steps and `foreign` aren't spelled yet.
+/// The answer is `LineError::TooLong` if the line has more than 1,024 bytes, else `LineError::Faulty` if it spells no command.
+/// Refused for want of memory only where the line spells a command with attributes or with foreign steps: all others take
+/// none, and that a line is no command is told without any.
 pub fn read_command<'a>(
+    alloc: Global,
     line: &[u8],
     scratch: &'a mut Scratch,
-) -> Result<Command<'a, u64>, LineError>
+) -> Result<Result<Command<'a, u64>, LineError>, AllocError>
     ensures { Answers line.now result }
 {
     if line.len() > 1_024 {
-        return Err(LineError::TooLong);
+        return Ok(Err(LineError::TooLong));
     }
-    match of_words(Words::new(line), scratch) {
-        Some(command) => Ok(command),
-        None => Err(LineError::Faulty),
+    match of_words(alloc, Words::new(line), scratch) {
+        Ok(Some(command)) => Ok(Ok(command)),
+        Ok(None) => Ok(Err(LineError::Faulty)),
+        Err(lacking) => Err(lacking),
     }
 }
 
-fn of_words<'a>(words: Words, scratch: &'a mut Scratch) -> Option<Command<'a, u64>>
+fn of_words<'a>(
+    alloc: Global,
+    words: Words,
+    scratch: &'a mut Scratch,
+) -> Result<Option<Command<'a, u64>>, AllocError>
     requires { length words ≤ 1025 }
-    ensures { result ≡ of_words words.entry }
+    ensures { MayLack takes_memory (of_words words.entry) result }
 {
     let mut words = words;
     let Some(word) = words.next() else {
-        return None;
+        return Ok(None);
     };
-    let Some(verb) = first_verb(word) else {
-        return None;
-    };
-    of_verb(verb, words, scratch)
+    if let Some(verb) = first_verb(word) {
+        return Ok(of_verb(verb, words, scratch));
+    }
+    match service_verb(word) {
+        Some(verb) => of_service(alloc, verb, words),
+        None => Ok(None),
+    }
 }
 
 fn of_verb<'a>(verb: Verb, words: Words, scratch: &'a mut Scratch) -> Option<Command<'a, u64>>
@@ -58,9 +68,6 @@ fn of_verb<'a>(verb: Verb, words: Words, scratch: &'a mut Scratch) -> Option<Com
         } else {
             None
         },
-        Verb::Create => create_line(words),
-        Verb::Open => open_line(words),
-        Verb::OpenOrCreate => open_or_create_line(words),
         Verb::Close => {
             let factory = only(b'f', words)?;
             Some(Command::Close { factory })
@@ -131,45 +138,6 @@ fn of_verb<'a>(verb: Verb, words: Words, scratch: &'a mut Scratch) -> Option<Com
         Verb::Publisher => publisher_line(words),
         Verb::Subscriber => subscriber_line(words),
     }
-}
-
-fn create_line<'a>(words: Words) -> Option<Command<'a, u64>>
-    ensures { result ≡ create_command words.entry }
-{
-    let (node, name, options) = named_service(words)?;
-    Some(Command::Create {
-        node,
-        name,
-        options,
-        attributes: AttributeSpecifier::new(),
-        steps: Steps::new(),
-    })
-}
-
-fn open_line<'a>(words: Words) -> Option<Command<'a, u64>>
-    ensures { result ≡ open_command words.entry }
-{
-    let (node, name, options) = named_service(words)?;
-    Some(Command::Open {
-        node,
-        name,
-        options,
-        requirements: AttributeVerifier::new(),
-        steps: Steps::new(),
-    })
-}
-
-fn open_or_create_line<'a>(words: Words) -> Option<Command<'a, u64>>
-    ensures { result ≡ open_or_create_command words.entry }
-{
-    let (node, name, options) = named_service(words)?;
-    Some(Command::OpenOrCreate {
-        node,
-        name,
-        options,
-        requirements: AttributeVerifier::new(),
-        steps: Steps::new(),
-    })
 }
 
 fn publisher_line<'a>(words: Words) -> Option<Command<'a, u64>>

@@ -1,6 +1,6 @@
 //! The first word of a line.
 ghost use Rattle.std.specs.Prelude.{◌≡◌};
-ghost use Rattle.iox_line.specs.Verbs.{verb_of, seldom_verb_of};
+ghost use Rattle.iox_line.specs.Verbs.{verb_of, seldom_verb_of, service_verb_of};
 
 use iox_command_text::words::is;
 
@@ -9,12 +9,6 @@ use iox_command_text::words::is;
 pub enum Verb {
     /// `node`
     Node,
-    /// `create`
-    Create,
-    /// `open`
-    Open,
-    /// `open_or_create`
-    OpenOrCreate,
     /// `close`
     Close,
     /// `publisher`
@@ -53,7 +47,20 @@ pub enum Verb {
     Has,
 }
 
-/// What a first word asks for; `None` if nothing that there is.
+/// What a line asks for that names a service. This port's own.
+#[derive(Clone, Copy, Debug, PartialEq, Eq)]
+pub enum ServiceVerb {
+    /// `create`
+    Create,
+    /// `open`
+    Open,
+    /// `open_or_create`
+    OpenOrCreate,
+    /// `foreign`
+    Foreign,
+}
+
+/// What a first word asks for, but for those that name a service; `None` if nothing that there is.
 pub fn first_verb(word: &[u8]) -> Option<Verb>
     ensures { result ≡ verb_of word.now }
 {
@@ -88,12 +95,6 @@ fn seldom_verb(word: &[u8]) -> Option<Verb>
 {
     if is(word, b"node") {
         Some(Verb::Node)
-    } else if is(word, b"create") {
-        Some(Verb::Create)
-    } else if is(word, b"open") {
-        Some(Verb::Open)
-    } else if is(word, b"open_or_create") {
-        Some(Verb::OpenOrCreate)
     } else if is(word, b"close") {
         Some(Verb::Close)
     } else if is(word, b"publisher") {
@@ -110,6 +111,23 @@ fn seldom_verb(word: &[u8]) -> Option<Verb>
         Some(Verb::GiveUp)
     } else if is(word, b"leave") {
         Some(Verb::Leave)
+    } else {
+        None
+    }
+}
+
+/// What a first word that names a service asks for; `None` if nothing that there is.
+pub fn service_verb(word: &[u8]) -> Option<ServiceVerb>
+    ensures { result ≡ service_verb_of word.now }
+{
+    if is(word, b"create") {
+        Some(ServiceVerb::Create)
+    } else if is(word, b"open") {
+        Some(ServiceVerb::Open)
+    } else if is(word, b"open_or_create") {
+        Some(ServiceVerb::OpenOrCreate)
+    } else if is(word, b"foreign") {
+        Some(ServiceVerb::Foreign)
     } else {
         None
     }

@@ -1,5 +1,6 @@
 //! The ways in which a line is none.
 use iox_line::{LineError, Scratch, read_command};
+use std::alloc::Global;
 use std::test::Fail;
 
 const FAULTY: [&str; 86] = [
@@ -91,16 +92,123 @@ const FAULTY: [&str; 86] = [
     "has p1",
 ];
 
-fn is_faulty(line: &[u8], scratch: &mut Scratch) -> bool {
-    match read_command(line, scratch) {
-        Err(LineError::Faulty) => true,
+const FAULTY_ATTRIBUTES: [&str; 27] = [
+    "create n1 ps a @",
+    "create n1 ps a @=v",
+    "create n1 ps a @k",
+    "create n1 ps a @k=v @k",
+    "create n1 ps a @k=v @",
+    "create n1 ps a @k=v buffer=3",
+    "create n1 ps a k=v",
+    "create n1 ps a @k\t=v",
+    "create n1 ps a @k=v\t",
+    "create n1 ps a @k=\u{7f}",
+    "create n1 ps a @k=v ",
+    "create n1 ps a  @k=v",
+    "create n1 ps a |1 lock:x1 @k=v",
+    "create n1 ps a @a=1 @b=2 @c=3 @d=4 @e=5 @f=6 @g=7 @h=8 @i=9",
+    "open n1 ps a @",
+    "open n1 ps a @=",
+    "open n1 ps a @=v",
+    "open n1 ps a @k @",
+    "open n1 ps a @k buffer=3",
+    "open n1 ps a @k\u{7f}",
+    "open n1 ps a @a @b @c @d @e @f @g @h @i",
+    "open n1 ps a @a=1 @b=2 @c=3 @d=4 @e=5 @f=6 @g=7 @h=8 @i=9",
+    "open_or_create n1 ps a @a @a @a @a @a @a @a @a @a",
+    "node @k=v",
+    "close f1 @k=v",
+    "publisher f1 @k=v",
+    "subscriber f1 @k=v",
+];
+
+const FAULTY_LISTS: [&str; 55] = [
+    "create n1 ps a |",
+    "create n1 ps a | lock:x1",
+    "create n1 ps a |0 lock:x1",
+    "create n1 ps a |01 lock:x1",
+    "create n1 ps a |x lock:x1",
+    "create n1 ps a |1x lock:x1",
+    "create n1 ps a |18446744073709551616 lock:x1",
+    "create n1 ps a |1",
+    "create n1 ps a |1 |2 lock:x1",
+    "create n1 ps a |1 lock:x1 |",
+    "create n1 ps a |1 lock:x1 |2",
+    "create n1 ps a |1 lock:x1 |1 giveup:x1",
+    "create n1 ps a |2 lock:x1 |1 giveup:x1",
+    "create n1 ps a |1 lock:x1 buffer=3",
+    "create n1 ps a |1 lock:x1 ",
+    "create n1 ps a |1  lock:x1",
+    "create n1 ps a lock:x1",
+    "create n1 ps a lock:x1 |1 lock:x1",
+    "create n1 ps a |1 lock",
+    "create n1 ps a |1 lock:",
+    "create n1 ps a |1 lock:x",
+    "create n1 ps a |1 lock:1",
+    "create n1 ps a |1 lock:n1",
+    "create n1 ps a |1 lock:x01",
+    "create n1 ps a |1 lock:x18446744073709551616",
+    "create n1 ps a |1 lock:x1:",
+    "create n1 ps a |1 lock:x1:buffer=1",
+    "create n1 ps a |1 giveup:x1:",
+    "create n1 ps a |1 register:x1:",
+    "create n1 ps a |1 leave:x1:",
+    "create n1 ps a |1 remove:x1:",
+    "create n1 ps a |1 locks:x1",
+    "create n1 ps a |1 Lock:x1",
+    "create n1 ps a |1 :x1",
+    "create n1 ps a |1 publish",
+    "create n1 ps a |1 publish:",
+    "create n1 ps a |1 publish:x",
+    "create n1 ps a |1 publish:x1:",
+    "create n1 ps a |1 publish:x1:buffer=1,",
+    "create n1 ps a |1 publish:x1:,buffer=1",
+    "create n1 ps a |1 publish:x1:buffer=1,,history=1",
+    "create n1 ps a |1 publish:x1:buffer=1,buffer=1",
+    "create n1 ps a |1 publish:x1:buffer=1:",
+    "create n1 ps a |1 publish:x1:buffer=1:history=1",
+    "create n1 ps a |1 publish:x1:buffer",
+    "create n1 ps a |1 publish:x1:buffer=",
+    "create n1 ps a |1 publish:x1:maxid=1",
+    "create n1 ps a |1 publish:x1,buffer=1",
+    "create n1 ps a |1 publish::buffer=1",
+    "create n1 ps a |1 publish:x1:@k=v",
+    "create n1 ev a |1 publish:x1:buffer=1",
+    "create n1 rr a |1 publish:x1:history=1",
+    "node |1 lock:x1",
+    "publisher f1 |1 lock:x1",
+    "put p1 1 |1 lock:x1",
+];
+
+const FAULTY_FOREIGN_STEPS: [&str; 16] = [
+    "foreign",
+    "foreign ps",
+    "foreign ps a",
+    "foreign ps a ",
+    "foreign ps lock:x1",
+    "foreign xx a lock:x1",
+    "foreign n1 ps a lock:x1",
+    "foreign ps \u{7f} lock:x1",
+    "foreign ps a lock:x1 ",
+    "foreign ps a  lock:x1",
+    "foreign ps a |1 lock:x1",
+    "foreign ps a lock:x1 |1 lock:x1",
+    "foreign ps a buffer=3 lock:x1",
+    "foreign ps a @k=v lock:x1",
+    "foreign ps a lock:x1 lock",
+    "foreign ev a publish:x1:buffer=1",
+];
+
+fn is_faulty(alloc: Global, line: &[u8], scratch: &mut Scratch) -> bool {
+    match read_command(alloc, line, scratch) {
+        Ok(Err(LineError::Faulty)) => true,
         _ => false,
     }
 }
 
-fn is_too_long(line: &[u8], scratch: &mut Scratch) -> bool {
-    match read_command(line, scratch) {
-        Err(LineError::TooLong) => true,
+fn is_too_long(alloc: Global, line: &[u8], scratch: &mut Scratch) -> bool {
+    match read_command(alloc, line, scratch) {
+        Ok(Err(LineError::TooLong)) => true,
         _ => false,
     }
 }
@@ -109,7 +217,46 @@ fn is_too_long(line: &[u8], scratch: &mut Scratch) -> bool {
 fn a_line_that_is_nearly_one_is_faulty(rt: HostRuntime) -> Result<(), Fail> {
     let mut scratch = Scratch::new(rt.alloc())?;
     for line in FAULTY {
-        assert!(rt; is_faulty(line.as_bytes(), &mut scratch), "{line}");
+        assert!(rt;
+            is_faulty(rt.alloc(), line.as_bytes(), &mut scratch),
+            "{line}"
+        );
+    }
+    Ok(())
+}
+
+#[test]
+fn attributes_that_are_nearly_right_are_faulty(rt: HostRuntime) -> Result<(), Fail> {
+    let mut scratch = Scratch::new(rt.alloc())?;
+    for line in &FAULTY_ATTRIBUTES {
+        assert!(rt;
+            is_faulty(rt.alloc(), line.as_bytes(), &mut scratch),
+            "{line}"
+        );
+    }
+    Ok(())
+}
+
+#[test]
+fn lists_that_are_nearly_right_are_faulty(rt: HostRuntime) -> Result<(), Fail> {
+    let mut scratch = Scratch::new(rt.alloc())?;
+    for line in &FAULTY_LISTS {
+        assert!(rt;
+            is_faulty(rt.alloc(), line.as_bytes(), &mut scratch),
+            "{line}"
+        );
+    }
+    Ok(())
+}
+
+#[test]
+fn foreign_steps_that_are_nearly_right_are_faulty(rt: HostRuntime) -> Result<(), Fail> {
+    let mut scratch = Scratch::new(rt.alloc())?;
+    for line in &FAULTY_FOREIGN_STEPS {
+        assert!(rt;
+            is_faulty(rt.alloc(), line.as_bytes(), &mut scratch),
+            "{line}"
+        );
     }
     Ok(())
 }
@@ -123,10 +270,10 @@ fn a_line_is_too_long_from_1025_bytes_on(rt: HostRuntime) -> Result<(), Fail> {
         line.extend_from_slice(b" 1")?;
     }
     assert!(rt; line.len() == 1_024);
-    assert!(rt; !is_faulty(line.as_slice(), &mut scratch));
-    assert!(rt; !is_too_long(line.as_slice(), &mut scratch));
+    assert!(rt; !is_faulty(rt.alloc(), line.as_slice(), &mut scratch));
+    assert!(rt; !is_too_long(rt.alloc(), line.as_slice(), &mut scratch));
     line.extend_from_slice(b"1")?;
-    assert!(rt; is_too_long(line.as_slice(), &mut scratch));
+    assert!(rt; is_too_long(rt.alloc(), line.as_slice(), &mut scratch));
     Ok(())
 }
 

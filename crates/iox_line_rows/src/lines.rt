@@ -4,6 +4,7 @@ use iox_domain_values::{
     AllocationStrategy, BackpressureAction, BackpressureStrategy, DegradationAction,
 };
 use iox_line::{Scratch, read_command};
+use std::alloc::Global;
 use std::test::Fail;
 
 const NOTHING_NAMED: PublisherOptions = PublisherOptions {
@@ -18,13 +19,14 @@ const NOTHING_NAMED: PublisherOptions = PublisherOptions {
 
 /// Whether the line is read so, by a word for the command, its numbers and its values.
 fn is_read(
+    alloc: Global,
     line: &str,
     kind: &str,
     numbers: [u64; 3],
     values: &[u64],
     scratch: &mut Scratch,
 ) -> bool {
-    let Ok(command) = read_command(line.as_bytes(), scratch) else {
+    let Ok(Ok(command)) = read_command(alloc, line.as_bytes(), scratch) else {
         return false;
     };
     if let Some((told, first, second, third)) = numbered(&command) {
@@ -136,7 +138,7 @@ fn each_line_is_read(rt: HostRuntime) -> Result<(), Fail> {
     let mut scratch = Scratch::new(rt.alloc())?;
     for (line, kind, numbers, values) in LINES {
         assert!(rt;
-            is_read(line, kind, numbers, values, &mut scratch),
+            is_read(rt.alloc(), line, kind, numbers, values, &mut scratch),
             "{line}"
         );
     }
@@ -144,17 +146,27 @@ fn each_line_is_read(rt: HostRuntime) -> Result<(), Fail> {
 }
 
 /// Whether the line makes a publisher of factory 1 with these options.
-fn is_publisher(line: &str, wanted: PublisherOptions, scratch: &mut Scratch) -> bool {
-    match read_command(line.as_bytes(), scratch) {
-        Ok(Command::Publisher { factory, options }) => factory == 1 && options == wanted,
+fn is_publisher(
+    alloc: Global,
+    line: &str,
+    wanted: PublisherOptions,
+    scratch: &mut Scratch,
+) -> bool {
+    match read_command(alloc, line.as_bytes(), scratch) {
+        Ok(Ok(Command::Publisher { factory, options })) => factory == 1 && options == wanted,
         _ => false,
     }
 }
 
 /// Whether the line makes a subscriber of factory 1 with these options.
-fn is_subscriber(line: &str, wanted: SubscriberOptions, scratch: &mut Scratch) -> bool {
-    match read_command(line.as_bytes(), scratch) {
-        Ok(Command::Subscriber { factory, options }) => factory == 1 && options == wanted,
+fn is_subscriber(
+    alloc: Global,
+    line: &str,
+    wanted: SubscriberOptions,
+    scratch: &mut Scratch,
+) -> bool {
+    match read_command(alloc, line.as_bytes(), scratch) {
+        Ok(Ok(Command::Subscriber { factory, options })) => factory == 1 && options == wanted,
         _ => false,
     }
 }
@@ -171,9 +183,10 @@ fn a_publisher_is_read_with_its_options(rt: HostRuntime) -> Result<(), Fail> {
         backpressure_handler: Some(BackpressureAction::DiscardDataAndFail),
         degradation_handler: Some(DegradationAction::Warn),
     };
-    assert!(rt; is_publisher("publisher f1", NOTHING_NAMED, &mut scratch));
+    assert!(rt; is_publisher(rt.alloc(), "publisher f1", NOTHING_NAMED, &mut scratch));
     assert!(rt;
         is_publisher(
+            rt.alloc(),
             "publisher f1 loans=2 strategy=discard slots=3 slice=4 alloc=power handler=fail degrade=warn",
             all,
             &mut scratch
@@ -181,6 +194,7 @@ fn a_publisher_is_read_with_its_options(rt: HostRuntime) -> Result<(), Fail> {
     );
     assert!(rt;
         is_publisher(
+            rt.alloc(),
             "publisher f1 degrade=warn handler=fail alloc=power slice=4 slots=3 strategy=discard loans=2",
             all,
             &mut scratch
@@ -206,7 +220,10 @@ fn each_word_of_an_option_is_read(rt: HostRuntime) -> Result<(), Fail> {
             backpressure_strategy: Some(strategy),
             ..NOTHING_NAMED
         };
-        assert!(rt; is_publisher(line, wanted, &mut scratch), "{line}");
+        assert!(rt;
+            is_publisher(rt.alloc(), line, wanted, &mut scratch),
+            "{line}"
+        );
     }
     for (line, strategy) in [
         ("publisher f1 alloc=static", AllocationStrategy::Static),
@@ -217,7 +234,10 @@ fn each_word_of_an_option_is_read(rt: HostRuntime) -> Result<(), Fail> {
             allocation_strategy: Some(strategy),
             ..NOTHING_NAMED
         };
-        assert!(rt; is_publisher(line, wanted, &mut scratch), "{line}");
+        assert!(rt;
+            is_publisher(rt.alloc(), line, wanted, &mut scratch),
+            "{line}"
+        );
     }
     for (line, action) in [
         (
@@ -238,7 +258,10 @@ fn each_word_of_an_option_is_read(rt: HostRuntime) -> Result<(), Fail> {
             backpressure_handler: Some(action),
             ..NOTHING_NAMED
         };
-        assert!(rt; is_publisher(line, wanted, &mut scratch), "{line}");
+        assert!(rt;
+            is_publisher(rt.alloc(), line, wanted, &mut scratch),
+            "{line}"
+        );
     }
     Ok(())
 }
@@ -269,7 +292,10 @@ fn a_subscriber_is_read_with_its_options(rt: HostRuntime) -> Result<(), Fail> {
             buffer_size,
             degradation_handler,
         };
-        assert!(rt; is_subscriber(line, wanted, &mut scratch), "{line}");
+        assert!(rt;
+            is_subscriber(rt.alloc(), line, wanted, &mut scratch),
+            "{line}"
+        );
     }
     Ok(())
 }

@@ -4,9 +4,10 @@ use iox_command::{
     ServiceOptions,
 };
 use iox_line::{Scratch, read_command};
+use std::alloc::Global;
 use std::test::Fail;
 
-const PUBLISH_SUBSCRIBE: PublishSubscribeOptions = PublishSubscribeOptions {
+pub(crate) const PUBLISH_SUBSCRIBE: PublishSubscribeOptions = PublishSubscribeOptions {
     max_subscribers: None,
     max_publishers: None,
     max_nodes: None,
@@ -16,7 +17,7 @@ const PUBLISH_SUBSCRIBE: PublishSubscribeOptions = PublishSubscribeOptions {
     enable_safe_overflow: None,
 };
 
-const EVENT: EventOptions = EventOptions {
+pub(crate) const EVENT: EventOptions = EventOptions {
     max_notifiers: None,
     max_listeners: None,
     max_nodes: None,
@@ -27,7 +28,7 @@ const EVENT: EventOptions = EventOptions {
     notifier_dead_event: None,
 };
 
-const REQUEST_RESPONSE: RequestResponseOptions = RequestResponseOptions {
+pub(crate) const REQUEST_RESPONSE: RequestResponseOptions = RequestResponseOptions {
     max_servers: None,
     max_clients: None,
     max_nodes: None,
@@ -68,8 +69,14 @@ fn named<'a>(
 }
 
 /// Whether the line names so the service `a` in node 1, with these options.
-fn is_named(line: &str, word: &str, wanted: ServiceOptions, scratch: &mut Scratch) -> bool {
-    let Ok(command) = read_command(line.as_bytes(), scratch) else {
+fn is_named(
+    alloc: Global,
+    line: &str,
+    word: &str,
+    wanted: ServiceOptions,
+    scratch: &mut Scratch,
+) -> bool {
+    let Ok(Ok(command)) = read_command(alloc, line.as_bytes(), scratch) else {
         return false;
     };
     match named(&command) {
@@ -122,7 +129,10 @@ fn each_of_the_three_words_names_a_service(rt: HostRuntime) -> Result<(), Fail> 
             ServiceOptions::RequestResponse(REQUEST_RESPONSE),
         ),
     ] {
-        assert!(rt; is_named(line, word, wanted, &mut scratch), "{line}");
+        assert!(rt;
+            is_named(rt.alloc(), line, word, wanted, &mut scratch),
+            "{line}"
+        );
     }
     Ok(())
 }
@@ -144,13 +154,24 @@ fn a_publish_subscribe_service_is_read_with_its_options(rt: HostRuntime) -> Resu
         "create n1 ps a overflow=0 history=6 borrowed=5 buffer=4 nodes=3 publishers=2 subscribers=1",
         "create n1 ps a buffer=4 history=6 overflow=0 subscribers=1 nodes=3 borrowed=5 publishers=2",
     ] {
-        assert!(rt; is_named(line, "create", all, &mut scratch), "{line}");
+        assert!(rt;
+            is_named(rt.alloc(), line, "create", all, &mut scratch),
+            "{line}"
+        );
     }
     let overflowing = ServiceOptions::PublishSubscribe(PublishSubscribeOptions {
         enable_safe_overflow: Some(true),
         ..PUBLISH_SUBSCRIBE
     });
-    assert!(rt; is_named("open n1 ps a overflow=1", "open", overflowing, &mut scratch));
+    assert!(rt;
+        is_named(
+            rt.alloc(),
+            "open n1 ps a overflow=1",
+            "open",
+            overflowing,
+            &mut scratch
+        )
+    );
     Ok(())
 }
 
@@ -171,7 +192,10 @@ fn an_event_service_is_read_with_its_options(rt: HostRuntime) -> Result<(), Fail
         "open n1 ev a notifiers=1 listeners=2 nodes=3 maxid=4 deadline=5 created=0 dropped=off dead=8",
         "open n1 ev a dead=8 deadline=5 dropped=off created=0 maxid=4 nodes=3 listeners=2 notifiers=1",
     ] {
-        assert!(rt; is_named(line, "open", all, &mut scratch), "{line}");
+        assert!(rt;
+            is_named(rt.alloc(), line, "open", all, &mut scratch),
+            "{line}"
+        );
     }
     let off = ServiceOptions::Event(EventOptions {
         deadline: Some(NumberOrOff::Off),
@@ -181,6 +205,7 @@ fn an_event_service_is_read_with_its_options(rt: HostRuntime) -> Result<(), Fail
     });
     assert!(rt;
         is_named(
+            rt.alloc(),
             "create n1 ev a dead=off deadline=off created=off",
             "create",
             off,
@@ -209,14 +234,17 @@ fn a_request_response_service_is_read_with_its_options(rt: HostRuntime) -> Resul
         "create n1 rr a servers=1 clients=2 nodes=3 buffer=4 borrowed=5 active=6 loans=7 overflow_requests=1 overflow_responses=0 fire=1",
         "create n1 rr a fire=1 overflow_responses=0 overflow_requests=1 loans=7 active=6 borrowed=5 buffer=4 nodes=3 clients=2 servers=1",
     ] {
-        assert!(rt; is_named(line, "create", all, &mut scratch), "{line}");
+        assert!(rt;
+            is_named(rt.alloc(), line, "create", all, &mut scratch),
+            "{line}"
+        );
     }
     Ok(())
 }
 
 /// Whether a line names a service that is called so.
-fn is_called(line: &[u8], wanted: &[u8], scratch: &mut Scratch) -> bool {
-    let Ok(command) = read_command(line, scratch) else {
+fn is_called(alloc: Global, line: &[u8], wanted: &[u8], scratch: &mut Scratch) -> bool {
+    let Ok(Ok(command)) = read_command(alloc, line, scratch) else {
         return false;
     };
     match named(&command) {
@@ -233,7 +261,7 @@ fn a_name_begins_with_anything(rt: HostRuntime) -> Result<(), Fail> {
         line.extend_from_slice(b"create n1 ps ")?;
         line.extend_from_slice(name.as_bytes())?;
         assert!(rt;
-            is_called(line.as_slice(), name.as_bytes(), &mut scratch),
+            is_called(rt.alloc(), line.as_slice(), name.as_bytes(), &mut scratch),
             "{name}"
         );
     }
@@ -250,8 +278,8 @@ fn a_name_has_at_most_255_bytes(rt: HostRuntime) -> Result<(), Fail> {
         line.extend_from_slice(b"x")?;
         name.extend_from_slice(b"x")?;
     }
-    assert!(rt; is_called(line.as_slice(), name.as_slice(), &mut scratch));
+    assert!(rt; is_called(rt.alloc(), line.as_slice(), name.as_slice(), &mut scratch));
     line.extend_from_slice(b"x")?;
-    assert!(rt; read_command(line.as_slice(), &mut scratch).is_err());
+    assert!(rt; !is_called(rt.alloc(), line.as_slice(), name.as_slice(), &mut scratch));
     Ok(())
 }

@@ -1,6 +1,5 @@
 -- How a service is read, word for word.
-use Rattle.std.specs.Prelude.{ℕ, ◌+◌, ◌==◌, Bool, true, false, ◌&&◌, nat_le, List, [], ◌∷◌, length, Option, None, Some, codes, if◌then◌else◌}
-use Rattle.std.specs.List.{list_all}
+use Rattle.std.specs.Prelude.{ℕ, ◌+◌, ◌==◌, Bool, true, false, List, [], ◌∷◌, length, Option, None, Some, codes, if◌then◌else◌}
 use Rattle.std.specs.Option.{option_map}
 use Rattle.iox_describe_base.specs.declared.pattern.MessagingPattern.{MessagingPattern}
 use Rattle.iox_describe_base.specs.declared.pattern.MessagingPattern.TheVariants as pattern
@@ -11,7 +10,9 @@ use Rattle.iox_command.specs.declared.service.EventOptions.{EventOptions}
 use Rattle.iox_command.specs.declared.service.RequestResponseOptions.{RequestResponseOptions}
 use Rattle.iox_command.specs.declared.service.ServiceOptions.{ServiceOptions}
 use Rattle.iox_command.specs.declared.service.ServiceOptions.TheVariants as options
-use Rattle.iox_command_text.specs.Words.{choice, same}
+use Rattle.iox_line_services.specs.declared.service.NamedService.{NamedService}
+use Rattle.iox_command_text.specs.Words.{choice, same, front, back}
+use Rattle.iox_command_text.specs.Visible.{is_visible_text}
 use Rattle.iox_command_text.specs.Numbers.{number_of, tagged}
 use Rattle.iox_command_text.specs.Options.{find, named, one}
 
@@ -51,17 +52,9 @@ patterns = (codes "ps", pattern.PublishSubscribe) ∷ (codes "ev", pattern.Event
 abbrev pub pattern_named : List ℕ → Option MessagingPattern
 pattern_named word = choice patterns word
 
--- whether a byte is one of 0x21 to 0x7E
-abbrev pub is_visible : ℕ → Bool
-is_visible b = nat_le 33 b && nat_le b 126
-
--- whether a word is a name
-abbrev pub is_name : List ℕ → Bool
-is_name word = nat_le 1 (length word) && (nat_le (length word) 255 && list_all is_visible word)
-
 -- the name that a word is
 abbrev pub name_of : List ℕ → Option (List ℕ)
-name_of word = if is_name word then Some word else None
+name_of word = if is_visible_text 1 255 word then Some word else None
 
 -- the options of a publish-subscribe service, by their parts
 abbrev pub publish_subscribe_options : Pair (Option ℕ) (Pair (Option ℕ) (Pair (Option ℕ) (Pair (Option ℕ) (Pair (Option ℕ) (Pair (Option ℕ) (Option Bool)))))) → PublishSubscribeOptions
@@ -171,15 +164,20 @@ options_of pattern.PublishSubscribe ws = option_map (λ o. options.PublishSubscr
 options_of pattern.Event ws = option_map (λ o. options.Event o) (event_of ws)
 options_of pattern.RequestResponse ws = option_map (λ o. options.RequestResponse o) (request_response_of ws)
 
--- a node, a name and options, if all are read
-abbrev pub three_parts : Option ℕ → Option MessagingPattern → Option (List ℕ) → List (List ℕ) → Option (ℕ × List ℕ × ServiceOptions)
+-- a service that is named, by its parts
+abbrev pub named_service : ℕ → List ℕ → ServiceOptions → List (List ℕ) → List (List ℕ) → NamedService
+named_service node name options attributes lists = record { node = node; name = name; options = options; attributes = attributes; lists = lists }
+
+-- a node, a name and the words after it, if all are read: lists from the first bar on, attributes from the first at sign before it on, and options
+abbrev pub three_parts : Option ℕ → Option MessagingPattern → Option (List ℕ) → List (List ℕ) → Option NamedService
 three_parts None kind name ws = None
 three_parts (Some node) None name ws = None
 three_parts (Some node) (Some kind) None ws = None
-three_parts (Some node) (Some kind) (Some name) ws = option_map (λ o. (node, name, o)) (options_of kind ws)
+three_parts (Some node) (Some kind) (Some name) ws =
+    option_map (λ o. named_service node name o (back 64 (front 124 ws)) (back 124 ws)) (options_of kind (front 64 (front 124 ws)))
 
 -- the service that words name
-abbrev pub service_of : List (List ℕ) → Option (ℕ × List ℕ × ServiceOptions)
+abbrev pub service_of : List (List ℕ) → Option NamedService
 service_of [] = None
 service_of (w ∷ []) = None
 service_of (w ∷ v ∷ []) = None

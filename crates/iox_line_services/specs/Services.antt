@@ -1,6 +1,5 @@
 -- How a service is named in a line: by its node, its pattern, its name and its options. The letter n is 110.
-use Rattle.std.specs.Prelude.{ℕ, ◌≡◌, ◌≤◌, Bool, true, false, List, [], ◌∷◌, length, Option, None, Some, codes, decimal}
-use Rattle.std.specs.List.{All}
+use Rattle.std.specs.Prelude.{ℕ, ◌≡◌, Bool, true, false, List, [], ◌∷◌, ◌++◌, Option, None, Some, codes, decimal}
 use Rattle.std.specs.Option.{option_map}
 use Rattle.iox_describe_base.specs.declared.pattern.MessagingPattern.{MessagingPattern}
 use Rattle.iox_describe_base.specs.declared.pattern.MessagingPattern.TheVariants as pattern
@@ -13,6 +12,7 @@ use Rattle.iox_command.specs.declared.service.ServiceOptions.{ServiceOptions}
 use Rattle.iox_command.specs.declared.service.ServiceOptions.TheVariants as options
 use Rattle.iox_command.specs.Patterns.{pattern_of}
 use Rattle.iox_command_text.specs.Numbers.{IsNumber, IfNumber, tag}
+use Rattle.iox_command_text.specs.Visible.{IsVisibleText}
 use Rattle.iox_command_text.specs.Options.{AnyOrder, option_words}
 
 -- how a pattern is written
@@ -21,13 +21,9 @@ pattern_word pattern.PublishSubscribe = codes "ps"
 pattern_word pattern.Event = codes "ev"
 pattern_word pattern.RequestResponse = codes "rr"
 
--- a byte of 0x21 to 0x7E
-abbrev pub IsVisible : ℕ → Type 0
-IsVisible b = (33 ≤ b) × (b ≤ 126)
-
--- a name: 1 to 255 such bytes
+-- a name: 1 to 255 bytes of 0x21 to 0x7E
 abbrev pub IsName : List ℕ → Type 0
-IsName name = (1 ≤ length name) × (length name ≤ 255) × All IsVisible name
+IsName name = IsVisibleText 1 255 name
 
 -- how a switch is written
 abbrev pub switch_word : Bool → List ℕ
@@ -109,7 +105,7 @@ ServiceFits (options.PublishSubscribe o) = PublishSubscribeFits o
 ServiceFits (options.Event o) = EventFits o
 ServiceFits (options.RequestResponse o) = RequestResponseFits o
 
--- the words name the service: its node, its pattern, its name, and its options in any order
-abbrev pub Names : ℕ → List ℕ → ServiceOptions → List (List ℕ) → Type 0
-Names node name options words = (chosen : List (List ℕ)) × AnyOrder chosen (service_words options)
-    × (words ≡ tag 110 node ∷ pattern_word (pattern_of options) ∷ name ∷ chosen)
+-- the words name the service: its node, its pattern, its name, its options in any order, and then words for attributes and for lists of steps
+abbrev pub Names : ℕ → List ℕ → ServiceOptions → List (List ℕ) → List (List ℕ) → List (List ℕ) → Type 0
+Names node name options attributes lists words = (chosen : List (List ℕ)) × AnyOrder chosen (service_words options)
+    × (words ≡ tag 110 node ∷ pattern_word (pattern_of options) ∷ name ∷ (chosen ++ (attributes ++ lists)))

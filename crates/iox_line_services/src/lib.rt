@@ -13,4 +13,4 @@ pub mod options;
 pub mod service;
 pub mod value;
 
-pub use service::named_service;
+pub use service::{NamedService, named_service};

@@ -9,8 +9,25 @@ use iox_command_text::Words;
 use iox_command_text::number::numbered;
 use iox_describe_base::{MessagingPattern, ServiceName};
 
-/// The node, the name and the options, of the words after the first one of a line.
-pub fn named_service(words: Words) -> Option<(u64, ServiceName, ServiceOptions)>
+/// A service, as a line names it.
+///
+/// This port's own.
+#[derive(Debug, Drop)]
+pub struct NamedService<'a> {
+    /// The number of the node.
+    pub node: u64,
+    /// The name.
+    pub name: ServiceName,
+    /// The options.
+    pub options: ServiceOptions,
+    /// The words after the options, from the first on that begins with `@`.
+    pub attributes: Words<'a>,
+    /// The words from the first on that begins with `|`.
+    pub lists: Words<'a>,
+}
+
+/// The service that is named by the words after the first one of a line.
+pub fn named_service<'a>(words: Words<'a>) -> Option<NamedService<'a>>
     ensures { result ≡ service_of words.entry }
 {
     let mut words = words;
@@ -25,12 +42,21 @@ pub fn named_service(words: Words) -> Option<(u64, ServiceName, ServiceOptions)>
     };
     let node = numbered(b'n', node)?;
     let kind = pattern(kind)?;
-    let called = name(called)?;
-    let options = service_options(kind, &words)?;
-    Some((node, called, options))
+    let name = name(called)?;
+    let (before, lists) = words.cut(b'|');
+    let (chosen, attributes) = before.cut(b'@');
+    let options = service_options(kind, &chosen)?;
+    Some(NamedService {
+        node,
+        name,
+        options,
+        attributes,
+        lists,
+    })
 }
 
-fn service_options(pattern: MessagingPattern, words: &Words) -> Option<ServiceOptions>
+/// The options of a pattern; `None` if a word is none of them, or one stands twice.
+pub fn service_options(pattern: MessagingPattern, words: &Words) -> Option<ServiceOptions>
     ensures { result ≡ options_of pattern words.now }
 {
     match pattern {

@@ -1,15 +1,16 @@
 //! Switches, numbers that may be off, patterns and names.
-ghost use Rattle.std.specs.Prelude.{◌≡◌, ◌&&◌, nat_le};
-ghost use Rattle.std.specs.List.{list_all};
+ghost use Rattle.std.specs.Prelude.{◌≡◌};
 ghost use Rattle.iox_command_text.specs.Words.{same};
 ghost use Rattle.iox_command_text.specs.Options.{find, named};
-ghost use Rattle.iox_line_services.specs.Reading.{switch_of, number_or_off_of, pattern_named, is_visible, is_name, name_of};
+ghost use Rattle.iox_line_services.specs.Reading.{switch_of, number_or_off_of, pattern_named, name_of};
 
 use iox_command::NumberOrOff;
 use iox_command_text::Words;
 use iox_command_text::number::number;
 use iox_command_text::options::find;
+use iox_command_text::visible::is_visible_text;
 use iox_command_text::words::is;
+use iox_describe_base::limits::MAX_SERVICE_NAME_LENGTH;
 use iox_describe_base::{MessagingPattern, ServiceName};
 
 /// The switch that a word is: `0` or `1`.
@@ -83,23 +84,11 @@ pub fn pattern(word: &[u8]) -> Option<MessagingPattern>
 pub fn name(word: &[u8]) -> Option<ServiceName>
     ensures { result ≡ name_of word.now }
 {
-    if !is_name(word) {
+    if !is_visible_text(1, MAX_SERVICE_NAME_LENGTH, word) {
         return None;
     }
     match ServiceName::new(word) {
         Ok(name) => Some(name),
         Err(_) => None,
     }
-}
-
-fn is_name(word: &[u8]) -> bool
-    ensures { result ≡ is_name word.now }
-{
-    1 <= word.len() && word.len() <= 255 && are_visible(word)
-}
-
-fn are_visible(word: &[u8]) -> bool
-    ensures { result ≡ list_all is_visible word.now }
-{
-    word.iter().all(|&byte| 33 <= byte && byte <= 126)
 }

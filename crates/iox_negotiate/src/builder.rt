@@ -30,24 +30,34 @@ pub mod request_response;
 /// Ported from `iceoryx2::service::builder::Builder`.
 #[derive(Clone, Copy, Debug)]
 pub struct Builder {
+    hub: u64,
     node: u64,
     name: ServiceName,
 }
 
 impl Builder {
-    /// A builder of the service of this name, for this node.
+    /// A builder of the service of this name, for this node, which is of no hub.
     pub fn new(node: u64, name: ServiceName) -> Self
-        ensures node { result.node ≡ node }
-        ensures name { result.name ≡ name }
+        ensures { result ≡ record { hub = 0; node = node; name = name } }
     {
-        Builder { node, name }
+        Self::of_hub(0, node, name)
+    }
+
+    /// A builder of the service of this name, for this node of the hub of this id.
+    ///
+    /// This port's own.
+    pub fn of_hub(hub: u64, node: u64, name: ServiceName) -> Self
+        ensures { result ≡ record { hub = hub; node = node; name = name } }
+    {
+        Builder { hub, node, name }
     }
 
     /// A builder of an event service, of which no setting is named. It takes no memory.
     pub fn event(self) -> ServiceBuilder<Event>
-        ensures { result ≡ record { node = self.node; name = self.name; requirement = event_of.unnamed (required [] []) } }
+        ensures { result ≡ record { hub = self.hub; node = self.node; name = self.name; requirement = event_of.unnamed (required [] []) } }
     {
         ServiceBuilder {
+            hub: self.hub,
             node: self.node,
             name: self.name,
             requirement: requirement::event::Requirement::new(AttributeVerifier::new()),
@@ -57,9 +67,10 @@ impl Builder {
     /// A builder of a publish-subscribe service with this payload and no user header, of which no setting is named. It
     /// takes no memory.
     pub fn publish_subscribe<M: Payload>(self) -> ServiceBuilder<PublishSubscribe>
-        ensures { result ≡ record { node = self.node; name = self.name; requirement = publish_subscribe_of.unnamed (types_of M.detail) (required [] []) } }
+        ensures { result ≡ record { hub = self.hub; node = self.node; name = self.name; requirement = publish_subscribe_of.unnamed (types_of M.detail) (required [] []) } }
     {
         ServiceBuilder {
+            hub: self.hub,
             node: self.node,
             name: self.name,
             requirement: requirement::publish_subscribe::Requirement::new(
@@ -72,11 +83,12 @@ impl Builder {
     /// A builder of a request-response service with these payloads and no user headers, of which no setting is named. It
     /// takes no memory.
     pub fn request_response<M: Payload, N: Payload>(self) -> ServiceBuilder<RequestResponse>
-        ensures { result ≡ record { node = self.node; name = self.name; requirement = request_response_of.unnamed (types_of M.detail) (types_of N.detail) (required [] []) } }
+        ensures { result ≡ record { hub = self.hub; node = self.node; name = self.name; requirement = request_response_of.unnamed (types_of M.detail) (types_of N.detail) (required [] []) } }
     {
         let requests = types_of(M::type_detail());
         let responses = types_of(N::type_detail());
         ServiceBuilder {
+            hub: self.hub,
             node: self.node,
             name: self.name,
             requirement: requirement::request_response::Requirement::new(
@@ -84,6 +96,20 @@ impl Builder {
                 responses,
                 AttributeVerifier::new(),
             ),
+        }
+    }
+
+    /// A builder of a service of this pattern, of which all this is asked. It takes no memory.
+    ///
+    /// This port's own.
+    pub fn with_requirement<P: Negotiated>(self, requirement: P::Requirement) -> ServiceBuilder<P>
+        ensures { result ≡ record { hub = self.hub; node = self.node; name = self.name; requirement = requirement } }
+    {
+        ServiceBuilder {
+            hub: self.hub,
+            node: self.node,
+            name: self.name,
+            requirement,
         }
     }
 }
@@ -94,12 +120,22 @@ impl Builder {
 /// Ported from the builders of `iceoryx2::service::builder::{publish_subscribe, event, request_response}`.
 #[derive(Drop)]
 pub struct ServiceBuilder<P: Negotiated> {
+    hub: u64,
     node: u64,
     name: ServiceName,
     requirement: P::Requirement,
 }
 
 impl<P: Negotiated> ServiceBuilder<P> {
+    /// The id of the hub that it is of; 0 where it is of none.
+    ///
+    /// This port's own.
+    pub fn hub(&self) -> u64
+        ensures { result ≡ self.now.hub }
+    {
+        self.hub
+    }
+
     /// The same builder, in memory of its own. Refused only for want of memory, which one that asks for no attributes takes
     /// none of.
     pub fn try_clone(&self, alloc: Global) -> Result<Self, AllocError>
@@ -107,6 +143,7 @@ impl<P: Negotiated> ServiceBuilder<P> {
         ensures empty { P.attributes self.now.requirement ≡ required [] [] → IsOk result }
     {
         Ok(ServiceBuilder {
+            hub: self.hub,
             node: self.node,
             name: self.name,
             requirement: P::try_clone(&self.requirement, alloc)?,
@@ -166,6 +203,7 @@ impl<P: Negotiated> ServiceBuilder<P> {
         ensures { Negotiates S.gives (S.id storage.old) self.node P.open_error (λ made answer. Opens (service_hash_of P.pattern self.name) self.node (λ given. P.verdict (P.with_attributes self.requirement attributes) given) made answer) storage.old (result_map_both (λ factory. factory.membership) (λ error. error) result) storage.new }
     {
         let builder = ServiceBuilder {
+            hub: self.hub,
             node: self.node,
             name: self.name,
             requirement: P::with_attributes(self.requirement, attributes),
@@ -197,6 +235,7 @@ impl<P: Negotiated> ServiceBuilder<P> {
         ensures { Either S.gives (S.id storage.old) (service_hash_of P.pattern self.name) self.node (λ given. P.verdict (P.with_attributes self.requirement attributes) given) (agreement self.name (service_hash_of P.pattern self.name) (P.settings (P.adjusted (P.asked (P.with_attributes self.requirement attributes)))) (P.attributes (P.with_attributes self.requirement attributes)).pairs) (P.IsWithinLimits (P.adjusted (P.asked (P.with_attributes self.requirement attributes)))) (P.IsHistoryTooLong (P.adjusted (P.asked (P.with_attributes self.requirement attributes)))) P.open_or_create_error storage.old (result_map_both (λ factory. factory.membership) (λ error. error) result) storage.new }
     {
         let builder = ServiceBuilder {
+            hub: self.hub,
             node: self.node,
             name: self.name,
             requirement: P::with_attributes(self.requirement, attributes),

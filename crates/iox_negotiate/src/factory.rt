@@ -6,7 +6,7 @@ ghost use Rattle.iox_negotiate_errors.specs.declared.close.CloseError.TheVariant
 ghost use Rattle.iox_negotiate.specs.Factory.{membership, segment_removed, RemovesSegment, RemovalGoes, Removes, Closes};
 
 use iox_describe::pattern::Pattern;
-use iox_describe::{AttributeSpecifier, ServiceName};
+use iox_describe::{AttributeSpecifier, Description, ServiceName};
 use iox_negotiate_errors::CloseError;
 use iox_negotiate_rounds::{LeaveAnswer, Opened, RemoveAnswer, Storage};
 
@@ -124,6 +124,33 @@ impl<P: Pattern> PortFactory<P> {
         ensures { result ≡ self.now.membership.service.number }
     {
         self.membership.service.number
+    }
+
+    /// What the nodes of the service agree on.
+    ///
+    /// This port's own.
+    pub fn description(&self) -> &Description
+        ensures { result.now ≡ self.now.membership.service.description }
+    {
+        &self.membership.service.description
+    }
+
+    /// Whether the call that made the factory created the service, and didn't open one that stood.
+    ///
+    /// This port's own.
+    pub fn is_new(&self) -> bool
+        ensures { result ≡ self.now.membership.service.is_new }
+    {
+        self.membership.service.is_new
+    }
+
+    /// The id of the storage that it was opened in.
+    ///
+    /// This port's own.
+    pub fn storage(&self) -> u64
+        ensures { result ≡ self.now.membership.storage }
+    {
+        self.membership.storage
     }
 
     /// The node that the factory is of.

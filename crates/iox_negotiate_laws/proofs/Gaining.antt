@@ -5,7 +5,7 @@ use Rattle.iox_describe_base.specs.declared.hash.ServiceHash.{ServiceHash}
 use Rattle.iox_describe_settings.specs.Agreement.{Agreement}
 use Rattle.iox_negotiate_rounds.specs.Access.{Access, Look, Lock, MakeSegment, Publish, Unlock, OpenSegment, RemoveDescription, RemoveSegment}
 use Rattle.iox_negotiate_rounds.specs.Creating.{Unlocks, Undoes, Publishes, Makes, LockGoes, Locks, CreatesSeen, CreatesIf}
-use Rattle.iox_negotiate_rounds.specs.Failing.{refusal_seen, lock_gives, opened, entered, created, created_or_again, opened_or_again}
+use Rattle.iox_negotiate_rounds.specs.Failing.{refusal_seen, lock_gives, brought_about, entered, created, created_or_again, opened_or_again}
 use Rattle.iox_negotiate_rounds.specs.Opening.{Registers, OpensJudged, OpensSeen, OpenRound, EitherCreates, EitherSeen, EitherRound}
 use Rattle.iox_negotiate_rounds.specs.Runs.{Led, Rounds}
 use Rattle.iox_negotiate_rounds.specs.declared.answer.LockAnswer.{LockAnswer}
@@ -127,7 +127,7 @@ module _ (hash : ServiceHash) where
 module _ (hash : ServiceHash) (node : ℕ) (agreed : Agreement) where
   -- the description is published, or no service is made
   publishes-shape : (number : ℕ) (made : List Access) (came-to : Attempt) → Publishes hash number agreed made came-to
-      → (AllCalm made × (made_of came-to ≡ None)) ⊎ ((bytes : List ℕ) × (made ≡ Publish hash number bytes publishing.Published ∷ []) × (came-to ≡ attempt.Made (opened number agreed)))
+      → (AllCalm made × (made_of came-to ≡ None)) ⊎ ((bytes : List ℕ) × (made ≡ Publish hash number bytes publishing.Published ∷ []) × (came-to ≡ attempt.Made (brought_about number agreed)))
   publishes-shape number (Publish under of bytes publishing.Published ∷ rest) came-to (own, same, spelled, (none, is)) = inr (bytes, cc, is)
   publishes-shape number (Publish under of bytes publishing.Fault ∷ rest) came-to (own, same, spelled, (undone, is)) =
       inl (((tt, λ at by. refl), undoes-calm hash number rest undone), ap (λ a. made_of a) is)
@@ -139,7 +139,7 @@ module _ (hash : ServiceHash) (node : ℕ) (agreed : Agreement) where
   makes-gains : (number : ℕ) (made : List Access) (came-to : Attempt) → Makes hash node number agreed made came-to → Gains node (made_of came-to) made
   makes-gains number (MakeSegment under of by room making.Made ∷ rest) came-to (own, same, who, wide, goes) = there (publishes-shape number rest came-to goes)
     where
-      there : (AllCalm rest × (made_of came-to ≡ None)) ⊎ ((bytes : List ℕ) × (rest ≡ Publish hash number bytes publishing.Published ∷ []) × (came-to ≡ attempt.Made (opened number agreed)))
+      there : (AllCalm rest × (made_of came-to ≡ None)) ⊎ ((bytes : List ℕ) × (rest ≡ Publish hash number bytes publishing.Published ∷ []) × (came-to ≡ attempt.Made (brought_about number agreed)))
           → Gains node (made_of came-to) (MakeSegment under of by room making.Made ∷ rest)
       there (inl (calm, none)) = subst (λ s. Gains node s (MakeSegment under of by room making.Made ∷ rest)) (sym none) ((tt, λ at d. refl), calm)
       there (inr (bytes, list, is)) = subst (λ a. Gains node (made_of a) (MakeSegment under of by room making.Made ∷ rest)) (sym is)

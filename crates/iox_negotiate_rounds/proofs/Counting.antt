@@ -5,7 +5,7 @@ use Rattle.iox_describe_settings.specs.Agreement.{Agreement, max_nodes_of}
 use Rattle.iox_describe.specs.Line.{line}
 use Rattle.iox_negotiate_rounds.specs.Access.{Access, Look, Lock, MakeSegment, Publish, Unlock, RemoveSegment}
 use Rattle.iox_negotiate_rounds.specs.Creating.{Unlocks, Undoes, PublishGoes, Publishes, MakeGoes, Makes, LockGoes, Locks, CreatesSeen}
-use Rattle.iox_negotiate_rounds.specs.Failing.{opened, lock_gives, making_failure, publishing_failure, refusal_seen, created}
+use Rattle.iox_negotiate_rounds.specs.Failing.{brought_about, lock_gives, making_failure, publishing_failure, refusal_seen, created}
 use Rattle.iox_negotiate_rounds.specs.Laws.{CreatesInSix, LeavesNoLock, locks_taken, locks_ended, RefusedLeavesNoSegment, segments_made, segments_removed, CreatedIsPublished}
 use Rattle.iox_negotiate_rounds.specs.declared.answer.LockAnswer.{LockAnswer}
 use Rattle.iox_negotiate_rounds.specs.declared.answer.LockAnswer.TheVariants as lock
@@ -199,9 +199,9 @@ not-refused service failure h = cc
 
 publishes-service : (hash : ServiceHash) (number : ℕ) (agreed : Agreement) (made : List Access) (came : Attempt) (service : Opened)
     → Publishes hash number agreed made came → Ok service ≡ created came
-    → (service ≡ opened number agreed) × (made ≡ Publish hash number (line agreed) publishing.Published ∷ [])
+    → (service ≡ brought_about number agreed) × (made ≡ Publish hash number (line agreed) publishing.Published ∷ [])
 publishes-service hash number agreed (Publish under of bytes publishing.Published ∷ rest) came service (own, same, spelled, (none, is)) h =
-    (service-is came service (opened number agreed) h is, cc)
+    (service-is came service (brought_about number agreed) h is, cc)
 publishes-service hash number agreed (Publish under of bytes publishing.Fault ∷ rest) came service p h = absurd (no-service came service _ h p.3.1)
 publishes-service hash number agreed (Publish under of bytes publishing.OutOfMemory ∷ rest) came service p h = absurd (no-service came service _ h p.3.1)
 publishes-service hash number agreed (RemoveSegment under of answer ∷ rest) came service p h = absurd (no-service came service _ h p.1)
@@ -209,7 +209,7 @@ publishes-service hash number agreed made came service p h = absurd p
 
 makes-service : (hash : ServiceHash) (node number : ℕ) (agreed : Agreement) (made : List Access) (came : Attempt) (service : Opened)
     → Makes hash node number agreed made came → Ok service ≡ created came
-    → (service ≡ opened number agreed)
+    → (service ≡ brought_about number agreed)
     × (made ≡ MakeSegment hash number node (max_nodes_of agreed.settings) making.Made ∷ Publish hash number (line agreed) publishing.Published ∷ [])
 makes-service hash node number agreed (MakeSegment under of by room making.Made ∷ rest) came service (own, same, who, wide, then) h =
     let p = publishes-service hash number agreed rest came service then h in

@@ -4,7 +4,7 @@ use Rattle.iox_describe_base.specs.declared.hash.ServiceHash.{ServiceHash}
 use Rattle.iox_describe_settings.specs.Agreement.{Agreement, max_nodes_of}
 use Rattle.iox_describe.specs.Line.{line}
 use Rattle.iox_negotiate_rounds.specs.Access.{Access, Look, Lock, MakeSegment, Publish, Unlock, RemoveSegment}
-use Rattle.iox_negotiate_rounds.specs.Failing.{opened, refusal_seen, lock_gives, making_failure, publishing_failure, created}
+use Rattle.iox_negotiate_rounds.specs.Failing.{brought_about, refusal_seen, lock_gives, making_failure, publishing_failure, created}
 use Rattle.iox_negotiate_rounds.specs.Sight.{IsSight}
 use Rattle.iox_negotiate_rounds.specs.declared.sight.Sight.{Sight}
 use Rattle.iox_negotiate_rounds.specs.declared.request.Opened.{Opened}
@@ -25,7 +25,7 @@ Undoes hash number made = ⊥
 
 -- the description was published, or it failed, and what was made is undone
 abbrev pub PublishGoes : ServiceHash → ℕ → Agreement → Option CreateFailure → List Access → Attempt → Type 0
-PublishGoes hash number agreed None made attempt = (made ≡ []) × (attempt ≡ Made (opened number agreed))
+PublishGoes hash number agreed None made attempt = (made ≡ []) × (attempt ≡ Made (brought_about number agreed))
 PublishGoes hash number agreed (Some failure) made attempt = Undoes hash number made × (attempt ≡ Failed failure)
 
 -- The description is published; or no memory is found to write it, and what was made is undone.

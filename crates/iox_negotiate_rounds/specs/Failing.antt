@@ -1,5 +1,5 @@
 -- What a refusing answer means to who creates and to who opens a service.
-use Rattle.std.specs.Prelude.{ℕ, Option, None, Some, Result, Ok, Err}
+use Rattle.std.specs.Prelude.{ℕ, true, false, Option, None, Some, Result, Ok, Err}
 use Rattle.iox_describe_settings.specs.Agreement.{Agreement}
 use Rattle.iox_negotiate_rounds.specs.declared.answer.LockAnswer.{LockAnswer}
 use Rattle.iox_negotiate_rounds.specs.declared.answer.LockAnswer.TheVariants as lock
@@ -23,9 +23,13 @@ use Rattle.iox_negotiate_rounds.specs.declared.failure.OpenFailure.TheVariants a
 use Rattle.iox_negotiate_rounds.specs.declared.failure.OpenOrCreateFailure.{OpenOrCreateFailure}
 use Rattle.iox_negotiate_rounds.specs.declared.failure.OpenOrCreateFailure.TheVariants as either
 
--- a service that is open
+-- a service that was opened
 abbrev pub opened : ℕ → Agreement → Opened
-opened number agreed = record { number = number; description = agreed }
+opened number agreed = record { number = number; description = agreed; is_new = false }
+
+-- a service that was created
+abbrev pub brought_about : ℕ → Agreement → Opened
+brought_about number agreed = record { number = number; description = agreed; is_new = true }
 
 -- why nothing is created where a look shows this; nothing speaks against it where no service stands
 abbrev pub refusal_seen : Sight → Option CreateFailure

@@ -73,6 +73,7 @@ fn publish<R: Request, S: Storage>(
     Attempt::Made(Opened {
         number,
         description: written.0,
+        is_new: true,
     })
 }
 

@@ -68,6 +68,7 @@ fn entered<V>(
         OpenSegmentAnswer::Registered => Some(Ok(Opened {
             number,
             description,
+            is_new: false,
         })),
         OpenSegmentAnswer::Absent => None,
         OpenSegmentAnswer::Marked => Some(Err(OpenFailure::IsMarkedForDestruction)),

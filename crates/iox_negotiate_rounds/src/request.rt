@@ -15,6 +15,8 @@ pub struct Opened {
     pub number: u64,
     /// What its nodes agree on.
     pub description: Description,
+    /// Whether it was created by this call, and not opened.
+    pub is_new: bool,
 }
 
 /// What a node asks of a service: what it is to be like to be opened, and what it becomes where it is created.

@@ -1,5 +1,5 @@
 //! Each clause of each pattern, by openers over one table: the one that fails it and all later ones is refused with just its error.
-use crate::shared::{builder, is_wanted};
+use crate::shared::{builder, wanted};
 use iox_describe::pattern::{Event, PublishSubscribe, RequestResponse};
 use iox_describe::{AttributeError, AttributeVerifier, LimitError};
 use iox_negotiate::{Negotiated, ServiceBuilder};
@@ -18,19 +18,19 @@ fn required(alloc: Global, is_key: bool) -> Result<AttributeVerifier, AttributeE
     Ok(attributes)
 }
 
-/// Whether an opener that asks this, and for a key or none, is refused so.
+/// An opener that asks this, and for a key or none, must be refused so.
 fn is_refused<P: Negotiated>(
     alloc: Global,
     table: &mut Table,
     asked: ServiceBuilder<P>,
     is_key: bool,
     refusal: P::OpenError,
-) -> Result<bool, Fail>
+) -> Result<(), Fail>
 where
     P::OpenError: PartialEq + Debug,
 {
     let opened = asked.open_with_attributes(alloc, required(alloc, is_key)?, table);
-    is_wanted(opened.err(), Some(refusal))
+    wanted(opened.err(), Some(refusal))
 }
 
 const PUBLISH_SUBSCRIBE: [PublishSubscribeOpenError; 9] = [
@@ -72,18 +72,25 @@ fn publish_subscribe(first: usize) -> Result<ServiceBuilder<PublishSubscribe>, L
     Ok(asked)
 }
 
-#[test]
-fn clauses_of_publish_subscribe_refuse_in_order(rt: HostRuntime) -> Result<(), Fail> {
-    let mut table = Table::new(rt.alloc(), 1);
-    let _factory = publish_subscribe(9)?.create(rt.alloc(), &mut table)?;
+/// Each of them must be refused with its own clause's error.
+fn publish_subscribe_refuses(alloc: Global) -> Result<(), Fail> {
+    let mut table = Table::new(alloc, 1);
+    let _factory = publish_subscribe(9)?.create(alloc, &mut table)?;
     for (clause, refusal) in PUBLISH_SUBSCRIBE.iter().enumerate() {
-        let asked = publish_subscribe(clause)?;
-        assert!(rt;
-            is_refused(rt.alloc(), &mut table, asked, clause < 2, *refusal)?,
-            "{refusal:?}"
-        );
+        is_refused(
+            alloc,
+            &mut table,
+            publish_subscribe(clause)?,
+            clause < 2,
+            *refusal,
+        )?;
     }
     Ok(())
+}
+
+#[test]
+fn clauses_of_publish_subscribe_refuse_in_order(rt: HostRuntime) -> Result<(), Fail> {
+    publish_subscribe_refuses(rt.alloc())
 }
 
 const EVENT: [EventOpenError; 9] = [
@@ -122,18 +129,19 @@ fn event(first: usize) -> Result<ServiceBuilder<Event>, LimitError> {
     Ok(asked)
 }
 
-#[test]
-fn clauses_of_event_refuse_in_order(rt: HostRuntime) -> Result<(), Fail> {
-    let mut table = Table::new(rt.alloc(), 1);
-    let _factory = event(9)?.create(rt.alloc(), &mut table)?;
+/// Each of them must be refused with its own clause's error.
+fn event_refuses(alloc: Global) -> Result<(), Fail> {
+    let mut table = Table::new(alloc, 1);
+    let _factory = event(9)?.create(alloc, &mut table)?;
     for (clause, refusal) in EVENT.iter().enumerate() {
-        let asked = event(clause)?;
-        assert!(rt;
-            is_refused(rt.alloc(), &mut table, asked, clause < 1, *refusal)?,
-            "{refusal:?}"
-        );
+        is_refused(alloc, &mut table, event(clause)?, clause < 1, *refusal)?;
     }
     Ok(())
+}
+
+#[test]
+fn clauses_of_event_refuse_in_order(rt: HostRuntime) -> Result<(), Fail> {
+    event_refuses(rt.alloc())
 }
 
 const REQUEST_RESPONSE: [RequestResponseOpenError; 13] = [
@@ -183,16 +191,23 @@ fn request_response(first: usize) -> Result<ServiceBuilder<RequestResponse>, Lim
     Ok(asked)
 }
 
-#[test]
-fn clauses_of_request_response_refuse_in_order(rt: HostRuntime) -> Result<(), Fail> {
-    let mut table = Table::new(rt.alloc(), 1);
-    let _factory = request_response(13)?.create(rt.alloc(), &mut table)?;
+/// Each of them must be refused with its own clause's error.
+fn request_response_refuses(alloc: Global) -> Result<(), Fail> {
+    let mut table = Table::new(alloc, 1);
+    let _factory = request_response(13)?.create(alloc, &mut table)?;
     for (clause, refusal) in REQUEST_RESPONSE.iter().enumerate() {
-        let asked = request_response(clause)?;
-        assert!(rt;
-            is_refused(rt.alloc(), &mut table, asked, clause < 3, *refusal)?,
-            "{refusal:?}"
-        );
+        is_refused(
+            alloc,
+            &mut table,
+            request_response(clause)?,
+            clause < 3,
+            *refusal,
+        )?;
     }
     Ok(())
+}
+
+#[test]
+fn clauses_of_request_response_refuse_in_order(rt: HostRuntime) -> Result<(), Fail> {
+    request_response_refuses(rt.alloc())
 }

@@ -1,5 +1,5 @@
 //! Closing, and its three refusals.
-use crate::shared::{Fixed, builder};
+use crate::shared::{Fixed, builder, wanted};
 use iox_describe::pattern::Event;
 use iox_negotiate::PortFactory;
 use iox_negotiate_errors::CloseError;
@@ -16,38 +16,36 @@ type Row = (
     u64,
 );
 
-fn rows() -> [Row; 4] {
-    [
-        (
-            LeaveAnswer::Stays,
-            RemoveAnswer::Fault,
-            RemoveAnswer::Fault,
-            None,
-            1,
-        ),
-        (
-            LeaveAnswer::Emptied,
-            RemoveAnswer::Removed,
-            RemoveAnswer::Removed,
-            None,
-            3,
-        ),
-        (
-            LeaveAnswer::Emptied,
-            RemoveAnswer::Fault,
-            RemoveAnswer::Removed,
-            Some(CloseError::UnableToRemoveDescription),
-            2,
-        ),
-        (
-            LeaveAnswer::Emptied,
-            RemoveAnswer::Removed,
-            RemoveAnswer::Fault,
-            Some(CloseError::UnableToRemoveSegment),
-            3,
-        ),
-    ]
-}
+const ROWS: [Row; 4] = [
+    (
+        LeaveAnswer::Stays,
+        RemoveAnswer::Fault,
+        RemoveAnswer::Fault,
+        None,
+        1,
+    ),
+    (
+        LeaveAnswer::Emptied,
+        RemoveAnswer::Removed,
+        RemoveAnswer::Removed,
+        None,
+        3,
+    ),
+    (
+        LeaveAnswer::Emptied,
+        RemoveAnswer::Fault,
+        RemoveAnswer::Removed,
+        Some(CloseError::UnableToRemoveDescription),
+        2,
+    ),
+    (
+        LeaveAnswer::Emptied,
+        RemoveAnswer::Removed,
+        RemoveAnswer::Fault,
+        Some(CloseError::UnableToRemoveSegment),
+        3,
+    ),
+];
 
 /// The factory, handed back by a close in another storage; nothing if it isn't, or if the storage is accessed.
 fn handed_back(factory: PortFactory<Event>, storage: &mut Fixed) -> Option<PortFactory<Event>> {
@@ -61,33 +59,34 @@ fn handed_back(factory: PortFactory<Event>, storage: &mut Fixed) -> Option<PortF
     refused.factory
 }
 
-/// Whether closing comes to this error, and spends the factory.
-fn is_closed_so(
-    factory: PortFactory<Event>,
-    storage: &mut Fixed,
-    error: Option<CloseError>,
-) -> bool {
+/// What closing comes to: its error, if there is one, and whether the factory is handed back.
+fn closed(factory: PortFactory<Event>, storage: &mut Fixed) -> (Option<CloseError>, bool) {
     match factory.close(storage) {
-        Ok(()) => error.is_none(),
-        Err(refused) => Some(refused.error) == error && refused.factory.is_none(),
+        Ok(()) => (None, false),
+        Err(refused) => (Some(refused.error), refused.factory.is_some()),
     }
 }
 
-/// Whether a factory is closed as the row says, after it was handed back.
-fn is_so(alloc: Global, storage: &mut Fixed, row: Row) -> Result<bool, Fail> {
+/// A factory must be closed as the row says, after it was handed back.
+fn is_closed_so(alloc: Global, row: Row) -> Result<(), Fail> {
+    let mut storage = Fixed::new(alloc, "")?;
     storage.leave = row.0;
     storage.description_removed = row.1;
     storage.segment_removed = row.2;
-    let factory = builder(b"E")?.event().create(alloc, storage)?;
-    let factory = handed_back(factory, storage).ok_or("not handed back")?;
-    Ok(is_closed_so(factory, storage, row.3) && storage.others == row.4)
+    let factory = builder(b"E")?.event().create(alloc, &mut storage)?;
+    let factory = handed_back(factory, &mut storage).ok_or("not handed back")?;
+    wanted(closed(factory, &mut storage), (row.3, false))?;
+    wanted(storage.others, row.4)
+}
+
+fn all_are_closed(alloc: Global) -> Result<(), Fail> {
+    for row in &ROWS {
+        is_closed_so(alloc, *row)?;
+    }
+    Ok(())
 }
 
 #[test]
 fn a_factory_is_closed_in_its_storage(rt: HostRuntime) -> Result<(), Fail> {
-    for row in rows() {
-        let mut storage = Fixed::new(rt.alloc(), "")?;
-        assert!(rt; is_so(rt.alloc(), &mut storage, row)?, "{row:?}");
-    }
-    Ok(())
+    all_are_closed(rt.alloc())
 }

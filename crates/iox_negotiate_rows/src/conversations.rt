@@ -68,17 +68,18 @@ fn answered(alloc: Global, line: Line, storage: &mut Stepped) -> Result<String, 
     })
 }
 
-// Whether the line is answered as it says. Another answer ends the test and is told.
-fn is_answered_so(alloc: Global, line: &Line, storage: &mut Stepped) -> Result<bool, Fail> {
+// The line must be answered as it says. Another answer ends the test and is told.
+fn is_answered_so(alloc: Global, line: &Line, storage: &mut Stepped) -> Result<(), Fail> {
     let answer = answered(alloc, *line, storage)?;
-    if answer.as_str() != line.3 {
-        return Err(Fail::from(answer));
+    if answer.as_str() == line.3 {
+        Ok(())
+    } else {
+        Err(Fail::from(answer))
     }
-    Ok(true)
 }
 
-// Whether each line of a talk is answered so, over a table of its own.
-fn is_answered(alloc: Global, talk: &[(Others, Line)]) -> Result<bool, Fail> {
+// Each line of a talk must be answered so, over a table of its own.
+fn is_answered(alloc: Global, talk: &[(Others, Line)]) -> Result<(), Fail> {
     let mut table = Table::new(alloc, 1);
     for (others, line) in talk {
         act(&mut table, others.0)?;
@@ -86,7 +87,7 @@ fn is_answered(alloc: Global, talk: &[(Others, Line)]) -> Result<bool, Fail> {
         is_answered_so(alloc, line, &mut storage)?;
         table = storage.into_table();
     }
-    Ok(true)
+    Ok(())
 }
 
 /// Six talks, each over a table of its own.
@@ -185,10 +186,14 @@ const TALKS: [&[(Others, Line)]; 6] = [
     ],
 ];
 
-#[test]
-fn nodes_talk_of_a_service(rt: HostRuntime) -> Result<(), Fail> {
+fn all_are_answered(alloc: Global) -> Result<(), Fail> {
     for talk in &TALKS {
-        assert!(rt; is_answered(rt.alloc(), *talk)?);
+        is_answered(alloc, *talk)?;
     }
     Ok(())
+}
+
+#[test]
+fn nodes_talk_of_a_service(rt: HostRuntime) -> Result<(), Fail> {
+    all_are_answered(rt.alloc())
 }

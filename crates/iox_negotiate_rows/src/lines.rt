@@ -1,39 +1,22 @@
 //! The lines that builders publish, and what factories tell of them.
-use crate::shared::{Fixed, LINE, builder};
+use crate::shared::{Fixed, LINE, builder, wanted};
 use iox_describe::pattern::PublishSubscribe;
 use iox_describe::{AttributeError, AttributeSpecifier, LimitError};
 use iox_negotiate::{PortFactory, ServiceBuilder, Slice};
 use std::alloc::Global;
 use std::test::Fail;
 
-/// Whether the factory tells of the service `23` at default settings, number 7, for node 5.
-fn is_factory_of_23(factory: &PortFactory<PublishSubscribe>) -> bool {
-    factory.name().as_str() == "23"
-        && factory.static_config().max_subscribers == 8
-        && factory.attributes().as_slice().is_empty()
-        && factory.number() == 7
-        && factory.node() == 5
+/// The factory must tell of the service `23` at default settings, number 7, for node 5.
+fn is_factory_of_23(factory: &PortFactory<PublishSubscribe>) -> Result<(), Fail> {
+    wanted(factory.name().as_str(), "23")?;
+    wanted(factory.static_config().max_subscribers, 8)?;
+    wanted(factory.attributes().as_slice().is_empty(), true)?;
+    wanted((factory.number(), factory.node()), (7, 5))
 }
 
-/// Whether the service is created, and then stands with the wanted line.
-fn is_published(
-    alloc: Global,
-    asked: ServiceBuilder<PublishSubscribe>,
-    storage: &mut Fixed,
-) -> Result<bool, Fail> {
-    Ok(
-        is_factory_of_23(&asked.create(alloc, storage)?)
-            && storage.line.as_slice() == LINE.as_bytes(),
-    )
-}
-
-/// Whether the service is opened.
-fn is_found(
-    alloc: Global,
-    asked: ServiceBuilder<PublishSubscribe>,
-    storage: &mut Fixed,
-) -> Result<bool, Fail> {
-    Ok(is_factory_of_23(&asked.open(alloc, storage)?))
+/// The storage must show this line.
+fn shows(storage: &Fixed, line: &str) -> Result<(), Fail> {
+    wanted(storage.line.as_slice() == line.as_bytes(), true)
 }
 
 /// A builder of the service whose line is `LINE`.
@@ -45,39 +28,41 @@ fn of_line() -> Result<ServiceBuilder<PublishSubscribe>, LimitError> {
     )
 }
 
-/// Whether the service is created, and a clone of its builder opens it.
-fn are_published(alloc: Global, storage: &mut Fixed) -> Result<bool, Fail> {
+/// The service must be created with its line, and a clone of its builder opens it.
+fn is_published(alloc: Global) -> Result<(), Fail> {
+    let mut storage = Fixed::new(alloc, "")?;
     let asked = of_line()?;
     let again = asked.try_clone(alloc)?;
-    Ok(is_published(alloc, asked, storage)? && is_found(alloc, again, storage)?)
+    is_factory_of_23(&asked.create(alloc, &mut storage)?)?;
+    shows(&storage, LINE)?;
+    is_factory_of_23(&again.open(alloc, &mut storage)?)
 }
 
 #[test]
 fn defaults_are_published(rt: HostRuntime) -> Result<(), Fail> {
-    assert!(rt; are_published(rt.alloc(), &mut Fixed::new(rt.alloc(), "")?)?);
-    Ok(())
+    is_published(rt.alloc())
 }
 
 /// The line of an event service with a deadline, three nodes, and an event for dead notifiers.
 const EVENT: &str =
     "{\"attributes\":[],\"name\":\"E\",\"pattern\":\"event\",\"service_hash\":\"7151c7f46996d49977f91fc77e07abbc2c588465\",\"settings\":{\"deadline\":7,\"event_id_max_value\":4294967295,\"max_listeners\":16,\"max_nodes\":3,\"max_notifiers\":1,\"notifier_created_event\":null,\"notifier_dead_event\":9,\"notifier_dropped_event\":null},\"version\":1}";
 
-/// Whether an event service is published with its line.
-fn is_event_published(alloc: Global, storage: &mut Fixed) -> Result<bool, Fail> {
+/// An event service must be published with its line.
+fn is_event_published(alloc: Global) -> Result<(), Fail> {
+    let mut storage = Fixed::new(alloc, "")?;
     let asked = builder(b"E")?
         .event()
         .deadline(7)
         .max_notifiers(0)
         .max_nodes(3)
         .notifier_dead_event(9);
-    asked.open_or_create(alloc, storage)?;
-    Ok(storage.line.as_slice() == EVENT.as_bytes())
+    asked.open_or_create(alloc, &mut storage)?;
+    shows(&storage, EVENT)
 }
 
 #[test]
 fn an_event_service_is_published(rt: HostRuntime) -> Result<(), Fail> {
-    assert!(rt; is_event_published(rt.alloc(), &mut Fixed::new(rt.alloc(), "")?)?);
-    Ok(())
+    is_event_published(rt.alloc())
 }
 
 /// The line of a request-response service with two attributes.
@@ -92,24 +77,18 @@ fn attributes(alloc: Global) -> Result<AttributeSpecifier, AttributeError> {
     Ok(attributes)
 }
 
-/// Whether a request-response service with these attributes is published with its line.
-fn is_request_response_published(
-    alloc: Global,
-    attributes: &AttributeSpecifier,
-    storage: &mut Fixed,
-) -> Result<bool, Fail> {
+/// A request-response service with these attributes must be published with its line.
+fn is_request_response_published(alloc: Global) -> Result<(), Fail> {
+    let mut storage = Fixed::new(alloc, "")?;
     let asked = builder(b"R")?
         .request_response::<u8, Slice<i64>>()
         .request_user_header::<u32>()
         .response_payload_alignment(32);
-    asked.create_with_attributes(alloc, attributes, storage)?;
-    Ok(storage.line.as_slice() == REQUEST_RESPONSE.as_bytes())
+    asked.create_with_attributes(alloc, &attributes(alloc)?, &mut storage)?;
+    shows(&storage, REQUEST_RESPONSE)
 }
 
 #[test]
 fn a_request_response_service_is_published(rt: HostRuntime) -> Result<(), Fail> {
-    let attributes = attributes(rt.alloc())?;
-    let mut storage = Fixed::new(rt.alloc(), "")?;
-    assert!(rt; is_request_response_published(rt.alloc(), &attributes, &mut storage)?);
-    Ok(())
+    is_request_response_published(rt.alloc())
 }

@@ -1,5 +1,5 @@
 //! Services of each pattern from their creation to their end, and again.
-use crate::shared::{builder, is_wanted};
+use crate::shared::{builder, wanted};
 use iox_negotiate::{Negotiated, PortFactory, ServiceBuilder};
 use iox_negotiate_errors::{
     EventCreateError, EventOpenError, PublishSubscribeCreateError, PublishSubscribeOpenError,
@@ -10,97 +10,85 @@ use std::alloc::Global;
 use std::fmt::Debug;
 use std::test::Fail;
 
-/// Whether `open` is refused so.
+/// `open` must be refused so.
 fn is_open_refused<P: Negotiated>(
     alloc: Global,
     asked: &ServiceBuilder<P>,
     table: &mut Table,
     refusal: P::OpenError,
-) -> Result<bool, Fail>
+) -> Result<(), Fail>
 where
     P::OpenError: PartialEq + Debug,
 {
-    is_wanted(
+    wanted(
         asked.try_clone(alloc)?.open(alloc, table).err(),
         Some(refusal),
     )
 }
 
-/// Whether `create` is refused so.
+/// `create` must be refused so.
 fn is_create_refused<P: Negotiated>(
     alloc: Global,
     asked: &ServiceBuilder<P>,
     table: &mut Table,
     refusal: P::CreateError,
-) -> Result<bool, Fail>
+) -> Result<(), Fail>
 where
     P::CreateError: PartialEq + Debug,
 {
-    is_wanted(
+    wanted(
         asked.try_clone(alloc)?.create(alloc, table).err(),
         Some(refusal),
     )
 }
 
-/// Whether the factory is of the service of this number, and is closed.
-fn is_closed<P: Negotiated>(factory: PortFactory<P>, table: &mut Table, number: u64) -> bool {
-    factory.number() == number && factory.close(table).is_ok()
-}
-
-/// Whether the service of this factory is opened, and both factories are closed.
-fn is_opened<P: Negotiated>(
-    alloc: Global,
-    asked: &ServiceBuilder<P>,
+/// The factory must be of the service of this number, and is closed.
+fn is_closed<P: Negotiated>(
+    factory: PortFactory<P>,
     table: &mut Table,
-    first: PortFactory<P>,
     number: u64,
-) -> Result<bool, Fail>
-where
-    P::OpenError: Debug,
-{
-    let second = asked.try_clone(alloc)?.open(alloc, table)?;
-    Ok(is_closed(first, table, number) && is_closed(second, table, number))
+) -> Result<(), Fail> {
+    wanted(factory.number(), number)?;
+    wanted(factory.close(table).is_ok(), true)
 }
 
-/// Whether the service is created under this number, not created again, opened, and closed.
+/// The service must be created under this number, not created again, opened, and closed.
 fn is_created<P: Negotiated>(
     alloc: Global,
     asked: &ServiceBuilder<P>,
     table: &mut Table,
     number: u64,
     stands: P::CreateError,
-) -> Result<bool, Fail>
+) -> Result<(), Fail>
 where
     P::OpenError: Debug,
     P::CreateError: PartialEq + Debug,
 {
     let first = asked.try_clone(alloc)?.create(alloc, table)?;
-    Ok(
-        is_create_refused(alloc, asked, table, stands)?
-            && is_opened(alloc, asked, table, first, number)?,
-    )
+    is_create_refused(alloc, asked, table, stands)?;
+    let second = asked.try_clone(alloc)?.open(alloc, table)?;
+    is_closed(first, table, number)?;
+    is_closed(second, table, number)
 }
 
-/// Whether the service lives under this number, and stands neither before nor after.
+/// The service must live under this number, and stand neither before nor after.
 fn is_lived<P: Negotiated>(
     alloc: Global,
     asked: &ServiceBuilder<P>,
     table: &mut Table,
     number: u64,
     (absent, stands): (P::OpenError, P::CreateError),
-) -> Result<bool, Fail>
+) -> Result<(), Fail>
 where
     P::OpenError: PartialEq + Debug,
     P::CreateError: PartialEq + Debug,
 {
-    Ok(
-        is_open_refused(alloc, asked, table, absent)?
-            && is_created(alloc, asked, table, number, stands)?
-            && is_open_refused(alloc, asked, table, absent)?,
-    )
+    is_open_refused(alloc, asked, table, absent)?;
+    is_created(alloc, asked, table, number, stands)?;
+    is_open_refused(alloc, asked, table, absent)
 }
 
-fn is_publish_subscribe_lived(alloc: Global, table: &mut Table, number: u64) -> Result<bool, Fail> {
+fn is_publish_subscribe_lived(alloc: Global, table: &mut Table, number: u64) -> Result<(), Fail> {
     let errors = (
         PublishSubscribeOpenError::DoesNotExist,
         PublishSubscribeCreateError::AlreadyExists,
@@ -109,7 +97,7 @@ fn is_publish_subscribe_lived(alloc: Global, table: &mut Table, number: u64) -> 
     is_lived(alloc, &asked, table, number, errors)
 }
 
-fn is_event_lived(alloc: Global, table: &mut Table, number: u64) -> Result<bool, Fail> {
+fn is_event_lived(alloc: Global, table: &mut Table, number: u64) -> Result<(), Fail> {
     let errors = (
         EventOpenError::DoesNotExist,
         EventCreateError::AlreadyExists,
@@ -118,7 +106,7 @@ fn is_event_lived(alloc: Global, table: &mut Table, number: u64) -> Result<bool,
     is_lived(alloc, &asked, table, number, errors)
 }
 
-fn is_request_response_lived(alloc: Global, table: &mut Table, number: u64) -> Result<bool, Fail> {
+fn is_request_response_lived(alloc: Global, table: &mut Table, number: u64) -> Result<(), Fail> {
     let errors = (
         RequestResponseOpenError::DoesNotExist,
         RequestResponseCreateError::AlreadyExists,
@@ -127,13 +115,20 @@ fn is_request_response_lived(alloc: Global, table: &mut Table, number: u64) -> R
     is_lived(alloc, &asked, table, number, errors)
 }
 
+// Three services live from this number on.
+fn three_are_lived(alloc: Global, table: &mut Table, first: u64) -> Result<(), Fail> {
+    is_publish_subscribe_lived(alloc, table, first)?;
+    is_event_lived(alloc, table, first.saturating_add(1))?;
+    is_request_response_lived(alloc, table, first.saturating_add(2))
+}
+
+fn all_are_lived_twice(alloc: Global) -> Result<(), Fail> {
+    let mut table = Table::new(alloc, 1);
+    three_are_lived(alloc, &mut table, 1)?;
+    three_are_lived(alloc, &mut table, 4)
+}
+
 #[test]
 fn a_service_is_created_closed_and_created_again(rt: HostRuntime) -> Result<(), Fail> {
-    let mut table = Table::new(rt.alloc(), 1);
-    for (first, second, third) in [(1u64, 2u64, 3u64), (4, 5, 6)] {
-        assert!(rt; is_publish_subscribe_lived(rt.alloc(), &mut table, first)?);
-        assert!(rt; is_event_lived(rt.alloc(), &mut table, second)?);
-        assert!(rt; is_request_response_lived(rt.alloc(), &mut table, third)?);
-    }
-    Ok(())
+    all_are_lived_twice(rt.alloc())
 }

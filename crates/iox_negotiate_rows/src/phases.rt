@@ -1,9 +1,10 @@
 //! Each step of a foreign node where it fits, and where it doesn't and so changes nothing.
 use crate::foreign::{Step, act, hash_of_a};
-use crate::shared::is_wanted;
+use crate::shared::wanted;
 use iox_describe::LimitError;
 use iox_negotiate_rounds::{LookAnswer, OpenSegmentAnswer, Storage};
 use iox_negotiate_table::Table;
+use std::alloc::Global;
 use std::test::Fail;
 
 /// What a look shows, and an opening where a service stands.
@@ -46,48 +47,51 @@ const LEAVE: Step = Step::Leave(1);
 // What nodes of others did, the step, and the phase after it.
 type Row = (&'static [Step], Step, Phase);
 
-/// What is done, and the phase after it.
-fn rows() -> [Row; 22] {
-    [
-        (&[], LOCK, Phase::Locked),
-        (&[LOCK], Step::GiveUp(1), Phase::Absent),
-        (&[LOCK], TWO, Phase::Opens),
-        (&[LOCK, TWO], Step::Register(2), Phase::Full),
-        (&[LOCK, TWO, Step::Register(2)], LEAVE, Phase::Opens),
-        (&[LOCK, ONE], LEAVE, Phase::Emptied),
-        (&[LOCK, ONE, LEAVE], Step::Remove(1), Phase::Absent),
-        (&[LOCK, Step::Lock(2)], Step::GiveUp(1), Phase::Absent),
-        (&[LOCK, ONE], Step::Lock(2), Phase::Full),
-        (&[LOCK, ONE, LEAVE], Step::Lock(2), Phase::Emptied),
-        (&[], Step::GiveUp(1), Phase::Absent),
-        (&[LOCK], Step::GiveUp(2), Phase::Locked),
-        (&[], TWO, Phase::Absent),
-        (&[LOCK], Step::Publish(2, b"A", 2, 2), Phase::Locked),
-        (&[LOCK], Step::Publish(1, b"B", 2, 2), Phase::Locked),
-        (
-            &[LOCK],
-            Step::Publish(1, b"A", 2, 16_777_216),
-            Phase::Locked,
-        ),
-        (&[LOCK], Step::Register(2), Phase::Locked),
-        (&[LOCK, TWO], Step::Register(1), Phase::Opens),
-        (&[LOCK, ONE, Step::Register(2)], LEAVE, Phase::Emptied),
-        (&[LOCK, ONE], Step::Leave(2), Phase::Full),
-        (&[LOCK, ONE], Step::Remove(1), Phase::Full),
-        (&[LOCK, ONE, LEAVE], Step::Remove(2), Phase::Emptied),
-    ]
+const ROWS: [Row; 22] = [
+    (&[], LOCK, Phase::Locked),
+    (&[LOCK], Step::GiveUp(1), Phase::Absent),
+    (&[LOCK], TWO, Phase::Opens),
+    (&[LOCK, TWO], Step::Register(2), Phase::Full),
+    (&[LOCK, TWO, Step::Register(2)], LEAVE, Phase::Opens),
+    (&[LOCK, ONE], LEAVE, Phase::Emptied),
+    (&[LOCK, ONE, LEAVE], Step::Remove(1), Phase::Absent),
+    (&[LOCK, Step::Lock(2)], Step::GiveUp(1), Phase::Absent),
+    (&[LOCK, ONE], Step::Lock(2), Phase::Full),
+    (&[LOCK, ONE, LEAVE], Step::Lock(2), Phase::Emptied),
+    (&[], Step::GiveUp(1), Phase::Absent),
+    (&[LOCK], Step::GiveUp(2), Phase::Locked),
+    (&[], TWO, Phase::Absent),
+    (&[LOCK], Step::Publish(2, b"A", 2, 2), Phase::Locked),
+    (&[LOCK], Step::Publish(1, b"B", 2, 2), Phase::Locked),
+    (
+        &[LOCK],
+        Step::Publish(1, b"A", 2, 16_777_216),
+        Phase::Locked,
+    ),
+    (&[LOCK], Step::Register(2), Phase::Locked),
+    (&[LOCK, TWO], Step::Register(1), Phase::Opens),
+    (&[LOCK, ONE, Step::Register(2)], LEAVE, Phase::Emptied),
+    (&[LOCK, ONE], Step::Leave(2), Phase::Full),
+    (&[LOCK, ONE], Step::Remove(1), Phase::Full),
+    (&[LOCK, ONE, LEAVE], Step::Remove(2), Phase::Emptied),
+];
+
+// The step must lead to this phase.
+fn leads_to(alloc: Global, row: &Row) -> Result<(), Fail> {
+    let mut table = Table::new(alloc, 1);
+    act(&mut table, row.0)?;
+    act(&mut table, &[row.1])?;
+    wanted(phase_of(&mut table)?, row.2)
+}
+
+fn each_leads_to_its_phase(alloc: Global) -> Result<(), Fail> {
+    for row in &ROWS {
+        leads_to(alloc, row)?;
+    }
+    Ok(())
 }
 
 #[test]
 fn a_step_changes_a_phase_where_it_fits(rt: HostRuntime) -> Result<(), Fail> {
-    for (before, step, after) in rows() {
-        let mut table = Table::new(rt.alloc(), 1);
-        act(&mut table, before)?;
-        act(&mut table, &[step])?;
-        assert!(rt;
-            is_wanted(phase_of(&mut table)?, after)?,
-            "{before:?}, then {step:?}"
-        );
-    }
-    Ok(())
+    each_leads_to_its_phase(rt.alloc())
 }

@@ -1,41 +1,41 @@
 //! A storage that refuses one kind of access, each of its refusals in turn.
-use crate::shared::{Fixed, NoLook, builder, is_wanted};
+use crate::shared::{Fixed, NoLook, builder, wanted};
 use iox_negotiate_errors::{EventCreateError, EventOpenError, EventOpenOrCreateError};
 use iox_negotiate_rounds::{LockAnswer, OpenSegmentAnswer};
 use std::alloc::Global;
 use std::test::Fail;
 
-/// Whether `open` is refused so.
+/// `open` must be refused so.
 fn is_open_refused(
     alloc: Global,
     storage: &mut Fixed,
     refusal: EventOpenError,
-) -> Result<bool, Fail> {
-    is_wanted(
+) -> Result<(), Fail> {
+    wanted(
         builder(b"E")?.event().open(alloc, storage).err(),
         Some(refusal),
     )
 }
 
-/// Whether `create` is refused so.
+/// `create` must be refused so.
 fn is_create_refused(
     alloc: Global,
     storage: &mut Fixed,
     refusal: EventCreateError,
-) -> Result<bool, Fail> {
-    is_wanted(
+) -> Result<(), Fail> {
+    wanted(
         builder(b"E")?.event().create(alloc, storage).err(),
         Some(refusal),
     )
 }
 
-/// Whether `open_or_create` is refused so.
+/// `open_or_create` must be refused so.
 fn is_either_refused(
     alloc: Global,
     storage: &mut Fixed,
     refusal: EventOpenOrCreateError,
-) -> Result<bool, Fail> {
-    is_wanted(
+) -> Result<(), Fail> {
+    wanted(
         builder(b"E")?.event().open_or_create(alloc, storage).err(),
         Some(refusal),
     )
@@ -65,38 +65,29 @@ const LOOKS: [(NoLook, EventOpenError, EventCreateError); 4] = [
     ),
 ];
 
-/// Whether each call is refused so by what the look shows.
+/// Each call must be refused so by what the look shows.
 fn is_look_refused(
     alloc: Global,
-    storage: &mut Fixed,
-    shown: NoLook,
-    opening: EventOpenError,
-    creating: EventCreateError,
-) -> Result<bool, Fail> {
+    (shown, opening, creating): (NoLook, EventOpenError, EventCreateError),
+) -> Result<(), Fail> {
+    let mut storage = Fixed::new(alloc, "")?;
     storage.no_look = Some(shown);
-    Ok(
-        is_open_refused(alloc, storage, opening)?
-            && is_create_refused(alloc, storage, creating)?
-            && is_either_refused(alloc, storage, EventOpenOrCreateError::from(opening))?
-            && storage.counted(3, 0),
-    )
+    is_open_refused(alloc, &mut storage, opening)?;
+    is_create_refused(alloc, &mut storage, creating)?;
+    is_either_refused(alloc, &mut storage, EventOpenOrCreateError::from(opening))?;
+    wanted(storage.counts(), (3, 0))
+}
+
+fn all_looks_are_refused(alloc: Global) -> Result<(), Fail> {
+    for row in &LOOKS {
+        is_look_refused(alloc, *row)?;
+    }
+    Ok(())
 }
 
 #[test]
 fn a_look_is_refused(rt: HostRuntime) -> Result<(), Fail> {
-    for (shown, opening, creating) in &LOOKS {
-        assert!(rt;
-            is_look_refused(
-                rt.alloc(),
-                &mut Fixed::new(rt.alloc(), "")?,
-                *shown,
-                *opening,
-                *creating
-            )?,
-            "{shown:?}"
-        );
-    }
-    Ok(())
+    all_looks_are_refused(rt.alloc())
 }
 
 /// What a lock is answered, and what creating comes to.
@@ -109,35 +100,28 @@ const LOCKS: [(LockAnswer, EventCreateError); 3] = [
     (LockAnswer::OutOfMemory, EventCreateError::OutOfMemory),
 ];
 
-/// Whether creating is refused so by what the lock is answered.
+/// Creating must be refused so by what the lock is answered.
 fn is_lock_refused(
     alloc: Global,
-    storage: &mut Fixed,
-    lock: LockAnswer,
-    creating: EventCreateError,
-) -> Result<bool, Fail> {
+    (lock, creating): (LockAnswer, EventCreateError),
+) -> Result<(), Fail> {
+    let mut storage = Fixed::new(alloc, "")?;
     storage.lock = lock;
-    Ok(
-        is_create_refused(alloc, storage, creating)?
-            && is_either_refused(alloc, storage, EventOpenOrCreateError::from(creating))?
-            && storage.counted(2, 2),
-    )
+    is_create_refused(alloc, &mut storage, creating)?;
+    is_either_refused(alloc, &mut storage, EventOpenOrCreateError::from(creating))?;
+    wanted(storage.counts(), (2, 2))
+}
+
+fn all_locks_are_refused(alloc: Global) -> Result<(), Fail> {
+    for row in &LOCKS {
+        is_lock_refused(alloc, *row)?;
+    }
+    Ok(())
 }
 
 #[test]
 fn a_lock_is_refused(rt: HostRuntime) -> Result<(), Fail> {
-    for (lock, creating) in &LOCKS {
-        assert!(rt;
-            is_lock_refused(
-                rt.alloc(),
-                &mut Fixed::new(rt.alloc(), "")?,
-                *lock,
-                *creating
-            )?,
-            "{lock:?}"
-        );
-    }
-    Ok(())
+    all_locks_are_refused(rt.alloc())
 }
 
 /// What opening a segment is answered, and what opening the service comes to.
@@ -158,44 +142,27 @@ const SEGMENTS: [(OpenSegmentAnswer, EventOpenError); 5] = [
     (OpenSegmentAnswer::OutOfMemory, EventOpenError::OutOfMemory),
 ];
 
-/// Whether opening is refused so by what opening the segment is answered.
+/// Once the service is created, opening must be refused so by what opening the segment is answered.
 fn is_segment_refused(
     alloc: Global,
-    storage: &mut Fixed,
-    segment: OpenSegmentAnswer,
-    opening: EventOpenError,
-) -> Result<bool, Fail> {
+    (segment, opening): (OpenSegmentAnswer, EventOpenError),
+) -> Result<(), Fail> {
+    let mut storage = Fixed::new(alloc, "")?;
+    let _factory = builder(b"E")?.event().create(alloc, &mut storage)?;
     storage.segment = segment;
-    Ok(
-        is_open_refused(alloc, storage, opening)?
-            && is_either_refused(alloc, storage, EventOpenOrCreateError::from(opening))?
-            && storage.counted(3, 5),
-    )
+    is_open_refused(alloc, &mut storage, opening)?;
+    is_either_refused(alloc, &mut storage, EventOpenOrCreateError::from(opening))?;
+    wanted(storage.counts(), (3, 5))
 }
 
-/// The same once the service is created.
-fn is_then_refused(
-    alloc: Global,
-    storage: &mut Fixed,
-    segment: OpenSegmentAnswer,
-    opening: EventOpenError,
-) -> Result<bool, Fail> {
-    let _factory = builder(b"E")?.event().create(alloc, storage)?;
-    is_segment_refused(alloc, storage, segment, opening)
+fn all_segments_are_refused(alloc: Global) -> Result<(), Fail> {
+    for row in &SEGMENTS {
+        is_segment_refused(alloc, *row)?;
+    }
+    Ok(())
 }
 
 #[test]
 fn a_segment_is_refused(rt: HostRuntime) -> Result<(), Fail> {
-    for (segment, opening) in &SEGMENTS {
-        assert!(rt;
-            is_then_refused(
-                rt.alloc(),
-                &mut Fixed::new(rt.alloc(), "")?,
-                *segment,
-                *opening
-            )?,
-            "{segment:?}"
-        );
-    }
-    Ok(())
+    all_segments_are_refused(rt.alloc())
 }

@@ -1,5 +1,5 @@
 //! Rounds that lead to nothing, and lines that are none.
-use crate::shared::{Fixed, LINE, builder, is_wanted};
+use crate::shared::{Fixed, LINE, builder, wanted};
 use iox_describe::LimitError;
 use iox_describe::pattern::PublishSubscribe;
 use iox_negotiate::{ServiceBuilder, Slice};
@@ -24,91 +24,109 @@ fn of_bytes() -> Result<ServiceBuilder<PublishSubscribe>, LimitError> {
     Ok(builder(b"23")?.publish_subscribe::<u8>())
 }
 
-/// Whether `open` is refused so.
-fn is_open_refused(
+/// `open` must be refused as corrupted.
+fn is_corrupted(
     alloc: Global,
     asked: ServiceBuilder<PublishSubscribe>,
     storage: &mut Fixed,
-    refusal: PublishSubscribeOpenError,
-) -> Result<bool, Fail> {
-    is_wanted(asked.open(alloc, storage).err(), Some(refusal))
+) -> Result<(), Fail> {
+    let corrupted = PublishSubscribeOpenError::ServiceInCorruptedState;
+    wanted(asked.open(alloc, storage).err(), Some(corrupted))
 }
 
-/// Whether `create` is refused so.
+/// `create` must be refused so.
 fn is_create_refused(
     alloc: Global,
     asked: ServiceBuilder<PublishSubscribe>,
     storage: &mut Fixed,
     refusal: PublishSubscribeCreateError,
-) -> Result<bool, Fail> {
-    is_wanted(asked.create(alloc, storage).err(), Some(refusal))
+) -> Result<(), Fail> {
+    wanted(asked.create(alloc, storage).err(), Some(refusal))
 }
 
-/// Whether `open_or_create` finds the system in flux.
+/// `open_or_create` must find the system in flux.
 fn is_in_flux(
     alloc: Global,
     asked: ServiceBuilder<PublishSubscribe>,
     storage: &mut Fixed,
-) -> Result<bool, Fail> {
-    let refusal = asked.open_or_create(alloc, storage).err();
-    is_wanted(
-        refusal,
-        Some(PublishSubscribeOpenOrCreateError::SystemInFlux),
-    )
+) -> Result<(), Fail> {
+    let flux = PublishSubscribeOpenOrCreateError::SystemInFlux;
+    wanted(asked.open_or_create(alloc, storage).err(), Some(flux))
+}
+
+/// Rounds must be ended where the line's segment is absent.
+fn absent_segments_end(alloc: Global) -> Result<(), Fail> {
+    let mut storage = Fixed::new(alloc, LINE)?;
+    storage.segment = OpenSegmentAnswer::Absent;
+    is_corrupted(alloc, of_line()?, &mut storage)?;
+    wanted(storage.counts(), (5, 5))?;
+    is_in_flux(alloc, of_line()?, &mut storage)?;
+    wanted(storage.counts(), (10, 10))
 }
 
 #[test]
 fn five_rounds_of_an_absent_segment(rt: HostRuntime) -> Result<(), Fail> {
-    let mut storage = Fixed::new(rt.alloc(), LINE)?;
-    storage.segment = OpenSegmentAnswer::Absent;
-    let corrupted = PublishSubscribeOpenError::ServiceInCorruptedState;
-    assert!(rt; is_open_refused(rt.alloc(), of_line()?, &mut storage, corrupted)?);
-    assert!(rt; storage.counted(5, 5));
-    assert!(rt; is_in_flux(rt.alloc(), of_line()?, &mut storage)? && storage.counted(10, 10));
-    Ok(())
+    absent_segments_end(rt.alloc())
 }
+
+/// Rounds must be ended where a lock is answered so, and creating is refused so.
+fn refused_locks_end(
+    alloc: Global,
+    lock: LockAnswer,
+    refusal: PublishSubscribeCreateError,
+) -> Result<(), Fail> {
+    let mut storage = Fixed::new(alloc, "")?;
+    storage.lock = lock;
+    is_in_flux(alloc, of_bytes()?, &mut storage)?;
+    wanted(storage.counts(), (5, 5))?;
+    is_create_refused(alloc, of_bytes()?, &mut storage, refusal)?;
+    wanted(storage.counts(), (6, 6))
+}
+
+const EXISTS: PublishSubscribeCreateError = PublishSubscribeCreateError::AlreadyExists;
+
+const IS_BEING_CREATED: PublishSubscribeCreateError =
+    PublishSubscribeCreateError::IsBeingCreatedByAnotherInstance;
 
 #[test]
 fn five_rounds_of_a_service_that_comes_and_goes(rt: HostRuntime) -> Result<(), Fail> {
-    for (lock, refusal) in [
-        (
-            LockAnswer::Exists,
-            PublishSubscribeCreateError::AlreadyExists,
-        ),
-        (
-            LockAnswer::IsLocked,
-            PublishSubscribeCreateError::IsBeingCreatedByAnotherInstance,
-        ),
-    ] {
-        let mut storage = Fixed::new(rt.alloc(), "")?;
-        storage.lock = lock;
-        assert!(rt; is_in_flux(rt.alloc(), of_bytes()?, &mut storage)? && storage.counted(5, 5));
-        assert!(rt; is_create_refused(rt.alloc(), of_bytes()?, &mut storage, refusal)?);
-        assert!(rt; storage.counted(6, 6));
-    }
-    Ok(())
+    refused_locks_end(rt.alloc(), LockAnswer::Exists, EXISTS)?;
+    refused_locks_end(rt.alloc(), LockAnswer::IsLocked, IS_BEING_CREATED)
+}
+
+/// A line with a space must be refused at the first look.
+fn space_is_refused(alloc: Global) -> Result<(), Fail> {
+    let (_, after) = LINE.split_once("{").ok_or("the line has no brace")?;
+    let line = format!(in alloc; "{{ {after}")?;
+    let mut storage = Fixed::new(alloc, line.as_str())?;
+    is_corrupted(alloc, of_line()?, &mut storage)?;
+    wanted(storage.counts(), (1, 0))
 }
 
 #[test]
 fn a_line_with_a_space_is_corrupted(rt: HostRuntime) -> Result<(), Fail> {
-    let (_, after) = LINE.split_once("{").ok_or("the line has no brace")?;
-    let line = format!(in rt.alloc(); "{{ {after}")?;
-    let mut storage = Fixed::new(rt.alloc(), line.as_str())?;
-    let corrupted = PublishSubscribeOpenError::ServiceInCorruptedState;
-    assert!(rt; is_open_refused(rt.alloc(), of_line()?, &mut storage, corrupted)?);
-    assert!(rt; storage.counted(1, 0));
-    Ok(())
+    space_is_refused(rt.alloc())
 }
+
+/// Settings must be refused so, without an access.
+fn are_refused(
+    alloc: Global,
+    asked: ServiceBuilder<PublishSubscribe>,
+    refusal: PublishSubscribeCreateError,
+) -> Result<(), Fail> {
+    let mut storage = Fixed::new(alloc, "")?;
+    is_create_refused(alloc, asked, &mut storage, refusal)?;
+    wanted(storage.counts(), (0, 0))
+}
+
+const INTERNAL: PublishSubscribeCreateError = PublishSubscribeCreateError::InternalFailure;
+
+const BUFFER: PublishSubscribeCreateError =
+    PublishSubscribeCreateError::SubscriberBufferMustBeLargerThanHistorySize;
 
 #[test]
 fn settings_that_are_refused_make_no_access(rt: HostRuntime) -> Result<(), Fail> {
-    let mut storage = Fixed::new(rt.alloc(), "")?;
-    let past = of_bytes()?.max_nodes(16_777_216);
-    let internal = PublishSubscribeCreateError::InternalFailure;
-    assert!(rt; is_create_refused(rt.alloc(), past, &mut storage, internal)?);
+    are_refused(rt.alloc(), of_bytes()?.max_nodes(16_777_216), INTERNAL)?;
     let long = of_bytes()?.enable_safe_overflow(false).history_size(3);
-    let buffer = PublishSubscribeCreateError::SubscriberBufferMustBeLargerThanHistorySize;
-    assert!(rt; is_create_refused(rt.alloc(), long, &mut storage, buffer)?);
-    assert!(rt; storage.counted(0, 0));
-    Ok(())
+    are_refused(rt.alloc(), long, BUFFER)
 }

@@ -62,18 +62,19 @@ impl Fixed {
         self.others = self.others.saturating_add(1);
     }
 
-    /// Whether there were so many looks, and so many other accesses.
-    pub(crate) fn counted(&self, looks: u64, others: u64) -> bool {
-        self.looks == looks && self.others == others
+    /// How many looks there were, and how many other accesses.
+    pub(crate) fn counts(&self) -> (u64, u64) {
+        (self.looks, self.others)
     }
 }
 
-/// True, if this is the wanted answer. Another one ends the test and is told, so that an allocation failure is told as one.
-pub(crate) fn is_wanted<T: Copy + Debug + PartialEq>(answer: T, wanted: T) -> Result<bool, Fail> {
-    if answer != wanted {
-        return Err(Fail::from(answer));
+/// It must be the wanted answer. Another one ends the test and is told, so that an allocation failure is told as one.
+pub(crate) fn wanted<T: Copy + Debug + PartialEq>(answer: T, wanted: T) -> Result<(), Fail> {
+    if answer == wanted {
+        Ok(())
+    } else {
+        Err(Fail::from(answer))
     }
-    Ok(true)
 }
 
 /// A builder of the service of this name, for node 5.

@@ -1,27 +1,37 @@
-//! Each access in each stage, each foreign step where it fits and where it doesn't, sizes and repeated calls.
-use crate::shared::is_wanted;
-use iox_describe::{
-    AttributeSpecifier, Description, Header, LimitError, MessageTypeDetails, MessagingPattern,
-    ServiceHash, ServiceName, Settings, TypeVariant, publish_subscribe, service_hash,
-};
+//! Each access in each stage, sizes and repeated calls.
+use crate::foreign::{Step, act, hash_of_a};
+use crate::shared::wanted;
+use iox_describe::ServiceHash;
 use iox_negotiate_rounds::{
     LeaveAnswer, LockAnswer, LookAnswer, MakeSegmentAnswer, OpenSegmentAnswer, PublishAnswer,
     RemoveAnswer, Storage,
 };
-use iox_negotiate_table::{ForeignStep, Table};
+use iox_negotiate_table::Table;
 use std::alloc::Global;
 use std::test::Fail;
 
 const LARGEST: u64 = 16_777_215;
 
-fn hash_of(name: &[u8]) -> Result<ServiceHash, LimitError> {
-    Ok(service_hash(MessagingPattern::PublishSubscribe, &ServiceName::new(name)?))
-}
-
-fn described(name: &[u8]) -> Result<Description, LimitError> {
-    let types = MessageTypeDetails::from::<Header, u64, u64>(TypeVariant::FixedSize);
-    let settings = Settings::PublishSubscribe(publish_subscribe::StaticConfig::new(types));
-    Ok(Description::new(ServiceName::new(name)?, settings, AttributeSpecifier::new()))
+/// An access to a table, and its answer. Lives of the service are counted from 1.
+enum Access {
+    /// A look, and the life where the service stands.
+    Look(&'static str, u64),
+    /// A node locks.
+    Lock(u64, LockAnswer),
+    /// A node makes the segment of life 1 with room for so many.
+    Make(u64, u64, MakeSegmentAnswer),
+    /// The description of life 1 is published.
+    Publish(PublishAnswer),
+    /// A node opens the segment of a life.
+    Open(u64, u64, OpenSegmentAnswer),
+    /// A node leaves the segment of life 1.
+    Leave(u64, LeaveAnswer),
+    /// The description of life 1 is removed.
+    RemoveDescription(RemoveAnswer),
+    /// The segment of life 1 is removed.
+    RemoveSegment(RemoveAnswer),
+    /// A foreign node does this.
+    Foreign(Step),
 }
 
 // What a look shows: the number of the service where one stands.
@@ -36,130 +46,94 @@ fn shown(answer: LookAnswer) -> (&'static str, u64) {
     }
 }
 
-// A table in which node 5 locked the hash, which is life 1.
-fn locked(alloc: Global, hash: &ServiceHash) -> Result<Table, Fail> {
+// The access must be answered so.
+fn accessed(table: &mut Table, hash: &ServiceHash, access: &Access) -> Result<(), Fail> {
+    match *access {
+        Access::Look(text, life) => wanted(shown(table.look(hash)), (text, life)),
+        Access::Lock(node, answer) => wanted(table.lock(hash, node), answer),
+        Access::Make(node, room, answer) => wanted(table.make_segment(hash, 1, node, room), answer),
+        Access::Publish(answer) => wanted(table.publish(hash, 1, b"text"), answer),
+        Access::Open(life, node, answer) => wanted(table.open_segment(hash, life, node), answer),
+        Access::Leave(node, answer) => wanted(table.leave(hash, 1, node), answer),
+        Access::RemoveDescription(answer) => wanted(table.remove_description(hash, 1), answer),
+        Access::RemoveSegment(answer) => wanted(table.remove_segment(hash, 1), answer),
+        Access::Foreign(step) => act(table, &[step]),
+    }
+}
+
+// Each access to a new table must be answered so.
+fn all_accessed(alloc: Global, accesses: &[Access]) -> Result<(), Fail> {
+    let hash = hash_of_a()?;
     let mut table = Table::new(alloc, 7);
-    is_wanted(table.lock(hash, 5), LockAnswer::Taken(1))?;
-    Ok(table)
-}
-
-// A table in which service 1 is published with room for two nodes, and node 5 is in.
-fn published(alloc: Global, hash: &ServiceHash) -> Result<Table, Fail> {
-    let mut table = locked(alloc, hash)?;
-    is_wanted(table.make_segment(hash, 1, 5, 2), MakeSegmentAnswer::Made)?;
-    is_wanted(table.publish(hash, 1, b"text"), PublishAnswer::Published)?;
-    Ok(table)
-}
-
-/// Whether the segment is made by who has the lock, for at least one node, and once.
-fn is_made_once(table: &mut Table, hash: &ServiceHash) -> Result<bool, Fail> {
-    Ok(
-        is_wanted(table.lock(hash, 6), LockAnswer::IsLocked)?
-            && is_wanted(table.make_segment(hash, 1, 6, 2), MakeSegmentAnswer::Fault)?
-            && is_wanted(table.make_segment(hash, 1, 5, 0), MakeSegmentAnswer::Fault)?
-            && is_wanted(
-                table.make_segment(hash, 1, 5, LARGEST),
-                MakeSegmentAnswer::Made,
-            )?
-            && is_wanted(table.make_segment(hash, 1, 5, 2), MakeSegmentAnswer::Fault)?,
-    )
-}
-
-/// Whether what is made is shown once it is published.
-fn is_published_then(table: &mut Table, hash: &ServiceHash) -> Result<bool, Fail> {
-    Ok(
-        is_wanted(shown(table.look(hash)), ("locked", 0))?
-            && is_wanted(table.publish(hash, 1, b"text"), PublishAnswer::Published)?
-            && is_wanted(shown(table.look(hash)), ("found", 1))?
-            && is_wanted(table.lock(hash, 6), LockAnswer::Exists)?,
-    )
-}
-
-#[test]
-fn a_service_is_made_by_who_has_the_lock(rt: HostRuntime) -> Result<(), Fail> {
-    let hash = hash_of(b"a")?;
-    let mut table = locked(rt.alloc(), &hash)?;
-    assert!(rt; is_made_once(&mut table, &hash)?);
-    assert!(rt; is_published_then(&mut table, &hash)?);
-    Ok(())
-}
-
-/// Whether two nodes come in, one of them twice, a third doesn't, and another life isn't there.
-fn is_entered(table: &mut Table, hash: &ServiceHash) -> Result<bool, Fail> {
-    Ok(
-        is_wanted(
-            table.open_segment(hash, 1, 5),
-            OpenSegmentAnswer::Registered,
-        )? && is_wanted(
-            table.open_segment(hash, 1, 6),
-            OpenSegmentAnswer::Registered,
-        )? && is_wanted(table.open_segment(hash, 1, 8), OpenSegmentAnswer::Full)?
-            && is_wanted(table.open_segment(hash, 2, 5), OpenSegmentAnswer::Absent)?,
-    )
-}
-
-/// Whether the last factory of the last node empties the segment, and no other.
-fn is_left_last(table: &mut Table, hash: &ServiceHash) -> Result<bool, Fail> {
-    Ok(
-        is_wanted(table.leave(hash, 1, 8), LeaveAnswer::Stays)?
-            && is_wanted(table.leave(hash, 1, 6), LeaveAnswer::Stays)?
-            && is_wanted(table.leave(hash, 1, 5), LeaveAnswer::Stays)?
-            && is_wanted(table.leave(hash, 1, 5), LeaveAnswer::Emptied)?
-            && is_wanted(table.open_segment(hash, 1, 5), OpenSegmentAnswer::Marked)?,
-    )
-}
-
-/// Whether the description goes first, another life begins, and then the segment goes.
-fn is_removed_then(table: &mut Table, hash: &ServiceHash) -> Result<bool, Fail> {
-    Ok(
-        is_wanted(table.remove_segment(hash, 1), RemoveAnswer::Fault)?
-            && is_wanted(table.remove_description(hash, 1), RemoveAnswer::Removed)?
-            && is_wanted(table.lock(hash, 6), LockAnswer::Taken(2))?
-            && is_wanted(table.remove_segment(hash, 1), RemoveAnswer::Removed)?
-            && is_wanted(table.remove_segment(hash, 1), RemoveAnswer::Fault)?,
-    )
-}
-
-#[test]
-fn nodes_come_and_go(rt: HostRuntime) -> Result<(), Fail> {
-    let hash = hash_of(b"a")?;
-    let mut table = published(rt.alloc(), &hash)?;
-    assert!(rt; is_entered(&mut table, &hash)? && is_left_last(&mut table, &hash)?);
-    assert!(rt; is_removed_then(&mut table, &hash)?);
-    Ok(())
-}
-
-/// Does what foreign node 1 does in two lives of a service.
-fn act_through_two_lives(table: &mut Table, hash: &ServiceHash) -> Result<(), Fail> {
-    let first = ForeignStep::Publish {
-        node: 1,
-        description: described(b"a")?,
-    };
-    for step in [
-        &ForeignStep::Lock { node: 1 },
-        &first,
-        &ForeignStep::Leave { node: 1 },
-        &ForeignStep::Remove { node: 1 },
-        &ForeignStep::Lock { node: 1 },
-        &first,
-    ] {
-        table.act(hash, step)?;
+    for access in accesses {
+        accessed(&mut table, &hash, access)?;
     }
     Ok(())
 }
 
+// The segment is made by who has the lock, for at least one node, and once; what is made is shown once it is published.
+const MADE: [Access; 11] = [
+    Access::Lock(5, LockAnswer::Taken(1)),
+    Access::Lock(6, LockAnswer::IsLocked),
+    Access::Make(6, 2, MakeSegmentAnswer::Fault),
+    Access::Make(5, 0, MakeSegmentAnswer::Fault),
+    Access::Make(5, LARGEST, MakeSegmentAnswer::Made),
+    Access::Make(5, 2, MakeSegmentAnswer::Fault),
+    Access::Look("locked", 0),
+    Access::Publish(PublishAnswer::Published),
+    Access::Look("found", 1),
+    Access::Lock(6, LockAnswer::Exists),
+    Access::Look("found", 1),
+];
+
+#[test]
+fn a_service_is_made_by_who_has_the_lock(rt: HostRuntime) -> Result<(), Fail> {
+    all_accessed(rt.alloc(), &MADE)
+}
+
+// Two nodes come in, one of them twice, a third doesn't, and another life isn't there; the last factory of the last node empties the
+// segment, and no other; the description goes first, another life begins, and then the segment goes.
+const COME_AND_GO: [Access; 17] = [
+    Access::Lock(5, LockAnswer::Taken(1)),
+    Access::Make(5, 2, MakeSegmentAnswer::Made),
+    Access::Publish(PublishAnswer::Published),
+    Access::Open(1, 5, OpenSegmentAnswer::Registered),
+    Access::Open(1, 6, OpenSegmentAnswer::Registered),
+    Access::Open(1, 8, OpenSegmentAnswer::Full),
+    Access::Open(2, 5, OpenSegmentAnswer::Absent),
+    Access::Leave(8, LeaveAnswer::Stays),
+    Access::Leave(6, LeaveAnswer::Stays),
+    Access::Leave(5, LeaveAnswer::Stays),
+    Access::Leave(5, LeaveAnswer::Emptied),
+    Access::Open(1, 5, OpenSegmentAnswer::Marked),
+    Access::RemoveSegment(RemoveAnswer::Fault),
+    Access::RemoveDescription(RemoveAnswer::Removed),
+    Access::Lock(6, LockAnswer::Taken(2)),
+    Access::RemoveSegment(RemoveAnswer::Removed),
+    Access::RemoveSegment(RemoveAnswer::Fault),
+];
+
+#[test]
+fn nodes_come_and_go(rt: HostRuntime) -> Result<(), Fail> {
+    all_accessed(rt.alloc(), &COME_AND_GO)
+}
+
+const PUBLISHED: Access = Access::Foreign(Step::Publish(1, b"A", 2, 20));
+
+// Two lives of a service that foreign node 1 makes.
+const TWO_LIVES: [Access; 9] = [
+    Access::Foreign(Step::Lock(1)),
+    PUBLISHED,
+    Access::Foreign(Step::Leave(1)),
+    Access::Foreign(Step::Remove(1)),
+    Access::Foreign(Step::Lock(1)),
+    PUBLISHED,
+    Access::Open(1, 5, OpenSegmentAnswer::Absent),
+    Access::Look("found", 2),
+    Access::Open(2, 5, OpenSegmentAnswer::Registered),
+];
+
 #[test]
 fn a_later_life_has_another_number(rt: HostRuntime) -> Result<(), Fail> {
-    let hash = hash_of(b"a")?;
-    let mut table = Table::new(rt.alloc(), 1);
-    act_through_two_lives(&mut table, &hash)?;
-    assert!(rt; is_wanted(table.open_segment(&hash, 1, 5), OpenSegmentAnswer::Absent)?);
-    assert!(rt; is_wanted(shown(table.look(&hash)), ("found", 2))?);
-    assert!(rt;
-        is_wanted(
-            table.open_segment(&hash, 2, 5),
-            OpenSegmentAnswer::Registered
-        )?
-    );
-    Ok(())
+    all_accessed(rt.alloc(), &TWO_LIVES)
 }

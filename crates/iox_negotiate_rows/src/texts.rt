@@ -5,40 +5,49 @@ use iox_negotiate_errors::{
 };
 use std::alloc::{AllocError, Global};
 use std::fmt::Display;
-use std::test::Fail;
+use std::process::Abort;
 
-/// Whether the error is told so.
-fn is_told<E: Display>(alloc: Global, error: &E, text: &str) -> Result<bool, AllocError> {
-    Ok(format!(in alloc; "{error}")?.as_str() == text)
+/// The error must be told so.
+fn is_told<E: Display>(
+    rt: &impl Abort,
+    alloc: Global,
+    error: &E,
+    text: &str,
+) -> Result<(), AllocError> {
+    assert!(rt; format!(in alloc; "{error}")?.as_str() == text, "{text}");
+    Ok(())
 }
 
+const EITHER: PublishSubscribeOpenOrCreateError =
+    PublishSubscribeOpenOrCreateError::PublishSubscribeOpenError(
+        PublishSubscribeOpenError::DoesNotSupportRequestedMinBufferSize,
+    );
+
+const FLUX: EventOpenOrCreateError = EventOpenOrCreateError::SystemInFlux;
+
+const EXISTS: RequestResponseCreateError = RequestResponseCreateError::AlreadyExists;
+
+const CLOSE: CloseError = CloseError::NotThisStorage;
+
 #[test]
-fn errors_display_as_type_and_variant(rt: HostRuntime) -> Result<(), Fail> {
-    let unmet = PublishSubscribeOpenError::DoesNotSupportRequestedMinBufferSize;
-    let either = PublishSubscribeOpenOrCreateError::from(unmet);
-    assert!(rt;
-        is_told(
-            rt.alloc(),
-            &either,
-            "PublishSubscribeOpenOrCreateError::PublishSubscribeOpenError(DoesNotSupportRequestedMinBufferSize)"
-        )?
-    );
-    let flux = EventOpenOrCreateError::SystemInFlux;
-    assert!(rt; is_told(rt.alloc(), &flux, "EventOpenOrCreateError::SystemInFlux")?);
-    let exists = RequestResponseCreateError::AlreadyExists;
-    assert!(rt;
-        is_told(
-            rt.alloc(),
-            &exists,
-            "RequestResponseCreateError::AlreadyExists"
-        )?
-    );
-    assert!(rt;
-        is_told(
-            rt.alloc(),
-            &CloseError::NotThisStorage,
-            "CloseError::NotThisStorage"
-        )?
-    );
-    Ok(())
+fn errors_display_as_type_and_variant(rt: HostRuntime) -> Result<(), AllocError> {
+    is_told(
+        &rt,
+        rt.alloc(),
+        &EITHER,
+        "PublishSubscribeOpenOrCreateError::PublishSubscribeOpenError(DoesNotSupportRequestedMinBufferSize)",
+    )?;
+    is_told(
+        &rt,
+        rt.alloc(),
+        &FLUX,
+        "EventOpenOrCreateError::SystemInFlux",
+    )?;
+    is_told(
+        &rt,
+        rt.alloc(),
+        &EXISTS,
+        "RequestResponseCreateError::AlreadyExists",
+    )?;
+    is_told(&rt, rt.alloc(), &CLOSE, "CloseError::NotThisStorage")
 }

@@ -2,7 +2,7 @@
 ghost use Rattle.std.specs.Prelude.{◌≡◌};
 
 use crate::foreign::hash_of_a;
-use crate::shared::{builder, is_wanted};
+use crate::shared::{builder, wanted};
 use iox_describe::ServiceHash;
 use iox_negotiate_errors::PublishSubscribeCreateError;
 use iox_negotiate_rounds::{
@@ -114,56 +114,55 @@ const INTERNAL: PublishSubscribeCreateError = PublishSubscribeCreateError::Inter
 
 const CORRUPTED: PublishSubscribeCreateError = PublishSubscribeCreateError::ServiceInCorruptedState;
 
-fn rows() -> [Row; 8] {
-    [
-        (1, Failure::Memory, MEMORY, 1),
-        (2, Failure::Memory, MEMORY, 1),
-        (3, Failure::Memory, MEMORY, 2),
-        (4, Failure::Memory, MEMORY, 2),
-        (1, Failure::Fault, CORRUPTED, 1),
-        (2, Failure::Fault, INTERNAL, 1),
-        (3, Failure::Fault, INTERNAL, 2),
-        (4, Failure::Fault, INTERNAL, 2),
-    ]
-}
+const ROWS: [Row; 8] = [
+    (1, Failure::Memory, MEMORY, 1),
+    (2, Failure::Memory, MEMORY, 1),
+    (3, Failure::Memory, MEMORY, 2),
+    (4, Failure::Memory, MEMORY, 2),
+    (1, Failure::Fault, CORRUPTED, 1),
+    (2, Failure::Fault, INTERNAL, 1),
+    (3, Failure::Fault, INTERNAL, 2),
+    (4, Failure::Fault, INTERNAL, 2),
+];
 
-/// Whether a creation is refused so, at the access that fails.
+/// A creation must be refused so, at the access that fails.
 fn is_refused(
     alloc: Global,
     storage: &mut Failing,
     error: PublishSubscribeCreateError,
-) -> Result<bool, Fail> {
+) -> Result<(), Fail> {
     let asked = builder(b"A")?.publish_subscribe::<u64>();
-    is_wanted(asked.create(alloc, storage).err(), Some(error))?;
-    is_wanted((error, storage.left), (error, 0))
+    wanted(asked.create(alloc, storage).err(), Some(error))?;
+    wanted((error, storage.left), (error, 0))
 }
 
-/// Whether neither description nor segment is left, and the next lock has this number.
-fn is_nothing_left(table: &mut Table, next: u64) -> Result<bool, Fail> {
+/// Neither description nor segment may be left, and the next lock must have this number.
+fn is_nothing_left(table: &mut Table, next: u64) -> Result<(), Fail> {
     let hash = hash_of_a()?;
-    Ok(
-        matches!(table.look(&hash), LookAnswer::Absent)
-            && table.remove_segment(&hash, 1) == RemoveAnswer::Fault
-            && is_wanted(table.lock(&hash, 5), LockAnswer::Taken(next))?,
-    )
+    wanted(matches!(table.look(&hash), LookAnswer::Absent), true)?;
+    wanted(table.remove_segment(&hash, 1), RemoveAnswer::Fault)?;
+    wanted(table.lock(&hash, 5), LockAnswer::Taken(next))
+}
+
+/// Nothing may be left of the creation of a row.
+fn is_undone(alloc: Global, (at, failure, error, next): Row) -> Result<(), Fail> {
+    let mut storage = Failing {
+        table: Table::new(alloc, 1),
+        left: at,
+        failure,
+    };
+    is_refused(alloc, &mut storage, error)?;
+    is_nothing_left(&mut storage.table, next)
+}
+
+fn all_are_undone(alloc: Global) -> Result<(), Fail> {
+    for row in &ROWS {
+        is_undone(alloc, *row)?;
+    }
+    Ok(())
 }
 
 #[test]
 fn nothing_is_left_of_a_creation_that_failed(rt: HostRuntime) -> Result<(), Fail> {
-    for (at, failure, error, next) in rows() {
-        let mut storage = Failing {
-            table: Table::new(rt.alloc(), 1),
-            left: at,
-            failure,
-        };
-        assert!(rt;
-            is_refused(rt.alloc(), &mut storage, error)?,
-            "{failure:?} at {at}"
-        );
-        assert!(rt;
-            is_nothing_left(&mut storage.table, next)?,
-            "{failure:?} at {at}"
-        );
-    }
-    Ok(())
+    all_are_undone(rt.alloc())
 }

@@ -1,0 +1,74 @@
+-- What is asked of a service by the options that are named.
+use Rattle.std.specs.Prelude.{ℕ, List, [], Option, None, Some, codes}
+use Rattle.std.specs.Option.{option_map}
+use Rattle.iox_command.specs.declared.service.EventOptions.{EventOptions}
+use Rattle.iox_command.specs.declared.service.NumberOrOff.{NumberOrOff}
+use Rattle.iox_command.specs.declared.service.NumberOrOff.TheVariants.{Number, Off}
+use Rattle.iox_command.specs.declared.service.PublishSubscribeOptions.{PublishSubscribeOptions}
+use Rattle.iox_command.specs.declared.service.RequestResponseOptions.{RequestResponseOptions}
+use Rattle.iox_describe_base.specs.Attributes.{required}
+use Rattle.iox_describe_base.specs.Detail.{detail}
+use Rattle.iox_describe_base.specs.declared.message_type.MessageTypeDetails.{MessageTypeDetails}
+use Rattle.iox_describe_base.specs.declared.type_detail.TypeVariant.TheVariants.{FixedSize, Dynamic}
+use Rattle.iox_describe_verdict.specs.declared.requirement.event.Requirement.{Requirement as EventRequirement}
+use Rattle.iox_describe_verdict.specs.declared.requirement.publish_subscribe.Requirement.{Requirement as PublishSubscribeRequirement}
+use Rattle.iox_describe_verdict.specs.declared.requirement.request_response.Requirement.{Requirement as RequestResponseRequirement}
+
+-- messages that carry slices of values of this name, size and alignment, with a user header of this name, size and alignment
+abbrev pub types_of : List ℕ → ℕ → ℕ → List ℕ → ℕ → ℕ → MessageTypeDetails
+types_of name size alignment header_name header_size header_alignment = record {
+  header = detail FixedSize (codes "Header") 24 8;
+  user_header = detail FixedSize header_name header_size header_alignment;
+  payload = detail Dynamic name size alignment;
+}
+
+-- what a setting that may be off is to be: a number, or none
+abbrev pub set_to : NumberOrOff → Option ℕ
+set_to (Number number) = Some number
+set_to Off = None
+
+-- each setting of a publish-subscribe service that is named, and no attribute
+abbrev pub asked_publish_subscribe : PublishSubscribeOptions → MessageTypeDetails → PublishSubscribeRequirement
+asked_publish_subscribe options types = record {
+  types = types;
+  attributes = required [] [];
+  enable_safe_overflow = options.enable_safe_overflow;
+  max_publishers = options.max_publishers;
+  max_subscribers = options.max_subscribers;
+  subscriber_max_buffer_size = options.subscriber_max_buffer_size;
+  history_size = options.history_size;
+  subscriber_max_borrowed_samples = options.subscriber_max_borrowed_samples;
+  max_nodes = options.max_nodes;
+}
+
+-- each setting of an event service that is named, and no attribute
+abbrev pub asked_event : EventOptions → EventRequirement
+asked_event options = record {
+  attributes = required [] [];
+  deadline = option_map set_to options.deadline;
+  max_notifiers = options.max_notifiers;
+  max_listeners = options.max_listeners;
+  event_id_max_value = options.event_id_max_value;
+  notifier_created_event = option_map set_to options.notifier_created_event;
+  notifier_dropped_event = option_map set_to options.notifier_dropped_event;
+  notifier_dead_event = option_map set_to options.notifier_dead_event;
+  max_nodes = options.max_nodes;
+}
+
+-- each setting of a request-response service that is named, and no attribute; requests and responses are of the same types
+abbrev pub asked_request_response : RequestResponseOptions → MessageTypeDetails → RequestResponseRequirement
+asked_request_response options types = record {
+  request_types = types;
+  response_types = types;
+  attributes = required [] [];
+  enable_safe_overflow_for_requests = options.enable_safe_overflow_for_requests;
+  enable_safe_overflow_for_responses = options.enable_safe_overflow_for_responses;
+  enable_fire_and_forget_requests = options.enable_fire_and_forget_requests;
+  max_loaned_requests = options.max_loaned_requests;
+  max_active_requests_per_client = options.max_active_requests_per_client;
+  max_response_buffer_size = options.max_response_buffer_size;
+  max_servers = options.max_servers;
+  max_clients = options.max_clients;
+  max_borrowed_responses_per_pending_response = options.max_borrowed_responses_per_pending_response;
+  max_nodes = options.max_nodes;
+}

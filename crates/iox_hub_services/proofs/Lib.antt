@@ -1,0 +1,5 @@
+pub mod Own
+pub mod Takings
+pub mod Same
+pub mod Homely
+pub mod Lawful

@@ -1,0 +1,13 @@
+use Rattle.std.proofs.Common.{rules, ap}
+use Rattle.iox_domain_home.specs.Steps.{LoansBy}
+use Rattle.iox_hub_services.proofs.Homely.{at_here}
+use Rattle.iox_hub_services.proofs.Own.{own_stepped}
+use Rattle.iox_hub_services.proofs.home.ServicesHome.loan.Goals as goal
+
+pub invariant_of-self-2 : goal.invariant_of-self-2
+invariant_of-self-2 g c =
+    own_stepped c.self.inside.hub c.args.id.service c.self.inside.presences c.in_ok-domain.domain.now c.loan.new.self c.self.invariant (search (rules, c.in_ok-domain.ensures.value)) (ap (λ d. d.id) c.loan.ensures.rest)
+
+pub returns : goal.returns
+returns g c =
+    rw (← c.self.view_is) (at_here c.args.id (λ found. LoansBy c.args.number c.args.values c.args.elements) c.self.inside.hub c.self.inside.presences c.in_ok-domain.domain.now c.loan.new.self c.loan.result (c.is_of.ensures.0 (search (rules, c.if-not-is_of.false))) (search (rules, c.in_ok-domain.ensures.value)) c.loan.ensures.loans c.loan.ensures.rest)

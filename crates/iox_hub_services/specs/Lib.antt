@@ -1,0 +1,11 @@
+pub mod Numbered
+pub mod Texts
+pub mod Agreeing
+pub mod Open
+pub mod Lends
+pub mod Opening
+pub mod Taking
+pub mod AsHome
+pub mod HomeLaws
+pub mod Within
+pub mod Laws

@@ -1,0 +1,22 @@
+//! The open publish-subscribe services of a hub, by their numbers, each with its domain.
+//!
+//! | Module | What it has |
+//! |---|---|
+//! | `presence` | a domain that is here, or what is agreed while it is out |
+//! | `services` | the services of a hub: they open and close |
+//! | `taking` | a domain is taken out, to be driven elsewhere, and put back |
+//! | `home` | the services of a hub as a home of ports |
+//! | `laws` | what holds of these calls, in other words |
+//! | `presences` | what is open, by numbers |
+#![tactic(auto)]
+
+pub mod home;
+pub mod laws;
+pub mod presence;
+pub mod presences;
+pub mod services;
+pub mod taking;
+
+pub use presence::Presence;
+pub use services::Services;
+pub use taking::{DomainIsForeign, TakeError};

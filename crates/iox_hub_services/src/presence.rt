@@ -1,0 +1,78 @@
+//! A domain that is here, or what is agreed while it is out.
+ghost use Rattle.std.specs.Prelude.{◌≡◌, ◌↔◌, IsTrue, option_copied};
+ghost use Rattle.std.specs.Borrow.{sem};
+ghost use Rattle.std.specs.Option.{option_copied_mut};
+ghost use Rattle.iox_hub_services.specs.Open.{here, taken_out};
+ghost use Rattle.iox_hub_services.specs.Agreeing.{same_agreement};
+ghost use Rattle.iox_hub_services.specs.declared.presence.Presence.TheVariants.{Out};
+
+use iox_describe_settings::publish_subscribe::StaticConfig;
+use iox_domain::Domain;
+use iox_domain_values::{DegradationHandler, Handlers};
+use std::mem;
+
+/// An open service: its domain, or what its nodes agreed on while the domain is out.
+#[derive(Drop)]
+pub enum Presence<T, U, B = Handlers, D = DegradationHandler> {
+    /// The domain is here.
+    Here(Domain<T, U, B, D>),
+    /// The domain was taken by the user, to be driven elsewhere.
+    Out(StaticConfig),
+}
+
+impl<T, U, B, D> Presence<T, U, B, D> {
+    ghost use Rattle.iox_hub_services.specs.Lends.{LendsDomain};
+
+    /// The domain, if it is here.
+    pub fn domain(&self) -> Option<&Domain<T, U, B, D>>
+        ensures { option_copied result ≡ here self.now }
+    {
+        match self {
+            Presence::Here(domain) => Some(domain),
+            Presence::Out(_) => None,
+        }
+    }
+
+    /// The domain, if it is here, to be changed in its place.
+    pub fn domain_mut(&mut self) -> Option<&mut Domain<T, U, B, D>>
+        ensures* writes_back { sem 𝓛 (LendsDomain T.row U.row B.row D.row self.entry result) }
+        ensures value { option_copied_mut result ≡ here self.old }
+    {
+        match self {
+            Presence::Here(domain) => Some(domain),
+            Presence::Out(_) => None,
+        }
+    }
+
+    /// Whether the domain is out, and just this is agreed.
+    pub fn awaits(&self, agreed: &StaticConfig) -> bool
+        ensures { IsTrue result ↔ (self.now ≡ Out agreed.now) }
+    {
+        match self {
+            Presence::Here(_) => false,
+            Presence::Out(awaited) => is_same(awaited, agreed),
+        }
+    }
+
+    /// Takes the domain out, if it is here; what is agreed stays.
+    pub fn take(&mut self) -> Option<Domain<T, U, B, D>>
+        ensures domain { result ≡ here self.old }
+        ensures new { self.new ≡ taken_out self.old }
+    {
+        let agreed = match self {
+            Presence::Here(domain) => domain.agreed,
+            Presence::Out(agreed) => *agreed,
+        };
+        match mem::replace(self, Presence::Out(agreed)) {
+            Presence::Here(domain) => Some(domain),
+            Presence::Out(_) => None,
+        }
+    }
+}
+
+// Whether the same is agreed.
+fn is_same(a: &StaticConfig, b: &StaticConfig) -> bool
+    ensures { result ≡ same_agreement a.now b.now }
+{
+    a == b
+}

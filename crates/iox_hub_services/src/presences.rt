@@ -1,0 +1,102 @@
+//! What is open, by numbers.
+ghost use Rattle.std.specs.Prelude.{◌≡◌, ℕ, option_copied, OnOk, OnErr, [], None};
+ghost use Rattle.std.specs.Borrow.{sem};
+ghost use Rattle.std.specs.Option.{option_copied_mut};
+ghost use Rattle.iox_hub_services.specs.Open.{presence_of, domain_of, with_presence, opened, closed};
+
+use crate::presence::Presence;
+use iox_domain::Domain;
+use std::alloc::{AllocError, Global};
+use std::collections::BTreeMap;
+use std::marker::Model;
+
+/// Open services, by their numbers.
+///
+/// Contracts see each with its number, by rising number.
+#[derive(Drop)]
+pub struct Presences<T, U, B, D> {
+    entries: BTreeMap<u64, Presence<T, U, B, D>>,
+}
+
+impl<T, U, B, D> Model for Presences<T, U, B, D> {
+    ghost use Rattle.std.specs.Prelude.{ℕ, List};
+    ghost use Rattle.iox_hub_services.specs.declared.presence.Presence.{Presence};
+
+    ghost Value = { List (ℕ × Presence T U B D) };
+
+    ghost view = { λ p. p.entries.entries };
+}
+
+impl<T: Copy, U: Copy, B: Drop, D: Drop> Presences<T, U, B, D> {
+    ghost use Rattle.iox_hub_services.specs.Lends.{LendsPresence, LendsDomainOf};
+
+    /// Nothing is open.
+    pub fn new(alloc: Global) -> Self
+        ensures { result ≡ [] }
+    {
+        Presences {
+            entries: BTreeMap::new(alloc),
+        }
+    }
+
+    /// What is open under a number, if anything is.
+    pub fn get(&self, number: u64) -> Option<&Presence<T, U, B, D>>
+        ensures { option_copied result ≡ presence_of number self.now }
+    {
+        self.entries.get(&number)
+    }
+
+    /// What is open under a number, if anything is, to be changed in its place.
+    pub fn get_mut(&mut self, number: u64) -> Option<&mut Presence<T, U, B, D>>
+        ensures* writes_back { sem 𝓛 (LendsPresence T.row U.row B.row D.row self.entry number result) }
+        ensures value { option_copied_mut result ≡ presence_of number self.old }
+    {
+        self.entries.get_mut(&number)
+    }
+
+    /// The domain under a number, if it is here.
+    pub fn domain(&self, number: u64) -> Option<&Domain<T, U, B, D>>
+        ensures { option_copied result ≡ domain_of number self.now }
+    {
+        self.get(number)?.domain()
+    }
+
+    /// The domain under a number, if it is here, to be changed in its place.
+    pub fn domain_mut(&mut self, number: u64) -> Option<&mut Domain<T, U, B, D>>
+        ensures* writes_back { sem 𝓛 (LendsDomainOf T.row U.row B.row D.row self.entry number result) }
+        ensures value { option_copied_mut result ≡ domain_of number self.old }
+    {
+        match self.get_mut(number) {
+            Some(presence) => presence.domain_mut(),
+            None => None,
+        }
+    }
+
+    /// Something else stands under a number, if something is open under it. It takes no memory.
+    pub fn replace(&mut self, number: u64, presence: Presence<T, U, B, D>)
+        ensures { self.new ≡ with_presence number self.old presence }
+    {
+        if let Some(there) = self.get_mut(number) {
+            *there = presence;
+        }
+    }
+
+    /// A service opens under a number, in the place of one that had it. It fails only where memory is wanting, and then nothing has
+    /// changed.
+    pub fn insert(&mut self, number: u64, presence: Presence<T, U, B, D>) -> Result<(), AllocError>
+        ensures ok { OnOk result (self.new ≡ opened number presence self.old) }
+        ensures err { OnErr result (self.new ≡ self.old) }
+    {
+        self.entries.insert(number, presence)?;
+        Ok(())
+    }
+
+    /// Nothing is open under a number any longer. The other numbers have what they had.
+    pub fn remove(&mut self, number: u64)
+        ensures new { self.new ≡ closed number self.old }
+        ensures gone { presence_of number self.new ≡ None }
+        ensures others { (other : ℕ) → (number ≡ other → ⊥) → presence_of other self.new ≡ presence_of other self.old }
+    {
+        let _ = self.entries.remove(&number);
+    }
+}

@@ -1,0 +1,2 @@
+pub mod AttributeLemmas
+pub mod SpellingLemmas

@@ -1,0 +1,4 @@
+pub mod GatherStepLemmas
+pub mod StepLemmas
+pub mod ListLemmas
+pub mod WrittenLemmas

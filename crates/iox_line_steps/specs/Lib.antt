@@ -1,0 +1,3 @@
+-- The definitions that contracts about foreign steps in lines cite.
+pub mod Steps
+pub mod Reading

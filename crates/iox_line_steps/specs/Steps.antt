@@ -1,0 +1,55 @@
+-- How steps of foreign processes are written in a line. A bar is 124, a colon 58, a comma 44 and the letter x 120.
+use Rattle.std.specs.Prelude.{ℕ, ◌≡◌, ◌≤◌, ◌==◌, List, [], ◌∷◌, ◌++◌, codes, decimal, if◌then◌else◌}
+use Rattle.iox_describe_base.specs.declared.pattern.MessagingPattern.{MessagingPattern}
+use Rattle.iox_command.specs.declared.step.ForeignStep.{ForeignStep}
+use Rattle.iox_command.specs.declared.step.ForeignStep.TheVariants as step
+use Rattle.iox_command.specs.declared.step.StepBefore.{StepBefore}
+use Rattle.iox_command.specs.Patterns.{pattern_of}
+use Rattle.iox_command_text.specs.Words.{joined}
+use Rattle.iox_command_text.specs.Numbers.{IsNumber, tag}
+use Rattle.iox_command_text.specs.Options.{AnyOrder}
+use Rattle.iox_line_services.specs.Services.{service_words, ServiceFits}
+
+-- options after a colon, with a comma between each two; nothing where there are none
+abbrev pub option_tail : List (List ℕ) → List ℕ
+option_tail [] = []
+option_tail (w ∷ ws) = 58 ∷ joined 44 (w ∷ ws)
+
+-- the word writes the step: its verb, a colon, an x and the number of its node; to publish also options, in any order
+abbrev pub WritesStep : ForeignStep → List ℕ → Type 0
+WritesStep (step.Lock node) word = word ≡ codes "lock:" ++ tag 120 node
+WritesStep (step.GiveUp node) word = word ≡ codes "giveup:" ++ tag 120 node
+WritesStep (step.Publish node options) word = (chosen : List (List ℕ)) × AnyOrder chosen (service_words options)
+    × (word ≡ codes "publish:" ++ (tag 120 node ++ option_tail chosen))
+WritesStep (step.Register node) word = word ≡ codes "register:" ++ tag 120 node
+WritesStep (step.Leave node) word = word ≡ codes "leave:" ++ tag 120 node
+WritesStep (step.Remove node) word = word ≡ codes "remove:" ++ tag 120 node
+
+-- the numbers have 64 bits, and what is published is of the pattern
+abbrev pub StepFits : MessagingPattern → ForeignStep → Type 0
+StepFits pattern (step.Lock node) = IsNumber node
+StepFits pattern (step.GiveUp node) = IsNumber node
+StepFits pattern (step.Publish node options) = IsNumber node × ServiceFits options × (pattern ≡ pattern_of options)
+StepFits pattern (step.Register node) = IsNumber node
+StepFits pattern (step.Leave node) = IsNumber node
+StepFits pattern (step.Remove node) = IsNumber node
+
+-- the words write these steps, in their order
+abbrev pub WritesSteps : List ForeignStep → List (List ℕ) → Type 0
+WritesSteps [] words = words ≡ []
+WritesSteps (s ∷ ss) words = (w : List ℕ) × (ws : List (List ℕ)) × WritesStep s w × WritesSteps ss ws × (words ≡ w ∷ ws)
+
+-- what begins the list of an access, where the list that stands is that of another: a bar and the number
+abbrev pub beginning : ℕ → ℕ → List (List ℕ)
+beginning now access = if access == now then [] else (124 ∷ decimal access) ∷ []
+
+-- the words write lists of steps: the steps in their order, and each list begins before its first step; the list of access `now` has begun
+abbrev pub WritesLists : ℕ → List StepBefore → List (List ℕ) → Type 0
+WritesLists now [] words = words ≡ []
+WritesLists now (t ∷ ts) words = (w : List ℕ) × (ws : List (List ℕ)) × WritesStep t.step w × WritesLists t.access ts ws
+    × (words ≡ beginning now t.access ++ w ∷ ws)
+
+-- the accesses are counted from 1 and never fall, from `now` on, and their numbers have 64 bits
+abbrev pub ListsFit : MessagingPattern → ℕ → List StepBefore → Type 0
+ListsFit pattern now [] = Unit {0}
+ListsFit pattern now (t ∷ ts) = (1 ≤ t.access) × (now ≤ t.access) × IsNumber t.access × StepFits pattern t.step × ListsFit pattern t.access ts
