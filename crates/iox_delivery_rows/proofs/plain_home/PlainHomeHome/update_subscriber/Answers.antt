@@ -1,8 +1,0 @@
-use Rattle.std.proofs.Common.{sym, ◌∙◌}
-use Rattle.iox_domain_home.specs.Steps.{FollowsBy}
-use Rattle.iox_delivery_rows.specs.Plain.{warns, at_here}
-use Rattle.iox_delivery_rows.proofs.plain_home.PlainHomeHome.update_subscriber.Goals as goal
-
-pub returns : goal.returns
-returns g c =
-    at_here c.args.id (FollowsBy (warns c.args.id c.args.number c.args.self.now) c.args.number) c.args.self.now c.update_subscriber.result c.update_subscriber.new.self (sym c.is.ensures ∙ c.if-not-is.false) c.update_subscriber.ensures
