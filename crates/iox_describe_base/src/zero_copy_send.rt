@@ -180,6 +180,18 @@ impl ZeroCopySend for bool {
     }
 }
 
+impl ZeroCopySend for () {
+    ghost name = { codes "()" };
+
+    ghost size = { 0 };
+
+    ghost alignment = { 1 };
+
+    fn type_detail(variant: TypeVariant) -> TypeDetail {
+        TypeDetail::known(variant, b"()", 0, 1)
+    }
+}
+
 impl ZeroCopySend for Header {
     ghost name = { codes "Header" };
 

@@ -92,7 +92,7 @@ fn a_zero_that_can_serve_stays(rt: HostRuntime) -> Result<(), Fail> {
 }
 
 /// The details of all types that know theirs, in the variant.
-fn details(variant: TypeVariant) -> [TypeDetail; 14] {
+fn details(variant: TypeVariant) -> [TypeDetail; 15] {
     [
         u8::type_detail(variant),
         u16::type_detail(variant),
@@ -107,12 +107,13 @@ fn details(variant: TypeVariant) -> [TypeDetail; 14] {
         i128::type_detail(variant),
         isize::type_detail(variant),
         bool::type_detail(variant),
+        <() as ZeroCopySend>::type_detail(variant),
         Header::type_detail(variant),
     ]
 }
 
 /// The name, the size and the alignment of each.
-const TYPES: [(&str, u64, u64); 14] = [
+const TYPES: [(&str, u64, u64); 15] = [
     ("u8", 1, 1),
     ("u16", 2, 2),
     ("u32", 4, 4),
@@ -126,6 +127,7 @@ const TYPES: [(&str, u64, u64); 14] = [
     ("i128", 16, 16),
     ("isize", 8, 8),
     ("bool", 1, 1),
+    ("()", 0, 1),
     ("Header", 24, 8),
 ];
 

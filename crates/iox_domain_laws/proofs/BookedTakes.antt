@@ -1,5 +1,5 @@
 -- What a receive leaves of what a publisher and one of its connections keep.
-use Rattle.std.proofs.Common.{arith, ◌≡◌, ◌≢◌, ◌<◌, ◌&&◌, ◌==◌, ◌⊎◌, ◌∷◌, [], ◌++◌, append-nil, append_assoc, take-append-drop, ℕ, zero, suc, Bool, true, false, List, get_or, set, length, take, drop, nat_lt, slice_get, Option, None, Some, Result, Ok, Err, refl, sym, ap, ◌∙◌, subst, if◌then◌else◌, inl, inr}
+use Rattle.std.proofs.Common.{arith, ◌≡◌, ◌≢◌, ◌<◌, ◌&&◌, ◌==◌, ◌⊎◌, ◌∷◌, [], ◌++◌, append-nil, append_assoc, take-append-drop, ℕ, zero, suc, Bool, true, false, List, get_or, set, length, take, drop, nat_lt, slice_get, map, Option, None, Some, Result, Ok, Err, refl, sym, ap, ◌∙◌, subst, if◌then◌else◌, inl, inr}
 use Rattle.std.proofs.lemmas.Bool.{cases_eq, eqb-true, eq-eqb}
 use Rattle.std.proofs.lemmas.List.{get_or-set_other}
 use Rattle.iox_domain_values.specs.declared.connection_failure.ConnectionFailure.{ConnectionFailure}
@@ -300,3 +300,67 @@ pub receives_books : {T U : Type 0} (publisher index subscriber : ℕ) (may : De
 receives_books publisher index subscriber may listed changes port new old ports outcome (updated, between, between_ports, updates, after) sent before booked led is_led =
     let walk = (walked_updates (book_walks publisher index subscriber port.number) may listed changes port between old between_ports updated refl updates).walked in
     received_step publisher index subscriber port.number updated between new old between_ports ports outcome walk after sent before booked led is_led
+
+-- what waits somewhere has a first, which is in the slot that is named
+first_of : {T U : Type 0} (waiting : List (Message T U)) → 0 < length waiting → (message : Message T U) × (take 1 waiting ≡ message ∷ []) × (get_or (map (λ one. one.slot) waiting) 0 0 ≡ message.slot)
+first_of [] some = absurd (omega (arith, some))
+first_of (message ∷ rest) some = (message, refl, refl)
+
+-- a connection that has data before and after has the same data
+still_waits : {T U : Type 0} (now before : List (Message T U)) → 0 < length now → (now ≡ before) ⊎ (now ≡ []) → now ≡ before
+still_waits now before some (inl same) = same
+still_waits now before some (inr none) = absurd (omega (arith, some, ap (λ all. length all) none))
+
+-- what a giver gives is the first that waited, and its slot is named
+slot_of_giver : {T U : Type 0} (found : Option Attached) (key : ℕ) (port : SubscriberPort) (old between : List (ℕ × PublisherPort T U)) (given : Taken) → gives port between key ≡ true → attached_at key port ≡ found → Some given ≡ taken_of found between
+    → ListBooks given.publisher given.index port.number old between → IsSole given.publisher old
+    → (message : Message T U) × (take 1 (connection_in given.publisher given.index old).waiting ≡ message ∷ []) × (given.slot ≡ message.slot)
+slot_of_giver None key port old between given is_giving there is walk sole = cc
+slot_of_giver {T} {U} (Some attached) key port old between given is_giving there is walk sole =
+    let publisher : given.publisher ≡ attached.publisher = cc in
+    let index : given.index ≡ attached.index = cc in
+    let slot : given.slot ≡ get_or (map (λ one. one.slot) (connection_in attached.publisher attached.index between).waiting) 0 0 = cc in
+    let waiting : List (Message T U) = (connection_in given.publisher given.index between).waiting in
+    let same : waiting ≡ (connection_in attached.publisher attached.index between).waiting =
+    ap (λ n. (connection_in n given.index between).waiting) publisher ∙ ap (λ n. (connection_in attached.publisher n between).waiting) index in
+    let some : 0 < length waiting = omega (arith, giver_gives port between key attached is_giving there, ap (λ all. length all) same) in
+    let (message, first, is_slot) = first_of waiting some in
+    let before : waiting ≡ (connection_in given.publisher given.index old).waiting = still_waits waiting (connection_in given.publisher given.index old).waiting some (walk.waits sole) in
+    (message, sym (ap (λ all. take 1 all) before) ∙ first, slot ∙ sym (ap (λ all. get_or (map (λ one. one.slot) all) 0 0) same) ∙ is_slot)
+
+slot_given : {T U : Type 0} (giver : Option ℕ) (port : SubscriberPort) (old between : List (ℕ × PublisherPort T U)) (one : Taken) → ((key : ℕ) → giver ≡ Some key → gives port between key ≡ true) → Some one ≡ given giver port between
+    → ListBooks one.publisher one.index port.number old between → IsSole one.publisher old
+    → (message : Message T U) × (take 1 (connection_in one.publisher one.index old).waiting ≡ message ∷ []) × (one.slot ≡ message.slot)
+slot_given None port old between one is_giving is walk sole = cc
+slot_given (Some key) port old between one is_giving is walk sole = slot_of_giver (attached_at key port) key port old between one (is_giving key refl) refl is walk sole
+
+no_message : (unread : Option ℕ) (one : Taken) → Ok (Some one) ≡ nothing_taken unread → ⊥
+no_message None one is = cc
+no_message (Some key) one is = cc
+
+slot_answered : {T U : Type 0} (answered : Option Taken) (test : ℕ → Bool) (giver : Option ℕ) (port : SubscriberPort) (old between : List (ℕ × PublisherPort T U)) (one : Taken) → ((key : ℕ) → giver ≡ Some key → gives port between key ≡ true) → answered ≡ given giver port between
+    → IsReceiveAnswer answered test (Ok (Some one)) → ListBooks one.publisher one.index port.number old between → IsSole one.publisher old
+    → (message : Message T U) × (take 1 (connection_in one.publisher one.index old).waiting ≡ message ∷ []) × (one.slot ≡ message.slot)
+slot_answered None test giver port old between one is_giving is answer walk sole = absurd (no_message answer.0 one answer.2)
+slot_answered (Some other) test giver port old between one is_giving is answer walk sole =
+    let same : Ok (Some one) ≡ Ok (Some other) = answer in
+    let is_one : Some one ≡ Some other = cc in
+    slot_given giver port old between one is_giving (is_one ∙ is) walk sole
+
+slot_after : {T U : Type 0} (updated : Result (Unit {0}) ConnectionFailure) (port new : SubscriberPort) (old between ports : List (ℕ × PublisherPort T U)) (one : Taken) → ReceivesAfter updated port between (Ok (Some one)) new ports
+    → ListBooks one.publisher one.index port.number old between → IsSole one.publisher old
+    → (message : Message T U) × (take 1 (connection_in one.publisher one.index old).waiting ≡ message ∷ []) × (one.slot ≡ message.slot)
+slot_after (Err failure) port new old between ports one receives walk sole = cc (receives.0)
+slot_after (Ok done) port new old between ports one (answered, serves, is_answer) walk sole =
+    let (met, is_met, giver, is_giver, is_given, is, are) = serves in
+    slot_answered answered (has_data new ports) giver port old between one
+    (λ key named. met_gives (gives port between) port.expired.items met (slice_get port.expired.items met) giver key refl is_met is_giver named) is_given is_answer walk sole
+
+-- what a receive takes is one message, and its slot is named
+pub receives_slot : {T U : Type 0} (may : DegradationInfo → DegradationAction → Type 0) (listed : List _) (changes : ℕ) (port new : SubscriberPort) (old ports : List (ℕ × PublisherPort T U)) (one : Taken)
+    → ReceivesNext may listed changes port old (Ok (Some one)) new ports → IsSole one.publisher old
+    → (message : Message T U) × (take 1 (connection_in one.publisher one.index old).waiting ≡ message ∷ []) × (one.slot ≡ message.slot)
+receives_slot may listed changes port new old ports one receives sole =
+    let (updated, between, between_ports, updates, after) = receives in
+    let walk = walked_updates (book_walks one.publisher one.index port.number port.number) may listed changes port between old between_ports updated refl updates in
+    slot_after updated between new old between_ports ports one after (subst (λ n. ListBooks one.publisher one.index n old between_ports) (sym walk.same) walk.walked) sole

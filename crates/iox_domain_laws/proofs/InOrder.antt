@@ -1,5 +1,5 @@
 -- What a connection gives is in the order of sending, through any calls.
-use Rattle.std.proofs.Common.{arith, ◌≡◌, ◌≢◌, ◌+◌, ◌≤◌, ◌&&◌, ◌==◌, ◌∷◌, [], ◌++◌, append-nil, ℕ, Bool, true, false, not, is_some, List, get_or, Option, None, Some, Result, Ok, Err, refl, sym, ap, ◌∙◌, subst, if◌then◌else◌, inl, inr}
+use Rattle.std.proofs.Common.{arith, ◌≡◌, ◌≢◌, ◌+◌, ◌≤◌, ◌&&◌, ◌==◌, ◌∷◌, [], ◌++◌, append-nil, ℕ, Bool, true, false, not, is_some, List, get_or, Option, None, Some, Result, Ok, Err, refl, sym, ap, ◌∙◌, subst, if◌then◌else◌, inl, inr, take}
 use Rattle.std.proofs.lemmas.Bool.{cases_eq, eqb-true, eq-eqb}
 use Rattle.std.specs.declared.alloc.AllocError.{AllocError}
 use Rattle.iox_domain_values.specs.declared.backpressure.BackpressureDecision.{BackpressureDecision}
@@ -24,6 +24,7 @@ use Rattle.iox_domain_subscriber.specs.Arriving.{new_subscriber}
 use Rattle.iox_domain_subscriber.specs.Publishers as publishers
 use Rattle.iox_domain_subscriber.specs.Publishers.{port_of, with_port, changed, connection_in, connection_at_port}
 use Rattle.iox_domain_subscriber.specs.Reading.{place_of}
+use Rattle.iox_domain_subscriber.specs.Updating.{ReceivesNext}
 use Rattle.iox_domain_subscriber.specs.declared.attached.Taken.{Taken}
 use Rattle.iox_domain_subscriber.specs.declared.publisher_entry.PublisherEntry.{PublisherEntry}
 use Rattle.iox_domain_subscriber.specs.declared.subscriber_port.SubscriberPort.{SubscriberPort}
@@ -46,7 +47,7 @@ use Rattle.iox_domain_laws.proofs.Apart.{new_apart, new_well, stays_apart}
 use Rattle.iox_domain_laws.proofs.Booked.{departed_books}
 use Rattle.iox_domain_laws.proofs.BookedLists.{Booked, ListBooks, lists_stay, lists_on, lists_found, lists_changed, lists_settled, lists_released, book_walks, settled_found}
 use Rattle.iox_domain_laws.proofs.BookedSends.{PortSends, sends_none, sent_so, port_loans, port_changed, port_given_up, port_updates, port_retries, port_gives_up, port_sends}
-use Rattle.iox_domain_laws.proofs.BookedTakes.{taken_so, receives_books, receives_sole}
+use Rattle.iox_domain_laws.proofs.BookedTakes.{taken_so, receives_books, receives_sole, receives_slot}
 use Rattle.iox_domain_laws.proofs.Books.{Books, Missing}
 use Rattle.iox_domain_laws.proofs.Followed.{updates_books}
 use Rattle.iox_domain_laws.proofs.Held.{held_stays}
@@ -463,6 +464,24 @@ order_of publisher index subscriber account ports None there led holds = cc
 order_of {T} {U} publisher index subscriber account ports (Some port) there led holds =
     subst (λ (all : List (Message T U)). IsPartOf (account.taken ++ all) account.sent) (sym (ap (λ found. (connection_at_port index found).waiting) there)) ((holds.books port there).part led)
 
+-- what a receive takes is one message, whose slot is named
+slot_if : {T U : Type 0} (stands : Bool) (may : DegradationInfo → DegradationAction → Type 0) (list : RollState PublisherEntry) (port after : SubscriberPort) (old ports_after : List (ℕ × PublisherPort T U)) (one : Taken)
+    → subscribing.ReceivesIf stands may list port old (Some (Ok (Some one))) after ports_after → IsSole one.publisher old
+    → (message : Message T U) × (take 1 (connection_in one.publisher one.index old).waiting ≡ message ∷ []) × (one.slot ≡ message.slot)
+slot_if false may list port after old ports_after one receives sole = cc (receives.0)
+slot_if {T} {U} true may list port after old ports_after one (listed, is_list, outcome, received, receive, is_after, is_answer) sole =
+    let same : outcome ≡ Ok (Some one) = cc in
+    receives_slot may listed list.changes port received old ports_after one (subst (λ value. ReceivesNext may listed list.changes port old value received ports_after) same receive) sole
+
+slot_at : {T U : Type 0} (may : DegradationInfo → DegradationAction → Type 0) (number : ℕ) (found : Option SubscriberPort) (old new : ServicePorts T U) (one : Taken)
+    → AtSubscriber number (subscribing.ReceivesOne may old.publisher_list) found old (Some (Ok (Some one))) new → IsSole one.publisher old.publishers
+    → (message : Message T U) × (take 1 (connection_in one.publisher one.index old.publishers).waiting ≡ message ∷ []) × (one.slot ≡ message.slot)
+slot_at may number None old new one happens sole = cc (happens.0)
+slot_at may number (Some port) old new one (after, ports_after, receives, is) sole = slot_if port.stands may old.publisher_list port after old.publishers ports_after one receives sole
+
+named_so : {X : Type 0} (same_publisher same_index : Bool) (waiting : List X) → same_publisher ≡ true → same_index ≡ true → (if same_publisher && same_index then take 1 waiting else []) ≡ take 1 waiting
+named_so same_publisher same_index waiting publisher index = rw publisher (rw index refl)
+
 pub in_order : {T U : Type 0} (overrides : ℕ → ℕ → Type 0) (may : DegradationInfo → DegradationAction → Type 0) (decide : BackpressureInfo → BackpressureDecision → Type 0) → InOrder T U overrides may decide
 in_order {T} {U} overrides may decide = record {
   order = λ service sizes calls new publisher index subscriber happen led.
@@ -475,4 +494,18 @@ in_order {T} {U} overrides may decide = record {
         fresh = λ from. refl;
         books = λ port there. let no : None ≡ Some port = there in absurd (cc);
       }));
+  names = λ service sizes calls old new subscriber one happen happens.
+      let first : ServicePorts T U = no_ports service sizes in
+      let holds : Holds one.publisher one.index subscriber (account_after one.publisher one.index subscriber calls first nothing_yet) old = holds_after one.publisher one.index subscriber overrides may decide calls first old nothing_yet happen (begins_so service sizes one.publisher one.index subscriber) in
+      let (message, taken, slot) = slot_at may subscriber (subscriber_of subscriber old.subscribers) old new one happens holds.sole in
+      (message, named_so (one.publisher == one.publisher) (one.index == one.index) (connection_in one.publisher one.index old.publishers).waiting (eq-eqb one.publisher one.publisher refl) (eq-eqb one.index one.index refl) ∙ taken, slot);
 }
+  where
+    begins_so : (service : ℕ) (sizes : _) (publisher index subscriber : ℕ) → Holds {T = T} {U = U} publisher index subscriber nothing_yet (no_ports service sizes)
+    begins_so service sizes publisher index subscriber = record {
+      sound = (held_stays {T = T} {U = U} overrides may decide).begins service sizes (no_ports service sizes) refl;
+      apart = new_apart service sizes (no_ports service sizes) refl;
+      sole = tt;
+      fresh = λ from. refl;
+      books = λ port there. let no : None ≡ Some port = there in absurd (cc);
+    }

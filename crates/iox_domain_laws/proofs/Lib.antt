@@ -28,4 +28,10 @@ pub mod BookedLists
 pub mod BookedSends
 pub mod BookedTakes
 pub mod InOrder
+pub mod Tried
+pub mod Keys
+pub mod Fitting
+pub mod Attaching
+pub mod Waiting
+pub mod Keyed
 pub mod Serviced

@@ -38,7 +38,7 @@ pub record Same {T U : Type 0} (old new : PublisherPort T U) : Type 0 where
   pub overflows : new.sender.uses.overflows ≡ old.sender.uses.overflows
   pub rest : Rest old new
 
-same_on : {T U : Type 0} (old between new : PublisherPort T U) → Same old between → Same between new → Same old new
+pub same_on : {T U : Type 0} (old between new : PublisherPort T U) → Same old between → Same between new → Same old new
 same_on old between new one two = record {
   ties = two.ties ∙ one.ties;
   sending = two.sending ∙ one.sending;
@@ -66,7 +66,7 @@ put_same : {T U : Type 0} (live : Bool) (index : ℕ) (port : PublisherPort T U)
 put_same true index port = message_same index port.sender.uses.sending port
 put_same false index port = (record { ties = refl; sending = refl; overflows = refl; rest = record { readers = refl; stands = refl; history = refl } }, refl)
 
-met_same : {T U : Type 0} (tie : Option ℕ) (port : PublisherPort T U) → Same port (met_by tie port) × ((met_by tie port).progress ≡ port.progress)
+pub met_same : {T U : Type 0} (tie : Option ℕ) (port : PublisherPort T U) → Same port (met_by tie port) × ((met_by tie port).progress ≡ port.progress)
 met_same None port = (record { ties = refl; sending = refl; overflows = refl; rest = record { readers = refl; stands = refl; history = refl } }, refl)
 met_same (Some index) port = put_same (is_live index port) index port
 
@@ -96,7 +96,7 @@ put_got : {T U : Type 0} (live : Bool) (at index : ℕ) (port : PublisherPort T 
 put_got true at index port is = message_got at index port.sender.uses.sending port refl is
 put_got false at index port is = inl refl
 
-met_got : {T U : Type 0} (tie : Option ℕ) (index : ℕ) (port : PublisherPort T U) → GotThere tie index port (met_by tie port)
+pub met_got : {T U : Type 0} (tie : Option ℕ) (index : ℕ) (port : PublisherPort T U) → GotThere tie index port (met_by tie port)
 met_got None index port = inl refl
 met_got (Some at) index port = put_got (is_live at port) at index port refl
 
@@ -105,7 +105,7 @@ neither : (a b : Bool) → (a || b) ≡ false → (a ≡ false) × (b ≡ false)
 neither true b is = absurd (cc)
 neither false b is = (refl, is)
 
-offered_full : {T U : Type 0} (overflows : Bool) (message : Message T U) (connection : Connection (Message T U)) → accepts overflows connection ≡ false → offered overflows message connection ≡ connection
+pub offered_full : {T U : Type 0} (overflows : Bool) (message : Message T U) (connection : Connection (Message T U)) → accepts overflows connection ≡ false → offered overflows message connection ≡ connection
 offered_full {T} {U} overflows message connection full =
     let both = neither overflows (nat_lt (length connection.waiting) connection.limit) full in
     let kept : (offered overflows message connection).waiting ≡ connection.waiting = rw (both.0) (rw (both.1) refl) in
@@ -153,11 +153,11 @@ quiet index place false port is waits =
     ap (λ tie. connection_of index (met_by tie port)) (get_or_past port.ties.items place None past)
 
 -- What one place comes to.
-record StepGot {T U : Type 0} (went : Bool) (old new : PublisherPort T U) : Type 0 where
-  same : Same old new
-  goes : went ≡ true → new.progress.place ≡ old.progress.place + 1
-  waits : went ≡ false → (new.progress.place ≡ old.progress.place) × ((index : ℕ) → connection_of index new ≡ connection_of index old)
-  got : (index : ℕ) → GotThere (get_or old.ties.items old.progress.place None) index old new
+pub record StepGot {T U : Type 0} (went : Bool) (old new : PublisherPort T U) : Type 0 where
+  pub same : Same old new
+  pub goes : went ≡ true → new.progress.place ≡ old.progress.place + 1
+  pub waits : went ≡ false → (new.progress.place ≡ old.progress.place) × ((index : ℕ) → connection_of index new ≡ connection_of index old)
+  pub got : (index : ℕ) → GotThere (get_or old.ties.items old.progress.place None) index old new
 
 -- the message was put, and the place passed
 passes : {T U : Type 0} (went : Bool) (old new : PublisherPort T U) → went ≡ true → new.sender ≡ (met old.progress.place old).sender → Same (met old.progress.place old) new
@@ -198,7 +198,7 @@ decided_got went decided.Retry subscriber old new full goes is = waits_there wen
 decided_got went decided.DiscardData subscriber old new full goes is = passes went old new goes (ap (λ port. port.sender) is) (same_progress _ new _ is) (ap (λ port. port.progress.place) is)
 decided_got went decided.DiscardDataAndFail subscriber old new full goes is = passes went old new goes (ap (λ port. port.sender) is) (same_progress _ new _ is) (ap (λ port. port.progress.place) is)
 
-step_got : {T U : Type 0} (may : BackpressureInfo → BackpressureDecision → Type 0) (came : Meeting) (went : Bool) (old new : PublisherPort T U) → meeting_at old.progress.place old ≡ came → Steps may came (met old.progress.place old) went new → StepGot went old new
+pub step_got : {T U : Type 0} (may : BackpressureInfo → BackpressureDecision → Type 0) (came : Meeting) (went : Bool) (old new : PublisherPort T U) → meeting_at old.progress.place old ≡ came → Steps may came (met old.progress.place old) went new → StepGot went old new
 step_got may meeting.Over went old new is steps = waits_there went old new steps.0 steps.1 (inl is)
 step_got may meeting.Passed went old new is steps = passes went old new steps.0 (ap (λ port. port.sender) steps.1) (same_progress _ new _ steps.1) (ap (λ port. port.progress.place) steps.1)
 step_got may meeting.Delivered went old new is steps = passes went old new steps.0 (ap (λ port. port.sender) steps.1) (same_progress _ new _ steps.1) (ap (λ port. port.progress.place) steps.1)
@@ -250,7 +250,7 @@ goes_got {T} {U} false arrived old next new further apart step gone goes =
     }
 goes_got true arrived old next new further apart step gone goes = joined old next new apart step (gone goes)
 
-apart_next : {T U : Type 0} (old next : PublisherPort T U) → next.ties ≡ old.ties → AreTiesApart old → AreTiesApart next
+pub apart_next : {T U : Type 0} (old next : PublisherPort T U) → next.ties ≡ old.ties → AreTiesApart old → AreTiesApart next
 apart_next old next same apart one other index is_one is_other =
     apart one other index (ap (λ ties. get_or ties.items one None) (sym same) ∙ is_one) (ap (λ ties. get_or ties.items other None) (sym same) ∙ is_other)
 
@@ -266,7 +266,7 @@ delivers_got {T} {U} may (suc places) old new arrived apart delivers =
     goes_got went arrived old next new (Delivers may places next arrived new) apart step
     (λ further. delivers_got may places next new arrived (apart_next old next step.same.ties apart) further) goes
 
-concluded_same : {T U : Type 0} (arrived : Bool) (index : ℕ) (port : PublisherPort T U) → (connection_of index (concluded arrived port) ≡ connection_of index port) × ((concluded arrived port).progress ≡ port.progress)
+pub concluded_same : {T U : Type 0} (arrived : Bool) (index : ℕ) (port : PublisherPort T U) → (connection_of index (concluded arrived port) ≡ connection_of index port) × ((concluded arrived port).progress ≡ port.progress)
 concluded_same true index port = (refl, refl)
 concluded_same false index port = (refl, refl)
 

@@ -96,7 +96,7 @@ walked_if w true full key port new ports new_ports is_free parts = walked_ended 
 walked_if w false false key port new ports new_ports is_free parts = record { same = ap (λ one. one.number) parts.1; walked = walk_stays w ports new_ports parts.2 }
 walked_if w false true key port new ports new_ports is_free parts = walked_over w (slice_get port.expired.items parts.0) parts.0 key port new ports new_ports is_free parts.2
 
-walked_parts : {T U : Type 0} {subscriber : ℕ} {R : List (ℕ × PublisherPort T U) → List (ℕ × PublisherPort T U) → Type 0} (w : Walks subscriber R) (key : ℕ) (port new : SubscriberPort) (ports new_ports : List (ℕ × PublisherPort T U)) (is_free : Bool)
+pub walked_parts : {T U : Type 0} {subscriber : ℕ} {R : List (ℕ × PublisherPort T U) → List (ℕ × PublisherPort T U) → Type 0} (w : Walks subscriber R) (key : ℕ) (port new : SubscriberPort) (ports new_ports : List (ℕ × PublisherPort T U)) (is_free : Bool)
     → Parts key port ports is_free new new_ports → Walked R port new ports new_ports
 walked_parts w key port new ports new_ports is_free parts =
     walked_if w (is_idle port ports key) (nat_le port.expired.room (length port.expired.items)) key port new ports new_ports is_free parts
@@ -140,7 +140,7 @@ walked_at : {T U : Type 0} {subscriber : ℕ} {R : List (ℕ × PublisherPort T 
 walked_at w None place number port new ports new_ports answer named follows = walked_connects w place number port new ports new_ports answer named follows
 walked_at w (Some key) place number port new ports new_ports answer named follows = walked_key w (is_of number (attached_at key port)) key place number port new ports new_ports answer named follows
 
-walked_one : {T U : Type 0} {subscriber : ℕ} {R : List (ℕ × PublisherPort T U) → List (ℕ × PublisherPort T U) → Type 0} (w : Walks subscriber R) (place : ℕ) (listed : Option (Member PublisherEntry)) (port new : SubscriberPort) (ports new_ports : List (ℕ × PublisherPort T U)) (outcome : Result (Unit {0}) ZeroCopyCreationError)
+pub walked_one : {T U : Type 0} {subscriber : ℕ} {R : List (ℕ × PublisherPort T U) → List (ℕ × PublisherPort T U) → Type 0} (w : Walks subscriber R) (place : ℕ) (listed : Option (Member PublisherEntry)) (port new : SubscriberPort) (ports new_ports : List (ℕ × PublisherPort T U)) (outcome : Result (Unit {0}) ZeroCopyCreationError)
     → port.number ≡ subscriber → FollowsOne place listed port ports outcome new new_ports → Walked R port new ports new_ports
 walked_one w place None port new ports new_ports outcome named follows = walked_same w port new ports new_ports follows.1 follows.2
 walked_one w place (Some member) port new ports new_ports outcome named follows =

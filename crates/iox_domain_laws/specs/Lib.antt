@@ -5,3 +5,5 @@ pub mod LivingSteps
 pub mod NumberLaws
 pub mod Order
 pub mod ServiceLaws
+pub mod Tries
+pub mod Attaching

@@ -95,9 +95,12 @@ abbrev pub nothing_yet : {T U : Type 0} → Account T U
 nothing_yet = record { sent = []; taken = [] }
 
 -- Of any calls from a new service on: what was taken from a connection since it was made, and then what waits there, is part of what its publisher
--- sent, in the order of sending and each at most once.
+-- sent, in the order of sending and each at most once. And what a receive takes is one message, whose slot its answer names.
 pub record InOrder (T U : Type 0) (overrides : ℕ → ℕ → Type 0) (may : DegradationInfo → DegradationAction → Type 0) (decide : BackpressureInfo → BackpressureDecision → Type 0) : Type 0 where
   pub order : (service : ℕ) (sizes : ServiceSizes) (calls : List (PortCall T U × ServicePorts T U)) (new : ServicePorts T U) (publisher index subscriber : ℕ)
       → Happen overrides may decide calls (no_ports service sizes) new → leads_in publisher index subscriber new ≡ true
       → IsPartOf ((account_after publisher index subscriber calls (no_ports service sizes) nothing_yet).taken ++ (connection_in publisher index new.publishers).waiting)
       (account_after publisher index subscriber calls (no_ports service sizes) nothing_yet).sent
+  pub names : (service : ℕ) (sizes : ServiceSizes) (calls : List (PortCall T U × ServicePorts T U)) (old new : ServicePorts T U) (subscriber : ℕ) (taken : Taken)
+      → Happen overrides may decide calls (no_ports service sizes) old → Happens overrides may decide (Receives subscriber (Some (Ok (Some taken)))) old new
+      → (message : Message T U) × (taken_by taken.publisher taken.index (Receives subscriber (Some (Ok (Some taken)))) old ≡ message ∷ []) × (taken.slot ≡ message.slot)

@@ -4,8 +4,10 @@
 //! |---|---|
 //! | `prelude` | what a first program needs |
 //! | `node` | nodes, and the hub that keeps them with all services in one value |
-//! | `service` | names, attributes, descriptions, builders, open services, and storages for them |
-//! | `port` | one publisher with its messages, and what ports take and answer |
+//! | `service` | names, attributes, descriptions, builders, open services, storages for them, domains, and builders of ports |
+//! | `port` | publishers and subscribers, one publisher with its messages, and what ports take and answer |
+//! | `sample_mut_uninit`, `sample_mut`, `sample` | a loan that is to be written, one that is written, and a message that was received |
+//! | `slice` | publishers, subscribers, loans and messages of slices |
 //! | `container` | vectors, strings, queues, options, maps, semantic strings, byte cells |
 //! | `lock_free` | sets of indices, containers of members, queues and bit sets |
 //!
@@ -17,4 +19,8 @@ pub mod lock_free;
 pub mod node;
 pub mod port;
 pub mod prelude;
+pub mod sample;
+pub mod sample_mut;
+pub mod sample_mut_uninit;
 pub mod service;
+pub mod slice;

@@ -1,4 +1,9 @@
-//! Ports of publish-subscribe, as far as they are there: one publisher with its messages and connections, and what ports take and answer.
+//! Ports of publish-subscribe: publishers and subscribers as values, one publisher with its messages and connections, and what ports take and
+//! answer.
+pub mod publisher;
+pub mod subscriber;
+
+pub use iox_delivery::PortId;
 pub use iox_domain_publisher::{PublisherPort, Sent, SubscriberEntry};
 pub use iox_domain_sender::{Sender, SenderConfig};
 pub use iox_domain_values::{

@@ -1,9 +1,13 @@
-//! Services: how they are named and described, how nodes agree on one, and where that is stored.
+//! Services: how they are named and described, how nodes agree on one, where that is stored, and the domain that keeps the ports of one.
+pub mod port_factory;
+
 pub use iox_describe::{
     Attribute, AttributeError, AttributeKey, AttributeSpecifier, AttributeValue, AttributeVerifier,
     Description, DescriptionError, Header, LimitError, MessageTypeDetails, MessagingPattern,
     ServiceHash, ServiceName, TypeDetail, TypeVariant, ZeroCopySend, decode, encode, service_hash,
 };
+pub use iox_domain::{Domain, DomainId, DomainParts};
+pub use iox_domain_home::{Home, MakesPorts};
 pub use iox_negotiate::{Builder, Payload, PortFactory, ServiceBuilder, Slice};
 pub use iox_negotiate_errors::{
     CloseError, EventCreateError, EventOpenError, EventOpenOrCreateError,

@@ -1,0 +1,2 @@
+//! A subscriber of single values.
+pub use iox_delivery::Subscriber;

@@ -1,0 +1,2 @@
+//! A message that was received.
+pub use iox_delivery::Sample;

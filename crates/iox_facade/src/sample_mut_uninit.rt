@@ -1,0 +1,2 @@
+//! A loan that is to be written.
+pub use iox_delivery::SampleMutUninit;

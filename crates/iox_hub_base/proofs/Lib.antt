@@ -1,0 +1,4 @@
+pub mod Negotiated
+pub mod OpenedWell
+pub mod SameTable
+pub mod Settled

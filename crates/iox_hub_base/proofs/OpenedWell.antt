@@ -1,0 +1,13 @@
+-- A factory enters its service.
+use Rattle.std.proofs.Common.{ℕ, ◌≡◌, false, Result, Ok, Err, is_err}
+use Rattle.iox_describe_base.specs.Detail.{Detail}
+use Rattle.iox_describe_settings.specs.declared.static_config.Settings.{Settings}
+use Rattle.iox_domain_values.specs.declared.create_error.DomainError.{DomainError}
+use Rattle.iox_hub_services.specs.Open.{OpenServices}
+use Rattle.iox_hub_services.specs.Opening.{Opens}
+
+-- a service that opens without an error opens well
+pub opens_well : {T U B D : Type 0} (payload user_header : Detail) (buffer number : ℕ) (settings : Settings) (old : OpenServices T U B D) (result : Result (Unit {0}) DomainError) (new : OpenServices T U B D)
+    → is_err result ≡ false → Opens payload user_header buffer number settings old result new → Opens payload user_header buffer number settings old (Ok tt) new
+opens_well payload user_header buffer number settings old (Ok done) new is opens = opens
+opens_well payload user_header buffer number settings old (Err error) new is opens = cc

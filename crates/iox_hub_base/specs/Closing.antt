@@ -1,0 +1,57 @@
+-- A factory of a hub is closed.
+use Rattle.std.specs.Prelude.{ℕ, ◌≡◌, ◌-◌, Bool, true, false, List, Option, None, Some, Result, Ok, Err, nat_lt, nat_le, if◌then◌else◌}
+use Rattle.iox_domain.specs.Kept.{kept, forgotten}
+use Rattle.iox_domain_ports.specs.Living.{living}
+use Rattle.iox_hub_services.specs.Open.{presence_of}
+use Rattle.iox_hub_services.specs.Opening.{without_service}
+use Rattle.iox_hub_services.specs.declared.presence.Presence.{Presence}
+use Rattle.iox_hub_services.specs.declared.presence.Presence.TheVariants.{Here, Out}
+use Rattle.iox_negotiate.specs.Factory.{Closes as ClosesIn}
+use Rattle.iox_negotiate.specs.declared.factory.Membership.{Membership}
+use Rattle.iox_negotiate_errors.specs.declared.close.CloseError.{CloseError}
+use Rattle.iox_negotiate_errors.specs.declared.close.CloseError.TheVariants.{StillInUse}
+use Rattle.iox_negotiate_rounds.specs.Runs.{Does}
+use Rattle.iox_negotiate_table.specs.Sights.{Sight}
+use Rattle.iox_hub_base.specs.Hubs.{factories_of}
+use Rattle.iox_hub_base.specs.declared.hub.Hub.{Hub}
+
+-- a service has one factory at most
+abbrev pub is_last : ℕ → List (ℕ × ℕ) → Bool
+is_last number counts = nat_le (factories_of number counts) 1
+
+-- whose ports, loans and samples keep a factory from being closed: its own, and with the last factory of the service those of all
+abbrev pub who_counts : Bool → ℕ → Option ℕ
+who_counts true owner = None
+who_counts false owner = Some owner
+
+-- a domain that is out keeps a factory from being closed, and one that is here while something lives in it
+abbrev pub lives_in : {T U B D : Type 0} → Option ℕ → Option (Presence T U B D) → Bool
+lives_in owner None = false
+lives_in owner (Some (Here domain)) = nat_lt 0 (living owner domain.ports)
+lives_in owner (Some (Out agreed)) = true
+
+-- something keeps a factory from being closed
+abbrev pub in_use : {T U B D : Type 0} → ℕ → ℕ → Hub T U B D → Bool
+in_use number owner hub = lives_in (who_counts (is_last number hub.factory_counts) owner) (presence_of number hub.services.domains)
+
+-- one factory of a service less; with the last its domain ends
+abbrev pub less_one : {T U B D : Type 0} → ℕ → Hub T U B D → Hub T U B D
+less_one number hub =
+    if is_last number hub.factory_counts then record hub { factory_counts = forgotten number hub.factory_counts; services = without_service number hub.services }
+    else record hub { factory_counts = kept number (factories_of number hub.factory_counts - 1) hub.factory_counts }
+
+-- what is answered of a factory that is spent
+abbrev pub spent : {F : Type 0} → Result (Unit {0}) CloseError → Result (Unit {0}) (CloseError × Option F)
+spent (Ok done) = Ok tt
+spent (Err error) = Err (error, None)
+
+-- A factory is closed in the table, and its service has one less; while it is in use it is handed back, and nothing has changed.
+abbrev pub ClosesIf : {T U B D F : Type 0} → Bool → Membership → F → Hub T U B D → Result (Unit {0}) (CloseError × Option F) → Hub T U B D → Type 0
+ClosesIf true member factory old result new = (result ≡ Err (StillInUse, Some factory)) × (new ≡ old)
+ClosesIf false member factory old result new = (closed : Result (Unit {0}) CloseError)
+    × Does Sight old.table (λ accesses. ClosesIn member.service.description.service_hash member.service.number member.node accesses closed) new.table
+    × (result ≡ spent closed) × (new ≡ less_one member.service.number (record old { table = new.table }))
+
+-- a factory of a hub is closed
+abbrev pub Closes : {T U B D F : Type 0} → Membership → ℕ → F → Hub T U B D → Result (Unit {0}) (CloseError × Option F) → Hub T U B D → Type 0
+Closes member owner factory old result new = ClosesIf (in_use member.service.number owner old) member factory old result new

@@ -1,0 +1,28 @@
+-- A hub: its nodes, the table of its services, and the domains of those that are open in it.
+use Rattle.std.specs.Prelude.{ℕ, ◌≡◌, ◌+◌, ◌-◌, ◌^◌, List, [], min}
+use Rattle.std.specs.Option.{unwrap_or}
+use Rattle.iox_domain.specs.Kept.{kept_under, kept}
+use Rattle.iox_negotiate_table.specs.Contents.{empty_table}
+use Rattle.iox_hub_base.specs.declared.hub.Hub.{Hub}
+use Rattle.iox_hub_base.specs.declared.hub.HubConfig.{HubConfig}
+
+-- A hub without nodes and services.
+pub record IsNewHub {T U B D : Type 0} (config : HubConfig) (hub : Hub T U B D) : Type 0 where
+  pub expired_connection_buffer : hub.expired_connection_buffer ≡ config.expired_connection_buffer
+  pub nodes : hub.nodes ≡ 0
+  pub factories : hub.factories ≡ 0
+  pub table : hub.table ≡ empty_table config.id
+  pub factory_counts : hub.factory_counts ≡ []
+  pub services : hub.services ≡ record { hub = config.id; domains = [] }
+
+-- one more, and 2^64 - 1 past that
+abbrev pub one_more : ℕ → ℕ
+one_more count = min (count + 1) (2 ^ 64 - 1)
+
+-- how many factories of a service are open
+abbrev pub factories_of : ℕ → List (ℕ × ℕ) → ℕ
+factories_of number counts = unwrap_or (kept_under number counts) 0
+
+-- one factory of a service more
+abbrev pub with_factory : ℕ → List (ℕ × ℕ) → List (ℕ × ℕ)
+with_factory number counts = kept number (one_more (factories_of number counts)) counts

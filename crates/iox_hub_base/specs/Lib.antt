@@ -1,0 +1,7 @@
+-- The definitions that contracts about a hub's calls cite.
+pub mod Hubs
+pub mod Opening
+pub mod Closing
+pub mod Foreign
+pub mod AsHome
+pub mod Builders

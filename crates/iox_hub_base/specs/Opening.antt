@@ -1,0 +1,57 @@
+-- A service is created or opened in a hub.
+use Rattle.std.specs.Prelude.{ℕ, ◌≡◌, Bool, true, false, List, Result, Ok, Err}
+use Rattle.std.specs.Result.{result_map_both}
+use Rattle.iox_describe_base.specs.Detail.{Detail}
+use Rattle.iox_hub_services.specs.Opening.{Opens}
+use Rattle.iox_negotiate.specs.Factory.{Closes}
+use Rattle.iox_negotiate.specs.declared.factory.Membership.{Membership}
+use Rattle.iox_negotiate_errors.specs.declared.close.CloseError.{CloseError}
+use Rattle.iox_negotiate_rounds.specs.Runs.{Does}
+use Rattle.iox_negotiate_rounds.specs.declared.failure.CreateFailure.TheVariants as uncreated
+use Rattle.iox_negotiate_rounds.specs.declared.failure.OpenFailure.TheVariants as unopened
+use Rattle.iox_negotiate_rounds.specs.declared.failure.OpenOrCreateFailure.{OpenOrCreateFailure}
+use Rattle.iox_negotiate_rounds.specs.declared.failure.OpenOrCreateFailure.TheVariants as either
+use Rattle.iox_negotiate_table.specs.Sights.{Sight}
+use Rattle.iox_negotiate_table.specs.Stepped.{Steps}
+use Rattle.iox_negotiate_table.specs.declared.step.ForeignStep.{ForeignStep}
+use Rattle.iox_hub_base.specs.Hubs.{one_more, with_factory}
+use Rattle.iox_hub_base.specs.declared.hub.Hub.{Hub}
+
+-- a factory of a hub: which node is in which service, and the factory's own number
+abbrev pub Made : Type 0
+Made = Membership × ℕ
+
+-- the accesses close a factory again, whatever that answers
+abbrev pub IsClosedAgain : {T U B D : Type 0} → Membership → Hub T U B D → Hub T U B D → Type 0
+IsClosedAgain member old new =
+    ((closed : Result (Unit {0}) CloseError)
+    × Does Sight old.table (λ accesses. Closes member.service.description.service_hash member.service.number member.node accesses closed) new.table)
+    × (new ≡ record old { table = new.table })
+
+-- A node is in a service. The service has one factory more, the next one of the hub, and its domain is made, where it fits and none is
+-- there. Or no memory is found for that, and the factory is closed again.
+abbrev pub Enters : {T U B D : Type 0} → Detail → Detail → Membership → Hub T U B D → Result Made Bool → Hub T U B D → Type 0
+Enters payload user_header member old (Ok made) new =
+    (made ≡ (member, one_more old.factories))
+    × Opens payload user_header old.expired_connection_buffer member.service.number member.service.description.settings old.services (Ok tt) new.services
+    × (new ≡ record old { factories = one_more old.factories; factory_counts = with_factory member.service.number old.factory_counts; services = new.services })
+Enters payload user_header member old (Err was_new) new = (was_new ≡ member.service.is_new) × IsClosedAgain member old new
+
+-- What the negotiation came to is what the hub answers, if a factory is made; the error of wanted memory depends on whether the service had been created.
+abbrev pub Settles : {T U B D E : Type 0} → Detail → Detail → (Bool → E) → Result Membership E → Hub T U B D → Result Made E → Hub T U B D → Type 0
+Settles payload user_header lacking (Err error) old result new = (result ≡ Err error) × (new ≡ old)
+Settles payload user_header lacking (Ok member) old result new =
+    (entered : Result Made Bool) × Enters payload user_header member old entered new × (result ≡ result_map_both (λ made. made) lacking entered)
+
+-- The service is negotiated over the hub's table, with these lists of foreign steps before the accesses.
+pub record OpensInHub {T U B D E : Type 0} (payload user_header : Detail) (lacking : Bool → E) (negotiates : Steps → Result Membership E → Steps → Type 0) (lists : List (List ForeignStep))
+    (old : Hub T U B D) (result : Result Made E) (new : Hub T U B D) : Type 0 where
+  pub answer : Result Membership E
+  pub mid : Steps
+  pub negotiated : negotiates (record { table = old.table; lists = lists }) answer mid
+  pub settled : Settles payload user_header lacking answer (record old { table = mid.table }) result new
+
+-- the failure of a call that opens or creates, where no memory was found for the service after its last access: it was created, or opened
+abbrev pub lacking_either : {V : Type 0} → Bool → OpenOrCreateFailure V
+lacking_either true = either.Create uncreated.OutOfMemory
+lacking_either false = either.Open unopened.OutOfMemory

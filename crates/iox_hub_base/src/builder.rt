@@ -1,0 +1,263 @@
+//! Services are created and opened in a hub.
+ghost use Rattle.std.specs.Prelude.{◌≡◌, ℕ, List, nat_eq};
+ghost use Rattle.std.specs.Result.{result_map_both};
+ghost use Rattle.iox_describe_base.specs.Detail.{detail};
+ghost use Rattle.iox_describe_base.specs.Hash.{service_hash_of};
+ghost use Rattle.iox_describe_base.specs.declared.type_detail.TypeVariant.TheVariants.{FixedSize};
+ghost use Rattle.iox_describe_settings.specs.Agreement.{agreement};
+ghost use Rattle.iox_negotiate.specs.Negotiation.{Negotiates, Creates, Either};
+ghost use Rattle.iox_negotiate_rounds.specs.Opening.{Opens};
+ghost use Rattle.iox_negotiate_rounds.specs.declared.failure.CreateFailure.TheVariants as uncreated;
+ghost use Rattle.iox_negotiate_rounds.specs.declared.failure.OpenFailure.TheVariants as unopened;
+ghost use Rattle.iox_negotiate_table.specs.Stepped.{SteppedSight};
+ghost use Rattle.iox_hub_base.specs.Opening.{OpensInHub, lacking_either};
+
+use crate::entering::NoRoom;
+use crate::factory::PortFactory;
+use crate::hub::Hub;
+use iox_describe::{AttributeSpecifier, AttributeVerifier, ZeroCopySend};
+use iox_negotiate::{Negotiated, ServiceBuilder};
+use iox_negotiate_rounds::{CreateFailure, OpenFailure, OpenOrCreateFailure};
+use iox_negotiate_table::StepList;
+use iox_queues_base::Words;
+use std::alloc::Global;
+
+/// What creates and opens services in a hub: a builder that `Hub::service_builder` gave.
+///
+/// Each call is handed lists of steps of foreign nodes: the first is done before the call's first access to the table, the second before its
+/// second, and so on. Where it opens a publish-subscribe service whose description fits the hub, the domain of the service's ports is
+/// made, unless it is there. Where no memory is found for that, the factory is closed again, and the call is refused with `OutOfMemory`.
+///
+/// This port's own: the builders of `iceoryx2` find the services of their machine by themselves.
+pub trait HubBuilder<P: Negotiated>: Sized {
+    // the id of the hub that it is of
+    ghost hub_of: { Self → ℕ };
+
+    // the node that asks
+    ghost node_of: { Self → ℕ };
+
+    // the name of the service
+    ghost name_of: { Self → List ℕ };
+
+    // what is asked of it
+    ghost requirement_of: { Self → P.Requirement };
+
+    /// Whether it is a builder of this hub.
+    fn holds<T: Copy, U: Copy, B: Drop, D: Drop>(&self, hub: &Hub<T, U, B, D>) -> bool
+        ensures { result ≡ nat_eq (hub_of self.now) hub.now.table.id };
+
+    /// Creates the service, with no attributes but those that were asked for. See `create_with_attributes_in`.
+    fn create_in<T: Words + ZeroCopySend, U: Copy + ZeroCopySend, B: Drop, D: Drop>(
+        self,
+        alloc: Global,
+        hub: &mut Hub<T, U, B, D>,
+        steps: Vec<StepList>,
+    ) -> Result<PortFactory<P>, P::CreateError>
+        requires { hub_of self ≡ hub.old.table.id }
+        ensures { OpensInHub (detail FixedSize T.name T.size T.alignment) (detail FixedSize U.name U.size U.alignment) (λ was_new. P.create_error uncreated.OutOfMemory) (λ old answer new. Creates SteppedSight old.table.id (service_hash_of P.pattern (name_of self)) (node_of self) (agreement (name_of self) (service_hash_of P.pattern (name_of self)) (P.settings (P.adjusted (P.asked (requirement_of self)))) (P.attributes (requirement_of self)).pairs) (P.IsWithinLimits (P.adjusted (P.asked (requirement_of self)))) (P.IsHistoryTooLong (P.adjusted (P.asked (requirement_of self)))) P.create_error old answer new) steps.items hub.old (result_map_both (λ factory. (factory.service.membership, factory.owner)) (λ error. error) result) hub.new };
+
+    /// Creates the service with these attributes.
+    ///
+    /// Refused as `ServiceBuilder::create_with_attributes` refuses it.
+    fn create_with_attributes_in<T: Words + ZeroCopySend, U: Copy + ZeroCopySend, B: Drop, D: Drop>(
+        self,
+        alloc: Global,
+        attributes: &AttributeSpecifier,
+        hub: &mut Hub<T, U, B, D>,
+        steps: Vec<StepList>,
+    ) -> Result<PortFactory<P>, P::CreateError>
+        requires { hub_of self ≡ hub.old.table.id }
+        ensures { OpensInHub (detail FixedSize T.name T.size T.alignment) (detail FixedSize U.name U.size U.alignment) (λ was_new. P.create_error uncreated.OutOfMemory) (λ old answer new. Creates SteppedSight old.table.id (service_hash_of P.pattern (name_of self)) (node_of self) (agreement (name_of self) (service_hash_of P.pattern (name_of self)) (P.settings (P.adjusted (P.asked (requirement_of self)))) attributes.now) (P.IsWithinLimits (P.adjusted (P.asked (requirement_of self)))) (P.IsHistoryTooLong (P.adjusted (P.asked (requirement_of self)))) P.create_error old answer new) steps.items hub.old (result_map_both (λ factory. (factory.service.membership, factory.owner)) (λ error. error) result) hub.new };
+
+    /// Opens the service, whatever its attributes. See `open_with_attributes_in`.
+    fn open_in<T: Words + ZeroCopySend, U: Copy + ZeroCopySend, B: Drop, D: Drop>(
+        self,
+        alloc: Global,
+        hub: &mut Hub<T, U, B, D>,
+        steps: Vec<StepList>,
+    ) -> Result<PortFactory<P>, P::OpenError>
+        requires { hub_of self ≡ hub.old.table.id }
+        ensures { OpensInHub (detail FixedSize T.name T.size T.alignment) (detail FixedSize U.name U.size U.alignment) (λ was_new. P.open_error unopened.OutOfMemory) (λ old answer new. Negotiates SteppedSight old.table.id (node_of self) P.open_error (λ made answer. Opens (service_hash_of P.pattern (name_of self)) (node_of self) (λ given. P.verdict (requirement_of self) given) made answer) old answer new) steps.items hub.old (result_map_both (λ factory. (factory.service.membership, factory.owner)) (λ error. error) result) hub.new };
+
+    /// Opens the service if it has these attributes too.
+    ///
+    /// Refused as `ServiceBuilder::open_with_attributes` refuses it.
+    fn open_with_attributes_in<T: Words + ZeroCopySend, U: Copy + ZeroCopySend, B: Drop, D: Drop>(
+        self,
+        alloc: Global,
+        attributes: AttributeVerifier,
+        hub: &mut Hub<T, U, B, D>,
+        steps: Vec<StepList>,
+    ) -> Result<PortFactory<P>, P::OpenError>
+        requires { hub_of self ≡ hub.old.table.id }
+        ensures { OpensInHub (detail FixedSize T.name T.size T.alignment) (detail FixedSize U.name U.size U.alignment) (λ was_new. P.open_error unopened.OutOfMemory) (λ old answer new. Negotiates SteppedSight old.table.id (node_of self) P.open_error (λ made answer. Opens (service_hash_of P.pattern (name_of self)) (node_of self) (λ given. P.verdict (P.with_attributes (requirement_of self) attributes) given) made answer) old answer new) steps.items hub.old (result_map_both (λ factory. (factory.service.membership, factory.owner)) (λ error. error) result) hub.new };
+
+    /// Opens the service, whatever its attributes, or creates it with none. See `open_or_create_with_attributes_in`.
+    fn open_or_create_in<T: Words + ZeroCopySend, U: Copy + ZeroCopySend, B: Drop, D: Drop>(
+        self,
+        alloc: Global,
+        hub: &mut Hub<T, U, B, D>,
+        steps: Vec<StepList>,
+    ) -> Result<PortFactory<P>, P::OpenOrCreateError>
+        requires { hub_of self ≡ hub.old.table.id }
+        ensures { OpensInHub (detail FixedSize T.name T.size T.alignment) (detail FixedSize U.name U.size U.alignment) (λ was_new. P.open_or_create_error (lacking_either was_new)) (λ old answer new. Either SteppedSight old.table.id (service_hash_of P.pattern (name_of self)) (node_of self) (λ given. P.verdict (requirement_of self) given) (agreement (name_of self) (service_hash_of P.pattern (name_of self)) (P.settings (P.adjusted (P.asked (requirement_of self)))) (P.attributes (requirement_of self)).pairs) (P.IsWithinLimits (P.adjusted (P.asked (requirement_of self)))) (P.IsHistoryTooLong (P.adjusted (P.asked (requirement_of self)))) P.open_or_create_error old answer new) steps.items hub.old (result_map_both (λ factory. (factory.service.membership, factory.owner)) (λ error. error) result) hub.new };
+
+    /// Opens the service if it has these attributes too, or creates it with the required pairs where none stands.
+    ///
+    /// Refused as `ServiceBuilder::open_or_create_with_attributes` refuses it.
+    fn open_or_create_with_attributes_in<
+        T: Words + ZeroCopySend,
+        U: Copy + ZeroCopySend,
+        B: Drop,
+        D: Drop,
+    >(
+        self,
+        alloc: Global,
+        attributes: AttributeVerifier,
+        hub: &mut Hub<T, U, B, D>,
+        steps: Vec<StepList>,
+    ) -> Result<PortFactory<P>, P::OpenOrCreateError>
+        requires { hub_of self ≡ hub.old.table.id }
+        ensures { OpensInHub (detail FixedSize T.name T.size T.alignment) (detail FixedSize U.name U.size U.alignment) (λ was_new. P.open_or_create_error (lacking_either was_new)) (λ old answer new. Either SteppedSight old.table.id (service_hash_of P.pattern (name_of self)) (node_of self) (λ given. P.verdict (P.with_attributes (requirement_of self) attributes) given) (agreement (name_of self) (service_hash_of P.pattern (name_of self)) (P.settings (P.adjusted (P.asked (P.with_attributes (requirement_of self) attributes)))) (P.attributes (P.with_attributes (requirement_of self) attributes)).pairs) (P.IsWithinLimits (P.adjusted (P.asked (P.with_attributes (requirement_of self) attributes)))) (P.IsHistoryTooLong (P.adjusted (P.asked (P.with_attributes (requirement_of self) attributes)))) P.open_or_create_error old answer new) steps.items hub.old (result_map_both (λ factory. (factory.service.membership, factory.owner)) (λ error. error) result) hub.new };
+}
+
+impl<P: Negotiated> HubBuilder<P> for ServiceBuilder<P> {
+    ghost hub_of = { λ builder. builder.hub };
+
+    ghost node_of = { λ builder. builder.node };
+
+    ghost name_of = { λ builder. builder.name };
+
+    ghost requirement_of = { λ builder. builder.requirement };
+
+    fn holds<T: Copy, U: Copy, B: Drop, D: Drop>(&self, hub: &Hub<T, U, B, D>) -> bool {
+        self.hub() == hub.id()
+    }
+
+    fn create_in<T: Words + ZeroCopySend, U: Copy + ZeroCopySend, B: Drop, D: Drop>(
+        self,
+        alloc: Global,
+        hub: &mut Hub<T, U, B, D>,
+        steps: Vec<StepList>,
+    ) -> Result<PortFactory<P>, P::CreateError> {
+        let mut table = hub.lend_table(alloc, steps);
+        let answer = self.create(alloc, &mut table);
+        hub.table = table.into_table();
+        match answer {
+            Ok(service) => match hub.enter(alloc, service) {
+                Ok(factory) => Ok(factory),
+                Err(_) => Err(P::create_error(CreateFailure::OutOfMemory)),
+            },
+            Err(error) => Err(error),
+        }
+    }
+
+    fn create_with_attributes_in<T: Words + ZeroCopySend, U: Copy + ZeroCopySend, B: Drop, D: Drop>(
+        self,
+        alloc: Global,
+        attributes: &AttributeSpecifier,
+        hub: &mut Hub<T, U, B, D>,
+        steps: Vec<StepList>,
+    ) -> Result<PortFactory<P>, P::CreateError> {
+        let mut table = hub.lend_table(alloc, steps);
+        let answer = self.create_with_attributes(alloc, attributes, &mut table);
+        hub.table = table.into_table();
+        match answer {
+            Ok(service) => match hub.enter(alloc, service) {
+                Ok(factory) => Ok(factory),
+                Err(_) => Err(P::create_error(CreateFailure::OutOfMemory)),
+            },
+            Err(error) => Err(error),
+        }
+    }
+
+    fn open_in<T: Words + ZeroCopySend, U: Copy + ZeroCopySend, B: Drop, D: Drop>(
+        self,
+        alloc: Global,
+        hub: &mut Hub<T, U, B, D>,
+        steps: Vec<StepList>,
+    ) -> Result<PortFactory<P>, P::OpenError> {
+        let mut table = hub.lend_table(alloc, steps);
+        let answer = self.open(alloc, &mut table);
+        hub.table = table.into_table();
+        match answer {
+            Ok(service) => match hub.enter(alloc, service) {
+                Ok(factory) => Ok(factory),
+                Err(_) => Err(P::open_error(OpenFailure::OutOfMemory)),
+            },
+            Err(error) => Err(error),
+        }
+    }
+
+    fn open_with_attributes_in<T: Words + ZeroCopySend, U: Copy + ZeroCopySend, B: Drop, D: Drop>(
+        self,
+        alloc: Global,
+        attributes: AttributeVerifier,
+        hub: &mut Hub<T, U, B, D>,
+        steps: Vec<StepList>,
+    ) -> Result<PortFactory<P>, P::OpenError> {
+        let mut table = hub.lend_table(alloc, steps);
+        let answer = self.open_with_attributes(alloc, attributes, &mut table);
+        hub.table = table.into_table();
+        match answer {
+            Ok(service) => match hub.enter(alloc, service) {
+                Ok(factory) => Ok(factory),
+                Err(_) => Err(P::open_error(OpenFailure::OutOfMemory)),
+            },
+            Err(error) => Err(error),
+        }
+    }
+
+    fn open_or_create_in<T: Words + ZeroCopySend, U: Copy + ZeroCopySend, B: Drop, D: Drop>(
+        self,
+        alloc: Global,
+        hub: &mut Hub<T, U, B, D>,
+        steps: Vec<StepList>,
+    ) -> Result<PortFactory<P>, P::OpenOrCreateError> {
+        let mut table = hub.lend_table(alloc, steps);
+        let answer = self.open_or_create(alloc, &mut table);
+        hub.table = table.into_table();
+        match answer {
+            Ok(service) => match hub.enter(alloc, service) {
+                Ok(factory) => Ok(factory),
+                Err(no_room) => Err(P::open_or_create_error(lacking(no_room))),
+            },
+            Err(error) => Err(error),
+        }
+    }
+
+    fn open_or_create_with_attributes_in<
+        T: Words + ZeroCopySend,
+        U: Copy + ZeroCopySend,
+        B: Drop,
+        D: Drop,
+    >(
+        self,
+        alloc: Global,
+        attributes: AttributeVerifier,
+        hub: &mut Hub<T, U, B, D>,
+        steps: Vec<StepList>,
+    ) -> Result<PortFactory<P>, P::OpenOrCreateError> {
+        let mut table = hub.lend_table(alloc, steps);
+        let answer = self.open_or_create_with_attributes(alloc, attributes, &mut table);
+        hub.table = table.into_table();
+        match answer {
+            Ok(service) => match hub.enter(alloc, service) {
+                Ok(factory) => Ok(factory),
+                Err(no_room) => Err(P::open_or_create_error(lacking(no_room))),
+            },
+            Err(error) => Err(error),
+        }
+    }
+}
+
+// The failure of a call that opens or creates, where no memory was found for the service after its last access.
+fn lacking<V>(no_room: NoRoom) -> OpenOrCreateFailure<V>
+    ensures { result ≡ lacking_either no_room.was_new }
+{
+    if no_room.was_new {
+        OpenOrCreateFailure::Create(CreateFailure::OutOfMemory)
+    } else {
+        OpenOrCreateFailure::Open(OpenFailure::OutOfMemory)
+    }
+}

@@ -1,0 +1,84 @@
+//! Factories are closed.
+ghost use Rattle.std.specs.Prelude.{◌≡◌};
+ghost use Rattle.std.specs.Result.{result_map_both};
+ghost use Rattle.iox_hub_base.specs.Closing.{is_last, in_use, Closes, less_one};
+
+use crate::factory::{NotClosed, PortFactory};
+use crate::hub::Hub;
+use iox_describe::pattern::Pattern;
+use iox_negotiate_errors::CloseError;
+
+impl<T: Copy, U: Copy, B: Drop, D: Drop> Hub<T, U, B, D> {
+    /// Closes a factory of this hub: takes it off the segment of its service, and removes description and segment if its node was the
+    /// last one in. With the last factory of a service in the hub its domain ends.
+    ///
+    /// Refused with `StillInUse`, the factory handed back, and nothing has changed: while the domain of the service is out; while a port
+    /// that was made by the factory stands, a loan or a blocked send of such a publisher, or a sample that such a subscriber received; and
+    /// for the last factory of its service in the hub while any port, loan, blocked send or sample of the domain lives.
+    /// `UnableToRemoveDescription` and `UnableToRemoveSegment` as the table answers; the factory is spent then.
+    ///
+    /// Stands for dropping an `iceoryx2::service::port_factory`, which its ports hold on to.
+    pub fn close<P: Pattern>(&mut self, factory: PortFactory<P>) -> Result<(), NotClosed<P>>
+        requires { factory.service.membership.storage ≡ self.old.table.id }
+        ensures { Closes factory.service.membership factory.owner factory self.old (result_map_both (λ done. done) (λ refused. (refused.error, refused.factory)) result) self.new }
+    {
+        let number = factory.number();
+        if self.is_in_use(number, factory.owner()) {
+            return Err(NotClosed {
+                error: CloseError::StillInUse,
+                factory: Some(factory),
+            });
+        }
+        let closed = factory.service.close(&mut self.table);
+        self.let_go(number);
+        match closed {
+            Ok(()) => Ok(()),
+            Err(refused) => Err(NotClosed {
+                error: refused.error,
+                factory: None,
+            }),
+        }
+    }
+
+    // Whether something lives that keeps a factory from being closed.
+    fn is_in_use(&self, number: u64, owner: u64) -> bool
+        ensures { result ≡ in_use number owner self.now }
+    {
+        if !self.services.is_open(number) {
+            return false;
+        }
+        let Some(domain) = self.services.domain(number) else {
+            return true;
+        };
+        if self.is_last(number) {
+            domain.ports.living_in_all() > 0
+        } else {
+            domain.ports.living(owner) > 0
+        }
+    }
+
+    // Whether a service has one factory at most.
+    fn is_last(&self, number: u64) -> bool
+        ensures { result ≡ is_last number self.now.factory_counts }
+    {
+        match self.factory_counts.get(number) {
+            Some(count) => *count <= 1,
+            None => true,
+        }
+    }
+
+    // One factory of a service less; with the last its domain ends.
+    fn let_go(&mut self, number: u64)
+        ensures { self.new ≡ less_one number self.old }
+    {
+        if self.is_last(number) {
+            self.factory_counts.forget(number);
+            self.services.close(number);
+            return;
+        }
+        let count = self.factory_counts.get(number).copied().unwrap_or(0);
+        // A number that is there takes no memory.
+        self.factory_counts
+            .put_back(number, Some(count.saturating_sub(1)));
+    }
+}

@@ -1,0 +1,76 @@
+//! From a service that was negotiated to a factory of the hub.
+ghost use Rattle.std.specs.Prelude.{◌≡◌};
+ghost use Rattle.std.specs.Result.{result_map_both};
+ghost use Rattle.iox_describe_base.specs.Detail.{detail};
+ghost use Rattle.iox_describe_base.specs.declared.type_detail.TypeVariant.TheVariants.{FixedSize};
+ghost use Rattle.iox_hub_base.specs.Opening.{Enters, IsClosedAgain};
+
+use crate::factory::PortFactory;
+use crate::hub::Hub;
+use iox_describe::pattern::Pattern;
+use iox_describe_base::ZeroCopySend;
+use iox_negotiate as negotiated;
+use iox_negotiate_table::{StepList, Stepped, Table};
+use iox_queues_base::Words;
+use std::alloc::Global;
+use std::mem;
+
+/// That no memory was found for a service that was negotiated, and whether it had been created.
+#[derive(Clone, Copy)]
+pub(crate) struct NoRoom {
+    pub(crate) was_new: bool,
+}
+
+impl<T: Copy, U: Copy, B: Drop, D: Drop> Hub<T, U, B, D> {
+    /// The table, with these lists of steps to do before its accesses. The hub is without it until it is put back.
+    pub(crate) fn lend_table(&mut self, alloc: Global, steps: Vec<StepList>) -> Stepped
+        ensures lent { result ≡ record { table = self.old.table; lists = steps.items } }
+        ensures rest { self.new ≡ record self.old { table = self.new.table } }
+    {
+        Stepped::new(mem::replace(&mut self.table, Table::new(alloc, 0)), steps)
+    }
+
+    // Closes a factory for which no memory was found.
+    fn give_back<P: Pattern>(&mut self, service: negotiated::PortFactory<P>) -> NoRoom
+        requires { service.membership.storage ≡ self.old.table.id }
+        ensures was_new { result.was_new ≡ service.membership.service.is_new }
+        ensures closed { IsClosedAgain service.membership self.old self.new }
+    {
+        let was_new = service.is_new();
+        let _ = service.close(&mut self.table);
+        NoRoom { was_new }
+    }
+}
+
+impl<T: Words + ZeroCopySend, U: Copy + ZeroCopySend, B: Drop, D: Drop> Hub<T, U, B, D> {
+    /// The factory of the hub for a service that was negotiated.
+    pub(crate) fn enter<P: Pattern>(
+        &mut self,
+        alloc: Global,
+        service: negotiated::PortFactory<P>,
+    ) -> Result<PortFactory<P>, NoRoom>
+        requires { service.membership.storage ≡ self.old.table.id }
+        ensures { Enters (detail FixedSize T.name T.size T.alignment) (detail FixedSize U.name U.size U.alignment) service.membership self.old (result_map_both (λ factory. (factory.service.membership, factory.owner)) (λ no_room. no_room.was_new) result) self.new }
+    {
+        let number = service.number();
+        let count = self.factory_counts.get(number).copied().unwrap_or(0);
+        let Ok(before) = self.factory_counts.keep(number, count.saturating_add(1)) else {
+            return Err(self.give_back(service));
+        };
+        let opened = self.services.open(
+            alloc,
+            service.description(),
+            number,
+            self.expired_connection_buffer,
+        );
+        if opened.is_err() {
+            self.factory_counts.put_back(number, before);
+            return Err(self.give_back(service));
+        }
+        self.factories = self.factories.saturating_add(1);
+        Ok(PortFactory {
+            service,
+            owner: self.factories,
+        })
+    }
+}

@@ -1,0 +1,69 @@
+//! A service that is open in a hub.
+ghost use Rattle.std.specs.Prelude.{◌≡◌, Some};
+
+use iox_describe::pattern::Pattern;
+use iox_describe::{AttributeSpecifier, ServiceName};
+use iox_negotiate as negotiated;
+use iox_negotiate_errors::CloseError;
+
+/// A service that is open in a hub, from which its ports are made. It is to be closed in that hub.
+///
+/// Ported from `iceoryx2::service::port_factory`, as one type for the three patterns.
+#[derive(Drop)]
+pub struct PortFactory<P: Pattern> {
+    pub(crate) service: negotiated::PortFactory<P>,
+    pub(crate) owner: u64,
+}
+
+/// A factory that wasn't closed, or left something behind.
+#[derive(Drop)]
+pub struct NotClosed<P: Pattern> {
+    /// Why.
+    pub error: CloseError,
+    /// The factory, where it is handed back: at `StillInUse`.
+    pub factory: Option<PortFactory<P>>,
+}
+
+impl<P: Pattern> PortFactory<P> {
+    /// The name of the service.
+    pub fn name(&self) -> &ServiceName
+        ensures { result.now ≡ self.now.service.membership.service.description.name }
+    {
+        self.service.name()
+    }
+
+    /// The settings that are agreed.
+    pub fn static_config(&self) -> &P::StaticConfig
+        ensures { P.static_config self.now.service.membership.service.description.settings ≡ Some result.now }
+    {
+        self.service.static_config()
+    }
+
+    /// The attributes of the service.
+    pub fn attributes(&self) -> &AttributeSpecifier
+        ensures { result.now ≡ self.now.service.membership.service.description.attributes }
+    {
+        self.service.attributes()
+    }
+
+    /// The number of the service.
+    pub fn number(&self) -> u64
+        ensures { result ≡ self.now.service.membership.service.number }
+    {
+        self.service.number()
+    }
+
+    /// The number of the node that the factory is of.
+    pub fn node(&self) -> u64
+        ensures { result ≡ self.now.service.membership.node }
+    {
+        self.service.node()
+    }
+
+    /// The number of the factory, counted from 1 in each hub: who owns the ports that are made by it.
+    pub fn owner(&self) -> u64
+        ensures { result ≡ self.now.owner }
+    {
+        self.owner
+    }
+}

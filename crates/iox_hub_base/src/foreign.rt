@@ -1,0 +1,46 @@
+//! Nodes of others act on the services of a hub.
+ghost use Rattle.std.specs.Prelude.{◌≡◌};
+ghost use Rattle.iox_describe_base.specs.Hash.{service_hash_of};
+ghost use Rattle.iox_negotiate_table.specs.Stepped.{ActsAll};
+ghost use Rattle.iox_hub_base.specs.Foreign.{ActsOn};
+
+use crate::hub::Hub;
+use iox_command::HubError;
+use iox_describe::{MessagingPattern, ServiceHash, ServiceName, service_hash};
+use iox_negotiate_table::{ForeignStep, StepList, Table};
+use std::alloc::AllocError;
+
+impl<T: Copy, U: Copy, B: Drop, D: Drop> Hub<T, U, B, D> {
+    /// Nodes of others do these steps on the service of this pattern and name, one after the other. A step that doesn't fit changes
+    /// nothing.
+    ///
+    /// Refused with `HubError::OutOfMemory` at the first step that finds no memory; the steps before it stand.
+    ///
+    /// This port's own: in `iceoryx2` other processes act by themselves.
+    pub fn foreign(
+        &mut self,
+        pattern: MessagingPattern,
+        name: &ServiceName,
+        steps: &StepList,
+    ) -> Result<(), HubError>
+        ensures { ActsOn (service_hash_of pattern name.now) steps.now self.old result self.new }
+    {
+        let hash = service_hash(pattern, name);
+        match act_all(&mut self.table, &hash, steps.as_slice()) {
+            Ok(()) => Ok(()),
+            Err(_) => Err(HubError::OutOfMemory),
+        }
+    }
+}
+
+// Does the steps in turn, up to the first that finds no memory.
+fn act_all(table: &mut Table, hash: &ServiceHash, steps: &[ForeignStep]) -> Result<(), AllocError>
+    ensures { ActsAll hash.now steps.now table.old result table.new }
+{
+    let mut rest = steps;
+    while let Some(split) = rest.split_first() {
+        rest = split.1;
+        table.act(hash, split.0)?;
+    }
+    Ok(())
+}

@@ -1,0 +1,105 @@
+//! A hub.
+ghost use Rattle.std.specs.Prelude.{◌≡◌, Ok, nat_eq};
+ghost use Rattle.iox_hub_base.specs.Hubs.{IsNewHub, one_more};
+
+use crate::factory::PortFactory;
+use crate::node::NodeHandle;
+use iox_command::HubError;
+use iox_describe::ServiceName;
+use iox_describe::pattern::Pattern;
+use iox_domain::Kept;
+use iox_domain_values::{DegradationHandler, Handlers};
+use iox_hub_services::Services;
+use iox_negotiate::Builder;
+use iox_negotiate_rounds::Storage;
+use iox_negotiate_table::Table;
+use std::alloc::Global;
+
+/// How a hub is made.
+#[derive(Clone, Copy, Debug, PartialEq, Eq)]
+pub struct HubConfig {
+    /// How many connections of a subscriber may wait to be read after their publishers left, or as many as samples of one connection may
+    /// be held, whichever is more.
+    pub expired_connection_buffer: u32,
+    /// What tells hubs apart.
+    pub id: u64,
+}
+
+/// All nodes and services of a program: one owned value, which each call is handed.
+///
+/// `T` is the element of messages, `U` their user header; `B` decides for publishers, `D` for subscribers. Stands for what the nodes of
+/// `iceoryx2` share on a machine.
+#[derive(Drop)]
+pub struct Hub<T, U, B = Handlers, D = DegradationHandler> {
+    pub(crate) expired_connection_buffer: u32,
+    // How many nodes were made, and how many factories.
+    pub(crate) nodes: u64,
+    pub(crate) factories: u64,
+    pub(crate) table: Table,
+    // How many factories of a service are open, by the service's number.
+    pub(crate) factory_counts: Kept<u64>,
+    pub(crate) services: Services<T, U, B, D>,
+}
+
+impl<T: Copy, U: Copy, B: Drop, D: Drop> Hub<T, U, B, D> {
+    /// A hub without nodes and services. It takes no memory.
+    pub fn new(alloc: Global, config: HubConfig) -> Self
+        ensures { IsNewHub config result }
+    {
+        Hub {
+            expired_connection_buffer: config.expired_connection_buffer,
+            nodes: 0,
+            factories: 0,
+            table: Table::new(alloc, config.id),
+            factory_counts: Kept::new(alloc),
+            services: Services::new(alloc, config.id),
+        }
+    }
+
+    /// What tells hubs apart.
+    pub fn id(&self) -> u64
+        ensures { result ≡ self.now.table.id }
+    {
+        self.table.id()
+    }
+
+    /// One more node, whose number is the next one; past 2^64 - 1 it is that.
+    ///
+    /// `HubError::OutOfMemory` would tell that memory is wanting, of which a node takes none.
+    ///
+    /// Stands for `iceoryx2::node::NodeBuilder::create`.
+    pub fn new_node(&mut self) -> Result<NodeHandle, HubError>
+        ensures node { result ≡ Ok (record { hub = self.old.table.id; number = one_more self.old.nodes }) }
+        ensures rest { self.new ≡ record self.old { nodes = one_more self.old.nodes } }
+    {
+        self.nodes = self.nodes.saturating_add(1);
+        Ok(NodeHandle {
+            hub: self.id(),
+            number: self.nodes,
+        })
+    }
+
+    /// Whether a node is of this hub.
+    pub fn holds_node(&self, node: &NodeHandle) -> bool
+        ensures { result ≡ nat_eq node.now.hub self.now.table.id }
+    {
+        node.hub == self.id()
+    }
+
+    /// Whether a factory is of this hub.
+    pub fn holds<P: Pattern>(&self, factory: &PortFactory<P>) -> bool
+        ensures { result ≡ nat_eq factory.now.service.membership.storage self.now.table.id }
+    {
+        factory.service.storage() == self.id()
+    }
+
+    /// A builder of the service of this name, for a node of this hub.
+    ///
+    /// Ported from `iceoryx2::node::Node::service_builder`.
+    pub fn service_builder(&self, node: &NodeHandle, name: ServiceName) -> Builder
+        requires { node.now.hub ≡ self.now.table.id }
+        ensures { result ≡ record { hub = self.now.table.id; node = node.now.number; name = name } }
+    {
+        Builder::of_hub(self.id(), node.number, name)
+    }
+}

@@ -1,0 +1,132 @@
+//! Builders of the ports of a factory's service, and domains that are taken and put back.
+ghost use Rattle.std.specs.Prelude.{◌≡◌, option_copied};
+ghost use Rattle.iox_delivery_factories.specs.Elements.{values_each};
+ghost use Rattle.iox_hub_base.specs.Builders.{publishers_of, subscribers_of};
+ghost use Rattle.iox_hub_services.specs.Open.{domain_of};
+ghost use Rattle.iox_hub_services.specs.Taking.{Takes, Puts};
+
+use crate::factory::PortFactory;
+use crate::hub::Hub;
+use iox_delivery_factories::{PortFactoryPublisher, PortFactorySubscriber};
+use iox_describe::pattern::PublishSubscribe;
+use iox_describe::{TypeVariant, ZeroCopySend};
+use iox_domain::Domain;
+use iox_domain_settings::{PublisherSettings, SubscriberSettings};
+use iox_domain_values::{
+    BackpressureStrategy, DegradationAction, DegradationHandler, Handlers, PortOwner,
+    PreallocatedSamplesOverride,
+};
+use iox_hub_services::{DomainIsForeign, TakeError};
+use std::marker::PhantomData;
+
+impl<T: Copy, U: Copy, B: Drop, D: Drop> Hub<T, U, B, D> {
+    /// The domain of a factory's service; None where it is out, or none was made.
+    pub fn domain(&self, factory: &PortFactory<PublishSubscribe>) -> Option<&Domain<T, U, B, D>>
+        requires { factory.now.service.membership.storage ≡ self.now.table.id }
+        ensures { option_copied result ≡ domain_of factory.now.service.membership.service.number self.now.services.domains }
+    {
+        self.services.domain(factory.number())
+    }
+
+    /// Takes the domain of a factory's service out of the hub, to be driven elsewhere. Its entry stays, so that it takes no memory to put
+    /// it back.
+    ///
+    /// Refused with `DomainIsOut` where it is out, or none was made; then nothing has changed.
+    pub fn take_domain(
+        &mut self,
+        factory: &PortFactory<PublishSubscribe>,
+    ) -> Result<Domain<T, U, B, D>, TakeError>
+        requires { factory.now.service.membership.storage ≡ self.old.table.id }
+        ensures takes { Takes factory.now.service.membership.service.number self.old.services result self.new.services }
+        ensures rest { self.new ≡ record self.old { services = self.new.services } }
+    {
+        self.services.take(factory.number())
+    }
+
+    /// Puts a domain back that was taken out of the hub.
+    ///
+    /// Refused where hub, service and agreement aren't those of a domain that is out; the domain is handed back then, and nothing has
+    /// changed.
+    pub fn put_domain(
+        &mut self,
+        domain: Domain<T, U, B, D>,
+    ) -> Result<(), DomainIsForeign<Domain<T, U, B, D>>>
+        ensures puts { Puts domain self.old.services result self.new.services }
+        ensures rest { self.new ≡ record self.old { services = self.new.services } }
+    {
+        self.services.put(domain)
+    }
+}
+
+// A function that makes a builder may call none that makes one, and so these say again what those of `iox_delivery_factories` say: a builder
+// holds an object, and a hub may hold some.
+impl<T: Copy + ZeroCopySend, U: Copy, B: Drop, D: Drop> Hub<T, U, B, D> {
+    /// What makes publishers of a factory's service, sized by what is agreed of it: nothing is named yet. None where the domain is out,
+    /// or none was made.
+    ///
+    /// Ported from `iceoryx2::service::port_factory::publish_subscribe::PortFactory::publisher_builder`.
+    pub fn publisher_builder(
+        &self,
+        factory: &PortFactory<PublishSubscribe>,
+    ) -> Option<PortFactoryPublisher<T, U>>
+        requires { factory.now.service.membership.storage ≡ self.now.table.id }
+        ensures { result ≡ publishers_of T.size factory.now.service.membership.node factory.now.owner (domain_of factory.now.service.membership.service.number self.now.services.domains) }
+    {
+        let domain = self.services.domain(factory.number())?;
+        Some(PortFactoryPublisher {
+            domain: domain.id,
+            owner: PortOwner {
+                number: factory.owner(),
+                node_id: factory.node(),
+            },
+            unit: values_each(
+                domain.agreed.types.payload.size(),
+                T::type_detail(TypeVariant::FixedSize).size(),
+            ),
+            settings: PublisherSettings::default(),
+            handlers: Handlers {
+                strategy: BackpressureStrategy::RetryUntilDelivered,
+                backpressure: None,
+                degradation: DegradationHandler::Fixed(DegradationAction::Warn),
+            },
+            overriding: PreallocatedSamplesOverride::WorstCase,
+            of: PhantomData,
+        })
+    }
+}
+
+impl<T: Copy, U: Copy, B: Drop, D: Drop> Hub<T, U, B, D> {
+    /// What makes subscribers of a factory's service, sized by what is agreed of it: nothing is named yet. None where the domain is out,
+    /// or none was made.
+    ///
+    /// Ported from `iceoryx2::service::port_factory::publish_subscribe::PortFactory::subscriber_builder`.
+    pub fn subscriber_builder(
+        &self,
+        factory: &PortFactory<PublishSubscribe>,
+    ) -> Option<PortFactorySubscriber<T, U>>
+        requires { factory.now.service.membership.storage ≡ self.now.table.id }
+        ensures { result ≡ subscribers_of factory.now.service.membership.node factory.now.owner (domain_of factory.now.service.membership.service.number self.now.services.domains) }
+    {
+        let domain = self.services.domain(factory.number())?;
+        Some(PortFactorySubscriber {
+            domain: domain.id,
+            owner: PortOwner {
+                number: factory.owner(),
+                node_id: factory.node(),
+            },
+            settings: SubscriberSettings::default(),
+            handler: DegradationHandler::Fixed(DegradationAction::Warn),
+            of: PhantomData,
+        })
+    }
+}
+
+// How many values of this size an element of a size has.
+fn values_each(element: u64, value: u64) -> usize
+    ensures { result ≡ values_each element value }
+{
+    if value == 0 {
+        return 1;
+    }
+    (element / value) as usize
+}

@@ -1,0 +1,77 @@
+-- What the calls of a port under a number do to their home. `ports_of` finds the ports of a domain in a home, `with_ports` puts others
+-- there.
+use Rattle.std.specs.Prelude.{ℕ, ◌≡◌, Bool, false, Option, None, Some, Result}
+use Rattle.iox_domain_values.specs.declared.backpressure.BackpressureDecision.{BackpressureDecision}
+use Rattle.iox_domain_values.specs.declared.backpressure.BackpressureInfo.{BackpressureInfo}
+use Rattle.iox_domain_values.specs.declared.connection_failure.ConnectionFailure.{ConnectionFailure}
+use Rattle.iox_domain_values.specs.declared.degradation.DegradationAction.{DegradationAction}
+use Rattle.iox_domain_values.specs.declared.degradation.DegradationInfo.{DegradationInfo}
+use Rattle.iox_domain_values.specs.declared.port_error.LoanError.{LoanError}
+use Rattle.iox_domain_values.specs.declared.port_error.ReceiveError.{ReceiveError}
+use Rattle.iox_domain_values.specs.declared.port_error.SendError.{SendError}
+use Rattle.iox_domain_publisher.specs.declared.meeting.Sent.{Sent}
+use Rattle.iox_domain_subscriber.specs.declared.attached.Taken.{Taken}
+use Rattle.iox_domain_ports.specs.declared.service_ports.ServicePorts.{ServicePorts}
+use Rattle.iox_domain_home.specs.Homes.{AtDomain, LeavesDomain}
+use Rattle.iox_domain_home.specs.Steps as steps
+use Rattle.iox_domain_home.specs.declared.domain_id.DomainId.{DomainId}
+use Rattle.iox_delivery.specs.declared.port_id.PortId.{PortId}
+
+-- A call at the port that goes by a number: nothing happens where none does.
+abbrev pub AtPort : {H A : Type 0} → (PortId → H → Option A → H → Type 0) → Option PortId → H → Option A → H → Type 0
+AtPort call None old answer new = (answer ≡ None) × (new ≡ old)
+AtPort call (Some port) old answer new = call port old answer new
+
+-- A call at the port that goes by a number, which tells whether something happened: nothing does where none goes by it.
+abbrev pub AtPortIf : {H : Type 0} → (PortId → H → Bool → H → Type 0) → Option PortId → H → Bool → H → Type 0
+AtPortIf call None old answer new = (answer ≡ false) × (new ≡ old)
+AtPortIf call (Some port) old answer new = call port old answer new
+
+-- A publisher lends a slot for so many elements.
+abbrev pub Lends : {T U H : Type 0} → (DomainId → H → Option (ServicePorts T U)) → (DomainId → ServicePorts T U → H → H) → ℕ → PortId → H → Option (Result ℕ LoanError) → H → Type 0
+Lends ports_of with_ports elements port old answer new =
+    AtDomain (λ after. with_ports port.domain after old) (steps.LoansBy port.number elements elements) (ports_of port.domain old) old answer new
+
+-- A publisher follows the list of subscribers.
+abbrev pub Follows : {T U H : Type 0} → (DomainId → H → Option (ServicePorts T U)) → (DomainId → ServicePorts T U → H → H) → (DomainId → ℕ → H → DegradationInfo → DegradationAction → Type 0) → PortId → H → Option (Result (Unit {0}) ConnectionFailure) → H → Type 0
+Follows ports_of with_ports degrades port old answer new =
+    AtDomain (λ after. with_ports port.domain after old) (steps.UpdatesBy (degrades port.domain port.number old) port.number) (ports_of port.domain old) old answer new
+
+-- A publisher sends the written loan in a slot.
+abbrev pub Sends : {T U H : Type 0} → (DomainId → H → Option (ServicePorts T U)) → (DomainId → ServicePorts T U → H → H) → (DomainId → ℕ → H → DegradationInfo → DegradationAction → Type 0) → (DomainId → ℕ → H → BackpressureInfo → BackpressureDecision → Type 0) → ℕ → PortId → H → Option (Result Sent SendError) → H → Type 0
+Sends ports_of with_ports degrades decides slot port old answer new =
+    AtDomain (λ after. with_ports port.domain after old) (steps.SendsBy (degrades port.domain port.number old) (decides port.domain port.number old) port.number slot) (ports_of port.domain old) old answer new
+
+-- The send of a publisher that waits is tried again.
+abbrev pub Retries : {T U H : Type 0} → (DomainId → H → Option (ServicePorts T U)) → (DomainId → ServicePorts T U → H → H) → (DomainId → ℕ → H → BackpressureInfo → BackpressureDecision → Type 0) → ℕ → PortId → H → Option (Result Sent SendError) → H → Type 0
+Retries ports_of with_ports decides elapsed port old answer new =
+    AtDomain (λ after. with_ports port.domain after old) (steps.RetriesBy (decides port.domain port.number old) port.number elapsed) (ports_of port.domain old) old answer new
+
+-- The send of a publisher that waits ends.
+abbrev pub GivesUp : {T U H : Type 0} → (DomainId → H → Option (ServicePorts T U)) → (DomainId → ServicePorts T U → H → H) → PortId → H → Option ℕ → H → Type 0
+GivesUp ports_of with_ports port old answer new = AtDomain (λ after. with_ports port.domain after old) (steps.GivesUpBy port.number) (ports_of port.domain old) old answer new
+
+-- A publisher leaves.
+abbrev pub PublisherGoes : {T U H : Type 0} → (DomainId → H → Option (ServicePorts T U)) → (DomainId → ServicePorts T U → H → H) → (DomainId → ℕ → H → H) → PortId → H → Bool → H → Type 0
+PublisherGoes ports_of with_ports without port old answer new =
+    LeavesDomain (λ after. with_ports port.domain after old) (without port.domain port.number) (steps.PublisherLeaves port.number) (ports_of port.domain old) old answer new
+
+-- A subscriber follows the list of publishers.
+abbrev pub FollowsPublishers : {T U H : Type 0} → (DomainId → H → Option (ServicePorts T U)) → (DomainId → ServicePorts T U → H → H) → (DomainId → ℕ → H → DegradationInfo → DegradationAction → Type 0) → PortId → H → Option (Result (Unit {0}) ConnectionFailure) → H → Type 0
+FollowsPublishers ports_of with_ports degrades port old answer new =
+    AtDomain (λ after. with_ports port.domain after old) (steps.FollowsBy (degrades port.domain port.number old) port.number) (ports_of port.domain old) old answer new
+
+-- It is told whether some connection of a subscriber has data.
+abbrev pub Tells : {T U H : Type 0} → (DomainId → H → Option (ServicePorts T U)) → (DomainId → ServicePorts T U → H → H) → (DomainId → ℕ → H → DegradationInfo → DegradationAction → Type 0) → PortId → H → Option (Result Bool ConnectionFailure) → H → Type 0
+Tells ports_of with_ports degrades port old answer new =
+    AtDomain (λ after. with_ports port.domain after old) (steps.TellsBy (degrades port.domain port.number old) port.number) (ports_of port.domain old) old answer new
+
+-- A subscriber receives.
+abbrev pub Receives : {T U H : Type 0} → (DomainId → H → Option (ServicePorts T U)) → (DomainId → ServicePorts T U → H → H) → (DomainId → ℕ → H → DegradationInfo → DegradationAction → Type 0) → PortId → H → Option (Result (Option Taken) ReceiveError) → H → Type 0
+Receives ports_of with_ports degrades port old answer new =
+    AtDomain (λ after. with_ports port.domain after old) (steps.ReceivesBy (degrades port.domain port.number old) port.number) (ports_of port.domain old) old answer new
+
+-- A subscriber leaves.
+abbrev pub SubscriberGoes : {T U H : Type 0} → (DomainId → H → Option (ServicePorts T U)) → (DomainId → ServicePorts T U → H → H) → (DomainId → ℕ → H → H) → PortId → H → Bool → H → Type 0
+SubscriberGoes ports_of with_ports without port old answer new =
+    LeavesDomain (λ after. with_ports port.domain after old) (without port.domain port.number) (steps.SubscriberLeaves port.number) (ports_of port.domain old) old answer new

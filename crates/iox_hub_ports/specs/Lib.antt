@@ -1,0 +1,6 @@
+-- The definitions that contracts about numbered ports, loans and samples cite.
+pub mod Tables
+pub mod Calls
+pub mod Numbering
+pub mod Loans
+pub mod Reading

@@ -1,0 +1,18 @@
+//! Ports, loans and samples under numbers: what a run of commands made, and what later commands do with it.
+//!
+//! | Module | What it has |
+//! |---|---|
+//! | `made` | the tables: which port, loan or sample goes by a number |
+//! | `publishing` | publishers lend, send, wait, and leave |
+//! | `loans` | what is written into a loan; it is given up, or sent |
+//! | `subscribing` | subscribers follow, receive, and leave |
+//! | `samples` | a sample is read, and released |
+#![tactic(auto)]
+
+pub mod loans;
+pub mod made;
+pub mod publishing;
+pub mod samples;
+pub mod subscribing;
+
+pub use made::{Made, MadeLoan, MadePublisher, MadeSample};

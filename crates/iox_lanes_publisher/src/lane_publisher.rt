@@ -1,0 +1,147 @@
+//! A publisher, free of any words.
+ghost use Rattle.std.specs.Prelude.{◌≡◌, true, length, replicate, IfOk};
+ghost use Rattle.iox_lanes_calls.specs.Publishing.{publisher_next, publisher_is_idle, publisher_is_over};
+ghost use Rattle.iox_lanes_publisher.specs.Publishers.{after_answer, begun_loan, begun_write, begun_send, begun_drop, new_publisher};
+
+use crate::slot_book::{LoanAnswer, SlotBook};
+use iox_lanes_calls::{PublisherCall, Route};
+use iox_lanes_words::SharedAccess;
+use std::alloc::{AllocError, Global};
+use std::marker::Model;
+
+/// A publisher: its connections in place order, what its slots are used for, the words that its write or send stores, and the call that it is in.
+///
+/// All its memory is taken when it is made.
+#[derive(Drop)]
+pub struct LanePublisher {
+    routes: Vec<Route>,
+    book: SlotBook,
+    payload: Vec<u64>,
+    head: Vec<u64>,
+    // The call in hand stores header and user header, and not a payload.
+    sends: bool,
+    call: PublisherCall,
+}
+
+impl Model for LanePublisher {
+    ghost use Rattle.iox_lanes_publisher.specs.Publishers.{PublisherState};
+
+    ghost Value = { PublisherState };
+
+    ghost view = { λ p. record {
+      routes = p.routes.items;
+      book = p.book;
+      payload = p.payload.items;
+      head = p.head.items;
+      sends = p.sends;
+      call = p.call;
+    } };
+}
+
+impl LanePublisher {
+    /// A publisher with these connections and slots, whose payloads and headers have so many words. It fails only where memory is wanting.
+    pub fn new(
+        alloc: Global,
+        routes: &[Route],
+        book: SlotBook,
+        payload_words: usize,
+        head_words: usize,
+    ) -> Result<LanePublisher, AllocError>
+        ensures { IfOk result (λ made. made ≡ new_publisher routes.now book payload_words head_words) }
+    {
+        Ok(LanePublisher {
+            routes: Vec::from_slice(alloc, routes)?,
+            book,
+            payload: vec![in alloc; 0; payload_words]?,
+            head: vec![in alloc; 0; head_words]?,
+            sends: false,
+            call: PublisherCall::Idle,
+        })
+    }
+
+    /// What the last loan answered.
+    pub fn answer(&self) -> Option<LoanAnswer>
+        ensures { result ≡ self.now.book.answer }
+    {
+        self.book.answer()
+    }
+
+    /// The call that it is in.
+    pub fn call(&self) -> PublisherCall
+        ensures { result ≡ self.now.call }
+    {
+        self.call
+    }
+
+    /// Begins a loan.
+    pub fn begin_loan(&mut self)
+        requires { publisher_is_idle self.old.call ≡ true }
+        ensures { self.new ≡ begun_loan self.old }
+    {
+        self.call = PublisherCall::loan(&self.routes);
+    }
+
+    /// Begins to write these words into the slot of a loan.
+    pub fn begin_write(&mut self, slot: u64, payload: &[u64])
+        requires idle { publisher_is_idle self.old.call ≡ true }
+        requires words { length payload.now ≡ length self.old.payload }
+        ensures { self.new ≡ begun_write slot payload.now self.old }
+    {
+        self.payload.copy_from_slice(payload);
+        self.sends = false;
+        self.call = PublisherCall::write(&self.payload, slot);
+    }
+
+    /// Begins to send the slot of a loan with these words of header and user header.
+    pub fn begin_send(&mut self, slot: u64, head: &[u64])
+        requires idle { publisher_is_idle self.old.call ≡ true }
+        requires words { length head.now ≡ length self.old.head }
+        ensures { self.new ≡ begun_send slot head.now self.old }
+    {
+        self.head.copy_from_slice(head);
+        self.sends = true;
+        self.call = PublisherCall::send(&self.head, slot);
+    }
+
+    /// Begins to drop the loan of a slot.
+    pub fn begin_drop(&mut self, slot: u64)
+        requires { publisher_is_idle self.old.call ≡ true }
+        ensures { self.new ≡ begun_drop slot self.old }
+    {
+        self.call = PublisherCall::drop_loan(slot);
+    }
+
+    /// The access that comes next.
+    pub fn next(&self) -> SharedAccess
+        ensures { result ≡ publisher_next self.now.call }
+    {
+        self.call.next()
+    }
+
+    /// Goes on after the answer of that access, and keeps what it changes.
+    pub fn take(&mut self, answer: u64)
+        ensures { self.new ≡ after_answer answer self.old }
+    {
+        let change = self.call.change(answer);
+        if self.sends {
+            self.call = self.call.take(answer, &self.routes, &self.head);
+        } else {
+            self.call = self.call.take(answer, &self.routes, &self.payload);
+        }
+        self.book.change(change);
+    }
+
+    /// No call is under way.
+    pub fn is_idle(&self) -> bool
+        ensures { result ≡ publisher_is_idle self.now.call }
+    {
+        self.call.is_idle()
+    }
+
+    /// The next step is the last of its call.
+    pub fn is_over(&self) -> bool
+        ensures { result ≡ publisher_is_over self.now.call }
+    {
+        self.call.is_over()
+    }
+}

@@ -1,0 +1,8 @@
+//! A subscriber of a service whose words are shared: the call that it is in, and what it keeps for itself.
+//!
+//! - [`lane_subscriber`]: the subscriber.
+#![tactic(auto)]
+
+pub mod lane_subscriber;
+
+pub use lane_subscriber::LaneSubscriber;

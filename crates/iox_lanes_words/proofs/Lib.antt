@@ -1,0 +1,3 @@
+-- The lemmas on shared words.
+pub mod Rounds
+pub mod Numbering
