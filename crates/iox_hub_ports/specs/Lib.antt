@@ -4,3 +4,4 @@ pub mod Calls
 pub mod Numbering
 pub mod Loans
 pub mod Reading
+pub mod Making

@@ -3,6 +3,7 @@
 //! | Module | What it has |
 //! |---|---|
 //! | `made` | the tables: which port, loan or sample goes by a number |
+//! | `making` | ports come, and get numbers |
 //! | `publishing` | publishers lend, send, wait, and leave |
 //! | `loans` | what is written into a loan; it is given up, or sent |
 //! | `subscribing` | subscribers follow, receive, and leave |
@@ -11,8 +12,10 @@
 
 pub mod loans;
 pub mod made;
+pub mod making;
 pub mod publishing;
 pub mod samples;
 pub mod subscribing;
 
 pub use made::{Made, MadeLoan, MadePublisher, MadeSample};
+pub use making::PublisherParts;
