@@ -1,5 +1,5 @@
 //! Messages go from node to node.
-use crate::shared::{CONFIG, World, create, open, wanted};
+use crate::shared::{CONFIG, Messages, create, open, wanted};
 use iox_delivery::{Publisher, Sent, Subscriber};
 use iox_delivery_factories::{PortFactoryPublisher, PortFactorySubscriber};
 use iox_domain_home::Home;
@@ -13,7 +13,7 @@ use std::test::Fail;
 fn publish(
     builder: PortFactoryPublisher<u64, u8>,
     alloc: Global,
-    hub: &mut World,
+    hub: &mut Messages,
 ) -> Result<Publisher<u64, u8>, PublisherCreateError> {
     match hub.ports(builder.domain) {
         Some(_) => builder.create(alloc, hub),
@@ -25,7 +25,7 @@ fn publish(
 fn subscribe(
     builder: PortFactorySubscriber<u64, u8>,
     alloc: Global,
-    hub: &mut World,
+    hub: &mut Messages,
 ) -> Result<Subscriber<u64, u8>, SubscriberCreateError> {
     match hub.ports(builder.domain) {
         Some(_) => builder.create(alloc, hub),
@@ -37,7 +37,7 @@ fn subscribe(
 fn puts(
     rt: &impl Abort,
     alloc: Global,
-    hub: &mut World,
+    hub: &mut Messages,
     publisher: &Publisher<u64, u8>,
     value: u64,
 ) -> Option<usize> {
@@ -62,7 +62,7 @@ fn puts(
 fn receives(
     rt: &impl Abort,
     alloc: Global,
-    hub: &mut World,
+    hub: &mut Messages,
     subscriber: &Subscriber<u64, u8>,
 ) -> Option<(u64, u64)> {
     assert!(rt; subscriber.holds(hub));
@@ -77,7 +77,7 @@ fn receives(
 fn converse(
     rt: &impl Abort,
     alloc: Global,
-    hub: &mut World,
+    hub: &mut Messages,
     publisher: &Publisher<u64, u8>,
     subscriber: &Subscriber<u64, u8>,
 ) -> bool {
@@ -95,7 +95,7 @@ fn is_heard(
     rt: &impl Abort,
     builder: PortFactoryPublisher<u64, u8>,
     alloc: Global,
-    hub: &mut World,
+    hub: &mut Messages,
     subscriber: &Subscriber<u64, u8>,
 ) -> Result<bool, PublisherCreateError> {
     let publisher = publish(builder, alloc, hub)?;
@@ -112,7 +112,7 @@ fn understand(
     writers: PortFactoryPublisher<u64, u8>,
     readers: PortFactorySubscriber<u64, u8>,
     alloc: Global,
-    hub: &mut World,
+    hub: &mut Messages,
 ) -> Result<bool, Fail> {
     let subscriber = subscribe(readers, alloc, hub)?;
     let sized = subscriber.buffer_size() == 2;
@@ -124,7 +124,7 @@ fn understand(
 
 #[test]
 fn a_message_goes_from_node_to_node(rt: HostRuntime) -> Result<(), Fail> {
-    let mut hub: World = Hub::new(rt.alloc(), CONFIG);
+    let mut hub: Messages = Hub::new(rt.alloc(), CONFIG);
     let first = hub.new_node()?;
     let second = hub.new_node()?;
     wanted((hub.id(), first.number(), second.number()), (7, 1, 2))?;

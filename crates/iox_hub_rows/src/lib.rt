@@ -1,6 +1,6 @@
 //! What the typed calls of a hub come to, as tests.
 //!
-//! - `shared`: a hub, its nodes, its services, and ports of these.
+//! - `shared`: a hub with a service, and what is done there as rows of a table.
 //! - `conversations`: messages go from node to node.
 //! - `closing`: what keeps a factory from being closed.
 //! - `domains`: domains that are made, taken and put back.

@@ -1,8 +1,8 @@
 //! Services of events and of requests.
-use crate::shared::{CONFIG, World, wanted};
+use crate::shared::{Messages, new_world, wanted};
 use iox_describe::ServiceName;
-use iox_hub_base::{Hub, HubBuilder, NodeHandle, PortFactory};
-use iox_negotiate::{Negotiated, ServiceBuilder};
+use iox_hub_base::{HubBuilder, NodeHandle, PortFactory};
+use iox_negotiate::{Builder, Negotiated, ServiceBuilder};
 use iox_negotiate_errors::{EventOpenError, RequestResponseOpenError};
 use std::alloc::Global;
 use std::fmt::Debug;
@@ -10,16 +10,65 @@ use std::process::Abort;
 use std::test::Fail;
 
 // A factory is closed.
-fn is_closed<P: Negotiated>(rt: &impl Abort, hub: &mut World, factory: PortFactory<P>) -> bool {
+fn is_closed<P: Negotiated>(rt: &impl Abort, hub: &mut Messages, factory: PortFactory<P>) -> bool {
     assert!(rt; hub.holds(&factory));
     hub.close(factory).is_ok()
+}
+
+// The service is created.
+fn creates<P: Negotiated>(
+    rt: &impl Abort,
+    alloc: Global,
+    hub: &mut Messages,
+    asked: &ServiceBuilder<P>,
+) -> Result<PortFactory<P>, Fail>
+where
+    P::CreateError: Debug,
+{
+    let builder = asked.try_clone(alloc)?;
+    assert!(rt; builder.holds(hub));
+    Ok(builder.create_in(alloc, hub, Vec::new(alloc))?)
+}
+
+// The service is opened, and closed again: its number.
+fn visits<P: Negotiated>(
+    rt: &impl Abort,
+    alloc: Global,
+    hub: &mut Messages,
+    asked: &ServiceBuilder<P>,
+) -> Result<(u64, bool), Fail>
+where
+    P::OpenOrCreateError: Debug,
+{
+    let builder = asked.try_clone(alloc)?;
+    assert!(rt; builder.holds(hub));
+    let factory = builder.open_or_create_in(alloc, hub, Vec::new(alloc))?;
+    let number = factory.number();
+    Ok((number, is_closed(rt, hub, factory)))
+}
+
+// The service can't be opened.
+fn is_absent<P: Negotiated>(
+    rt: &impl Abort,
+    alloc: Global,
+    hub: &mut Messages,
+    asked: &ServiceBuilder<P>,
+    absent: P::OpenError,
+) -> Result<(), Fail>
+where
+    P::OpenError: Copy + PartialEq + Debug,
+{
+    let builder = asked.try_clone(alloc)?;
+    assert!(rt; builder.holds(hub));
+    let refusal = builder.open_in(alloc, hub, Vec::new(alloc)).err();
+    wanted(refusal, Some(absent))
 }
 
 // A service is created, opened, and closed twice; then it can't be opened.
 fn is_lived<P: Negotiated>(
     rt: &impl Abort,
     alloc: Global,
-    hub: &mut World,
+    hub: &mut Messages,
     asked: &ServiceBuilder<P>,
     absent: P::OpenError,
 ) -> Result<(), Fail>
@@ -28,56 +77,32 @@ where
     P::OpenError: Copy + PartialEq + Debug,
     P::OpenOrCreateError: Debug,
 {
-    let creating = asked.try_clone(alloc)?;
-    assert!(rt; creating.holds(hub));
-    let first = creating.create_in(alloc, hub, Vec::new(alloc))?;
-    let opening = asked.try_clone(alloc)?;
-    assert!(rt; opening.holds(hub));
-    let second = opening.open_or_create_in(alloc, hub, Vec::new(alloc))?;
-    wanted(first.number(), second.number())?;
-    wanted(is_closed(rt, hub, first), true)?;
-    wanted(is_closed(rt, hub, second), true)?;
-    let gone = asked.try_clone(alloc)?;
-    assert!(rt; gone.holds(hub));
-    wanted(
-        gone.open_in(alloc, hub, Vec::new(alloc)).err(),
-        Some(absent),
-    )
+    let first = creates(rt, alloc, hub, asked)?;
+    let number = first.number();
+    let visited = visits(rt, alloc, hub, asked)?;
+    let closed = is_closed(rt, hub, first);
+    wanted((visited, closed), ((number, true), true))?;
+    is_absent(rt, alloc, hub, asked, absent)
 }
 
-// A hub and a node of it.
-fn world(alloc: Global) -> Result<(World, NodeHandle), Fail> {
-    let mut hub: World = Hub::new(alloc, CONFIG);
-    let node = hub.new_node()?;
-    Ok((hub, node))
+// What is asked of the service `A`, of which the pattern isn't said yet.
+fn asked(rt: &impl Abort, hub: &Messages, node: &NodeHandle) -> Result<Builder, Fail> {
+    assert!(rt; hub.holds_node(node));
+    Ok(hub.service_builder(node, ServiceName::new(b"A")?))
 }
 
 #[test]
 fn events_live_in_a_hub(rt: HostRuntime) -> Result<(), Fail> {
-    let (mut hub, node) = world(rt.alloc())?;
-    assert!(rt; hub.holds_node(&node));
-    let asked = hub.service_builder(&node, ServiceName::new(b"A")?).event();
-    is_lived(
-        &rt,
-        rt.alloc(),
-        &mut hub,
-        &asked,
-        EventOpenError::DoesNotExist,
-    )
+    let mut world = new_world(rt.alloc())?;
+    let asked = asked(&rt, &world.hub, &world.node)?.event();
+    let absent = EventOpenError::DoesNotExist;
+    is_lived(&rt, rt.alloc(), &mut world.hub, &asked, absent)
 }
 
 #[test]
 fn requests_live_in_a_hub(rt: HostRuntime) -> Result<(), Fail> {
-    let (mut hub, node) = world(rt.alloc())?;
-    assert!(rt; hub.holds_node(&node));
-    let asked = hub
-        .service_builder(&node, ServiceName::new(b"A")?)
-        .request_response::<u64, u64>();
-    is_lived(
-        &rt,
-        rt.alloc(),
-        &mut hub,
-        &asked,
-        RequestResponseOpenError::DoesNotExist,
-    )
+    let mut world = new_world(rt.alloc())?;
+    let asked = asked(&rt, &world.hub, &world.node)?.request_response::<u64, u64>();
+    let absent = RequestResponseOpenError::DoesNotExist;
+    is_lived(&rt, rt.alloc(), &mut world.hub, &asked, absent)
 }
