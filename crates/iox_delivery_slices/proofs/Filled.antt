@@ -1,14 +1,11 @@
 -- Values that are written one after the other are found in the loan.
-use Rattle.std.proofs.Common.{arith, ◌≡◌, ◌+◌, ◌<◌, ◌∙◌, ◌∷◌, [], ◌++◌, ◌&&◌, ◌==◌, ℕ, Bool, true, false, if◌then◌else◌, List, length, map, take, set, replicate, nat_lt, eqb, Option, None, Some, IsSome, is_some, Result, Ok, refl, sym, ap}
-use Rattle.std.specs.BTreeMap.{is_at}
-use Rattle.std.specs.List.{list_any, find}
-use Rattle.std.specs.Ordering.{nat_cmp}
+use Rattle.std.proofs.Common.{arith, ◌≡◌, ◌+◌, ◌<◌, ◌∙◌, ◌∷◌, [], ◌++◌, ℕ, Bool, true, false, List, length, map, take, set, replicate, nat_lt, eqb, Option, None, Some, IsSome, is_some, Ok, refl, sym, ap}
 use Rattle.std.proofs.Math.Logic.{⊎_elim}
 use Rattle.std.proofs.lemmas.Bool.Decides.{eqb_tells}
-use Rattle.std.proofs.lemmas.List.{append-nil, append_assoc, length-replicate, length-set, take_all, take_more_set, replicate_more, length-map}
+use Rattle.std.proofs.lemmas.List.{append-nil, append_assoc, length-replicate, length-set, take_all, take_more_set, replicate_more}
 use Rattle.iox_domain_sender.specs.Messages.{Loan, write_value, write_all, new_loan}
 use Rattle.iox_domain_sender.specs.Sending.{has_place, has_length}
-use Rattle.iox_domain_publisher.specs.Writing.{loan_of, changed_if, changed_there}
+use Rattle.iox_domain_publisher.specs.Writing.{loan_of, changed_if}
 use Rattle.iox_domain_publisher.specs.declared.publisher_port.PublisherPort.{PublisherPort}
 use Rattle.iox_domain_subscriber.specs.Publishers.{port_of, with_port, changed_at_port, changed}
 use Rattle.iox_domain_ports.specs.Lending.{loan_at_port, loan_in, passes, passes_port, written_in}

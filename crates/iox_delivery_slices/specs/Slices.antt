@@ -11,13 +11,17 @@ use Rattle.iox_domain_values.specs.declared.port_error.SendError.TheVariants as 
 use Rattle.iox_domain_sender.specs.Messages.{Loan, write_value, write_all}
 use Rattle.iox_domain_sender.specs.Sending.{has_place, has_length}
 use Rattle.iox_domain_publisher.specs.Writing.{changed_if}
+use Rattle.iox_domain_publisher.specs.declared.meeting.Sent.{Sent as Sending}
 use Rattle.iox_domain_publisher.specs.declared.publisher_port.PublisherPort.{PublisherPort}
 use Rattle.iox_domain_subscriber.specs.Publishers.{changed}
 use Rattle.iox_domain_subscriber.specs.declared.attached.Taken.{Taken}
 use Rattle.iox_domain_ports.specs.Lending.{written_in}
 use Rattle.iox_domain_ports.specs.declared.service_ports.ServicePorts.{ServicePorts}
+use Rattle.iox_domain_home.specs.Homes.{AtDomain}
+use Rattle.iox_domain_home.specs.Steps.{SendsBy}
 use Rattle.iox_domain_home.specs.declared.domain_id.DomainId.{DomainId}
 use Rattle.iox_delivery.specs.Holding.{loan_found}
+use Rattle.iox_delivery.specs.Lent.{IsReady}
 use Rattle.iox_delivery.specs.Publishing.{changed_at, LendsSlot, AfterLoan, SendsSample}
 use Rattle.iox_delivery.specs.Subscribing.{TakesMessage}
 use Rattle.iox_delivery.specs.declared.port_id.PortId.{PortId}
@@ -101,6 +105,19 @@ SendsSlice {T} {U} {H} ports_of with_ports degrades decides port values old answ
     (lent : Result ℕ LoanError) × (middle : H)
     × LendsSlot ports_of with_ports port (length values) (length values) old lent middle
     × AfterLoan (λ error. Err (refusal.LoanError error)) (SendsAll ports_of with_ports degrades decides port values) lent middle answer new
+
+-- the values are written in the loan in a slot, so that it has just these, and it is sent then; the answer is what the send came to
+abbrev pub WritesAndSends : {T U H : Type 0} → (DomainId → H → Option (ServicePorts T U)) → (DomainId → ServicePorts T U → H → H) → (DomainId → ℕ → H → DegradationInfo → DegradationAction → Type 0) → (DomainId → ℕ → H → BackpressureInfo → BackpressureDecision → Type 0) → PortId → List T → ℕ → H → Result Sending SendError → H → Type 0
+WritesAndSends {T} {U} {H} ports_of with_ports degrades decides port values slot old answer new =
+    (middle : H) × WritesAll ports_of with_ports port slot values old middle × IsReady port.number values (length values) slot (ports_of port.domain middle)
+    × AtDomain (λ after. with_ports port.domain after middle) (SendsBy (degrades port.domain port.number middle) (decides port.domain port.number middle) port.number slot) (ports_of port.domain middle) middle (Some answer) new
+
+-- Values are lent, written and sent, as `SendsSlice` says; the answer is what the send came to, or the loan's refusal.
+abbrev pub SendsValues : {T U H : Type 0} → (DomainId → H → Option (ServicePorts T U)) → (DomainId → ServicePorts T U → H → H) → (DomainId → ℕ → H → DegradationInfo → DegradationAction → Type 0) → (DomainId → ℕ → H → BackpressureInfo → BackpressureDecision → Type 0) → PortId → List T → H → Result Sending SendError → H → Type 0
+SendsValues {T} {U} {H} ports_of with_ports degrades decides port values old answer new =
+    (lent : Result ℕ LoanError) × (middle : H)
+    × LendsSlot ports_of with_ports port (length values) (length values) old lent middle
+    × AfterLoan (λ error. Err (refusal.LoanError error)) (WritesAndSends ports_of with_ports degrades decides port values) lent middle answer new
 
 -- the sample of a message that a subscriber took
 abbrev pub sample_of : {T U : Type 0} → PortId → Taken → Sample T U

@@ -1,19 +1,22 @@
-//! How the values of a slice that is lent are written.
+//! How the values of a slice that is lent are written, by port: what ports under numbers call.
 ghost use Rattle.std.specs.Prelude.{◌≡◌, ◌∷◌, [], true, false, List, length, replicate, is_some, IfOk, Err};
 ghost use Rattle.iox_container.specs.Vectors.{MakesInTurn};
 ghost use Rattle.iox_delivery.specs.Holding.{loan_found, publisher_stands, publisher_blocked};
 ghost use Rattle.iox_delivery.specs.Lent.{IsReady};
 ghost use Rattle.iox_delivery.specs.Publishing.{LendsSlot, AfterLoan};
-ghost use Rattle.iox_delivery_slices.specs.Slices.{each_written, WritesAll, WritesEach, LendsFilled};
+ghost use Rattle.iox_delivery_slices.specs.Slices.{each_written, WritesAll, WritesEach, LendsFilled, SendsValues};
 
 use iox_delivery::{PortId, publishing};
 use iox_domain_home::Home;
-use iox_domain_publisher::PublisherPort;
-use iox_domain_values::LoanError;
+use iox_domain_publisher::{PublisherPort, Sent};
+use iox_domain_values::{LoanError, SendError};
 use std::alloc::Global;
 
-// A publisher lends a slot for so many values, each of which is written: this one.
-pub(crate) fn loan_filled<T: Copy, U: Copy, H: Home<T, U>>(
+/// A publisher lends a slot for so many values, each of which is written: this one. The header of the message tells as many elements. It is
+/// refused as `publishing::loan` says. It may be sent at once: it is a slice that is written, and no send waits.
+///
+/// Ported from `iceoryx2::port::publisher::Publisher::loan_slice`, where each value is a default.
+pub fn loan_filled<T: Copy, U: Copy, H: Home<T, U>>(
     port: PortId,
     alloc: Global,
     home: &mut H,
@@ -28,6 +31,30 @@ pub(crate) fn loan_filled<T: Copy, U: Copy, H: Home<T, U>>(
     let slot = publishing::loan(port, alloc, home, len, len as u64)?;
     fill(port, slot, home, len, value);
     Ok(slot)
+}
+
+/// A publisher lends as many values, writes them and sends them. A loan that is refused as `publishing::loan` says, is
+/// `SendError::LoanError`, and nothing is sent; else `ServicePorts::send` says which connections take the message, and when the send is
+/// refused or waits.
+///
+/// This port's own: `iceoryx2::port::publisher::Publisher::send_copy` for slices, with an answer that needn't be spent.
+pub fn send_values<T: Copy, U: Copy, H: Home<T, U>>(
+    port: PortId,
+    alloc: Global,
+    home: &mut H,
+    values: &[T],
+) -> Result<Sent, SendError>
+    requires holds { publisher_stands port.number (H.ports_of port.domain home.old) ≡ true }
+    requires free { publisher_blocked port.number (H.ports_of port.domain home.old) ≡ false }
+    ensures { SendsValues H.ports_of H.with_ports H.publisher_degrades H.publisher_decides port values.now home.old result home.new }
+{
+    let len = values.len();
+    let slot = publishing::loan(port, alloc, home, len, len as u64)?;
+    write_all(port, slot, home, values);
+    match home.send(alloc, port.domain, port.number, slot) {
+        Some(sent) => sent,
+        None => unreachable!(),
+    }
 }
 
 // Writes all values of a loan at once.

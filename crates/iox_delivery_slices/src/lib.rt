@@ -5,11 +5,12 @@
 //! - [`sample_mut`]: a slice that is lent and written.
 //! - [`subscriber`]: a subscriber of slices.
 //! - [`sample`]: a slice that was received.
+//! - [`filling`]: slices that are lent and written at once, by port.
 //!
 //! No port, loan or sample may be let go: it is spent by the call that ends it.
 #![tactic(auto)]
 
-mod filling;
+pub mod filling;
 pub mod publisher;
 pub mod sample;
 pub mod sample_mut;

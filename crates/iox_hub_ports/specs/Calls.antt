@@ -1,6 +1,6 @@
 -- What the calls of a port under a number do to their home. `ports_of` finds the ports of a domain in a home, `with_ports` puts others
 -- there.
-use Rattle.std.specs.Prelude.{ℕ, ◌≡◌, Bool, false, Option, None, Some, Result}
+use Rattle.std.specs.Prelude.{ℕ, ◌≡◌, ◌&&◌, Bool, false, not, List, replicate, Option, None, Some, Result, IfOk, if◌then◌else◌}
 use Rattle.iox_domain_values.specs.declared.backpressure.BackpressureDecision.{BackpressureDecision}
 use Rattle.iox_domain_values.specs.declared.backpressure.BackpressureInfo.{BackpressureInfo}
 use Rattle.iox_domain_values.specs.declared.connection_failure.ConnectionFailure.{ConnectionFailure}
@@ -15,7 +15,10 @@ use Rattle.iox_domain_ports.specs.declared.service_ports.ServicePorts.{ServicePo
 use Rattle.iox_domain_home.specs.Homes.{AtDomain, LeavesDomain}
 use Rattle.iox_domain_home.specs.Steps as steps
 use Rattle.iox_domain_home.specs.declared.domain_id.DomainId.{DomainId}
+use Rattle.iox_delivery.specs.Holding.{publisher_stands, publisher_blocked}
+use Rattle.iox_delivery.specs.Lent.{IsReady}
 use Rattle.iox_delivery.specs.declared.port_id.PortId.{PortId}
+use Rattle.iox_delivery_slices.specs.Slices.{LendsFilled, SendsValues}
 
 -- A call at the port that goes by a number: nothing happens where none does.
 abbrev pub AtPort : {H A : Type 0} → (PortId → H → Option A → H → Type 0) → Option PortId → H → Option A → H → Type 0
@@ -31,6 +34,26 @@ AtPortIf call (Some port) old answer new = call port old answer new
 abbrev pub Lends : {T U H : Type 0} → (DomainId → H → Option (ServicePorts T U)) → (DomainId → ServicePorts T U → H → H) → ℕ → PortId → H → Option (Result ℕ LoanError) → H → Type 0
 Lends ports_of with_ports elements port old answer new =
     AtDomain (λ after. with_ports port.domain after old) (steps.LoansBy port.number elements elements) (ports_of port.domain old) old answer new
+
+-- whether a publisher may lend: its domain is here, it didn't leave, and no send of it waits
+abbrev pub may_lend : {T U H : Type 0} → (DomainId → H → Option (ServicePorts T U)) → PortId → H → Bool
+may_lend ports_of port home = publisher_stands port.number (ports_of port.domain home) && not (publisher_blocked port.number (ports_of port.domain home))
+
+-- the port of a publisher, if it may lend
+abbrev pub ready : {T U H : Type 0} → (DomainId → H → Option (ServicePorts T U)) → Option PortId → H → Option PortId
+ready ports_of None home = None
+ready ports_of (Some port) home = if may_lend ports_of port home then Some port else None
+
+-- A publisher lends a slot for so many elements, each of which is written: all the same. What was lent has just these values then.
+abbrev pub LendsWritten : {T U H : Type 0} → (DomainId → H → Option (ServicePorts T U)) → (DomainId → ServicePorts T U → H → H) → ℕ → T → PortId → H → Option (Result ℕ LoanError) → H → Type 0
+LendsWritten ports_of with_ports elements value port old answer new =
+    (lent : Result ℕ LoanError) × LendsFilled ports_of with_ports port elements value old lent new
+    × IfOk lent (λ slot. IsReady port.number (replicate elements value) elements slot (ports_of port.domain new)) × (answer ≡ Some lent)
+
+-- Values are lent of a publisher, written and sent.
+abbrev pub Puts : {T U H : Type 0} → (DomainId → H → Option (ServicePorts T U)) → (DomainId → ServicePorts T U → H → H) → (DomainId → ℕ → H → DegradationInfo → DegradationAction → Type 0) → (DomainId → ℕ → H → BackpressureInfo → BackpressureDecision → Type 0) → List T → PortId → H → Option (Result Sent SendError) → H → Type 0
+Puts ports_of with_ports degrades decides values port old answer new =
+    (sent : Result Sent SendError) × SendsValues ports_of with_ports degrades decides port values old sent new × (answer ≡ Some sent)
 
 -- A publisher follows the list of subscribers.
 abbrev pub Follows : {T U H : Type 0} → (DomainId → H → Option (ServicePorts T U)) → (DomainId → ServicePorts T U → H → H) → (DomainId → ℕ → H → DegradationInfo → DegradationAction → Type 0) → PortId → H → Option (Result (Unit {0}) ConnectionFailure) → H → Type 0

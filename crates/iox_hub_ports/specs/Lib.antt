@@ -5,3 +5,5 @@ pub mod Numbering
 pub mod Loans
 pub mod Reading
 pub mod Making
+pub mod Growing
+pub mod Laws

@@ -2,6 +2,7 @@
 use Rattle.std.specs.Prelude.{ℕ, ◌≡◌, Bool, Option, None, Some, Result, Ok, Err}
 use Rattle.iox_numbered.specs.NumberTable.{inserted}
 use Rattle.iox_domain_home.specs.declared.domain_id.DomainId.{DomainId}
+use Rattle.iox_hub_ports.specs.Tables.{IsRoomier}
 use Rattle.iox_hub_ports.specs.declared.made.Made.{Made}
 
 -- a publisher of a domain gets the next number
@@ -23,3 +24,9 @@ NumbersPort numbered next (Some (Ok number)) old answer new = (answer ≡ Some (
 abbrev pub MakesNumbered : {H E : Type 0} → (H → Option (Result ℕ E) → H → Type 0) → (ℕ → Made → Made) → ℕ → Made → H → Option (Result ℕ E) → Made → H → Type 0
 MakesNumbered {H} {E} comes numbered next made old answer made_after new =
     (came : Option (Result ℕ E)) × comes old came new × NumbersPort numbered next came made answer made_after
+
+-- A port comes in a home, and gets a number, once there is room for it, which changes nothing else. Where no memory is found for that the port
+-- is refused as for any want of memory.
+abbrev pub MakesRoomFirst : {H E : Type 0} → (H → Option (Result ℕ E) → H → Type 0) → (ℕ → Made → Made) → ℕ → Made → H → Option (Result ℕ E) → Made → H → Type 0
+MakesRoomFirst comes numbered next made old answer made_after new =
+    (roomier : Made) × IsRoomier made roomier × MakesNumbered comes numbered next roomier old answer made_after new

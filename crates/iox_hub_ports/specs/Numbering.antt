@@ -9,7 +9,7 @@ use Rattle.iox_domain_subscriber.specs.declared.attached.Taken.{Taken}
 use Rattle.iox_domain_ports.specs.declared.service_ports.ServicePorts.{ServicePorts}
 use Rattle.iox_domain_home.specs.declared.domain_id.DomainId.{DomainId}
 use Rattle.iox_delivery.specs.declared.port_id.PortId.{PortId}
-use Rattle.iox_hub_ports.specs.Calls.{AtPort, Lends, Receives}
+use Rattle.iox_hub_ports.specs.Calls.{AtPort, Lends, LendsWritten, Receives}
 use Rattle.iox_hub_ports.specs.declared.made.Made.{Made}
 
 -- what was made, where something is done to it only if something happened
@@ -36,6 +36,11 @@ NumbersLoan (Some port) (Some (Ok slot)) old answer new = (answer ≡ Some (Ok o
 abbrev pub LendsNumbered : {T U H : Type 0} → (DomainId → H → Option (ServicePorts T U)) → (DomainId → ServicePorts T U → H → H) → ℕ → Option PortId → Made → H → Option (Result ℕ LoanError) → Made → H → Type 0
 LendsNumbered ports_of with_ports elements port made old answer made_after new =
     (lent : Option (Result ℕ LoanError)) × AtPort (Lends ports_of with_ports elements) port old lent new × NumbersLoan port lent made answer made_after
+
+-- A publisher lends a slot for so many elements, each of which is written: all the same; and the loan gets a number.
+abbrev pub LendsWrittenNumbered : {T U H : Type 0} → (DomainId → H → Option (ServicePorts T U)) → (DomainId → ServicePorts T U → H → H) → ℕ → T → Option PortId → Made → H → Option (Result ℕ LoanError) → Made → H → Type 0
+LendsWrittenNumbered ports_of with_ports elements value port made old answer made_after new =
+    (lent : Option (Result ℕ LoanError)) × AtPort (LendsWritten ports_of with_ports elements value) port old lent new × NumbersLoan port lent made answer made_after
 
 -- A sample that was received gets the next number, which is answered; else nothing gets one.
 abbrev pub NumbersSample : Option PortId → Option (Result (Option Taken) ReceiveError) → Made → Option (Result (Option ℕ) ReceiveError) → Made → Type 0

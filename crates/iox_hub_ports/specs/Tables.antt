@@ -1,5 +1,5 @@
 -- Which port, loan or sample goes by a number.
-use Rattle.std.specs.Prelude.{ℕ, ◌≡◌, ◌||◌, ◌==◌, [], Option, None, Some, if◌then◌else◌}
+use Rattle.std.specs.Prelude.{ℕ, ◌≡◌, ◌≤◌, ◌||◌, ◌==◌, [], length, Option, None, Some, if◌then◌else◌}
 use Rattle.iox_numbered.specs.NumberTable.{NumberTable, removed}
 use Rattle.iox_delivery.specs.declared.port_id.PortId.{PortId}
 use Rattle.iox_hub_ports.specs.declared.made.Made.{Made}
@@ -12,6 +12,18 @@ no_numbers = record { entries = []; next = 1; room = 0 }
 -- Nothing was made.
 abbrev pub IsEmpty : Made → Type 0
 IsEmpty made = made ≡ record { publishers = no_numbers; subscribers = no_numbers; loans = no_numbers; samples = no_numbers }
+
+-- The same values stand under the same numbers, and the same number comes next; the room is at least as much.
+abbrev pub SameNumbers : {V : Type 0} → NumberTable V → NumberTable V → Type 0
+SameNumbers old new = (new.entries ≡ old.entries) × (new.next ≡ old.next) × (old.room ≤ new.room)
+
+-- Nothing changed but that there may be more room.
+abbrev pub IsRoomier : Made → Made → Type 0
+IsRoomier old new = SameNumbers old.publishers new.publishers × SameNumbers old.subscribers new.subscribers × SameNumbers old.loans new.loans × SameNumbers old.samples new.samples
+
+-- There is no room for one value more.
+abbrev pub IsFull : {V : Type 0} → NumberTable V → Type 0
+IsFull table = table.room ≤ length table.entries
 
 -- the port of a publisher, if there is one
 abbrev pub port_under : Option MadePublisher → Option PortId

@@ -4,12 +4,16 @@
 //! |---|---|
 //! | `made` | the tables: which port, loan or sample goes by a number |
 //! | `making` | ports come, and get numbers |
-//! | `publishing` | publishers lend, send, wait, and leave |
+//! | `publishing` | publishers lend, put, wait, and leave |
 //! | `loans` | what is written into a loan; it is given up, or sent |
 //! | `subscribing` | subscribers follow, receive, and leave |
 //! | `samples` | a sample is read, and released |
+//! | `growing` | loans and samples that come where there may be no room for one more |
+//! | `laws` | what the calls come to, in other words |
 #![tactic(auto)]
 
+pub mod growing;
+pub mod laws;
 pub mod loans;
 pub mod made;
 pub mod making;

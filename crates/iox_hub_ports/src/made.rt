@@ -1,9 +1,12 @@
 //! The tables: which port, loan or sample goes by a number.
-ghost use Rattle.std.specs.Prelude.{◌≡◌};
+ghost use Rattle.std.specs.Prelude.{◌≡◌, true, false, IfSome};
+ghost use Rattle.iox_delivery.specs.Holding.{publisher_stands, publisher_blocked};
 ghost use Rattle.iox_numbered.specs.NumberTable.{value_at};
+ghost use Rattle.iox_hub_ports.specs.Calls.{ready};
 ghost use Rattle.iox_hub_ports.specs.Tables.{IsEmpty, port_under, lender};
 
-use iox_delivery::PortId;
+use iox_delivery::{PortId, publishing};
+use iox_domain_home::Home;
 use iox_domain_subscriber::Taken;
 use iox_numbered::Numbered;
 use std::alloc::Global;
@@ -95,6 +98,25 @@ impl Made {
                 }
             }
             None => None,
+        }
+    }
+
+    // The same, if that publisher may lend: its domain is here, it didn't leave, and no send of it waits.
+    pub(crate) fn ready_lender<T: Copy, U: Copy, H: Home<T, U>>(
+        &self,
+        home: &H,
+        publisher: u64,
+        elements: u64,
+    ) -> Option<PortId>
+        ensures port { result ≡ ready H.ports_of (lender elements (value_at self.now.publishers publisher)) home.now }
+        ensures stands { IfSome result (λ port. publisher_stands port.number (H.ports_of port.domain home.now) ≡ true) }
+        ensures free { IfSome result (λ port. publisher_blocked port.number (H.ports_of port.domain home.now) ≡ false) }
+    {
+        let port = self.lender(publisher, elements)?;
+        if publishing::holds(port, home) && !publishing::is_blocked(port, home) {
+            Some(port)
+        } else {
+            None
         }
     }
 }

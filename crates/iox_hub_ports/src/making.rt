@@ -3,8 +3,9 @@ ghost use Rattle.std.specs.Prelude.{◌<◌, ◌+◌, ◌^◌, length};
 ghost use Rattle.iox_domain_home.specs.Homes.{MakesAt};
 ghost use Rattle.iox_domain_home.specs.Steps.{PublisherComes, SubscriberComes, why_no_publisher, why_no_subscriber};
 ghost use Rattle.iox_domain_values.specs.declared.degradation.DegradationCause.TheVariants.{FailedToEstablishConnection};
-ghost use Rattle.iox_hub_ports.specs.Making.{MakesNumbered, with_publisher, with_subscriber};
+ghost use Rattle.iox_hub_ports.specs.Making.{MakesNumbered, MakesRoomFirst, with_publisher, with_subscriber};
 
+use crate::growing::room_for_one;
 use crate::made::{Made, MadePublisher};
 use iox_delivery::PortId;
 use iox_domain_home::{DomainId, MakesPorts};
@@ -86,5 +87,56 @@ impl Made {
             Ok(number) => Some(Ok(self.subscribers.insert_next(PortId { domain, number }))),
             Err(error) => Some(Err(error)),
         }
+    }
+
+    /// As `create_publisher`, and room is made first for one more, if there is none: nothing else changes where the publisher doesn't come.
+    ///
+    /// None, and nothing happens, where the domain isn't here. Refused as `create_publisher` is, also where memory is wanting for that room: with
+    /// `ExceedsMaxSupportedPublishers` if no place is free, else with `UnableToCreateDataSegment`.
+    pub fn make_publisher<
+        T: Copy,
+        U: Copy,
+        B: Degrades,
+        D: Degrades,
+        O: Overrides,
+        H: MakesPorts<T, U, B, D>,
+    >(
+        &mut self,
+        alloc: Global,
+        home: &mut H,
+        domain: DomainId,
+        parts: PublisherParts<'_, U, B, O>,
+    ) -> Option<Result<u64, PublisherCreateError>>
+        requires number { self.old.publishers.next + 1 < 2 ^ 64 }
+        ensures { MakesRoomFirst (MakesAt (λ after. H.with_ports domain after home.old) (λ number. H.with_publisher domain number parts.entry.handlers) (PublisherComes (O.overrides parts.entry.overriding.now) (B.degrades parts.entry.handlers FailedToEstablishConnection) parts.entry.config parts.entry.user_header) (why_no_publisher parts.entry.config) (H.ports_of domain home.old)) (with_publisher domain parts.entry.holds_slices) self.old.publishers.next self.old home.old result self.new home.new }
+    {
+        if room_for_one(&mut self.publishers).is_err() {
+            let ports = home.ports(domain)?;
+            return Some(Err(ports.publisher_refusal(&parts.config)));
+        }
+        self.create_publisher(alloc, home, domain, parts)
+    }
+
+    /// As `create_subscriber`, and room is made first for one more, if there is none: nothing else changes where the subscriber doesn't come.
+    ///
+    /// None, and nothing happens, where the domain isn't here. Refused as `create_subscriber` is, also where memory is wanting for that room:
+    /// with `BufferSizeExceedsMaxSupportedBufferSizeOfService` if its buffer is larger than the service allows, else with
+    /// `ExceedsMaxSupportedSubscribers` if no place is free, else with `OutOfMemory`.
+    pub fn make_subscriber<T: Copy, U: Copy, B: Degrades, D: Degrades, H: MakesPorts<T, U, B, D>>(
+        &mut self,
+        alloc: Global,
+        home: &mut H,
+        domain: DomainId,
+        config: SubscriberConfig,
+        handler: D,
+    ) -> Option<Result<u64, SubscriberCreateError>>
+        requires number { self.old.subscribers.next + 1 < 2 ^ 64 }
+        ensures { MakesRoomFirst (MakesAt (λ after. H.with_ports domain after home.old) (λ number. H.with_subscriber domain number handler) (SubscriberComes (D.degrades handler FailedToEstablishConnection) config) (why_no_subscriber config) (H.ports_of domain home.old)) (with_subscriber domain) self.old.subscribers.next self.old home.old result self.new home.new }
+    {
+        if room_for_one(&mut self.subscribers).is_err() {
+            let ports = home.ports(domain)?;
+            return Some(Err(ports.subscriber_refusal(config.buffer_size)));
+        }
+        self.create_subscriber(alloc, home, domain, config, handler)
     }
 }

@@ -1,11 +1,12 @@
-//! Publishers lend, send, wait, and leave.
+//! Publishers lend, put, wait, and leave.
 ghost use Rattle.std.specs.Prelude.{◌≡◌, ◌<◌, ◌+◌, ◌^◌, length};
 ghost use Rattle.iox_numbered.specs.NumberTable.{value_at};
-ghost use Rattle.iox_hub_ports.specs.Calls.{AtPort, AtPortIf, Lends, Follows, Retries, GivesUp, PublisherGoes};
-ghost use Rattle.iox_hub_ports.specs.Numbering.{LendsNumbered, removed_if};
+ghost use Rattle.iox_hub_ports.specs.Calls.{AtPort, AtPortIf, ready, Lends, Puts, Follows, Retries, GivesUp, PublisherGoes};
+ghost use Rattle.iox_hub_ports.specs.Numbering.{LendsNumbered, LendsWrittenNumbered, removed_if};
 ghost use Rattle.iox_hub_ports.specs.Tables.{port_under, lender, without_publisher};
 
 use crate::made::{Made, MadeLoan};
+use iox_delivery_slices::filling;
 use iox_domain_home::Home;
 use iox_domain_publisher::Sent;
 use iox_domain_values::{ConnectionFailure, LoanError, SendError};
@@ -34,6 +35,48 @@ impl Made {
             Ok(slot) => Some(Ok(self.loans.insert_next(MadeLoan { port, slot }))),
             Err(error) => Some(Err(error)),
         }
+    }
+
+    /// A publisher lends a slot for so many elements, each of which is written: this value. The answer is the loan's number, and the loan may
+    /// be sent at once. It takes no memory here: there must be room for one more loan.
+    ///
+    /// None, and nothing happens, and refused as `loan_uninit` is: where no publisher goes by the number, where its messages are single
+    /// values and not one element is asked for, where a send of it waits, or where its domain isn't here.
+    pub fn loan<T: Copy, U: Copy, H: Home<T, U>>(
+        &mut self,
+        alloc: Global,
+        home: &mut H,
+        publisher: u64,
+        elements: u64,
+        value: T,
+    ) -> Option<Result<u64, LoanError>>
+        requires room { length self.old.loans.entries < self.old.loans.room }
+        requires number { self.old.loans.next + 1 < 2 ^ 64 }
+        ensures { LendsWrittenNumbered H.ports_of H.with_ports elements value (ready H.ports_of (lender elements (value_at self.old.publishers publisher)) home.old) self.old home.old result self.new home.new }
+    {
+        let port = self.ready_lender(home, publisher, elements)?;
+        match filling::loan_filled(port, alloc, home, elements as usize, value) {
+            Ok(slot) => Some(Ok(self.loans.insert_next(MadeLoan { port, slot }))),
+            Err(error) => Some(Err(error)),
+        }
+    }
+
+    /// A publisher lends as many values, writes them and sends them; the answer is what the send came to. No loan gets a number. A loan that is
+    /// refused is `SendError::LoanError`, and nothing is sent.
+    ///
+    /// None, and nothing happens, where no publisher goes by the number, where its messages are single values and this isn't one, where a
+    /// send of it waits, or where its domain isn't here. Refused as `Home::send` refuses it.
+    pub fn put<T: Copy, U: Copy, H: Home<T, U>>(
+        &self,
+        alloc: Global,
+        home: &mut H,
+        publisher: u64,
+        values: &[T],
+    ) -> Option<Result<Sent, SendError>>
+        ensures { AtPort (Puts H.ports_of H.with_ports H.publisher_degrades H.publisher_decides values.now) (ready H.ports_of (lender (length values.now) (value_at self.now.publishers publisher)) home.old) home.old result home.new }
+    {
+        let port = self.ready_lender(home, publisher, values.len() as u64)?;
+        Some(filling::send_values(port, alloc, home, values))
     }
 
     /// A publisher follows the list of subscribers. None, and nothing happens, where no publisher goes by the number, where a send of it

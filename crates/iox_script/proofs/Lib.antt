@@ -1,4 +1,2 @@
 pub mod WordLemmas
 pub mod WordCount
-pub mod LineLemmas
-pub mod Advancing

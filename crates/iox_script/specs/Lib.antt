@@ -2,8 +2,4 @@
 pub mod Words
 pub mod CommandText
 pub mod ReplyText
-pub mod Lines
 pub mod Conversation
-pub mod Input
-pub mod Output
-pub mod Ending

@@ -1,0 +1,125 @@
+-- How a conversation goes on.
+use Rattle.std.proofs.Common.{◌≡◌, ℕ, ◌+◌, ◌<◌, ◌≤◌, ◌==◌, true, false, List, [], ◌∷◌, Option, IfSome, Result, Ok, Err, OnOk, ◌++◌, length, refl, sym, ap, inl, arith, append_assoc, length-append}
+use Rattle.std.proofs.lemmas.List.{append-nil}
+use Rattle.std.specs.Io.KnownBytes.{Appends, Consumes}
+use Rattle.std.proofs.KnownBytes.{Consumes-whole}
+use Rattle.iox_conversation.specs.Lines.{heard}
+use Rattle.iox_conversation.specs.Conversation.{Served, SessionState, Advances, Ends, IsConversation, Converses, BreaksOff}
+use Rattle.iox_conversation.specs.declared.error.ServeError.{ServeError}
+use Rattle.iox_conversation.proofs.LineLemmas.{is_unbroken, heard-whole, heard-last, heard-full}
+
+-- what answers some lines and then what answers more answers all of them
+pub Served-append : {M : Type 0} (answers : M → List ℕ → List ℕ → M → Type 0) (old mid new : M) (lines more : List (List ℕ)) (out next : List ℕ)
+    → Served answers old lines out mid → Served answers mid more next new → Served answers old (lines ++ more) (out ++ next) new
+Served-append answers old mid new [] more out next first second = rw first.0 (let e = first.1 in rw e at second)
+Served-append answers old mid new (line ∷ lines) more out next first second = (
+  first.0,
+  first.1 ++ next,
+  first.2,
+  first.3,
+  Served-append answers first.2 mid new lines more first.1 next first.4 second,
+  rw first.5 (append_assoc first.0 (10 ∷ first.1) next),
+)
+
+-- no bytes came
+pub Advances-none : {M : Type 0} (answers : M → List ℕ → List ℕ → M → Type 0) (used : M → ℕ) (old : SessionState M) → Advances answers used old [] [] old
+Advances-none answers used old = record { done = []; served = (refl, refl); lines = λ rest. refl; counts = omega arith }
+
+-- a byte came that belongs to the line under way
+pub Advances-pushed : {M : Type 0} (answers : M → List ℕ → List ℕ → M → Type 0) (used : M → ℕ) (old : SessionState M) (b : ℕ) → Advances answers used old (b ∷ []) [] (record old { line = old.line ++ b ∷ [] })
+Advances-pushed answers used old b = record {
+  done = [];
+  served = (refl, refl);
+  lines = λ rest. ap heard (sym (append_assoc old.line (b ∷ []) rest));
+  counts = omega arith;
+}
+
+-- a byte came of a line that is too long already
+pub Advances-ignored : {M : Type 0} (answers : M → List ℕ → List ℕ → M → Type 0) (used : M → ℕ) (old : SessionState M) (b : ℕ) → is_unbroken old.line ≡ true → length old.line ≡ 1025 → (b == 10) ≡ false
+    → Advances answers used old (b ∷ []) [] old
+Advances-ignored answers used old b unbroken full other = record {
+  done = [];
+  served = (refl, refl);
+  lines = λ rest. heard-full old.line b rest unbroken full other;
+  counts = omega arith;
+}
+
+-- a newline came, and the line is answered
+pub Advances-answered : {M : Type 0} (answers : M → List ℕ → List ℕ → M → Type 0) (used : M → ℕ) (old : SessionState M) (text : List ℕ) (machine : M) → is_unbroken old.line ≡ true → length old.line ≤ 1025
+    → answers old.machine old.line text machine → used machine ≤ used old.machine + 1
+    → Advances answers used old (10 ∷ []) (text ++ 10 ∷ []) (record { machine = machine; line = [] })
+Advances-answered answers used old text machine unbroken short answered counts = record {
+  done = old.line ∷ [];
+  served = (text, [], machine, answered, (refl, refl), refl);
+  lines = λ rest. heard-whole old.line rest unbroken short;
+  counts = counts;
+}
+
+-- one piece came after another
+pub Advances-append : {M : Type 0} (answers : M → List ℕ → List ℕ → M → Type 0) (used : M → ℕ) (old mid new : SessionState M) (bytes more out next : List ℕ)
+    → Advances answers used old bytes out mid → Advances answers used mid more next new → Advances answers used old (bytes ++ more) (out ++ next) new
+Advances-append answers used old mid new bytes more out next first second = record {
+  done = first.done ++ second.done;
+  served = Served-append answers old.machine mid.machine new.machine first.done second.done out next first.served second.served;
+  lines = λ rest. rw (append_assoc bytes more rest, first.lines (more ++ rest), second.lines rest) (sym (append_assoc first.done second.done (heard (new.line ++ rest))));
+  counts = omega (arith, first.counts, second.counts, length-append bytes more);
+}
+
+length-zero : (xs : List ℕ) → length xs ≡ 0 → xs ≡ []
+length-zero [] h = refl
+length-zero (x ∷ xs) h = absurd (omega (arith, h))
+
+-- the input ended, and no line was under way
+pub Ends-empty : {M : Type 0} (answers : M → List ℕ → List ℕ → M → Type 0) (old : SessionState M) → length old.line ≡ 0 → Ends answers old [] []
+Ends-empty answers old empty = record { final = old.machine; served = rw (length-zero old.line empty) (refl, refl) }
+
+-- the input ended, and the last line is answered
+pub Ends-answered : {M : Type 0} (answers : M → List ℕ → List ℕ → M → Type 0) (old : SessionState M) (text : List ℕ) (machine : M) → 0 < length old.line → is_unbroken old.line ≡ true
+    → length old.line ≤ 1025 → answers old.machine old.line text machine → Ends answers old [] (text ++ 10 ∷ [])
+Ends-answered answers old text machine some unbroken short answered = record {
+  final = machine;
+  served = rw (append-nil old.line, heard-last old.line some unbroken short) (text, [], machine, answered, (refl, refl), refl);
+}
+
+-- a session from its start to its end is a conversation
+pub IsConversation-ended : {M : Type 0} (answers : M → List ℕ → List ℕ → M → Type 0) (used : M → ℕ) (start : M) (session : SessionState M) (input out last : List ℕ)
+    → Advances answers used (record { machine = start; line = [] }) input out session → Ends answers session [] last → IsConversation answers start input (out ++ last)
+IsConversation-ended answers used start session input out last advances ends =
+    let all = rw (append-nil input) at (advances.lines []) in (
+      ends.final,
+      rw all (Served-append answers start session.machine ends.final advances.done (heard (session.line ++ [])) out last
+          advances.served ends.served),
+    )
+
+-- what a conversation from its start to the end of the input says of the bytes that were left
+pub Converses-conversation : {M : Type 0} (answers : M → List ℕ → List ℕ → M → Type 0) (used : M → ℕ) (start : M) (left leaves held holds : Option (List ℕ))
+    → Converses answers used (record { machine = start; line = [] }) left leaves held holds
+    → IfSome left (λ bytes. (text : List ℕ) × Appends held holds text × IsConversation answers start bytes text)
+Converses-conversation answers used start left leaves held holds all =
+    Consumes-whole left leaves all.bytes (λ bytes. (text : List ℕ) × Appends held holds text × IsConversation answers start bytes text)
+    all.consumed all.all
+    (all.text ++ all.last, all.written, IsConversation-ended answers used start all.mid all.bytes all.text all.last all.advances all.ends)
+
+-- a conversation broke off where all that was read is answered
+pub BreaksOff-answered : {M : Type 0} (answers : M → List ℕ → List ℕ → M → Type 0) (used : M → ℕ) (error : ServeError) (old mid : SessionState M) (left leaves held holds : Option (List ℕ)) (bytes text : List ℕ)
+    → Consumes left leaves bytes → Appends held holds text → Advances answers used old bytes text mid → is_unbroken mid.line ≡ true
+    → BreaksOff answers used error old left leaves held holds
+BreaksOff-answered answers used error old mid left leaves held holds bytes text consumed written advances whole = record {
+  bytes = bytes;
+  text = text;
+  piece = [];
+  part = [];
+  mid = mid;
+  consumed = rw (append-nil bytes) consumed;
+  written = rw (append-nil text) written;
+  advances = advances;
+  whole = whole;
+  short = omega arith;
+  read = λ _. refl;
+  begun = inl refl;
+}
+
+-- what holds on success holds of what follows from it
+pub OnOk-follows : {A E P Q : Type 0} (result : Result A E) → (P → Q) → OnOk result P → OnOk result Q
+OnOk-follows (Ok x) follows holds = follows holds
+OnOk-follows (Err e) follows holds = tt

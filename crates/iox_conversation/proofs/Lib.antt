@@ -1,0 +1,3 @@
+pub mod Rest
+pub mod LineLemmas
+pub mod Advancing

@@ -1,0 +1,20 @@
+use Rattle.std.proofs.Common.{[], refl}
+use Rattle.std.proofs.KnownBytes.{Consumes-nil, Appends-nil}
+use Rattle.iox_conversation.proofs.Advancing.{Advances-none, BreaksOff-answered, Converses-conversation, OnOk-follows}
+use Rattle.iox_conversation.specs.declared.error.ServeError.TheVariants.{OutOfMemory}
+use Rattle.iox_conversation.proofs.conversation.serve.Goals as goal
+
+pub returns-clause-conversation : goal.returns-clause-conversation
+returns-clause-conversation g c =
+    OnOk-follows c.converse.result (Converses-conversation _ _ c.args.machine _ _ _ _) (rw c.in-Ok.ensures at c.converse.ensures.conversation)
+
+pub returns-in_default-clause-broken : goal.returns-in_default-clause-broken
+returns-in_default-clause-broken g c =
+    BreaksOff-answered _ _ OutOfMemory _ _ _ _ _ _ [] [] (Consumes-nil _) (Appends-nil _) (Advances-none _ _ _) refl
+
+pub returns-clause-broken : goal.returns-clause-broken
+returns-clause-broken g c = rw c.in-Ok.ensures at c.converse.ensures.broken
+
+pub returns-in_default-vec-clause-broken : goal.returns-in_default-vec-clause-broken
+returns-in_default-vec-clause-broken g c =
+    BreaksOff-answered _ _ OutOfMemory _ _ _ _ _ _ [] [] (Consumes-nil _) (Appends-nil _) (Advances-none _ _ _) refl

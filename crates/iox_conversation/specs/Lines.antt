@@ -1,0 +1,16 @@
+-- The lines of the input.
+use Rattle.std.specs.Prelude.{ℕ, ◌==◌, List, [], ◌∷◌, map, take, if◌then◌else◌}
+
+-- a byte stands before the first of the pieces
+abbrev pub onto_first : ℕ → List (List ℕ) → List (List ℕ)
+onto_first b [] = (b ∷ []) ∷ []
+onto_first b (piece ∷ pieces) = (b ∷ piece) ∷ pieces
+
+-- the bytes before each newline; a last line without one counts if it isn't empty
+abbrev pub lines_of : List ℕ → List (List ℕ)
+lines_of [] = []
+lines_of (b ∷ bs) = if b == 10 then [] ∷ lines_of bs else onto_first b (lines_of bs)
+
+-- what tells one line from another: its first 1,025 bytes, since a longer line is too long whatever follows
+abbrev pub heard : List ℕ → List (List ℕ)
+heard input = map (λ line. take 1025 line) (lines_of input)

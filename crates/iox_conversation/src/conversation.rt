@@ -1,0 +1,100 @@
+//! Bytes in, bytes out.
+ghost use Rattle.std.specs.Prelude.{◌≡◌, ◌==◌, ℕ, List, [], ◌⊎◌, ◌+◌, ◌<◌, ◌^◌, true, not, OnOk, IfErr, IfSome, length};
+ghost use Rattle.std.specs.List.{list_all};
+ghost use Rattle.std.specs.Io.KnownBytes.{Appends};
+ghost use Rattle.iox_conversation.specs.Conversation.{BreaksOff, IsConversation, Converses};
+
+use crate::error::ServeError;
+use crate::input::Input;
+use crate::machine::AnswersLines;
+use crate::output::Output;
+use crate::session::Session;
+use crate::write_all::write_all;
+use std::alloc::Global;
+use std::io::{Read, Write};
+
+/// How many read calls a conversation makes at most.
+pub const READ_CALLS: u64 = 1 << 20;
+
+/// How many bytes one read call asks for.
+const PIECE: usize = 65536;
+
+/// Answers each line of the input by one line of output, until a read gives no bytes.
+///
+/// Of a line of more than 1,024 bytes its first 1,025 are heard. A last line without a newline counts if it isn't empty. The
+/// lines of one read are answered before the next read, and their replies are written together.
+///
+/// After an error the replies to all that was read before the last read are written. After `ReadFault` so are those to all
+/// that was read, after `WriteFault` a beginning of those to the last read, and after `OutOfMemory` none of those.
+pub fn serve<M: AnswersLines, R: Read, W: Write>(
+    alloc: Global,
+    machine: M,
+    input: &mut Input<R>,
+    output: &mut Output<W>,
+) -> Result<(), ServeError>
+    requires calls { input.old.calls + 2 ^ 20 < 2 ^ 64 }
+    requires used { M.used machine + 2 ^ 36 < 2 ^ 64 }
+    // The premise is that the reader tells the bytes that it has left.
+    ensures conversation { OnOk result (IfSome (R.remaining input.old.reader) (λ bytes.
+        (text : List ℕ) × Appends (W.contents output.old.writer) (W.contents output.new.writer) text
+        × IsConversation M.answers machine bytes text)) }
+    ensures broken { IfErr result (λ error. BreaksOff M.answers M.used error (record { machine = machine; line = [] })
+        (R.remaining input.old.reader) (R.remaining input.new.reader) (W.contents output.old.writer) (W.contents output.new.writer)) }
+    ensures ended { OnOk result (input.new.ended ≡ true) }
+    ensures read_fault { result ≡ Err ServeError.ReadFault → (input.new.failed ≡ true) ⊎ (input.new.calls ≡ input.old.calls + 2 ^ 20) }
+    ensures write_fault { result ≡ Err ServeError.WriteFault → output.new.failed ≡ true }
+{
+    let Ok(mut session) = Session::new(alloc, machine) else {
+        return Err(ServeError::OutOfMemory);
+    };
+    let Ok(mut piece) = vec![in alloc; 0u8; PIECE] else {
+        return Err(ServeError::OutOfMemory);
+    };
+    let mut out = Vec::new(alloc);
+    converse(alloc, &mut session, &mut piece, &mut out, input, output)
+}
+
+fn converse<M: AnswersLines, R: Read, W: Write>(
+    alloc: Global,
+    session: &mut Session<M>,
+    piece: &mut [u8],
+    out: &mut Vec<u8>,
+    input: &mut Input<R>,
+    output: &mut Output<W>,
+) -> Result<(), ServeError>
+    requires empty { out.old.items ≡ [] }
+    requires piece { length piece.old ≡ PIECE }
+    requires fresh { M.used session.old.machine + 2 ^ 36 < 2 ^ 64 }
+    requires whole { list_all (λ b. not (b == 10)) session.old.line ≡ true }
+    requires calls { input.old.calls + 2 ^ 20 < 2 ^ 64 }
+    ensures conversation { OnOk result (Converses M.answers M.used session.old (R.remaining input.old.reader) (R.remaining input.new.reader)
+        (W.contents output.old.writer) (W.contents output.new.writer)) }
+    ensures broken { IfErr result (λ error. BreaksOff M.answers M.used error session.old (R.remaining input.old.reader) (R.remaining input.new.reader)
+        (W.contents output.old.writer) (W.contents output.new.writer)) }
+    ensures ended { OnOk result (input.new.ended ≡ true) }
+    ensures read_fault { result ≡ Err ServeError.ReadFault → (input.new.failed ≡ true) ⊎ (input.new.calls ≡ input.old.calls + 2 ^ 20) }
+    ensures write_fault { result ≡ Err ServeError.WriteFault → output.new.failed ≡ true }
+{
+    for turn in 0..READ_CALLS {
+        let Some(count) = input.read(piece) else {
+            return Err(ServeError::ReadFault);
+        };
+        if count == 0 {
+            let Ok(()) = session.finish(alloc, out) else {
+                return Err(ServeError::OutOfMemory);
+            };
+            if !write_all(output, out) {
+                return Err(ServeError::WriteFault);
+            }
+            return Ok(());
+        }
+        let Ok(()) = session.take_bytes(alloc, &piece[..count], out) else {
+            return Err(ServeError::OutOfMemory);
+        };
+        if !write_all(output, out) {
+            return Err(ServeError::WriteFault);
+        }
+        out.clear();
+    }
+    Err(ServeError::ReadFault)
+}

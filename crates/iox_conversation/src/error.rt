@@ -1,0 +1,50 @@
+//! Why a conversation ended before its input did, and how a program says so.
+ghost use Rattle.std.specs.Prelude.{◌≡◌};
+ghost use Rattle.iox_conversation.specs.Ending.{words_of_error, status_of_error, status_of};
+
+use thiserror::Error;
+
+/// Why a conversation ended before its input did.
+#[derive(Clone, Copy, Debug, PartialEq, Eq, Hash, Error)]
+#[error("{}", self.text())]
+pub enum ServeError {
+    /// A read call failed, or 2^20 read calls were made.
+    ReadFault,
+    /// A write call failed, or took no bytes.
+    WriteFault,
+    /// No memory was found for a reply.
+    OutOfMemory,
+}
+
+impl ServeError {
+    /// What it displays as.
+    pub fn text(&self) -> &'static str
+        ensures { result.now ≡ words_of_error self.now }
+    {
+        match self {
+            ServeError::ReadFault => "read fault",
+            ServeError::WriteFault => "write fault",
+            ServeError::OutOfMemory => "out of memory",
+        }
+    }
+
+    /// The status with which a program ends that met it: 1 after a read or write fault, 2 where memory was wanting.
+    pub fn status(&self) -> u8
+        ensures { result ≡ status_of_error self.now }
+    {
+        match self {
+            ServeError::ReadFault | ServeError::WriteFault => 1,
+            ServeError::OutOfMemory => 2,
+        }
+    }
+}
+
+/// The status with which a program ends after a conversation: 0 at the end of its input, else that of the error.
+pub fn status(ending: Result<(), ServeError>) -> u8
+    ensures { result ≡ status_of ending }
+{
+    match ending {
+        Ok(()) => 0,
+        Err(error) => error.status(),
+    }
+}

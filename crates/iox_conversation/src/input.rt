@@ -1,0 +1,93 @@
+//! A reader, with what its calls answered so far.
+ghost use Rattle.std.specs.Prelude.{◌≡◌, ◌+◌, ◌||◌, ◌<◌, ◌≤◌, ◌^◌, true, false, not, Some, take, length, IfSome, IfNone, is_none};
+ghost use Rattle.std.specs.Io.KnownBytes.{Consumes, IsAtEnd, Keeps};
+ghost use Rattle.iox_conversation.specs.Input.{InputState, is_end};
+
+use std::io::Read;
+use std::marker::Model;
+
+/// A reader that counts its read calls and remembers whether one failed or gave no bytes.
+#[derive(Drop)]
+pub struct Input<R> {
+    reader: R,
+    calls: u64,
+    failed: bool,
+    ended: bool,
+}
+
+impl<R> Model for Input<R> {
+    ghost use Rattle.iox_conversation.specs.Input.{InputState};
+
+    ghost Value = { InputState R };
+
+    ghost view = { λ i. record { reader = i.reader; calls = i.calls; failed = i.failed; ended = i.ended } };
+}
+
+impl<R> Input<R> {
+    /// A reader of which nothing was read yet.
+    pub fn new(reader: R) -> Self
+        ensures { result ≡ record { reader = reader; calls = 0; failed = false; ended = false } }
+    {
+        Input {
+            reader,
+            calls: 0,
+            failed: false,
+            ended: false,
+        }
+    }
+
+    /// The reader.
+    pub fn reader(&self) -> &R
+        ensures { result.now ≡ self.now.reader }
+    {
+        &self.reader
+    }
+
+    /// How many read calls were made.
+    pub fn calls(&self) -> u64
+        ensures { result ≡ self.now.calls }
+    {
+        self.calls
+    }
+
+    /// Whether a read call failed.
+    pub fn has_failed(&self) -> bool
+        ensures { result ≡ self.now.failed }
+    {
+        self.failed
+    }
+
+    /// Whether the last read call gave no bytes.
+    pub fn has_ended(&self) -> bool
+        ensures { result ≡ self.now.ended }
+    {
+        self.ended
+    }
+}
+
+impl<R: Read> Input<R> {
+    /// One read call: how many bytes it gave, or `None` where it failed. One that failed took no byte from the reader.
+    pub(crate) fn read(&mut self, buffer: &mut [u8]) -> Option<usize>
+        requires { self.old.calls + 1 < 2 ^ 64 }
+        ensures bound { IfSome result (λ count. count ≤ length buffer.new) }
+        ensures bytes { IfSome result (λ count. Consumes (R.remaining self.old.reader) (R.remaining self.new.reader) (take count buffer.new)) }
+        ensures kept { IfNone result (Keeps (R.remaining self.old.reader) (R.remaining self.new.reader)) }
+        ensures end { result ≡ Some 0 → 0 < length buffer.old → IsAtEnd (R.remaining self.new.reader) }
+        ensures calls { self.new.calls ≡ self.old.calls + 1 }
+        ensures failed { self.new.failed ≡ (self.old.failed || is_none result) }
+        ensures ended { self.new.ended ≡ is_end result }
+    {
+        self.calls += 1;
+        match self.reader.read(buffer) {
+            Ok(count) => {
+                self.ended = count == 0;
+                Some(count)
+            }
+            Err(_) => {
+                self.failed = true;
+                self.ended = false;
+                None
+            }
+        }
+    }
+}

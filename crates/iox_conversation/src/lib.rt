@@ -1,0 +1,29 @@
+//! Lines in, lines out: a conversation of anybody who answers lines, over any reader and writer.
+//!
+//! The contract of `serve` says that, for any reader and writer that tell their bytes, what was written are the answers, in
+//! order, to the lines read: `specs/Conversation.antt`. What a line is answered is a member of who answers.
+//!
+//! | Module | What it has |
+//! |---|---|
+//! | `machine` | who answers lines |
+//! | `input` | a reader, with what its calls answered |
+//! | `output` | a writer, with what its calls answered |
+//! | `write_all` | all of a text, in as many write calls as it takes |
+//! | `session` | who answers, and the line that isn't whole yet |
+//! | `conversation` | all lines of an input |
+//! | `error` | why a conversation ended, and how a program says so |
+#![tactic(auto)]
+
+pub mod conversation;
+pub mod error;
+pub mod input;
+pub mod machine;
+pub mod output;
+mod session;
+mod write_all;
+
+pub use conversation::{READ_CALLS, serve};
+pub use error::{ServeError, status};
+pub use input::Input;
+pub use machine::AnswersLines;
+pub use output::Output;

@@ -1,0 +1,111 @@
+//! A conversation under way: who answers, and what was heard of the line that isn't whole yet.
+ghost use Rattle.std.specs.Prelude.{◌≡◌, ◌==◌, ℕ, List, ◌+◌, ◌++◌, ◌∷◌, [], ◌<◌, ◌≤◌, ◌^◌, true, not, length, OnOk, IfOk};
+ghost use Rattle.std.specs.List.{list_all};
+ghost use Rattle.iox_conversation.specs.Conversation.{Advances, Ends};
+
+use crate::machine::AnswersLines;
+use std::alloc::{AllocError, Global};
+use std::marker::Model;
+
+/// The most bytes of a line, without its newline.
+const LINE_LIMIT: usize = 1024;
+
+/// Who answers, and the bytes of the line under way. Of a line that is too long no more is kept than tells that.
+#[derive(Drop)]
+pub(crate) struct Session<M> {
+    machine: M,
+    line: Vec<u8>,
+}
+
+impl<M> Model for Session<M> {
+    ghost use Rattle.std.specs.Prelude.{◌≡◌, ◌==◌, ◌≤◌, true, not, vec_len, vec_capacity};
+    ghost use Rattle.std.specs.List.{list_all};
+    ghost use Rattle.iox_conversation.specs.Conversation.{SessionState};
+
+    ghost Value = { SessionState M };
+
+    ghost view = { λ s. record { machine = s.machine; line = s.line.items } };
+
+    ghost invariant = { λ s. (list_all (λ b. not (b == 10)) s.line.items ≡ true) × (vec_len s.line ≤ 1025)
+        × (1025 ≤ vec_capacity s.line) };
+}
+
+impl<M: AnswersLines> Session<M> {
+    /// Nothing was heard yet.
+    pub fn new(alloc: Global, machine: M) -> Result<Self, AllocError>
+        ensures { IfOk result (λ session. session ≡ record { machine = machine; line = [] }) }
+    {
+        Ok(Session {
+            machine,
+            line: Vec::with_capacity(alloc, LINE_LIMIT + 1)?,
+        })
+    }
+
+    /// Takes one byte, and appends the reply line if it ends a line.
+    pub fn take_byte(
+        &mut self,
+        alloc: Global,
+        byte: u8,
+        out: &mut Vec<u8>,
+    ) -> Result<(), AllocError>
+        requires { M.used self.old.machine + 1 < 2 ^ 64 }
+        ensures whole { list_all (λ b. not (b == 10)) self.new.line ≡ true }
+        ensures answers { OnOk result ((text : List ℕ) × (out.new.items ≡ out.old.items ++ text) × Advances M.answers M.used self.old (byte ∷ []) text self.new) }
+    {
+        if byte != b'\n' {
+            if self.line.len() <= LINE_LIMIT {
+                self.line.push_reserved(byte);
+            }
+            return Ok(());
+        }
+        answer(alloc, &mut self.machine, &self.line, out)?;
+        self.line.clear();
+        Ok(())
+    }
+
+    /// Takes the bytes of one read, and appends the reply line of each line that they end.
+    pub fn take_bytes(
+        &mut self,
+        alloc: Global,
+        bytes: &[u8],
+        out: &mut Vec<u8>,
+    ) -> Result<(), AllocError>
+        requires { M.used self.old.machine + length bytes.now < 2 ^ 64 }
+        ensures whole { list_all (λ b. not (b == 10)) self.new.line ≡ true }
+        ensures answers { OnOk result ((text : List ℕ) × (out.new.items ≡ out.old.items ++ text) × Advances M.answers M.used self.old bytes.now text self.new) }
+    {
+        let _ = &self.line;
+        for &byte in bytes {
+            self.take_byte(alloc, byte, out)?;
+        }
+        Ok(())
+    }
+
+    /// Ends the input: a last line without a newline is answered if it isn't empty.
+    pub fn finish(&mut self, alloc: Global, out: &mut Vec<u8>) -> Result<(), AllocError>
+        requires { M.used self.old.machine + 1 < 2 ^ 64 }
+        ensures { OnOk result ((text : List ℕ) × (out.new.items ≡ out.old.items ++ text) × Ends M.answers self.old [] text) }
+    {
+        if self.line.is_empty() {
+            return Ok(());
+        }
+        answer(alloc, &mut self.machine, &self.line, out)?;
+        Ok(())
+    }
+}
+
+/// Answers one line, and appends the answer and a newline.
+fn answer<M: AnswersLines>(
+    alloc: Global,
+    machine: &mut M,
+    line: &[u8],
+    out: &mut Vec<u8>,
+) -> Result<(), AllocError>
+    requires { M.used machine.old + 1 < 2 ^ 64 }
+    ensures answers { OnOk result ((text : List ℕ) × (out.new.items ≡ out.old.items ++ (text ++ 10 ∷ [])) × M.answers machine.old line.now text machine.new) }
+    ensures counts { M.used machine.new ≤ M.used machine.old + 1 }
+{
+    machine.answer_line(alloc, line, out)?;
+    out.push(b'\n')?;
+    Ok(())
+}

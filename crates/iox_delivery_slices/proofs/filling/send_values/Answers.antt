@@ -1,0 +1,27 @@
+use Rattle.std.proofs.Common.{length, Ok}
+use Rattle.iox_delivery.proofs.Lent.{ready_is_written, ready_is_free}
+use Rattle.iox_delivery.proofs.Ready.{sample_sends}
+use Rattle.iox_delivery_slices.proofs.Filled.{written_is_ready}
+use Rattle.iox_delivery_slices.proofs.filling.send_values.Goals as goal
+
+pub returns : goal.returns
+returns g c =
+    let home = g.H.Home in
+    let port = c.args.port in
+    let values = c.args.values.now in
+    let ready = written_is_ready (λ one. home.ports_of port.domain one) (λ ports one. home.with_ports port.domain ports one) (λ ports one. g.met.H.Home.put_is_there port.domain ports one)
+    port.number (length values) c.in_ok-slot.slot values c.args.home.now c.loan.new.home c.write_all.new.home c.in_ok-slot.ensures c.write_all.ensures in
+    (Ok c.in_ok-slot.slot, c.loan.new.home, c.in_ok-slot.ensures, (c.write_all.new.home, c.write_all.ensures, ready, c.in-Some.ensures))
+
+pub unreachable-requires : goal.unreachable-requires
+unreachable-requires g c =
+    let home = g.H.Home in
+    let port = c.args.port in
+    let values = c.args.values.now in
+    let held = c.write_all.new.home in
+    let ready = written_is_ready (λ one. home.ports_of port.domain one) (λ ports one. home.with_ports port.domain ports one) (λ ports one. g.met.H.Home.put_is_there port.domain ports one)
+    port.number (length values) c.in_ok-slot.slot values c.args.home.now c.loan.new.home held c.in_ok-slot.ensures c.write_all.ensures in
+    sample_sends (λ after. home.with_ports port.domain after held) (home.publisher_degrades port.domain port.number held) (home.publisher_decides port.domain port.number held) port.number c.in_ok-slot.slot (home.ports_of port.domain held) held c.send.new.self
+    (ready_is_written port.number (length values) c.in_ok-slot.slot values (home.ports_of port.domain held) ready)
+    (ready_is_free port.number (length values) c.in_ok-slot.slot values (home.ports_of port.domain held) ready)
+    c.in-None.ensures

@@ -1,0 +1,6 @@
+use Rattle.std.proofs.Common.{refl}
+use Rattle.iox_hub_commands.proofs.messages.read.Goals as goal
+
+pub returns-in_ok-copied-in-Some : goal.returns-in_ok-copied-in-Some
+returns-in_ok-copied-in-Some g c =
+    rw (← c.read.ensures, c.in-Some.is) (c.in_ok-copied-in-Some.field-0, c.in_ok-copied-in-Some.ensures, refl)

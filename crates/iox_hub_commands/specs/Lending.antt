@@ -1,0 +1,46 @@
+-- What the commands do that lend, and the one that sends values at once.
+use Rattle.std.specs.Prelude.{ℕ, ◌≡◌, List, length, Option, Result, Ok, Err}
+use Rattle.std.specs.declared.alloc.AllocError.{AllocError}
+use Rattle.iox_command.specs.declared.reply.Reply.{Reply}
+use Rattle.iox_domain_home.specs.declared.domain_id.DomainId.{DomainId}
+use Rattle.iox_domain_ports.specs.declared.service_ports.ServicePorts.{ServicePorts}
+use Rattle.iox_domain_publisher.specs.declared.meeting.Sent.{Sent}
+use Rattle.iox_domain_values.specs.declared.backpressure.BackpressureDecision.{BackpressureDecision}
+use Rattle.iox_domain_values.specs.declared.backpressure.BackpressureInfo.{BackpressureInfo}
+use Rattle.iox_domain_values.specs.declared.degradation.DegradationAction.{DegradationAction}
+use Rattle.iox_domain_values.specs.declared.degradation.DegradationInfo.{DegradationInfo}
+use Rattle.iox_domain_values.specs.declared.port_error.LoanError.{LoanError}
+use Rattle.iox_domain_values.specs.declared.port_error.SendError.{SendError}
+use Rattle.iox_hub_ports.specs.Calls.{AtPort, Puts, ready}
+use Rattle.iox_hub_ports.specs.Growing.{GrowsFirst}
+use Rattle.iox_hub_ports.specs.Numbering.{LendsNumbered, LendsWrittenNumbered}
+use Rattle.iox_hub_ports.specs.Tables.{IsFull, lender}
+use Rattle.iox_hub_ports.specs.declared.made.Made.{Made}
+use Rattle.iox_numbered.specs.NumberTable.{value_at}
+use Rattle.iox_hub_commands.specs.Replies.{loan_reply, sent_reply}
+
+-- what a loan is replied as, if memory was found for its number
+abbrev pub lent_reply : {T : Type 0} → Result (Option (Result ℕ LoanError)) AllocError → Result (Reply T) AllocError
+lent_reply (Ok lent) = Ok (loan_reply lent)
+lent_reply (Err lacking) = Err lacking
+
+-- A publisher lends so many elements, none of which is written.
+abbrev pub LoanUninitStep : {T U H : Type 0} → (DomainId → H → Option (ServicePorts T U)) → (DomainId → ServicePorts T U → H → H) → ℕ → ℕ → Made → H → Result (Reply T) AllocError → Made → H → Type 0
+LoanUninitStep ports_of with_ports publisher elements made old answer made_after new =
+    (lent : Result (Option (Result ℕ LoanError)) AllocError)
+    × GrowsFirst (IsFull made.loans) (LendsNumbered ports_of with_ports elements (lender elements (value_at made.publishers publisher))) made old lent made_after new
+    × (answer ≡ lent_reply lent)
+
+-- A publisher lends so many elements, each of which is written: a default.
+abbrev pub LoanStep : {T U H : Type 0} → (DomainId → H → Option (ServicePorts T U)) → (DomainId → ServicePorts T U → H → H) → (T → Type 0) → ℕ → ℕ → Made → H → Result (Reply T) AllocError → Made → H → Type 0
+LoanStep {T} ports_of with_ports is_default publisher elements made old answer made_after new =
+    (value : T) × is_default value × (lent : Result (Option (Result ℕ LoanError)) AllocError)
+    × GrowsFirst (IsFull made.loans) (LendsWrittenNumbered ports_of with_ports elements value (ready ports_of (lender elements (value_at made.publishers publisher)) old)) made old lent made_after new
+    × (answer ≡ lent_reply lent)
+
+-- A publisher sends these values.
+abbrev pub PutStep : {T U H : Type 0} → (DomainId → H → Option (ServicePorts T U)) → (DomainId → ServicePorts T U → H → H) → (DomainId → ℕ → H → DegradationInfo → DegradationAction → Type 0) → (DomainId → ℕ → H → BackpressureInfo → BackpressureDecision → Type 0) → ℕ → List T → Made → H → Reply T → H → Type 0
+PutStep ports_of with_ports degrades decides publisher values made old answer new =
+    (sent : Option (Result Sent SendError))
+    × AtPort (Puts ports_of with_ports degrades decides values) (ready ports_of (lender (length values) (value_at made.publishers publisher)) old) old sent new
+    × (answer ≡ sent_reply sent)

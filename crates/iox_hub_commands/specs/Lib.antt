@@ -1,0 +1,7 @@
+-- The definitions that contracts about the commands of ports cite.
+pub mod Naming
+pub mod Replies
+pub mod Arriving
+pub mod Lending
+pub mod Messages
+pub mod Following

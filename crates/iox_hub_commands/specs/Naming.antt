@@ -1,0 +1,41 @@
+-- What a command names of a port, with the defaults for what it doesn't name.
+use Rattle.std.specs.Prelude.{Option}
+use Rattle.std.specs.Option.{unwrap_or}
+use Rattle.iox_command.specs.declared.port.PublisherOptions.{PublisherOptions}
+use Rattle.iox_command.specs.declared.port.SubscriberOptions.{SubscriberOptions}
+use Rattle.iox_domain_ports.specs.declared.making.PublisherConfig.{PublisherConfig}
+use Rattle.iox_domain_ports.specs.declared.making.SubscriberConfig.{SubscriberConfig}
+use Rattle.iox_domain_settings.specs.PortSettings.{publisher_defaults}
+use Rattle.iox_domain_values.specs.declared.backpressure.BackpressureAction.{BackpressureAction}
+use Rattle.iox_domain_values.specs.declared.backpressure_strategy.BackpressureStrategy.{BackpressureStrategy}
+use Rattle.iox_domain_values.specs.declared.degradation.DegradationAction.{DegradationAction}
+use Rattle.iox_domain_values.specs.declared.degradation.DegradationAction.TheVariants.{Warn}
+use Rattle.iox_domain_values.specs.declared.port_owner.PortOwner.{PortOwner}
+use Rattle.iox_hub_commands.specs.declared.handlers.NamedSlots.{NamedSlots}
+
+-- what a publisher of slices is made with: a value is an element, and a slot holds as many as a loan may have at first
+abbrev pub publisher_config : PortOwner → PublisherOptions → PublisherConfig
+publisher_config owner options = record {
+  owner = owner;
+  max_loaned_samples = unwrap_or options.max_loaned_samples publisher_defaults.max_loaned_samples;
+  values = unwrap_or options.initial_max_slice_len publisher_defaults.initial_max_slice_len;
+  unit = 1;
+  allocation = unwrap_or options.allocation_strategy publisher_defaults.allocation;
+}
+
+-- who decides for a publisher: without a strategy a send waits, and without an action a failed connection is passed over with a warning
+abbrev pub publisher_handlers : {B : Type 0} → (BackpressureStrategy → Option BackpressureAction → DegradationAction → B) → PublisherOptions → B
+publisher_handlers fixed options =
+    fixed (unwrap_or options.backpressure_strategy publisher_defaults.strategy) options.backpressure_handler (unwrap_or options.degradation_handler Warn)
+
+-- how many slots a publisher gets
+abbrev pub named_slots : PublisherOptions → NamedSlots
+named_slots options = record { slots = options.preallocated_samples }
+
+-- what a subscriber is made with
+abbrev pub subscriber_config : PortOwner → SubscriberOptions → SubscriberConfig
+subscriber_config owner options = record { owner = owner; buffer_size = options.buffer_size }
+
+-- who decides for a subscriber: without an action a failed connection is passed over with a warning
+abbrev pub subscriber_handler : {D : Type 0} → (DegradationAction → D) → SubscriberOptions → D
+subscriber_handler fixed options = fixed (unwrap_or options.degradation_handler Warn)

@@ -1,0 +1,80 @@
+-- What the answers of calls are replied as. `None` is a command that was skipped.
+use Rattle.std.specs.Prelude.{ℕ, Bool, true, false, Option, None, Some, Result, Ok, Err}
+use Rattle.iox_command.specs.declared.refusal.HubError.{HubError}
+use Rattle.iox_command.specs.declared.refusal.Refusal.{Refusal}
+use Rattle.iox_command.specs.declared.refusal.Refusal.TheVariants as refusal
+use Rattle.iox_command.specs.declared.reply.Reply.{Reply}
+use Rattle.iox_command.specs.declared.reply.Reply.TheVariants as reply
+use Rattle.iox_domain_publisher.specs.declared.meeting.Sent.{Sent}
+use Rattle.iox_domain_publisher.specs.declared.meeting.Sent.TheVariants as sent
+use Rattle.iox_domain_values.specs.declared.connection_failure.ConnectionFailure.{ConnectionFailure}
+use Rattle.iox_domain_values.specs.declared.create_error.PublisherCreateError.{PublisherCreateError}
+use Rattle.iox_domain_values.specs.declared.create_error.SubscriberCreateError.{SubscriberCreateError}
+use Rattle.iox_domain_values.specs.declared.port_error.LoanError.{LoanError}
+use Rattle.iox_domain_values.specs.declared.port_error.SendError.{SendError}
+use Rattle.iox_negotiate_errors.specs.declared.close.CloseError.{CloseError}
+
+module _ {T : Type 0} where
+  -- a service that was created or opened
+  abbrev pub factory_reply : Option (Result ℕ Refusal) → Reply T
+  factory_reply None = reply.Skipped
+  factory_reply (Some (Ok number)) = reply.FactoryMade number
+  factory_reply (Some (Err why)) = reply.Refused why
+
+  -- foreign steps that were run
+  abbrev pub foreign_reply : Result (Unit {0}) HubError → Reply T
+  foreign_reply (Ok done) = reply.Done
+  foreign_reply (Err error) = reply.Refused (refusal.Hub error)
+
+  -- a factory that was closed
+  abbrev pub closed_reply : Option (Result (Unit {0}) CloseError) → Reply T
+  closed_reply None = reply.Skipped
+  closed_reply (Some (Ok done)) = reply.Done
+  closed_reply (Some (Err error)) = reply.Refused (refusal.Close error)
+
+  -- a publisher that came
+  abbrev pub publisher_reply : Option (Result ℕ PublisherCreateError) → Reply T
+  publisher_reply None = reply.Skipped
+  publisher_reply (Some (Ok number)) = reply.PublisherMade number
+  publisher_reply (Some (Err error)) = reply.Refused (refusal.Publisher error)
+
+  -- a subscriber that came
+  abbrev pub subscriber_reply : Option (Result ℕ SubscriberCreateError) → Reply T
+  subscriber_reply None = reply.Skipped
+  subscriber_reply (Some (Ok number)) = reply.SubscriberMade number
+  subscriber_reply (Some (Err error)) = reply.Refused (refusal.Subscriber error)
+
+  -- a loan that was made
+  abbrev pub loan_reply : Option (Result ℕ LoanError) → Reply T
+  loan_reply None = reply.Skipped
+  loan_reply (Some (Ok number)) = reply.LoanMade number
+  loan_reply (Some (Err error)) = reply.Refused (refusal.Loan error)
+
+  -- a send: to how many it went, or that it waits
+  abbrev pub sent_reply : Option (Result Sent SendError) → Reply T
+  sent_reply None = reply.Skipped
+  sent_reply (Some (Ok (sent.Delivered count))) = reply.Delivered count
+  sent_reply (Some (Ok sent.Blocked)) = reply.Blocked
+  sent_reply (Some (Err error)) = reply.Refused (refusal.Send error)
+
+  -- a send that was given up: to how many it went
+  abbrev pub given_up_reply : Option ℕ → Reply T
+  given_up_reply None = reply.Skipped
+  given_up_reply (Some count) = reply.Delivered count
+
+  -- a port that followed the list of the others
+  abbrev pub updated_reply : Option (Result (Unit {0}) ConnectionFailure) → Reply T
+  updated_reply None = reply.Skipped
+  updated_reply (Some (Ok done)) = reply.Done
+  updated_reply (Some (Err error)) = reply.Refused (refusal.Connection error)
+
+  -- whether a subscriber has messages
+  abbrev pub has_reply : Option (Result Bool ConnectionFailure) → Reply T
+  has_reply None = reply.Skipped
+  has_reply (Some (Ok has)) = reply.Has has
+  has_reply (Some (Err error)) = reply.Refused (refusal.Connection error)
+
+  -- something that was done, or was not
+  abbrev pub done_reply : Bool → Reply T
+  done_reply true = reply.Done
+  done_reply false = reply.Skipped

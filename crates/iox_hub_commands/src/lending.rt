@@ -1,0 +1,60 @@
+//! The commands that lend, and the one that sends values at once, over the tables of what goes by numbers and any home of ports.
+ghost use Rattle.std.specs.Prelude.{◌+◌, ◌<◌, ◌^◌};
+ghost use Rattle.iox_hub_commands.specs.Lending.{LoanStep, LoanUninitStep, PutStep};
+
+use crate::replies::{loan_reply, sent_reply};
+use iox_command::Reply;
+use iox_domain_home::Home;
+use iox_hub_ports::Made;
+use std::alloc::{AllocError, Global};
+
+/// A publisher lends so many elements, none of which is written. Skipped as `Made::loan_uninit` answers None, and refused as that is.
+///
+/// Fails only where the table of loans is full and no memory is found for one more number; then nothing has changed.
+pub fn loan_uninit<T: Copy, U: Copy, H: Home<T, U>>(
+    alloc: Global,
+    made: &mut Made,
+    home: &mut H,
+    publisher: u64,
+    elements: u64,
+) -> Result<Reply<T>, AllocError>
+    requires { made.old.loans.next + 1 < 2 ^ 64 }
+    ensures { LoanUninitStep H.ports_of H.with_ports publisher elements made.old home.old result made.new home.new }
+{
+    match made.loan_uninit_growing(alloc, home, publisher, elements) {
+        Ok(lent) => Ok(loan_reply(lent)),
+        Err(lacking) => Err(lacking),
+    }
+}
+
+/// A publisher lends so many elements, each of which is written: a default. Skipped as `Made::loan` answers None, and refused as that is.
+///
+/// Fails only where the table of loans is full and no memory is found for one more number; then nothing has changed.
+pub fn loan<T: Copy + Default, U: Copy, H: Home<T, U>>(
+    alloc: Global,
+    made: &mut Made,
+    home: &mut H,
+    publisher: u64,
+    elements: u64,
+) -> Result<Reply<T>, AllocError>
+    requires { made.old.loans.next + 1 < 2 ^ 64 }
+    ensures { LoanStep H.ports_of H.with_ports T.is_default publisher elements made.old home.old result made.new home.new }
+{
+    match made.loan_growing(alloc, home, publisher, elements, T::default()) {
+        Ok(lent) => Ok(loan_reply(lent)),
+        Err(lacking) => Err(lacking),
+    }
+}
+
+/// A publisher sends these values. Skipped as `Made::put` answers None, and refused as that is.
+pub fn put<T: Copy, U: Copy, H: Home<T, U>>(
+    alloc: Global,
+    made: &Made,
+    home: &mut H,
+    publisher: u64,
+    values: &[T],
+) -> Reply<T>
+    ensures { PutStep H.ports_of H.with_ports H.publisher_degrades H.publisher_decides publisher values.now made.now home.old result home.new }
+{
+    sent_reply(made.put(alloc, home, publisher, values))
+}

@@ -1,0 +1,26 @@
+//! The commands of ports: what each does to the tables of what goes by numbers and to the home of the ports, and what it is replied.
+//!
+//! A home is anything that holds domains: one domain, or a hub. Services are opened elsewhere.
+//!
+//! | Module | What it has |
+//! |---|---|
+//! | `handlers` | who decides for a port that a command made |
+//! | `naming` | what a command names of a port |
+//! | `replies` | what the answers of calls are replied as |
+//! | `arriving` | ports come |
+//! | `lending` | publishers lend, and send values at once |
+//! | `messages` | loans are written, sent and given up; samples are read and released |
+//! | `following` | ports follow the list of the others, tell whether messages wait, and leave |
+#![tactic(auto)]
+
+pub mod arriving;
+pub mod following;
+pub mod handlers;
+pub mod lending;
+pub mod messages;
+mod naming;
+pub mod replies;
+
+pub use handlers::{
+    FixedDegradation, FixedHandlers, NamedSlots, PublisherHandlers, SubscriberHandler,
+};

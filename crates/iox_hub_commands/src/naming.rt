@@ -1,0 +1,84 @@
+//! What a command names of a port.
+ghost use Rattle.std.specs.Prelude.{◌≡◌};
+ghost use Rattle.std.specs.Option.{unwrap_or};
+ghost use Rattle.iox_hub_commands.specs.Naming.{publisher_config, publisher_handlers, named_slots, subscriber_config, subscriber_handler};
+
+use crate::handlers::{NamedSlots, PublisherHandlers, SubscriberHandler};
+use iox_command::{PublisherOptions, SubscriberOptions};
+use iox_domain_ports::{PublisherConfig, SubscriberConfig};
+use iox_domain_settings::PublisherSettings;
+use iox_domain_values::{DegradationAction, PortOwner};
+
+// What a publisher of slices is made with.
+pub(crate) fn publisher_config(owner: PortOwner, options: &PublisherOptions) -> PublisherConfig
+    ensures { result ≡ publisher_config owner options.now }
+{
+    let defaults = PublisherSettings::default();
+    PublisherConfig {
+        owner,
+        max_loaned_samples: length(options.max_loaned_samples, defaults.max_loaned_samples),
+        values: length(
+            options.initial_max_slice_len,
+            defaults.initial_max_slice_len,
+        ),
+        unit: 1,
+        allocation: options.allocation_strategy.unwrap_or(defaults.allocation),
+    }
+}
+
+// Who decides for a publisher.
+pub(crate) fn publisher_handlers<B: PublisherHandlers>(options: &PublisherOptions) -> B
+    ensures { result ≡ publisher_handlers B.fixed options.now }
+{
+    let defaults = PublisherSettings::default();
+    B::with_actions(
+        options.backpressure_strategy.unwrap_or(defaults.strategy),
+        options.backpressure_handler,
+        options
+            .degradation_handler
+            .unwrap_or(DegradationAction::Warn),
+    )
+}
+
+// How many slots a publisher gets.
+pub(crate) fn named_slots(options: &PublisherOptions) -> NamedSlots
+    ensures { result ≡ named_slots options.now }
+{
+    NamedSlots {
+        slots: options.preallocated_samples,
+    }
+}
+
+// What a subscriber is made with.
+pub(crate) fn subscriber_config(owner: PortOwner, options: &SubscriberOptions) -> SubscriberConfig
+    ensures { result ≡ subscriber_config owner options.now }
+{
+    SubscriberConfig {
+        owner,
+        buffer_size: match options.buffer_size {
+            Some(size) => Some(size as usize),
+            None => None,
+        },
+    }
+}
+
+// Who decides for a subscriber.
+pub(crate) fn subscriber_handler<D: SubscriberHandler>(options: &SubscriberOptions) -> D
+    ensures { result ≡ subscriber_handler D.fixed options.now }
+{
+    D::with_action(
+        options
+            .degradation_handler
+            .unwrap_or(DegradationAction::Warn),
+    )
+}
+
+// A length that is named, or its default.
+fn length(named: Option<u64>, default: usize) -> usize
+    ensures { result ≡ unwrap_or named default }
+{
+    match named {
+        Some(length) => length as usize,
+        None => default,
+    }
+}

@@ -1,0 +1,4 @@
+pub mod Misfit
+pub mod Answering
+pub mod Refused
+pub mod Written

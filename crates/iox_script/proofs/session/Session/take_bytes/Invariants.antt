@@ -1,9 +1,0 @@
-use Rattle.std.proofs.Common.{◌≡◌, ◌==◌, ◌++◌, true, not, List, ℕ, take}
-use Rattle.std.specs.List.{list_all}
-use Rattle.iox_script.specs.Conversation.{Advances}
-use Rattle.iox_script.proofs.session.Session.take_bytes.Given as goal
-
-abbrev pub invariant-loop-byte : goal.invariant-loop-byte
-invariant-loop-byte l = (text : List ℕ) × (l.out.items ≡ l.initial.out.items ++ text)
-    × Advances l.initial.self (take l.byte-index l.bytes) text l.self
-    × (list_all (λ b. not (b == 10)) l.self.line ≡ true)
