@@ -370,7 +370,7 @@ new_fits identity buffer_size most_connections most_expired =
 -- what is received leaves the keys in order
 pub taken_fits : {T U : Type 0} (port new : SubscriberPort) (ports new_ports : List (ℕ × PublisherPort T U)) (answer : Result (Option Taken) ReceiveError) → KeysFit port → Receives port ports answer new new_ports → Goes port new
 taken_fits port new ports new_ports answer fit (taken, serves, is_answer) =
-    let (met, is_met, giver, is_giver, is_given, is, are) = serves in
+    let (met, is_met, giver, is_giver, is_given, is, are, is_there) = serves in
     rw is (goes_swept 0 met port (given_ports giver port ports) fit)
 
 pub attaches_without_memory : {T U : Type 0} (may : DegradationInfo → DegradationAction → Type 0) → AttachesWithoutMemory T U may

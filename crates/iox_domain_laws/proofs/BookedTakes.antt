@@ -40,7 +40,7 @@ takes_none {T} {U} publisher index subscriber more old new none books = record {
 take_other : {T U : Type 0} (index at : ℕ) (port : PublisherPort T U) → index ≢ at → connection_of index (taken_at at port) ≡ connection_of index port
 take_other index at port not = get_or-set_other port.sender.uses.connections at index (taken (connection_of at port)) nobody not
 
-taken_set : {T U : Type 0} (connections : List (Connection (Message T U))) (index : ℕ) → get_or (set connections index (taken (get_or connections index nobody))) index nobody ≡ taken (get_or connections index nobody)
+pub taken_set : {T U : Type 0} (connections : List (Connection (Message T U))) (index : ℕ) → get_or (set connections index (taken (get_or connections index nobody))) index nobody ≡ taken (get_or connections index nobody)
 taken_set [] index = refl
 taken_set (x ∷ xs) zero = refl
 taken_set (x ∷ xs) (suc index) = taken_set xs index
@@ -197,7 +197,7 @@ gives_some : (a b : Bool) → a && b ≡ true → b ≡ true
 gives_some true b is = is
 gives_some false b is = cc
 
-giver_gives : {T U : Type 0} (port : SubscriberPort) (ports : List (ℕ × PublisherPort T U)) (key : ℕ) (attached : Attached) → gives port ports key ≡ true → attached_at key port ≡ Some attached → 0 < length (connection_in attached.publisher attached.index ports).waiting
+pub giver_gives : {T U : Type 0} (port : SubscriberPort) (ports : List (ℕ × PublisherPort T U)) (key : ℕ) (attached : Attached) → gives port ports key ≡ true → attached_at key port ≡ Some attached → 0 < length (connection_in attached.publisher attached.index ports).waiting
 giver_gives port ports key attached gives there =
     let has : nat_lt 0 (length (connection_by (attached_at key port) ports).waiting) ≡ true = gives_some (is_below port ports key) (has_data port ports key) gives in
     let waits : nat_lt 0 (length (connection_in attached.publisher attached.index ports).waiting) ≡ true = sym (ap (λ found. nat_lt 0 (length (connection_by found ports).waiting)) there) ∙ has in
@@ -238,7 +238,7 @@ given_step publisher index subscriber port old between (Some key) outcome test w
     giver_step publisher index subscriber port old between (attached_at key port) key outcome test walk (is_giving key refl) refl answer sent before booked led is_led
 
 -- who gives is below its limit and has data
-met_gives : (test : ℕ → Bool) (keys : List ℕ) (met : ℕ) (found giver : Option ℕ) (key : ℕ) → slice_get keys met ≡ found → IsMet test keys met → IsGiver found test giver → giver ≡ Some key → test key ≡ true
+pub met_gives : (test : ℕ → Bool) (keys : List ℕ) (met : ℕ) (found giver : Option ℕ) (key : ℕ) → slice_get keys met ≡ found → IsMet test keys met → IsGiver found test giver → giver ≡ Some key → test key ≡ true
 met_gives test keys met None giver key is_found is_met is_giver is = first giver key is_giver is
   where
     first : (giver : Option ℕ) (key : ℕ) → IsFirst test giver → giver ≡ Some key → test key ≡ true
@@ -281,7 +281,7 @@ received_step publisher index subscriber reading (Err failure) port new old betw
     (ap (λ one. taken_so led (is_named publisher index (Some one)) (connection_in publisher index old).waiting) receives.0 ∙ so_none led (connection_in publisher index old).waiting) (lists_stay publisher index subscriber between)).keeps
     sent before (walk.keeps sent before booked))
 received_step {T} {U} publisher index subscriber reading (Ok done) port new old between ports outcome walk (answered, serves, is_answer) sent before booked led is_led =
-    let (met, is_met, giver, is_giver, is_given, is, are) = serves in
+    let (met, is_met, giver, is_giver, is_given, is, are, is_there) = serves in
     let answer : IsReceiveAnswer (given giver port between) (has_data new ports) outcome = subst (λ (one : Option Taken). IsReceiveAnswer one (has_data new ports) outcome) is_given is_answer in
     let gave = given_step publisher index subscriber port old between giver outcome (has_data new ports) walk
     (λ key named. met_gives (gives port between) port.expired.items met (slice_get port.expired.items met) giver key refl is_met is_giver named) answer sent before booked led is_led in
@@ -334,7 +334,7 @@ slot_given : {T U : Type 0} (giver : Option ℕ) (port : SubscriberPort) (old be
 slot_given None port old between one is_giving is walk sole = cc
 slot_given (Some key) port old between one is_giving is walk sole = slot_of_giver (attached_at key port) key port old between one (is_giving key refl) refl is walk sole
 
-no_message : (unread : Option ℕ) (one : Taken) → Ok (Some one) ≡ nothing_taken unread → ⊥
+pub no_message : (unread : Option ℕ) (one : Taken) → Ok (Some one) ≡ nothing_taken unread → ⊥
 no_message None one is = cc
 no_message (Some key) one is = cc
 
@@ -352,7 +352,7 @@ slot_after : {T U : Type 0} (updated : Result (Unit {0}) ConnectionFailure) (por
     → (message : Message T U) × (take 1 (connection_in one.publisher one.index old).waiting ≡ message ∷ []) × (one.slot ≡ message.slot)
 slot_after (Err failure) port new old between ports one receives walk sole = cc (receives.0)
 slot_after (Ok done) port new old between ports one (answered, serves, is_answer) walk sole =
-    let (met, is_met, giver, is_giver, is_given, is, are) = serves in
+    let (met, is_met, giver, is_giver, is_given, is, are, is_there) = serves in
     slot_answered answered (has_data new ports) giver port old between one
     (λ key named. met_gives (gives port between) port.expired.items met (slice_get port.expired.items met) giver key refl is_met is_giver named) is_given is_answer walk sole
 

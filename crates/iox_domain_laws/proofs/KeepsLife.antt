@@ -273,7 +273,7 @@ given_keeps (Some key) port ports = taken_keeps (attached_at key port) ports
 
 receives_keeps : {T U : Type 0} (port : SubscriberPort) (ports : List (ℕ × PublisherPort T U)) (answer : Result (Option Taken) ReceiveError) (new : SubscriberPort) (new_ports : List (ℕ × PublisherPort T U))
     → Receives port ports answer new new_ports → Keeps port ports new new_ports
-receives_keeps port ports answer new new_ports (taken, (met, is_met, giver, is_giver, told, is, are), is_answer) =
+receives_keeps port ports answer new new_ports (taken, (met, is_met, giver, is_giver, told, is, are, there), is_answer) =
     let rest = swept_keeps 0 met port (given_ports giver port ports) in
     let gone = (swept 0 met (port, given_ports giver port ports)).1 in
     (ap holding_of is ∙ rest.0, onto ports (given_ports giver port ports) new_ports (given_keeps giver port ports) (onto (given_ports giver port ports) gone new_ports rest.1 (kept gone new_ports are)))

@@ -27,6 +27,7 @@ pub mod Booked
 pub mod BookedLists
 pub mod BookedSends
 pub mod BookedTakes
+pub mod TakenHeld
 pub mod InOrder
 pub mod Tried
 pub mod Keys

@@ -83,12 +83,12 @@ neither : (a b : Bool) → (a || b) ≡ false → (a ≡ false) × (b ≡ false)
 neither true b is = absurd (cc)
 neither false b is = (refl, is)
 
-none_there : {T U : Type 0} (connections : List (Connection (Message T U))) (index : ℕ) → list_any is_there connections ≡ false → is_there (get_or connections index nobody) ≡ false
+pub none_there : {T U : Type 0} (connections : List (Connection (Message T U))) (index : ℕ) → list_any is_there connections ≡ false → is_there (get_or connections index nobody) ≡ false
 none_there [] index none = refl
 none_there (x ∷ xs) zero none = (neither (is_there x) (list_any is_there xs) none).0
 none_there (x ∷ xs) (suc index) none = none_there xs index (neither (is_there x) (list_any is_there xs) none).1
 
-last_of : (stands loans sends connections : Bool) → (not stands && (loans && (not sends && not connections))) ≡ true → connections ≡ false
+pub last_of : (stands loans sends connections : Bool) → (not stands && (loans && (not sends && not connections))) ≡ true → connections ≡ false
 last_of true loans sends connections is = cc
 last_of false false sends connections is = cc
 last_of false true true connections is = cc

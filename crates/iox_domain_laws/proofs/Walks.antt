@@ -223,7 +223,7 @@ walked_swept {R = R} w place (suc count) port ports =
 walked_serves : {T U : Type 0} {subscriber : ℕ} {R : List (ℕ × PublisherPort T U) → List (ℕ × PublisherPort T U) → Type 0} (w : Walks subscriber R) (takes : WalksTaking R) (port new : SubscriberPort) (ports new_ports : List (ℕ × PublisherPort T U)) (answer : Option Taken)
     → Serves port ports answer new new_ports → Walked R port new ports new_ports
 walked_serves w takes port new ports new_ports answer serves =
-    let (met, is_met, giver, is_giver, is_answer, is, are) = serves in
+    let (met, is_met, giver, is_giver, is_answer, is, are, is_there) = serves in
     let one = walked_swept w 0 met port (given_ports giver port ports) in
     record { same = ap (λ one. one.number) is ∙ one.same; walked = rw are (w.on ports (given_ports giver port ports) _ (given_walk w takes giver port ports) one.walked) }
 

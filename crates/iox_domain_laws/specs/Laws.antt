@@ -23,10 +23,12 @@ use Rattle.iox_domain_publisher.specs.declared.subscriber_entry.SubscriberEntry.
 use Rattle.iox_domain_subscriber.specs.Publishers.{port_of}
 use Rattle.iox_domain_subscriber.specs.declared.attached.Taken.{Taken}
 use Rattle.iox_domain_laws.specs.Calls.{PortCall, Releases, Happens}
-use Rattle.iox_domain_ports.specs.Ports.{no_ports}
+use Rattle.iox_domain_ports.specs.Ports.{no_ports, AtSubscriber}
 use Rattle.iox_domain_ports.specs.Publishing.{UpdatesOne, SendsOne}
 use Rattle.iox_domain_ports.specs.Reading.{sample_in}
 use Rattle.iox_domain_ports.specs.Rolls.{IsListOf}
+use Rattle.iox_domain_ports.specs.Subscribers.{subscriber_of}
+use Rattle.iox_domain_ports.specs.Subscribing.{ReceivesOne}
 use Rattle.iox_domain_ports.specs.declared.service_ports.ServicePorts.{ServicePorts}
 
 -- a connection that there isn't holds nothing
@@ -54,6 +56,12 @@ pub record HeldStays (T U : Type 0) (overrides : ℕ → ℕ → Type 0) (may : 
   pub goes_on : (call : PortCall T U) (old new : ServicePorts T U) → Happens overrides may decide call old new → IsSound old → IsSound new
   pub held : (call : PortCall T U) (old new : ServicePorts T U) (sample : Taken) (message : Message T U) → Happens overrides may decide call old new → IsSound old
       → gives_back sample call ≡ false → sample_in sample old ≡ Some message → sample_in sample new ≡ Some message
+
+-- What a subscriber receives is held then: it can be read at once.
+abbrev pub ReceivedIsHeld : (T U : Type 0) → (DegradationInfo → DegradationAction → Type 0) → Type 0
+ReceivedIsHeld T U may =
+    (number : ℕ) (old new : ServicePorts T U) (sample : Taken) → AtSubscriber number (ReceivesOne may old.publisher_list) (subscriber_of number old.subscribers) old (Some (Ok (Some sample))) new
+    → (message : Message T U) × (sample_in sample new ≡ Some message)
 
 -- no two places of the list of subscribers are tied to one connection
 abbrev pub AreTiesApart : {T U : Type 0} → PublisherPort T U → Type 0

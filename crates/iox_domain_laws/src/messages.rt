@@ -1,7 +1,7 @@
 //! Laws of the calls of the ports of a service, in other words than theirs. They stand on functions that do nothing.
 ghost use Rattle.iox_domain_values.specs.declared.degradation.DegradationCause.TheVariants as cause;
 ghost use Rattle.iox_domain_laws.specs.Attaching.{AttachesWithoutMemory, KeysStay};
-ghost use Rattle.iox_domain_laws.specs.Laws.{HeldStays, AtMostOnce, NeedsNoMemory};
+ghost use Rattle.iox_domain_laws.specs.Laws.{HeldStays, ReceivedIsHeld, AtMostOnce, NeedsNoMemory};
 ghost use Rattle.iox_domain_laws.specs.Order.{InOrder};
 ghost use Rattle.iox_domain_laws.specs.Tries.{SendReachesOnce, SendWaits};
 
@@ -13,6 +13,11 @@ pub fn held_stays<T, U, O: Overrides, B: Decides + Degrades>(_overriding: &O, _h
     ensures { HeldStays T U (O.overrides _overriding.now)
         (B.degrades _handlers.now cause.FailedToEstablishConnection)
         (B.decides _handlers.now) }
+{}
+
+/// What a subscriber receives is held then, and can be read at once, whatever its handler answered.
+pub fn received_is_held<T, U, D: Degrades>(_handler: &D)
+    ensures { ReceivedIsHeld T U (D.degrades _handler.now cause.FailedToEstablishConnection) }
 {}
 
 /// No two places of a publisher that stands are tied to one connection, whatever was called before, and so a send puts its message into each

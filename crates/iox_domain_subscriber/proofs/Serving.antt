@@ -61,9 +61,9 @@ gave port ports met (Some key) one meets giver is = (key, giver_passes (gives po
 pub receives_if_given : {T U : Type 0} → ReceivesIfGiven T U
 receives_if_given = record {
   some = λ port new ports new_ports answer key receives passes.
-      let (taken, (met, meets, giver, is_giver, is_taken, after, after_ports), answers) = receives in
+      let (taken, (met, meets, giver, is_giver, is_taken, after, after_ports, is_there), answers) = receives in
       received port ports met key giver taken (has_data new new_ports) answer meets is_giver is_taken answers passes;
   none = λ port new ports new_ports answer one receives is.
-      let (taken, (met, meets, giver, is_giver, is_taken, after, after_ports), answers) = receives in
+      let (taken, (met, meets, giver, is_giver, is_taken, after, after_ports, is_there), answers) = receives in
       gave port ports met giver one meets is_giver (sym is_taken ∙ answer_of taken (has_data new new_ports) answer one answers is);
 }

@@ -2,10 +2,11 @@
 use Rattle.std.specs.Prelude.{ℕ, zero, suc, ◌+◌, ◌≡◌, ◌<◌, ◌⊎◌, Bool, true, false, List, [], ◌∷◌, length, get_or, slice_get, remove, Option, None, Some, Result, Ok, Err, if◌then◌else◌}
 use Rattle.iox_domain_values.specs.declared.port_error.ReceiveError.{ReceiveError}
 use Rattle.iox_domain_values.specs.declared.port_error.ReceiveError.TheVariants as receiving
+use Rattle.iox_domain_slots.specs.Uses.{is_there}
 use Rattle.iox_domain_publisher.specs.Ports.{detached_at}
 use Rattle.iox_domain_publisher.specs.declared.publisher_port.PublisherPort.{PublisherPort}
 use Rattle.iox_domain_subscriber.specs.Publishers.{changed, stands_in}
-use Rattle.iox_domain_subscriber.specs.Subscribing.{attached_at, has_data, gives, is_idle, ended_key, ended_ports, taken_of, taken_ports}
+use Rattle.iox_domain_subscriber.specs.Subscribing.{attached_at, connection_by, has_data, gives, is_idle, ended_key, ended_ports, taken_of, taken_ports}
 use Rattle.iox_domain_subscriber.specs.declared.attached.Attached.{Attached}
 use Rattle.iox_domain_subscriber.specs.declared.attached.Taken.{Taken}
 use Rattle.iox_domain_subscriber.specs.declared.subscriber_port.SubscriberPort.{SubscriberPort}
@@ -55,6 +56,11 @@ abbrev pub IsGiver : Option ℕ → (ℕ → Bool) → Option ℕ → Type 0
 IsGiver None test giver = IsFirst test giver
 IsGiver (Some key) test giver = giver ≡ Some key
 
+-- the connection that gives is there: it goes on, or it ended and holds something still
+abbrev pub IsGiverThere : {T U : Type 0} → Option ℕ → SubscriberPort → List (ℕ × PublisherPort T U) → Type 0
+IsGiverThere None port ports = Unit {0}
+IsGiverThere (Some key) port ports = is_there (connection_by (attached_at key port) ports) ≡ true
+
 -- what a giver gives
 abbrev pub given : {T U : Type 0} → Option ℕ → SubscriberPort → List (ℕ × PublisherPort T U) → Option Taken
 given None port ports = None
@@ -73,6 +79,7 @@ Serves port ports answer port_after ports_after =
     × (giver : Option ℕ) × IsGiver (slice_get port.expired.items met) (gives port ports) giver
     × (answer ≡ given giver port ports)
     × (port_after ≡ (swept 0 met (port, given_ports giver port ports)).0) × (ports_after ≡ (swept 0 met (port, given_ports giver port ports)).1)
+    × IsGiverThere giver port ports
 
 -- what is answered where no message came: a refusal if there is a key whose connection has data
 abbrev pub nothing_taken : Option ℕ → Result (Option Taken) ReceiveError

@@ -1,7 +1,8 @@
 //! The publishers of a service, by number.
-ghost use Rattle.std.specs.Prelude.{◌≡◌, ◌-◌, ◌^◌, ◌<◌, length, map, min, slice_get, option_copied, is_some, OnOk, OnErr, [], None, Some};
+ghost use Rattle.std.specs.Prelude.{◌≡◌, ◌-◌, ◌^◌, ◌<◌, length, map, min, slice_get, option_copied, is_some, true, OnOk, OnErr, [], None, Some};
 ghost use Rattle.std.specs.Borrow.{sem};
 ghost use Rattle.std.specs.Option.{option_copied_mut};
+ghost use Rattle.iox_domain_slots.specs.Uses.{is_there};
 ghost use Rattle.iox_domain_publisher.specs.Ports.{detached_at};
 ghost use Rattle.iox_domain_subscriber.specs.Publishers.{port_of, with_port, added, connection_in, most_borrowed_in, stands_in, changed, ended_if_left, is_over_in, settled, released, AttachesTo};
 ghost use Rattle.iox_domain_subscriber.specs.Living.{living_publishers};
@@ -187,6 +188,7 @@ impl<T: Copy, U: Copy> Publishers<T, U> {
     pub fn take(&mut self, number: u64, index: usize) -> usize
         requires data { 0 < length (connection_in number index self.old).waiting }
         requires room { length (connection_in number index self.old).borrowed < most_borrowed_in number self.old }
+        ensures there { is_there (connection_in number index self.old) ≡ true }
         ensures slot { slice_get (map (λ message. message.slot) (connection_in number index self.old).waiting) 0 ≡ Some result }
         ensures new { self.new ≡ changed number (taken_at index) self.old }
     {

@@ -1,5 +1,5 @@
 //! What a subscriber does at one publisher.
-ghost use Rattle.std.specs.Prelude.{◌≡◌, ◌+◌, ◌<◌, length, map, is_some, option_copied, option_map, slice_get, Some, IfSome};
+ghost use Rattle.std.specs.Prelude.{◌≡◌, ◌+◌, ◌<◌, true, length, map, is_some, option_copied, option_map, slice_get, Some, IfSome};
 ghost use Rattle.std.specs.List.{list_any};
 ghost use Rattle.iox_domain_slots.specs.Uses.{is_there};
 ghost use Rattle.iox_domain_publisher.specs.Ports.{connection_of};
@@ -32,10 +32,23 @@ pub fn borrowed_at<T: Copy, U: Copy>(port: &PublisherPort<T, U>, index: usize) -
 pub fn take_at<T: Copy, U: Copy>(port: &mut PublisherPort<T, U>, index: usize) -> usize
     requires data { 0 < length (connection_of index port.old).waiting }
     requires room { length (connection_of index port.old).borrowed < port.old.sender.uses.most_borrowed }
+    ensures there { is_there (connection_of index port.old) ≡ true }
     ensures slot { slice_get (map (λ message. message.slot) (connection_of index port.old).waiting) 0 ≡ Some result }
     ensures new { port.new ≡ taken_at index port.old }
 {
+    is_there_with_data(port, index);
     port.sender.take(index)
+}
+
+// A connection at which a message waits is there.
+fn is_there_with_data<T: Copy, U: Copy>(port: &PublisherPort<T, U>, index: usize)
+    requires { 0 < length (connection_of index port.now).waiting }
+    ensures { is_there (connection_of index port.now) ≡ true }
+{
+    match port.sender.stage(index) {
+        Stage::Vacant => unreachable!(),
+        Stage::Live | Stage::Ended => {}
+    }
 }
 
 /// Gives back the first message in this slot that is borrowed of the connection of this index; answers false where none is.

@@ -1,8 +1,9 @@
 //! A subscriber receives.
 ghost use Rattle.std.specs.Prelude.{◌≡◌, ◌+◌, ◌<◌, ◌^◌, length, slice_get, IfSome, None, Some, true, false};
 ghost use Rattle.std.specs.Bool.{OnTrue, OnFalse};
+ghost use Rattle.iox_domain_slots.specs.Uses.{is_there};
 ghost use Rattle.iox_domain_subscriber.specs.Subscribing.{attached_at, connection_by, seen_of, has_data, gives, is_idle, ended_key, ended_ports, taken_of, taken_ports};
-ghost use Rattle.iox_domain_subscriber.specs.Receiving.{IsFirst, IsMet, IsGiver, is_idle_at, dropped_port, dropped_ports, swept, given, given_ports, nothing_taken, left_at, left_all, SweepsAt, Serves, Receives};
+ghost use Rattle.iox_domain_subscriber.specs.Receiving.{IsFirst, IsMet, IsGiver, IsGiverThere, is_idle_at, dropped_port, dropped_ports, swept, given, given_ports, nothing_taken, left_at, left_all, SweepsAt, Serves, Receives};
 
 use crate::attached::{Attached, Seen, Taken};
 use crate::expired::Sought;
@@ -127,6 +128,7 @@ impl SubscriberPort {
     // Borrows the oldest message that waits at the connection of a key.
     fn take<T: Copy, U: Copy>(&self, key: usize, publishers: &mut Publishers<T, U>) -> Option<Taken>
         requires { gives self.now publishers.old key ≡ true }
+        ensures there { is_there (connection_by (attached_at key self.now) publishers.old) ≡ true }
         ensures taken { result ≡ taken_of (attached_at key self.now) publishers.old }
         ensures publishers { publishers.new ≡ taken_ports (attached_at key self.now) publishers.old }
     {
@@ -218,6 +220,7 @@ impl SubscriberPort {
         publishers: &mut Publishers<T, U>,
     ) -> Option<Taken>
         requires { IfSome giver (λ key. gives self.now publishers.old key ≡ true) }
+        ensures there { IsGiverThere giver self.now publishers.old }
         ensures taken { result ≡ given giver self.now publishers.old }
         ensures publishers { publishers.new ≡ given_ports giver self.now publishers.old }
     {

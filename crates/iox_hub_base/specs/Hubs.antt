@@ -1,5 +1,5 @@
 -- A hub: its nodes, the table of its services, and the domains of those that are open in it.
-use Rattle.std.specs.Prelude.{ℕ, ◌≡◌, ◌+◌, ◌-◌, ◌^◌, List, [], min}
+use Rattle.std.specs.Prelude.{ℕ, ◌≡◌, ◌+◌, ◌-◌, ◌^◌, ◌&&◌, Bool, List, [], min, nat_le}
 use Rattle.std.specs.Option.{unwrap_or}
 use Rattle.iox_domain.specs.Kept.{kept_under, kept}
 use Rattle.iox_negotiate_table.specs.Contents.{empty_table}
@@ -18,6 +18,10 @@ pub record IsNewHub {T U B D : Type 0} (config : HubConfig) (hub : Hub T U B D) 
 -- one more, and 2^64 - 1 past that
 abbrev pub one_more : ℕ → ℕ
 one_more count = min (count + 1) (2 ^ 64 - 1)
+
+-- a node of this number was made, where so many were
+abbrev pub is_node : ℕ → ℕ → Bool
+is_node number nodes = nat_le 1 number && nat_le number nodes
 
 -- how many factories of a service are open
 abbrev pub factories_of : ℕ → List (ℕ × ℕ) → ℕ

@@ -23,7 +23,7 @@ impl<T: Copy, U: Copy, B: Drop, D: Drop> Hub<T, U, B, D> {
         ensures { Closes factory.service.membership factory.owner factory self.old (result_map_both (λ done. done) (λ refused. (refused.error, refused.factory)) result) self.new }
     {
         let number = factory.number();
-        if self.is_in_use(number, factory.owner()) {
+        if self.is_kept_open(number, factory.owner()) {
             return Err(NotClosed {
                 error: CloseError::StillInUse,
                 factory: Some(factory),
@@ -40,8 +40,18 @@ impl<T: Copy, U: Copy, B: Drop, D: Drop> Hub<T, U, B, D> {
         }
     }
 
-    // Whether something lives that keeps a factory from being closed.
-    fn is_in_use(&self, number: u64, owner: u64) -> bool
+    /// Whether something lives that keeps a factory of this hub from being closed: `close` answers `StillInUse` just then.
+    ///
+    /// This port's own.
+    pub fn is_in_use<P: Pattern>(&self, factory: &PortFactory<P>) -> bool
+        requires { factory.now.service.membership.storage ≡ self.now.table.id }
+        ensures { result ≡ in_use factory.now.service.membership.service.number factory.now.owner self.now }
+    {
+        self.is_kept_open(factory.number(), factory.owner())
+    }
+
+    // Whether something lives that keeps a factory from being closed, by the number of its service and its own.
+    fn is_kept_open(&self, number: u64, owner: u64) -> bool
         ensures { result ≡ in_use number owner self.now }
     {
         if !self.services.is_open(number) {

@@ -46,6 +46,13 @@ impl<P: Pattern> PortFactory<P> {
         self.service.attributes()
     }
 
+    /// What tells apart the hub that it is of.
+    pub fn hub(&self) -> u64
+        ensures { result ≡ self.now.service.membership.storage }
+    {
+        self.service.storage()
+    }
+
     /// The number of the service.
     pub fn number(&self) -> u64
         ensures { result ≡ self.now.service.membership.service.number }

@@ -1,6 +1,6 @@
 //! A hub.
 ghost use Rattle.std.specs.Prelude.{◌≡◌, Ok, nat_eq};
-ghost use Rattle.iox_hub_base.specs.Hubs.{IsNewHub, one_more};
+ghost use Rattle.iox_hub_base.specs.Hubs.{IsNewHub, one_more, is_node};
 
 use crate::factory::PortFactory;
 use crate::node::NodeHandle;
@@ -77,6 +77,15 @@ impl<T: Copy, U: Copy, B: Drop, D: Drop> Hub<T, U, B, D> {
             hub: self.id(),
             number: self.nodes,
         })
+    }
+
+    /// Whether a node of this number was made: they are counted from 1.
+    ///
+    /// This port's own.
+    pub fn has_node(&self, number: u64) -> bool
+        ensures { result ≡ is_node number self.now.nodes }
+    {
+        1 <= number && number <= self.nodes
     }
 
     /// Whether a node is of this hub.

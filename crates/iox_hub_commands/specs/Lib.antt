@@ -4,4 +4,5 @@ pub mod Replies
 pub mod Arriving
 pub mod Lending
 pub mod Messages
+pub mod Receiving
 pub mod Following

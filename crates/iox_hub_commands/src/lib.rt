@@ -10,6 +10,7 @@
 //! | `arriving` | ports come |
 //! | `lending` | publishers lend, and send values at once |
 //! | `messages` | loans are written, sent and given up; samples are read and released |
+//! | `receiving` | subscribers receive |
 //! | `following` | ports follow the list of the others, tell whether messages wait, and leave |
 #![tactic(auto)]
 
@@ -19,6 +20,7 @@ pub mod handlers;
 pub mod lending;
 pub mod messages;
 mod naming;
+pub mod receiving;
 pub mod replies;
 
 pub use handlers::{

@@ -99,7 +99,7 @@ pub fn read<T: Copy, U: Copy, H: Home<T, U>>(
 }
 
 // A list of the same values.
-fn copied<T: Copy>(alloc: Global, values: &[T]) -> Result<Vec<T>, AllocError>
+pub(crate) fn copied<T: Copy>(alloc: Global, values: &[T]) -> Result<Vec<T>, AllocError>
     ensures { IfOk result (λ copy. copy.items ≡ values.now) }
 {
     let mut copy = Vec::new(alloc);

@@ -1,5 +1,5 @@
 -- What is read of words is what they write, and what is written is read.
-use Rattle.std.proofs.Common.{◌≡◌, ℕ, ◌<◌, List, [], ◌∷◌, Option, None, Some, refl, cond, sym, ap, ◌∙◌, subst, length, decimal, map, codes, arith}
+use Rattle.std.proofs.Common.{◌≡◌, ℕ, ◌<◌, List, [], ◌∷◌, Option, None, Some, refl, cond, sym, ap, ◌∙◌, subst, length, decimal, map, codes}
 use Rattle.std.specs.Option.{option_map}
 use Rattle.iox_command.specs.declared.command.Command.{Command}
 use Rattle.iox_command.specs.declared.command.Command.TheVariants as command
@@ -106,23 +106,17 @@ numbers_own : (ns : List ℕ) → AreNumbers ns → numbers (map decimal ns) ≡
 numbers_own [] a = refl
 numbers_own (n ∷ ns) a = ap (option_map (λ p. p.0 ∷ p.1)) (both_own (number_of (decimal n)) (numbers (map decimal ns)) n ns (number_own n a.0) (numbers_own ns a.1))
 
-same_length : (w : List ℕ) (ws : List (List ℕ)) (ns : List ℕ) → w ∷ ws ≡ map decimal ns → 0 < length ns
-same_length w ws [] h = cc
-same_length w ws (n ∷ ns) h = omega arith
-
 values_some : (letter : ℕ) (ws : List (List ℕ)) (p : ℕ × List ℕ) → with_values letter ws ≡ Some p
-    → (IsNumber p.0 × (0 < length p.1) × AreNumbers p.1) × (ws ≡ tag letter p.0 ∷ map decimal p.1)
+    → (IsNumber p.0 × AreNumbers p.1) × (ws ≡ tag letter p.0 ∷ map decimal p.1)
 values_some letter [] p h = cc
-values_some letter (w ∷ []) p h = cc
-values_some letter (w ∷ v ∷ ws) p h =
-    let b = both_some (tagged letter w) (numbers (v ∷ ws)) p h in
+values_some letter (w ∷ ws) p h =
+    let b = both_some (tagged letter w) (numbers ws) p h in
     let s = tagged_some letter w p.0 b.0 in
-    let r = numbers_some (v ∷ ws) p.1 b.1 in
-    ((s.0, same_length v ws p.1 r.1, r.0), ap (λ x. x ∷ v ∷ ws) s.1 ∙ ap (λ l. tag letter p.0 ∷ l) r.1)
+    let r = numbers_some ws p.1 b.1 in
+    ((s.0, r.0), ap (λ x. x ∷ ws) s.1 ∙ ap (λ l. tag letter p.0 ∷ l) r.1)
 
-values_own : (letter n : ℕ) (ns : List ℕ) → IsNumber n → 0 < length ns → AreNumbers ns → with_values letter (tag letter n ∷ map decimal ns) ≡ Some (n, ns)
-values_own letter n [] p some a = absurd (omega (arith, some))
-values_own letter n (m ∷ ms) p some a = both_own (tagged letter (tag letter n)) (numbers (map decimal (m ∷ ms))) n (m ∷ ms) (tagged_own letter n p) (numbers_own (m ∷ ms) a)
+values_own : (letter n : ℕ) (ns : List ℕ) → IsNumber n → AreNumbers ns → with_values letter (tag letter n ∷ map decimal ns) ≡ Some (n, ns)
+values_own letter n ns p a = both_own (tagged letter (tag letter n)) (numbers (map decimal ns)) n ns (tagged_own letter n p) (numbers_own ns a)
 
 -- one port
 
@@ -162,7 +156,7 @@ one_number make letter text ws c fits writes h =
 
 -- commands of a made value and values
 one_message : (make : ℕ → List ℕ → Command ℕ) (letter : ℕ) (text : List ℕ) (ws : List (List ℕ)) (c : Command ℕ)
-    → ((n : ℕ) (ns : List ℕ) → IsNumber n × (0 < length ns) × AreNumbers ns → Fits (make n ns))
+    → ((n : ℕ) (ns : List ℕ) → IsNumber n × AreNumbers ns → Fits (make n ns))
     → ((n : ℕ) (ns : List ℕ) → Writes (make n ns) (text ∷ tag letter n ∷ map decimal ns)) → option_map (λ p. make p.0 p.1) (with_values letter ws) ≡ Some c → Fits c × Writes c (text ∷ ws)
 one_message make letter text ws c fits writes h =
     let m = map_some (λ p. make p.0 p.1) (with_values letter ws) c h in
@@ -321,10 +315,10 @@ words_complete (command.Close n) ws f w = ap of_words w ∙ ap (option_map (λ n
 words_complete (command.Loan n m) ws f w = ap of_words w ∙ ap (option_map (λ p. command.Loan p.0 p.1)) (number_pair_own 112 n m f.0 f.1)
 words_complete (command.LoanUninit n m) ws f w = ap of_words w ∙ ap (option_map (λ p. command.LoanUninit p.0 p.1)) (number_pair_own 112 n m f.0 f.1)
 words_complete (command.Set n m k) ws f w = ap of_words w ∙ ap (option_map (λ p. command.Set p.0 p.1 p.2)) (two_own 108 n m k f.0 f.1 f.2)
-words_complete (command.Fill n ns) ws f w = ap of_words w ∙ ap (option_map (λ p. command.Fill p.0 p.1)) (values_own 108 n ns f.0 f.1 f.2)
+words_complete (command.Fill n ns) ws f w = ap of_words w ∙ ap (option_map (λ p. command.Fill p.0 p.1)) (values_own 108 n ns f.0 f.1)
 words_complete (command.Drop n) ws f w = ap of_words w ∙ ap (option_map (λ n. command.Drop n)) (tagged_own 108 n f)
 words_complete (command.Send n) ws f w = ap of_words w ∙ ap (option_map (λ n. command.Send n)) (tagged_own 108 n f)
-words_complete (command.Put n ns) ws f w = ap of_words w ∙ ap (option_map (λ p. command.Put p.0 p.1)) (values_own 112 n ns f.0 f.1 f.2)
+words_complete (command.Put n ns) ws f w = ap of_words w ∙ ap (option_map (λ p. command.Put p.0 p.1)) (values_own 112 n ns f.0 f.1)
 words_complete (command.Retry n m) ws f w = ap of_words w ∙ ap (option_map (λ p. command.Retry p.0 p.1)) (number_pair_own 112 n m f.0 f.1)
 words_complete (command.GiveUp n) ws f w = ap of_words w ∙ ap (option_map (λ n. command.GiveUp n)) (tagged_own 112 n f)
 words_complete (command.Receive n) ws f w = ap of_words w ∙ ap (option_map (λ n. command.Receive n)) (tagged_own 115 n f)

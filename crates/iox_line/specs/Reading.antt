@@ -78,11 +78,10 @@ abbrev pub numbers : List (List ℕ) → Option (List ℕ)
 numbers [] = Some []
 numbers (w ∷ ws) = option_map (λ p. p.0 ∷ p.1) (both (number_of w) (numbers ws))
 
--- a made value and numbers, at least one
+-- a made value and numbers, or none after it
 abbrev pub with_values : ℕ → List (List ℕ) → Option (ℕ × List ℕ)
 with_values letter [] = None
-with_values letter (w ∷ []) = None
-with_values letter (w ∷ v ∷ ws) = both (tagged letter w) (numbers (v ∷ ws))
+with_values letter (w ∷ ws) = both (tagged letter w) (numbers ws)
 
 -- one port
 abbrev pub port_of : List (List ℕ) → Option PortNumber

@@ -28,7 +28,7 @@ abbrev pub IsPort : PortNumber → Type 0
 IsPort (port.Publisher n) = IsNumber n
 IsPort (port.Subscriber n) = IsNumber n
 
--- a command whose numbers have 64 bits, whose name and attributes are within the limits, whose message has a value, whose lists are in their order, and whose foreign steps are at least one
+-- a command whose numbers have 64 bits, whose name and attributes are within the limits, whose lists are in their order, and whose foreign steps are at least one
 abbrev pub Fits : Command ℕ → Type 0
 Fits (command.Create node name options attributes steps) = IsNumber node × IsName name × ServiceFits options × SpecifierFits attributes
     × ListsFit (pattern_of options) 0 steps
@@ -41,10 +41,10 @@ Fits (command.Close factory) = IsNumber factory
 Fits (command.Loan publisher long) = IsNumber publisher × IsNumber long
 Fits (command.LoanUninit publisher long) = IsNumber publisher × IsNumber long
 Fits (command.Set loan place value) = IsNumber loan × IsNumber place × IsNumber value
-Fits (command.Fill loan values) = IsNumber loan × (0 < length values) × AreNumbers values
+Fits (command.Fill loan values) = IsNumber loan × AreNumbers values
 Fits (command.Drop loan) = IsNumber loan
 Fits (command.Send loan) = IsNumber loan
-Fits (command.Put publisher values) = IsNumber publisher × (0 < length values) × AreNumbers values
+Fits (command.Put publisher values) = IsNumber publisher × AreNumbers values
 Fits (command.Retry publisher nanoseconds) = IsNumber publisher × IsNumber nanoseconds
 Fits (command.GiveUp publisher) = IsNumber publisher
 Fits (command.Receive subscriber) = IsNumber subscriber

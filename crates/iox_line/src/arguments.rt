@@ -79,7 +79,7 @@ fn numbers<'a>(words: Words, scratch: &'a mut Scratch) -> Option<Values<'a, u64>
     Some(Values::new(scratch.as_slice()))
 }
 
-/// A made value and numbers, at least one.
+/// A made value and numbers, or none after it.
 pub(crate) fn with_values<'a>(
     letter: u8,
     words: Words,
@@ -92,9 +92,6 @@ pub(crate) fn with_values<'a>(
     let Some(word) = words.next() else {
         return None;
     };
-    if words.is_empty() {
-        return None;
-    }
     let made = numbered(letter, word)?;
     let values = numbers(words, scratch)?;
     Some((made, values))

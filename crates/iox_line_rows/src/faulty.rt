@@ -3,7 +3,7 @@ use iox_line::{LineError, Scratch, read_command};
 use std::alloc::Global;
 use std::test::Fail;
 
-const FAULTY: [&str; 86] = [
+const FAULTY: [&str; 88] = [
     "",
     " ",
     "nod",
@@ -79,8 +79,10 @@ const FAULTY: [&str; 86] = [
     "set l1 0",
     "set l1 0 1 2",
     "set l1 1 01",
-    "fill l1",
-    "put p1",
+    "fill",
+    "fill l1 ",
+    "fill l1 5 ",
+    "put",
     "put p1 ",
     "put p1 1 x",
     "put s1 1",

@@ -94,7 +94,7 @@ fn valued<'a>(command: &'a Command<'a, u64>) -> Option<(&'static str, u64, &'a [
     }
 }
 
-const LINES: [(&str, &str, [u64; 3], &[u64]); 26] = [
+const LINES: [(&str, &str, [u64; 3], &[u64]); 28] = [
     ("node", "node", [0, 0, 0], &[]),
     ("close f3", "close", [3, 0, 0], &[]),
     ("close f0", "close", [0, 0, 0], &[]),
@@ -109,10 +109,12 @@ const LINES: [(&str, &str, [u64; 3], &[u64]); 26] = [
     ("loan_uninit p1 7", "loan_uninit", [1, 7, 0], &[]),
     ("set l1 2 3", "set", [1, 2, 3], &[]),
     ("set l1 0 0", "set", [1, 0, 0], &[]),
+    ("fill l1", "fill", [1, 0, 0], &[]),
     ("fill l1 5", "fill", [1, 0, 0], &[5]),
     ("fill l2 5 6 7", "fill", [2, 0, 0], &[5, 6, 7]),
     ("drop l4", "drop", [4, 0, 0], &[]),
     ("send l4", "send", [4, 0, 0], &[]),
+    ("put p1", "put", [1, 0, 0], &[]),
     ("put p1 3", "put", [1, 0, 0], &[3]),
     (
         "put p1 3 0 18446744073709551615",

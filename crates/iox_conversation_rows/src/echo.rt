@@ -1,0 +1,35 @@
+//! Somebody who says each line again.
+ghost use Rattle.std.specs.Prelude.{◌≡◌};
+
+use iox_conversation::{AnswersLines, Input, Output, ServeError, serve};
+use std::alloc::{AllocError, Global};
+use std::io::{Read, Write};
+
+#[derive(Drop)]
+pub(crate) struct Echo;
+
+impl AnswersLines for Echo {
+    ghost answers = { λ old line text new. text ≡ line };
+
+    ghost used = { λ echo. 0 };
+
+    fn answer_line(
+        &mut self,
+        _alloc: Global,
+        line: &[u8],
+        out: &mut Vec<u8>,
+    ) -> Result<(), AllocError> {
+        out.extend_from_slice(line)
+    }
+}
+
+/// A conversation with it, on a reader and a writer that weren't called yet.
+pub(crate) fn converse<R: Read, W: Write>(
+    alloc: Global,
+    input: &mut Input<R>,
+    output: &mut Output<W>,
+) -> Result<(), ServeError>
+    requires { input.old.calls ≡ 0 }
+{
+    serve(alloc, Echo, input, output)
+}

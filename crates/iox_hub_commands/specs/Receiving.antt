@@ -1,0 +1,52 @@
+-- What the command does that receives.
+use Rattle.std.specs.Prelude.{ℕ, ◌≡◌, List, Option, None, Some, Result, Ok, Err}
+use Rattle.std.specs.Vec.{vec_items}
+use Rattle.std.specs.Global.{Vec}
+use Rattle.std.specs.declared.alloc.AllocError.{AllocError}
+use Rattle.iox_command.specs.declared.refusal.Refusal.TheVariants as refusal
+use Rattle.iox_command.specs.declared.reply.Reply.{Reply}
+use Rattle.iox_command.specs.declared.reply.Reply.TheVariants as reply
+use Rattle.iox_domain_home.specs.declared.domain_id.DomainId.{DomainId}
+use Rattle.iox_domain_ports.specs.declared.service_ports.ServicePorts.{ServicePorts}
+use Rattle.iox_domain_values.specs.declared.degradation.DegradationAction.{DegradationAction}
+use Rattle.iox_domain_values.specs.declared.degradation.DegradationInfo.{DegradationInfo}
+use Rattle.iox_domain_values.specs.declared.port_error.ReceiveError.{ReceiveError}
+use Rattle.iox_hub_ports.specs.Growing.{GrowsFirst}
+use Rattle.iox_hub_ports.specs.Numbering.{ReceivesNumbered}
+use Rattle.iox_hub_ports.specs.Reading.{values_under}
+use Rattle.iox_hub_ports.specs.Tables.{IsFull}
+use Rattle.iox_hub_ports.specs.declared.made.Made.{Made}
+use Rattle.iox_numbered.specs.NumberTable.{value_at}
+
+module _ {T : Type 0} where
+  -- the reply of a sample that came: its number, and the values that are read under it
+  abbrev pub IsArrival : ℕ → Option (List T) → Reply T → Type 0
+  IsArrival sample None answer = ⊥
+  IsArrival sample (Some found) answer = (values : Vec T) × (vec_items values ≡ found) × (answer ≡ reply.Received sample values)
+
+  -- the reply of a receive, where `read` tells the values of a sample by its number
+  abbrev pub IsReceiveReply : (ℕ → Option (List T)) → Option (Result (Option ℕ) ReceiveError) → Reply T → Type 0
+  IsReceiveReply read None answer = answer ≡ reply.Skipped
+  IsReceiveReply read (Some (Err error)) answer = answer ≡ reply.Refused (refusal.Receive error)
+  IsReceiveReply read (Some (Ok None)) answer = answer ≡ reply.NothingWaits
+  IsReceiveReply read (Some (Ok (Some sample))) answer = IsArrival sample (read sample) answer
+
+-- A sample came.
+abbrev pub HasCome : Option (Result (Option ℕ) ReceiveError) → Type 0
+HasCome None = ⊥
+HasCome (Some (Err error)) = ⊥
+HasCome (Some (Ok None)) = ⊥
+HasCome (Some (Ok (Some sample))) = Unit {0}
+
+-- what is replied: nothing where no memory was found for one more number, or for the values of a sample that came
+abbrev pub IsTold : {T : Type 0} → (ℕ → Option (List T)) → Result (Option (Result (Option ℕ) ReceiveError)) AllocError → Result (Reply T) AllocError → Type 0
+IsTold read (Err lacking) answer = answer ≡ Err lacking
+IsTold read (Ok received) (Ok told) = IsReceiveReply read received told
+IsTold read (Ok received) (Err lacking) = HasCome received
+
+-- A subscriber receives, and a sample that came gets the next number.
+abbrev pub ReceiveStep : {T U H : Type 0} → (DomainId → H → Option (ServicePorts T U)) → (DomainId → ServicePorts T U → H → H) → (DomainId → ℕ → H → DegradationInfo → DegradationAction → Type 0) → ℕ → Made → H → Result (Reply T) AllocError → Made → H → Type 0
+ReceiveStep ports_of with_ports degrades subscriber made old answer made_after new =
+    (received : Result (Option (Result (Option ℕ) ReceiveError)) AllocError)
+    × GrowsFirst (IsFull made.samples) (ReceivesNumbered ports_of with_ports degrades (value_at made.subscribers subscriber)) made old received made_after new
+    × IsTold (λ sample. values_under ports_of (value_at made_after.samples sample) new) received answer

@@ -1,0 +1,54 @@
+//! The command that receives, over the tables of what goes by numbers and any home of ports.
+ghost use Rattle.std.specs.Prelude.{◌+◌, ◌<◌, ◌^◌, IsSome, IfOk};
+ghost use Rattle.iox_hub_commands.specs.Receiving.{IsArrival, ReceiveStep};
+ghost use Rattle.iox_hub_ports.specs.Reading.{values_under};
+ghost use Rattle.iox_numbered.specs.NumberTable.{value_at};
+
+use crate::messages::copied;
+use iox_command::{Refusal, Reply};
+use iox_domain_home::Home;
+use iox_hub_ports::Made;
+use std::alloc::{AllocError, Global};
+
+/// A subscriber receives, after an update; a sample that came gets the next number, and is replied with its values. Skipped as
+/// `Made::receive` answers None, and refused as that is.
+///
+/// Fails where the table of samples is full and no memory is found for one more number, and then nothing has changed; and where no memory
+/// is found for the values of a sample that came, which is held then under its number.
+pub fn receive<T: Copy, U: Copy, H: Home<T, U>>(
+    alloc: Global,
+    made: &mut Made,
+    home: &mut H,
+    subscriber: u64,
+) -> Result<Reply<T>, AllocError>
+    requires { made.old.samples.next + 1 < 2 ^ 64 }
+    ensures { ReceiveStep H.ports_of H.with_ports H.subscriber_degrades subscriber made.old home.old result made.new home.new }
+{
+    let sample = made.samples.next_number();
+    match made.receive_growing(alloc, home, subscriber) {
+        Err(lacking) => Err(lacking),
+        Ok(None) => Ok(Reply::Skipped),
+        Ok(Some(Err(error))) => Ok(Reply::Refused(Refusal::Receive(error))),
+        Ok(Some(Ok(None))) => Ok(Reply::NothingWaits),
+        Ok(Some(Ok(Some(_)))) => arrival(alloc, made, home, sample),
+    }
+}
+
+// The reply of a sample that came: its number, and its values. Fails only where no memory is found for these.
+fn arrival<T: Copy, U: Copy, H: Home<T, U>>(
+    alloc: Global,
+    made: &Made,
+    home: &H,
+    sample: u64,
+) -> Result<Reply<T>, AllocError>
+    requires { IsSome (values_under H.ports_of (value_at made.now.samples sample) home.now) }
+    ensures { IfOk result (λ reply. IsArrival sample (values_under H.ports_of (value_at made.now.samples sample) home.now) reply) }
+{
+    let Some(values) = made.read(home, sample) else {
+        unreachable!();
+    };
+    Ok(Reply::Received {
+        sample,
+        values: copied(alloc, values)?,
+    })
+}
