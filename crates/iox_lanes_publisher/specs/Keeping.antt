@@ -56,6 +56,10 @@ first_free (count ∷ counts) at = if count == 0 then Some at else first_free co
 abbrev pub number_in : ℕ → ℕ → ℕ
 number_in first index = min (first + index) (2 ^ 64 - 1)
 
+-- whether a slot of the service is lent by this publisher
+abbrev pub loan_of : ℕ → BookState → LoanMark
+loan_of slot book = if nat_lt slot book.first then mark.No else get_or book.loans (slot - book.first) mark.No
+
 -- a free slot is lent
 abbrev pub lent_from : BookState → Option ℕ → BookState
 lent_from book None = record book { answer = Some answer.OutOfMemory }

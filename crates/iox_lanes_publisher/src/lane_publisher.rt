@@ -1,9 +1,10 @@
 //! A publisher, free of any words.
 ghost use Rattle.std.specs.Prelude.{◌≡◌, true, length, replicate, IfOk};
 ghost use Rattle.iox_lanes_calls.specs.Publishing.{publisher_next, publisher_is_idle, publisher_is_over};
+ghost use Rattle.iox_lanes_publisher.specs.Keeping.{loan_of};
 ghost use Rattle.iox_lanes_publisher.specs.Publishers.{after_answer, begun_loan, begun_write, begun_send, begun_drop, new_publisher};
 
-use crate::slot_book::{LoanAnswer, SlotBook};
+use crate::slot_book::{LoanAnswer, LoanMark, SlotBook};
 use iox_lanes_calls::{PublisherCall, Route};
 use iox_lanes_words::SharedAccess;
 use std::alloc::{AllocError, Global};
@@ -64,6 +65,34 @@ impl LanePublisher {
         ensures { result ≡ self.now.book.answer }
     {
         self.book.answer()
+    }
+
+    /// The number of its first slot.
+    pub fn first_slot(&self) -> u64
+        ensures { result ≡ self.now.book.first }
+    {
+        self.book.first()
+    }
+
+    /// Whether a slot of the service is its loan.
+    pub fn loan(&self, slot: u64) -> LoanMark
+        ensures { result ≡ loan_of slot self.now.book }
+    {
+        self.book.loan(slot)
+    }
+
+    /// How many words a payload has.
+    pub fn payload_words(&self) -> usize
+        ensures { result ≡ length self.now.payload }
+    {
+        self.payload.len()
+    }
+
+    /// How many words header and user header have.
+    pub fn head_words(&self) -> usize
+        ensures { result ≡ length self.now.head }
+    {
+        self.head.len()
     }
 
     /// The call that it is in.

@@ -1,6 +1,6 @@
 //! What the slots of a publisher are used for.
 ghost use Rattle.std.specs.Prelude.{◌≡◌, ◌+◌, ◌-◌, ◌*◌, ◌<◌, ◌≤◌, ◌^◌, ◌++◌, ◌∷◌, [], None, length, remove, replicate, IfOk, vec_len, vec_capacity};
-ghost use Rattle.iox_lanes_publisher.specs.Keeping.{put_at, counted_up, counted_down, first_free, number_in, new_book, changed, lent, remembered, dropped, marked, referred_at, unreferred_at, newest_of};
+ghost use Rattle.iox_lanes_publisher.specs.Keeping.{put_at, counted_up, counted_down, first_free, number_in, new_book, loan_of, changed, lent, remembered, dropped, marked, referred_at, unreferred_at, newest_of};
 
 use iox_lanes_calls::PublisherChange;
 use std::alloc::{AllocError, Global};
@@ -100,6 +100,26 @@ impl SlotBook {
         ensures { result ≡ self.now.answer }
     {
         self.answer
+    }
+
+    /// The number of the first slot.
+    pub fn first(&self) -> u64
+        ensures { result ≡ self.now.first }
+    {
+        self.first
+    }
+
+    /// Whether a slot of the service is lent by this publisher.
+    pub fn loan(&self, slot: u64) -> LoanMark
+        ensures { result ≡ loan_of slot self.now }
+    {
+        if slot < self.first {
+            return LoanMark::No;
+        }
+        match self.loans.get((slot - self.first) as usize) {
+            Some(mark) => *mark,
+            None => LoanMark::No,
+        }
     }
 
     /// Keeps what a step changes.

@@ -1,5 +1,5 @@
 //! A subscriber, free of any words.
-ghost use Rattle.std.specs.Prelude.{◌≡◌, ◌-◌, true, false, None, Some, get_or, length, replicate, IfOk};
+ghost use Rattle.std.specs.Prelude.{◌≡◌, ◌-◌, true, false, None, Some, get_or, slice_get, length, replicate, IfOk};
 ghost use Rattle.iox_lanes_calls.specs.Subscribing.{subscriber_next, subscriber_is_idle, subscriber_is_over};
 ghost use Rattle.iox_lanes_subscriber.specs.Keeping.{put_at, counted_up, counted_down, changed, after_answer, begun_receive, begun_read, begun_release, new_subscriber};
 
@@ -71,6 +71,16 @@ impl LaneSubscriber {
     {
         match self.samples.get(slot) {
             Some(place) => *place,
+            None => None,
+        }
+    }
+
+    /// The connection at a place; None beyond the last one.
+    pub fn route(&self, place: u64) -> Option<Route>
+        ensures { result ≡ slice_get self.now.routes place }
+    {
+        match self.routes.get(place as usize) {
+            Some(route) => Some(*route),
             None => None,
         }
     }

@@ -1,0 +1,29 @@
+//! Factories under numbers: the services that a run of commands opened, and what later commands do with them.
+//!
+//! | Module | What it has |
+//! |---|---|
+//! | `made` | a service that is open, whatever its pattern |
+//! | `factories` | the table: which factory goes by a number |
+//! | `asked` | which service is asked for |
+//! | `creating` | services are created |
+//! | `opening` | services are opened |
+//! | `either` | services are opened, or created |
+//! | `closing` | factories are closed |
+//! | `acting` | nodes of others act |
+//! | `laws` | what these calls come to for the factories, in other words than theirs |
+#![tactic(auto)]
+
+pub mod acting;
+pub mod asked;
+pub mod closing;
+pub mod creating;
+pub mod either;
+pub mod factories;
+pub mod laws;
+pub mod made;
+pub mod opening;
+
+pub use acting::foreign;
+pub use asked::ServiceAsked;
+pub use factories::Factories;
+pub use made::MadeFactory;

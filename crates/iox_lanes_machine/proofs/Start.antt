@@ -1,0 +1,197 @@
+-- Lanes as they are made keep what every step keeps.
+use Rattle.std.proofs.Common.{ℕ, zero, suc, ◌≡◌, ◌+◌, ◌-◌, ◌*◌, ◌/◌, ◌%◌, ◌<◌, ◌≤◌, ◌^◌, List, [], ◌∷◌, ◌++◌, length, take, drop, get_or, replicate, slice_get, Option, Some, None, refl, sym, ◌∙◌, ap, subst, inl, inr, arith, length-append}
+use Rattle.std.specs.List.{All}
+use Rattle.std.proofs.lemmas.Bool.{cases_lt}
+use Rattle.std.proofs.lemmas.Nat.{div-mul-add, mod-mul-add, row_fits}
+use Rattle.std.proofs.lemmas.List.{length-replicate, drop-replicate, take-replicate, get_or-replicate}
+use Rattle.std.proofs.lemmas.List.Elements.{All-from_get_or, All-replicate}
+use Rattle.std.proofs.lemmas.Option.{slice_get_within, slice_get-get_or, get_or_from_slice_get}
+use Rattle.std.proofs.Math.ListN.{get_or-append}
+use Rattle.std.proofs.Math.Seq.{get_or-append_seam}
+use Rattle.iox_queues_steps.specs.Access.{RingWords}
+use Rattle.iox_queues_steps.specs.declared.access.Word.TheVariants.{Write, Read, Cell}
+use Rattle.iox_queues_steps.specs.declared.order.Placed.{Placed}
+use Rattle.iox_queues_rings.specs.Ends.{Shape, cells_of, push_idle, pop_idle}
+use Rattle.iox_queues_rings.specs.RingMachine.{first_words}
+use Rattle.iox_queues_rings.specs.declared.ends.RingKind.{RingKind}
+use Rattle.iox_queues_rings.specs.declared.ends.RingKind.TheVariants as kind
+use Rattle.iox_queues_rings.specs.declared.ends.Push.{Push}
+use Rattle.iox_queues_rings.specs.declared.ends.Pop.{Pop}
+use Rattle.iox_queues_rings.proofs.EitherRing.{start_overflowing, start_refusing}
+use Rattle.iox_lanes_words.specs.Numbers.{words_of, number_of}
+use Rattle.iox_lanes_words.specs.Table.{TableWords}
+use Rattle.iox_lanes_calls.specs.declared.publisher.PublisherCall.{PublisherCall}
+use Rattle.iox_lanes_calls.specs.declared.publisher.PublisherCall.TheVariants as publishing
+use Rattle.iox_lanes_calls.specs.declared.route.Route.{Route}
+use Rattle.iox_lanes_calls.specs.declared.subscriber.SubscriberCall.{SubscriberCall}
+use Rattle.iox_lanes_calls.specs.declared.subscriber.SubscriberCall.TheVariants as subscribing
+use Rattle.iox_lanes_publisher.specs.declared.slot_book.LoanMark.{LoanMark}
+use Rattle.iox_lanes_publisher.specs.declared.slot_book.LoanMark.TheVariants as mark
+use Rattle.iox_lanes_parties.specs.Parties.{PublisherLaneState, SubscriberLaneState}
+use Rattle.iox_lanes_parties.specs.Within.{IsRoute, IsPublisher, IsSubscriber}
+use Rattle.iox_lanes_machine.specs.Rings.{sent_word, ring_in, push_on, pop_on}
+use Rattle.iox_lanes_machine.specs.World.{publisher_stage, subscriber_stage}
+use Rattle.iox_lanes_machine.specs.Kept.{IsLink, IsLinkOf, sender, receiver, IsWithin, IsKept, IsKeptAt, AreKept}
+use Rattle.iox_lanes_machine.specs.Receipts.{ReceivesGive, ReceiptsFollow}
+use Rattle.iox_lanes_machine.specs.Made.{listed, table_sizes, link_at, route_to, publisher_at, subscriber_at, first_head, start}
+use Rattle.iox_lanes_machine.specs.declared.link.Link.{Link}
+use Rattle.iox_lanes_machine.specs.declared.sizes.LaneSizes.{LaneSizes}
+use Rattle.iox_lanes_machine.proofs.InTable.{IsSeat, ring, same_ring, ends_below, write_below, read_below}
+use Rattle.iox_lanes_machine.proofs.Kept.{cells_some}
+use Rattle.iox_lanes_machine.proofs.Ends.{some_is}
+
+listed_length : {X : Type 0} (f : ℕ → X) (n : ℕ) → length (listed f n) ≡ n
+listed_length f zero = refl
+listed_length f (suc n) = omega (arith, length-append (listed f n) (f n ∷ []), listed_length f n)
+
+listed_get : {X : Type 0} (f : ℕ → X) (n k : ℕ) (d : X) → k < n → get_or (listed f n) k d ≡ f k
+listed_get f zero k d below = absurd (omega (arith, below))
+listed_get {X} f (suc n) k d below = elim (cases_lt k n) [
+  | inl lt ↦ get_or-append (listed f n) (f n ∷ []) d k (omega (arith, lt, listed_length f n)) ∙ listed_get f n k d lt
+  | inr ge ↦ let e : k ≡ n = omega (arith, ge, below) in
+      ap (λ (j : ℕ). get_or (listed f n ++ f n ∷ []) j d) (e ∙ sym (listed_length f n)) ∙ get_or-append_seam (listed f n) (f n) [] d ∙ ap f (sym e)
+]
+
+all_listed : {X : Type 0} (P : X → Type 0) (f : ℕ → X) (n : ℕ) → ((k : ℕ) → k < n → P (f k)) → All P (listed f n)
+all_listed P f n h = All-from_get_or P (listed f n) (f 0) (λ i below. let within : i < n = omega (arith, below, listed_length f n) in subst P (sym (listed_get f n i (f 0) within)) (h i within))
+
+pub listed_at : {X : Type 0} (f : ℕ → X) (n k : ℕ) → k < n → slice_get (listed f n) k ≡ Some (f k)
+listed_at {X} f n k below = slice_get-get_or (listed f n) k (f k) (omega (arith, below, listed_length f n)) ∙ ap (λ (x : X). Some x) (listed_get f n k (f k) below)
+
+-- the value at a place of the list is the one of that place
+pub listed_is : {X : Type 0} (f : ℕ → X) (n k : ℕ) (x : X) → slice_get (listed f n) k ≡ Some x → (k < n) × (x ≡ f k)
+listed_is f n k x e =
+    let below : k < n = omega (arith, slice_get_within (listed f n) k x e, listed_length f n) in
+    (below, sym (get_or_from_slice_get (listed f n) k x x e) ∙ listed_get f n k x below)
+
+-- a place in a row of a rectangle
+in_row : (p s w k : ℕ) → p < w → k < s → p * s + k < w * s
+in_row p s w k h g = omega (arith, row_fits p s w s h (omega arith), g)
+
+start_route : (sizes : LaneSizes) (connection : ℕ) → connection < sizes.publishers * sizes.subscribers → IsRoute (table_sizes sizes) (route_to sizes connection)
+start_route sizes connection h = record {
+  connection = h;
+  sends = cells_some sizes.kind sizes.buffer;
+  submission = omega arith;
+  gives_back = omega arith;
+  completion = omega arith;
+}
+
+start_head : (sizes : LaneSizes) (publisher : ℕ) → length (first_head sizes publisher) ≡ 3 + sizes.user_header_words
+start_head sizes publisher = omega (arith, length-append (0 ∷ publisher ∷ 1 ∷ []) (replicate sizes.user_header_words 0), length-replicate {A = ℕ} sizes.user_header_words 0)
+
+start_publisher : (sizes : LaneSizes) (p : ℕ) → p < sizes.publishers → IsPublisher (table_sizes sizes) (publisher_at sizes p)
+start_publisher sizes p h = record {
+  routes = all_listed (IsRoute (table_sizes sizes)) (λ subscriber. route_to sizes (p * sizes.subscribers + subscriber)) sizes.subscribers
+      (λ k below. start_route sizes (p * sizes.subscribers + k) (in_row p sizes.subscribers sizes.publishers k h below));
+  call = tt;
+  slots = omega (arith, length-replicate {A = LoanMark} sizes.slots mark.No, row_fits p sizes.slots sizes.publishers sizes.slots h (omega arith));
+  payload = length-replicate sizes.payload_words 0;
+  head = length-replicate (3 + sizes.user_header_words) 0;
+  heads = length-replicate {A = List ℕ} sizes.slots (first_head sizes p) ∙ sym (length-replicate {A = LoanMark} sizes.slots mark.No);
+  widths = All-replicate (λ (head : List ℕ). length head ≡ 3 + sizes.user_header_words) sizes.slots (first_head sizes p) (start_head sizes p);
+}
+
+start_subscriber : (sizes : LaneSizes) (s : ℕ) → s < sizes.subscribers → IsSubscriber (table_sizes sizes) (subscriber_at sizes s)
+start_subscriber sizes s h = record {
+  routes = all_listed (IsRoute (table_sizes sizes)) (λ publisher. route_to sizes (publisher * sizes.subscribers + s)) sizes.publishers
+      (λ k below. start_route sizes (k * sizes.subscribers + s) (in_row k sizes.subscribers sizes.publishers s below h));
+  call = tt;
+  slots = omega (arith, length-replicate {A = Option ℕ} (sizes.publishers * sizes.slots) None);
+  extent = record { user_header = refl; payload = refl };
+}
+
+start_link : (sizes : LaneSizes) (port : Link → ℕ) (who connection : ℕ) → connection < sizes.publishers * sizes.subscribers → port (link_at sizes connection) ≡ who
+    → IsLinkOf (listed (link_at sizes) (sizes.publishers * sizes.subscribers)) port who (route_to sizes connection)
+start_link sizes port who connection h own = record {
+  link = link_at sizes connection;
+  found = listed_at (link_at sizes) (sizes.publishers * sizes.subscribers) connection h;
+  own = own;
+  kind = refl;
+  limit = refl;
+  cells = refl;
+}
+
+start_within : (sizes : LaneSizes) → IsWithin (start sizes)
+start_within sizes = record {
+  publishers = all_listed (IsPublisher (table_sizes sizes)) (publisher_at sizes) sizes.publishers (λ k below. start_publisher sizes k below);
+  subscribers = all_listed (IsSubscriber (table_sizes sizes)) (subscriber_at sizes) sizes.subscribers (λ k below. start_subscriber sizes k below);
+  senders = λ place lane e. let is = listed_is (publisher_at sizes) sizes.publishers place lane e in
+      subst (λ (x : PublisherLaneState). All (IsLinkOf (listed (link_at sizes) (sizes.publishers * sizes.subscribers)) sender place) x.port.routes) (sym is.1)
+      (all_listed (IsLinkOf (listed (link_at sizes) (sizes.publishers * sizes.subscribers)) sender place) (λ subscriber. route_to sizes (place * sizes.subscribers + subscriber)) sizes.subscribers
+      (λ k below. start_link sizes sender place (place * sizes.subscribers + k) (in_row place sizes.subscribers sizes.publishers k is.0 below) (div-mul-add place sizes.subscribers k below)));
+  receivers = λ place lane e. let is = listed_is (subscriber_at sizes) sizes.subscribers place lane e in
+      subst (λ (x : SubscriberLaneState). All (IsLinkOf (listed (link_at sizes) (sizes.publishers * sizes.subscribers)) receiver place) x.port.routes) (sym is.1)
+      (all_listed (IsLinkOf (listed (link_at sizes) (sizes.publishers * sizes.subscribers)) receiver place) (λ publisher. route_to sizes (publisher * sizes.subscribers + place)) sizes.publishers
+      (λ k below. start_link sizes receiver place (k * sizes.subscribers + place) (in_row k sizes.subscribers sizes.publishers place below is.0) (mod-mul-add k sizes.subscribers place is.0)));
+  links = λ connection link e. let is = listed_is (link_at sizes) (sizes.publishers * sizes.subscribers) connection link e in
+      subst (IsLink (table_sizes sizes) connection) (sym is.1) (record { connection_is = is.0; cells = omega arith });
+  orders = listed_length {X = List Placed} (λ connection. []) (sizes.publishers * sizes.subscribers) ∙ sym (listed_length (link_at sizes) (sizes.publishers * sizes.subscribers));
+  words = length-replicate (words_of (table_sizes sizes)) 0;
+}
+
+-- the words of a new ring
+start_ring : (sizes : LaneSizes) (connection : ℕ) → connection < sizes.publishers * sizes.subscribers
+    → ring_in (start sizes).table connection (cells_of sizes.kind sizes.buffer) ≡ first_words sizes.kind sizes.buffer []
+start_ring sizes connection h =
+    let st : IsSeat (start sizes).table connection (cells_of sizes.kind sizes.buffer) =
+    record { there = h; some = cells_some sizes.kind sizes.buffer; room = omega arith; words = length-replicate (words_of (table_sizes sizes)) 0 } in
+    let total : length {A = ℕ} (replicate (words_of (table_sizes sizes)) 0) ≡ words_of (table_sizes sizes) = length-replicate {A = ℕ} (words_of (table_sizes sizes)) 0 in
+    let below = ends_below (start sizes).table connection (cells_of sizes.kind sizes.buffer) st in
+    let less : cells_of sizes.kind sizes.buffer - 0 ≡ cells_of sizes.kind sizes.buffer = omega arith in
+    same_ring _ (replicate (cells_of sizes.kind sizes.buffer - length {A = ℕ} []) 0) _ 0 _ 0
+    (ap (λ (ws : List ℕ). take (cells_of sizes.kind sizes.buffer) ws) (drop-replicate (number_of (table_sizes sizes) (sent_word connection (Cell 0))) (words_of (table_sizes sizes)) 0)
+    ∙ take-replicate (cells_of sizes.kind sizes.buffer) (words_of (table_sizes sizes) - number_of (table_sizes sizes) (sent_word connection (Cell 0))) 0 (omega (arith, below, total))
+    ∙ ap (λ (k : ℕ). replicate k 0) (sym less))
+    (get_or-replicate (words_of (table_sizes sizes)) (number_of (table_sizes sizes) (sent_word connection Write)) 0 0 (omega (arith, below, total, write_below (start sizes).table connection)))
+    (get_or-replicate (words_of (table_sizes sizes)) (number_of (table_sizes sizes) (sent_word connection Read)) 0 0 (omega (arith, below, total, read_below (start sizes).table connection)))
+
+start_shape : (k : RingKind) (limit : ℕ) → 0 < limit → limit < 2 ^ 62 → Shape k limit (first_words k limit []) [] (push_idle k) (pop_idle k)
+start_shape kind.Overflowing limit some small = start_overflowing limit [] some small (omega arith)
+start_shape kind.Refusing limit some small = start_refusing limit [] small (omega arith)
+
+-- no publisher pushes yet, and no subscriber pops
+idle_sender : (sizes : LaneSizes) (connection place : ℕ) (at : Option PublisherLaneState) → slice_get (start sizes).publishers place ≡ at → push_on connection sizes.kind (publisher_stage at) ≡ push_idle sizes.kind
+idle_sender sizes connection place None e = refl
+idle_sender sizes connection place (Some lane) e =
+    ap (λ (x : PublisherLaneState). push_on connection sizes.kind x.port.call) ((listed_is (publisher_at sizes) sizes.publishers place lane e).1)
+
+idle_receiver : (sizes : LaneSizes) (connection place : ℕ) (at : Option SubscriberLaneState) → slice_get (start sizes).subscribers place ≡ at → pop_on connection sizes.kind (subscriber_stage at) ≡ pop_idle sizes.kind
+idle_receiver sizes connection place None e = refl
+idle_receiver sizes connection place (Some lane) e =
+    ap (λ (x : SubscriberLaneState). pop_on connection sizes.kind x.port.call) ((listed_is (subscriber_at sizes) sizes.subscribers place lane e).1)
+
+start_at : (sizes : LaneSizes) (connection : ℕ) → connection < sizes.publishers * sizes.subscribers → 0 < sizes.buffer → sizes.buffer < 2 ^ 62
+    → IsKeptAt (start sizes).table 0 connection (link_at sizes connection) [] (publisher_stage (slice_get (start sizes).publishers (link_at sizes connection).publisher)) (subscriber_stage (slice_get (start sizes).subscribers (link_at sizes connection).subscriber))
+start_at sizes connection h some small = record {
+  mailbox = record { acts = tt; rises = omega arith };
+  shape = subst (λ (p : Push). Shape sizes.kind sizes.buffer (ring_in (start sizes).table connection (cells_of sizes.kind sizes.buffer)) [] p (pop_on connection sizes.kind (subscriber_stage (slice_get (start sizes).subscribers (link_at sizes connection).subscriber))))
+      (sym (idle_sender sizes connection (link_at sizes connection).publisher (slice_get (start sizes).publishers (link_at sizes connection).publisher) refl))
+      (subst (λ (p : Pop). Shape sizes.kind sizes.buffer (ring_in (start sizes).table connection (cells_of sizes.kind sizes.buffer)) [] (push_idle sizes.kind) p)
+      (sym (idle_receiver sizes connection (link_at sizes connection).subscriber (slice_get (start sizes).subscribers (link_at sizes connection).subscriber) refl))
+      (subst (λ (words : RingWords). Shape sizes.kind sizes.buffer words [] (push_idle sizes.kind) (pop_idle sizes.kind)) (sym (start_ring sizes connection h)) (start_shape sizes.kind sizes.buffer some small)));
+  few = omega (arith, ap (λ (words : RingWords). words.write) (start_ring sizes connection h));
+}
+
+start_rings : (sizes : LaneSizes) → 0 < sizes.buffer → sizes.buffer < 2 ^ 62 → AreKept (start sizes)
+start_rings sizes some small = λ connection link order found got.
+    let is = listed_is (link_at sizes) (sizes.publishers * sizes.subscribers) connection link found in
+    let none = listed_is {X = List Placed} (λ c. []) (sizes.publishers * sizes.subscribers) connection order got in
+    subst (λ (l : Link). IsKeptAt (start sizes).table 0 connection l order (publisher_stage (slice_get (start sizes).publishers l.publisher)) (subscriber_stage (slice_get (start sizes).subscribers l.subscriber))) (sym is.1)
+    (subst (λ (o : List Placed). IsKeptAt (start sizes).table 0 connection (link_at sizes connection) o (publisher_stage (slice_get (start sizes).publishers (link_at sizes connection).publisher)) (subscriber_stage (slice_get (start sizes).subscribers (link_at sizes connection).subscriber))) (sym none.1)
+    (start_at sizes connection is.0 some small))
+
+-- no receive gave anything yet
+idle_receives : (sizes : LaneSizes) (connection place : ℕ) (link : Link) (at : Option SubscriberLaneState) → slice_get (start sizes).subscribers place ≡ at → ReceivesGive [] connection link [] at
+idle_receives sizes connection place link None e = refl
+idle_receives sizes connection place link (Some lane) e =
+    subst (λ (x : SubscriberLaneState). ReceivesGive [] connection link [] (Some x)) (sym ((listed_is (subscriber_at sizes) sizes.subscribers place lane e).1)) refl
+
+start_receipts : (sizes : LaneSizes) → ReceiptsFollow (start sizes)
+start_receipts sizes = λ few connection link order found got.
+    let none = listed_is {X = List Placed} (λ c. []) (sizes.publishers * sizes.subscribers) connection order got in
+    subst (λ (o : List Placed). ReceivesGive [] connection link o (slice_get (start sizes).subscribers link.subscriber)) (sym none.1)
+    (idle_receives sizes connection link.subscriber link (slice_get (start sizes).subscribers link.subscriber) refl)
+
+pub start_kept : (sizes : LaneSizes) → 0 < sizes.buffer → sizes.buffer < 2 ^ 62 → IsKept (start sizes)
+start_kept sizes some small = record { within = start_within sizes; rings = λ few. start_rings sizes some small; receipts = start_receipts sizes }

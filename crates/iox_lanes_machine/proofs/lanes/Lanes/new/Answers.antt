@@ -1,0 +1,12 @@
+use Rattle.std.proofs.Common.{rules, arith, ◌≡◌, ◌<◌, ◌^◌, subst, sym}
+use Rattle.iox_lanes_machine.specs.Kept.{IsKept}
+use Rattle.iox_lanes_machine.specs.Made.{start}
+use Rattle.iox_lanes_machine.specs.State.{world_of}
+use Rattle.iox_lanes_machine.proofs.Start.{start_kept}
+use Rattle.iox_lanes_machine.proofs.lanes.Lanes.new.Goals as goal
+
+pub invariant_of-result : goal.invariant_of-result
+invariant_of-result c =
+    let is : world_of c.in_ok-state.state ≡ start c.args.sizes = search rules in
+    let small : c.args.sizes.buffer < 2 ^ 62 = search rules in
+    subst IsKept (sym is) (start_kept c.args.sizes c.requires small)

@@ -1,0 +1,25 @@
+use Rattle.std.proofs.Common.{◌≡◌, subst, sym}
+use Rattle.iox_lanes_machine.specs.Apart.{StaysApart}
+use Rattle.iox_lanes_machine.specs.World.{World}
+use Rattle.iox_lanes_machine.specs.State.{world_of}
+use Rattle.iox_lanes_machine.proofs.Apart.{steps_apart}
+use Rattle.iox_lanes_machine.proofs.Mailboxes.{orders_follow}
+use Rattle.iox_lanes_machine.proofs.Whole.{steps_keep}
+use Rattle.iox_lanes_machine.proofs.lanes.Lanes.step.Goals as goal
+
+pub invariant_of-self : goal.invariant_of-self
+invariant_of-self c = steps_keep (world_of c.self.inside.state) c.args.party c.args.step.now c.step.result (world_of c.step.new.self) c.step.ensures c.self.invariant
+
+pub returns-clause-orders : goal.returns-clause-orders
+returns-clause-orders c = orders_follow (world_of c.step.new.self) (steps_keep (world_of c.self.inside.state) c.args.party c.args.step.now c.step.result (world_of c.step.new.self) c.step.ensures c.self.invariant)
+
+pub returns-clause-apart : goal.returns-clause-apart
+returns-clause-apart c =
+    let is : c.args.self.now ≡ world_of c.self.inside.state = cc c.self.view_is in
+    subst (λ (m : World). StaysApart m c.args.party c.args.step.now c.step.result (world_of c.step.new.self)) (sym is)
+    (steps_apart (world_of c.self.inside.state) c.args.party c.args.step.now c.step.result (world_of c.step.new.self) c.step.ensures c.self.invariant.within)
+
+pub returns-clause-receipts : goal.returns-clause-receipts
+returns-clause-receipts c =
+    let kept = steps_keep (world_of c.self.inside.state) c.args.party c.args.step.now c.step.result (world_of c.step.new.self) c.step.ensures c.self.invariant in
+    kept.receipts

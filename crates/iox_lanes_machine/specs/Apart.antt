@@ -1,0 +1,78 @@
+-- How little a step touches: one party, at most one shared word, at most one call that ended.
+use Rattle.std.specs.Prelude.{ℕ, ◌≡◌, ◌+◌, List, length, slice_get, Option, Some, None}
+use Rattle.iox_queues_steps.specs.declared.schedule.Stepped.{Stepped}
+use Rattle.iox_queues_steps.specs.declared.schedule.Stepped.TheVariants as stepped
+use Rattle.iox_lanes_words.specs.Numbers.{IsWord}
+use Rattle.iox_lanes_words.specs.Table.{TableWords, held_by}
+use Rattle.iox_lanes_words.specs.declared.access.SharedAccess.{SharedAccess}
+use Rattle.iox_lanes_words.specs.declared.access.SharedAccess.TheVariants.{Load, Store, Exchange, Local}
+use Rattle.iox_lanes_words.specs.declared.word.SharedWord.{SharedWord}
+use Rattle.iox_lanes_calls.specs.Publishing.{publisher_next}
+use Rattle.iox_lanes_calls.specs.Subscribing.{subscriber_next}
+use Rattle.iox_lanes_parties.specs.Parties.{PublisherLaneState, SubscriberLaneState}
+use Rattle.iox_lanes_machine.specs.World.{World, connection_at}
+use Rattle.iox_lanes_parties.specs.declared.call.Move.{Move}
+use Rattle.iox_lanes_parties.specs.declared.call.Move.TheVariants.{Begin, GoOn}
+use Rattle.iox_lanes_parties.specs.declared.call.Party.{Party}
+use Rattle.iox_lanes_parties.specs.declared.call.Party.TheVariants.{Publisher, Subscriber}
+
+-- the next access of a publisher; one that is not there makes none
+abbrev pub publisher_access : Option PublisherLaneState → SharedAccess
+publisher_access None = Local
+publisher_access (Some lane) = publisher_next lane.port.call
+
+-- the next access of a subscriber; one that is not there makes none
+abbrev pub subscriber_access : Option SubscriberLaneState → SharedAccess
+subscriber_access None = Local
+subscriber_access (Some lane) = subscriber_next lane.port.call
+
+-- the next access of a party
+abbrev pub party_access : World → Party → SharedAccess
+party_access m (Publisher place) = publisher_access (slice_get m.publishers place)
+party_access m (Subscriber place) = subscriber_access (slice_get m.subscribers place)
+
+-- the access of a step; a begin makes none
+abbrev pub access_of : World → Party → Move → SharedAccess
+access_of m party (Begin call) = Local
+access_of m party GoOn = party_access m party
+
+-- the access may change this word
+abbrev pub MayChange : SharedAccess → SharedWord → Type 0
+MayChange (Load touched) word = ⊥
+MayChange (Store touched value) word = word ≡ touched
+MayChange (Exchange touched old new) word = word ≡ touched
+MayChange Local word = ⊥
+
+-- every word of the service that the access may not change holds what it held
+abbrev pub OthersHold : TableWords → SharedAccess → TableWords → Type 0
+OthersHold before access after = (word : SharedWord) → IsWord before.sizes word → (MayChange access word → ⊥) → held_by after word ≡ held_by before word
+
+-- every other party stands where it stood
+abbrev pub OthersStay : World → Party → World → Type 0
+OthersStay m (Publisher place) n =
+    (n.subscribers ≡ m.subscribers) × ((other : ℕ) → (other ≡ place → ⊥) → slice_get n.publishers other ≡ slice_get m.publishers other)
+OthersStay m (Subscriber place) n =
+    (n.publishers ≡ m.publishers) × ((other : ℕ) → (other ≡ place → ⊥) → slice_get n.subscribers other ≡ slice_get m.subscribers other)
+
+-- how many calls ended: one where the last step of a call was made, else none
+abbrev pub more_ended : Stepped → ℕ
+more_ended stepped.Went = 0
+more_ended stepped.Finished = 1
+more_ended stepped.Skipped = 0
+more_ended stepped.NoMemory = 0
+
+-- the connection whose order may grow at a step; at a begin none grows
+abbrev pub grows_at : World → Party → Move → Option ℕ
+grows_at m party (Begin call) = None
+grows_at m party GoOn = connection_at m party
+
+-- every other connection's order stays
+abbrev pub OrdersStay : World → Option ℕ → World → Type 0
+OrdersStay m grown n = (other : ℕ) → (grown ≡ Some other → ⊥) → slice_get n.orders other ≡ slice_get m.orders other
+
+-- a step changes no other party, no other connection's order, and no other word than that of its party's next access; one call more ended exactly where the step was a last one
+pub record StaysApart (m : World) (party : Party) (step : Move) (answer : Stepped) (n : World) : Type 0 where
+  pub words : OthersHold m.table (access_of m party step) n.table
+  pub parties : OthersStay m party n
+  pub orders : OrdersStay m (grows_at m party step) n
+  pub calls : length n.finished ≡ length m.finished + more_ended answer

@@ -1,0 +1,81 @@
+-- What every step of lanes keeps.
+use Rattle.std.specs.Prelude.{ℕ, ◌≡◌, ◌+◌, ◌<◌, ◌≤◌, ◌^◌, List, [], length, slice_get, Option, Some, None}
+use Rattle.std.specs.List.{All}
+use Rattle.iox_queues_steps.specs.Order.{Acts, after_acts, acts_of, Rises}
+use Rattle.iox_queues_steps.specs.declared.order.Placed.{Placed}
+use Rattle.iox_queues_rings.specs.Ends.{overflows, cells_of, Shape}
+use Rattle.iox_lanes_words.specs.Numbers.{words_of}
+use Rattle.iox_lanes_words.specs.Table.{TableWords}
+use Rattle.iox_lanes_words.specs.declared.sizes.TableSizes.{TableSizes}
+use Rattle.iox_lanes_calls.specs.declared.route.Route.{Route}
+use Rattle.iox_lanes_calls.specs.declared.publisher.PublisherCall.{PublisherCall}
+use Rattle.iox_lanes_calls.specs.declared.subscriber.SubscriberCall.{SubscriberCall}
+use Rattle.iox_lanes_parties.specs.Parties.{PublisherLaneState, SubscriberLaneState}
+use Rattle.iox_lanes_parties.specs.Within.{IsPublisher, IsSubscriber}
+use Rattle.iox_lanes_machine.specs.Rings.{ring_in, push_on, pop_on}
+use Rattle.iox_lanes_machine.specs.Receipts.{ReceiptsFollow}
+use Rattle.iox_lanes_machine.specs.World.{World, publisher_stage, subscriber_stage}
+use Rattle.iox_lanes_machine.specs.declared.link.Link.{Link}
+
+-- the port of a link that sends
+abbrev pub sender : Link → ℕ
+sender link = link.publisher
+
+-- the port of a link that receives
+abbrev pub receiver : Link → ℕ
+receiver link = link.subscriber
+
+-- a connection that a port has is a link of it, whose ring has just the cells that it needs
+pub record IsLinkOf (links : List Link) (port : Link → ℕ) (place : ℕ) (route : Route) : Type 0 where
+  pub link : Link
+  pub found : slice_get links route.connection ≡ Some link
+  pub own : port link ≡ place
+  pub kind : route.kind ≡ link.kind
+  pub limit : route.limit ≡ link.limit
+  pub cells : route.submission_cells ≡ cells_of link.kind link.limit
+
+-- a link has its ring among the words of the service
+pub record IsLink (sizes : TableSizes) (connection : ℕ) (link : Link) : Type 0 where
+  pub connection_is : connection < sizes.connections
+  pub cells : cells_of link.kind link.limit ≤ sizes.submission_cells
+
+-- a call stands at a connection of the service, or at none
+abbrev pub StandsInService : TableSizes → Option ℕ → Type 0
+StandsInService sizes None = Unit {0}
+StandsInService sizes (Some connection) = connection < sizes.connections
+
+-- ports, connections and words are those of one service
+pub record IsWithin (m : World) : Type 0 where
+  pub publishers : All (IsPublisher m.table.sizes) m.publishers
+  pub subscribers : All (IsSubscriber m.table.sizes) m.subscribers
+  pub senders : (place : ℕ) (lane : PublisherLaneState) → slice_get m.publishers place ≡ Some lane → All (IsLinkOf m.links sender place) lane.port.routes
+  pub receivers : (place : ℕ) (lane : SubscriberLaneState) → slice_get m.subscribers place ≡ Some lane → All (IsLinkOf m.links receiver place) lane.port.routes
+  pub links : (connection : ℕ) (link : Link) → slice_get m.links connection ≡ Some link → IsLink m.table.sizes connection link
+  pub orders : length m.orders ≡ length m.links
+  pub words : length m.table.words ≡ words_of m.table.sizes
+
+-- the order of a connection answers as its mailbox does, and its moments never fall
+pub record FollowsMailbox (link : Link) (order : List Placed) (moments : ℕ) : Type 0 where
+  pub acts : Acts (overflows link.kind) link.limit [] (acts_of order)
+  pub rises : Rises 0 order moments
+
+-- what waits at a connection, by its order
+abbrev pub waiting : Link → List Placed → List ℕ
+waiting link order = after_acts (overflows link.kind) link.limit [] (acts_of order)
+
+-- a connection has its order, and its ring holds what the order leaves; the calls are those of its two ports
+pub record IsKeptAt (table : TableWords) (moments connection : ℕ) (link : Link) (order : List Placed) (sends : PublisherCall) (receives : SubscriberCall) : Type 0 where
+  pub mailbox : FollowsMailbox link order moments
+  pub shape : Shape link.kind link.limit (ring_in table connection (cells_of link.kind link.limit)) (waiting link order) (push_on connection link.kind sends) (pop_on connection link.kind receives)
+  pub few : (ring_in table connection (cells_of link.kind link.limit)).write ≤ moments
+
+-- so it is at each connection
+abbrev pub AreKept : World → Type 0
+AreKept m = (connection : ℕ) (link : Link) (order : List Placed) → slice_get m.links connection ≡ Some link → slice_get m.orders connection ≡ Some order
+    → IsKeptAt m.table m.moments connection link order (publisher_stage (slice_get m.publishers link.publisher)) (subscriber_stage (slice_get m.subscribers link.subscriber))
+
+-- all of this; a position may not have wrapped while no more than 2^63 steps were made
+pub record IsKept (m : World) : Type 0 where
+  pub within : IsWithin m
+  pub rings : m.moments ≤ 2 ^ 63 → AreKept m
+  pub receipts : ReceiptsFollow m

@@ -1,0 +1,9 @@
+-- The definitions that contracts about lanes cite.
+pub mod Rings
+pub mod World
+pub mod Kept
+pub mod Apart
+pub mod State
+pub mod Made
+pub mod Mailboxes
+pub mod Receipts

@@ -1,0 +1,96 @@
+-- Lanes as they are made: each publisher has a connection to each subscriber, and nothing was done yet.
+use Rattle.std.specs.Prelude.{ℕ, zero, suc, ◌+◌, ◌*◌, ◌/◌, ◌%◌, List, [], ◌∷◌, ◌++◌, replicate}
+use Rattle.iox_queues_rings.specs.Ends.{cells_of}
+use Rattle.iox_lanes_words.specs.Numbers.{words_of}
+use Rattle.iox_lanes_words.specs.declared.sizes.TableSizes.{TableSizes}
+use Rattle.iox_lanes_calls.specs.declared.route.Route.{Route}
+use Rattle.iox_lanes_publisher.specs.Keeping.{new_book}
+use Rattle.iox_lanes_publisher.specs.Publishers.{new_publisher}
+use Rattle.iox_lanes_subscriber.specs.Keeping.{new_subscriber}
+use Rattle.iox_lanes_parties.specs.Parties.{PublisherLaneState, SubscriberLaneState}
+use Rattle.iox_lanes_parties.specs.declared.call.CallName.TheVariants as name
+use Rattle.iox_lanes_machine.specs.World.{World}
+use Rattle.iox_lanes_machine.specs.declared.link.Link.{Link}
+use Rattle.iox_lanes_machine.specs.declared.sizes.LaneSizes.{LaneSizes}
+
+-- the values at 0, 1 and so on, so many of them
+abbrev pub listed : {X : Type 0} → (ℕ → X) → ℕ → List X
+listed f zero = []
+listed f (suc count) = listed f count ++ f count ∷ []
+
+-- the sizes of the table: a ring of messages has the cells that its kind needs, a ring of samples given back one for each that may wait or be borrowed, and
+-- one more
+abbrev pub table_sizes : LaneSizes → TableSizes
+table_sizes sizes = record {
+  connections = sizes.publishers * sizes.subscribers;
+  submission_cells = cells_of sizes.kind sizes.buffer;
+  completion_cells = sizes.buffer + sizes.most_borrowed + 1;
+  slots = sizes.publishers * sizes.slots;
+  user_header_words = sizes.user_header_words;
+  payload_words = sizes.payload_words;
+}
+
+-- connections are numbered publisher by publisher, and for each subscriber by subscriber
+abbrev pub link_at : LaneSizes → ℕ → Link
+link_at sizes connection = record {
+  publisher = connection / sizes.subscribers;
+  subscriber = connection % sizes.subscribers;
+  kind = sizes.kind;
+  limit = sizes.buffer;
+}
+
+-- a connection as its ports know it
+abbrev pub route_to : LaneSizes → ℕ → Route
+route_to sizes connection = record {
+  connection = connection;
+  kind = sizes.kind;
+  limit = sizes.buffer;
+  submission_cells = cells_of sizes.kind sizes.buffer;
+  completion_cells = sizes.buffer + sizes.most_borrowed + 1;
+}
+
+-- the connections of a publisher, in the order of the subscribers
+abbrev pub sending_routes : LaneSizes → ℕ → ℕ → List Route
+sending_routes sizes publisher count = listed (λ subscriber. route_to sizes (publisher * sizes.subscribers + subscriber)) count
+
+-- the connections of a subscriber, in the order of the publishers
+abbrev pub receiving_routes : LaneSizes → ℕ → ℕ → List Route
+receiving_routes sizes subscriber count = listed (λ publisher. route_to sizes (publisher * sizes.subscribers + subscriber)) count
+
+-- the header of a publisher's messages: no node, its own number, one element; behind it a blank user header
+abbrev pub first_head : LaneSizes → ℕ → List ℕ
+first_head sizes publisher = (0 ∷ publisher ∷ 1 ∷ []) ++ replicate sizes.user_header_words 0
+
+-- a publisher whose slots follow those of the publishers before it
+abbrev pub publisher_at : LaneSizes → ℕ → PublisherLaneState
+publisher_at sizes publisher = record {
+  port = new_publisher (sending_routes sizes publisher sizes.subscribers)
+      (new_book (publisher * sizes.slots) sizes.slots sizes.subscribers sizes.most_loans sizes.history)
+      sizes.payload_words (3 + sizes.user_header_words);
+  heads = replicate sizes.slots (first_head sizes publisher);
+  call = name.LoanUninit;
+  first = 0;
+}
+
+-- a subscriber
+abbrev pub subscriber_at : LaneSizes → ℕ → SubscriberLaneState
+subscriber_at sizes subscriber = record {
+  port = new_subscriber (receiving_routes sizes subscriber sizes.publishers) (sizes.publishers * sizes.slots)
+      (record { user_header_words = sizes.user_header_words; payload_words = sizes.payload_words })
+      (3 + sizes.user_header_words + sizes.payload_words) sizes.most_borrowed;
+  call = name.Receive;
+  first = 0;
+}
+
+-- lanes of these sizes
+abbrev pub start : LaneSizes → World
+start sizes = record {
+  table = record { sizes = table_sizes sizes; words = replicate (words_of (table_sizes sizes)) 0 };
+  links = listed (link_at sizes) (sizes.publishers * sizes.subscribers);
+  publishers = listed (publisher_at sizes) sizes.publishers;
+  subscribers = listed (subscriber_at sizes) sizes.subscribers;
+  orders = listed (λ connection. []) (sizes.publishers * sizes.subscribers);
+  moments = 0;
+  finished = [];
+  read = [];
+}

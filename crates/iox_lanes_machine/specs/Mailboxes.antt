@@ -1,0 +1,38 @@
+-- What each connection's order and positions say of its mailbox, as long as at most 2^63 steps were made.
+use Rattle.std.specs.Prelude.{ℕ, ◌≡◌, ◌+◌, ◌≤◌, ◌^◌, List, if◌then◌else◌, slice_get, Some}
+use Rattle.iox_queues_steps.specs.declared.access.Word.TheVariants.{Write, Read}
+use Rattle.iox_queues_steps.specs.declared.order.Placed.{Placed}
+use Rattle.iox_queues_rings.specs.Ends.{overflows}
+use Rattle.iox_lanes_words.specs.Table.{TableWords, held_by}
+use Rattle.iox_lanes_words.specs.declared.word.ConnectionRing.TheVariants.{Submission, Completion}
+use Rattle.iox_lanes_words.specs.declared.word.SharedWord.TheVariants.{Ring}
+use Rattle.iox_lanes_machine.specs.Kept.{FollowsMailbox}
+use Rattle.iox_lanes_machine.specs.World.{World}
+use Rattle.iox_lanes_machine.specs.declared.link.Positions.{Positions}
+use Rattle.iox_lanes_machine.specs.declared.link.Link.{Link}
+
+-- an order of a connection answers as the connection's mailbox does
+abbrev pub OrderFollows : World → ℕ → List Placed → Type 0
+OrderFollows m connection order = m.moments ≤ 2 ^ 63 → (link : Link) → slice_get m.links connection ≡ Some link → FollowsMailbox link order m.moments
+
+-- so does the order of each connection
+abbrev pub OrdersFollow : World → Type 0
+OrdersFollow m = (connection : ℕ) (order : List Placed) → slice_get m.orders connection ≡ Some order → OrderFollows m connection order
+
+-- the four positions of a connection are words of the table
+abbrev pub positions_of : TableWords → ℕ → Positions
+positions_of table connection = record {
+  submission_write = held_by table (Ring connection Submission Write);
+  submission_read = held_by table (Ring connection Submission Read);
+  completion_write = held_by table (Ring connection Completion Write);
+  completion_read = held_by table (Ring connection Completion Read);
+}
+
+-- no more messages stand between the two positions than may wait, and one more while a full ring lets its oldest go
+pub record AreNear (link : Link) (positions : Positions) : Type 0 where
+  pub behind : positions.submission_read ≤ positions.submission_write
+  pub near : positions.submission_write ≤ positions.submission_read + link.limit + (if overflows link.kind then 1 else 0)
+
+-- so it is at a connection
+abbrev pub PositionsNear : World → ℕ → Positions → Type 0
+PositionsNear m connection positions = m.moments ≤ 2 ^ 63 → (link : Link) → slice_get m.links connection ≡ Some link → AreNear link positions

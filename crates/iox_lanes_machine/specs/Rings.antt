@@ -1,0 +1,60 @@
+-- The ring of messages of a connection, as it lies in the table of all words, and the two ends that stand at it.
+use Rattle.std.specs.Prelude.{ℕ, ◌==◌, if◌then◌else◌, List, take, drop}
+use Rattle.iox_queues_steps.specs.Access.{RingWords}
+use Rattle.iox_queues_steps.specs.declared.access.Word.{Word}
+use Rattle.iox_queues_steps.specs.declared.access.Word.TheVariants.{Write, Read, Cell}
+use Rattle.iox_queues_rings.specs.Ends.{push_idle, pop_idle}
+use Rattle.iox_queues_rings.specs.declared.ends.RingKind.{RingKind}
+use Rattle.iox_queues_rings.specs.declared.ends.Push.{Push}
+use Rattle.iox_queues_rings.specs.declared.ends.Pop.{Pop}
+use Rattle.iox_lanes_words.specs.Numbers.{number_of}
+use Rattle.iox_lanes_words.specs.Table.{TableWords, held_by}
+use Rattle.iox_lanes_words.specs.declared.word.ConnectionRing.TheVariants.{Submission}
+use Rattle.iox_lanes_words.specs.declared.word.SharedWord.{SharedWord}
+use Rattle.iox_lanes_words.specs.declared.word.SharedWord.TheVariants.{Ring}
+use Rattle.iox_lanes_calls.specs.declared.publisher.PublisherCall.{PublisherCall}
+use Rattle.iox_lanes_calls.specs.declared.publisher.PublisherCall.TheVariants as publishing
+use Rattle.iox_lanes_calls.specs.declared.subscriber.SubscriberCall.{SubscriberCall}
+use Rattle.iox_lanes_calls.specs.declared.subscriber.SubscriberCall.TheVariants as subscribing
+
+-- a word of the ring of messages of a connection
+abbrev pub sent_word : ℕ → Word → SharedWord
+sent_word connection word = Ring connection Submission word
+
+-- the cells of that ring, if there are so many
+abbrev pub cells_in : TableWords → ℕ → ℕ → List ℕ
+cells_in table connection cells = take cells (drop (number_of table.sizes (sent_word connection (Cell 0))) table.words)
+
+-- that ring
+abbrev pub ring_in : TableWords → ℕ → ℕ → RingWords
+ring_in table connection cells = record {
+  cells = cells_in table connection cells;
+  write = held_by table (sent_word connection Write);
+  read = held_by table (sent_word connection Read);
+}
+
+-- the push of a call on a connection; a call that stands elsewhere makes none there
+abbrev pub push_on : ℕ → RingKind → PublisherCall → Push
+push_on connection kind publishing.Idle = push_idle kind
+push_on connection kind (publishing.LoanReclaims place route pop) = push_idle kind
+push_on connection kind publishing.Lending = push_idle kind
+push_on connection kind (publishing.Writing slot word value) = push_idle kind
+push_on connection kind (publishing.Written slot) = push_idle kind
+push_on connection kind (publishing.Heading slot word value) = push_idle kind
+push_on connection kind (publishing.Remembering slot) = push_idle kind
+push_on connection kind (publishing.SendReclaims slot place route pop) = push_idle kind
+push_on connection kind (publishing.Pushing slot place route push delivery) =
+    if route.connection == connection then push else push_idle kind
+push_on connection kind (publishing.Sent slot delivery) = push_idle kind
+push_on connection kind (publishing.Dropping slot) = push_idle kind
+
+-- the pop or look of a call on a connection; a call that stands elsewhere makes none there
+abbrev pub pop_on : ℕ → RingKind → SubscriberCall → Pop
+pop_on connection kind subscribing.Idle = pop_idle kind
+pop_on connection kind (subscribing.Receiving place route pop waits) =
+    if route.connection == connection then pop else pop_idle kind
+pop_on connection kind (subscribing.Received receipt) = pop_idle kind
+pop_on connection kind (subscribing.Reading slot word extent) = pop_idle kind
+pop_on connection kind (subscribing.WasRead slot) = pop_idle kind
+pop_on connection kind (subscribing.Releasing place route push) = pop_idle kind
+pop_on connection kind (subscribing.Released done) = pop_idle kind

@@ -1,0 +1,143 @@
+//! Publishers and subscribers of one service that go one shared word at a time.
+ghost use Rattle.std.specs.Prelude.{◌≡◌, ◌<◌, [], IfOk, get_or, length};
+
+use crate::link::{Link, Positions};
+use crate::sizes::LaneSizes;
+use crate::state::State;
+use iox_lanes_parties::{Entry, FinishedCall, Move, Party};
+use iox_queues_steps::{Placed, Stepped};
+use std::alloc::{AllocError, Global};
+use std::marker::Model;
+
+/// Any number of publishers and subscribers of one service, and the words that they share. They go one step at a time, in any order that the caller
+/// wants, and any of them may stop anywhere.
+///
+/// A port's own data stand still but at its own steps, and each step touches at most one shared word. This port's own.
+#[derive(Drop)]
+pub struct Lanes {
+    state: State,
+}
+
+impl Model for Lanes {
+    ghost use Rattle.iox_lanes_machine.specs.World.{World};
+
+    ghost Value = { World };
+
+    ghost use Rattle.iox_lanes_machine.specs.State.{world_of};
+    ghost use Rattle.iox_lanes_machine.specs.Kept.{IsKept};
+
+    ghost view = { λ l. world_of l.state };
+
+    ghost invariant = { λ l. IsKept (world_of l.state) };
+}
+
+impl Lanes {
+    ghost use Rattle.iox_lanes_machine.specs.World.{RunsTo, StepsTo};
+    ghost use Rattle.iox_lanes_machine.specs.Apart.{StaysApart};
+    ghost use Rattle.iox_lanes_machine.specs.Made.{start};
+    ghost use Rattle.iox_lanes_machine.specs.Receipts.{ReceiptsFollow};
+    ghost use Rattle.iox_lanes_machine.specs.Mailboxes.{OrderFollows, OrdersFollow, PositionsNear, positions_of};
+
+    /// Lanes of these sizes, on which nothing was done yet: each publisher has a connection to each subscriber, numbered publisher by publisher. It fails
+    /// only where memory is wanting; no memory has room for buffers of 2^62 messages.
+    pub fn new(alloc: Global, sizes: LaneSizes) -> Result<Lanes, AllocError>
+        requires { 0 < sizes.buffer }
+        ensures { IfOk result (λ made. made ≡ start sizes) }
+    {
+        if sizes.buffer >= 1 << 62 {
+            return Err(AllocError);
+        }
+        let Some(table) = sizes.table() else {
+            return Err(AllocError);
+        };
+        let state = State::new(alloc, &sizes, &table)?;
+        Ok(Lanes { state })
+    }
+
+    /// Begins a call of a party, or goes on inside one. Answers whether the step was made, and whether it was the last of its call; where it doesn't fit, or
+    /// where it finds no memory for the call that it ends or for what it puts into an order, nothing changes. A begin fits between calls, if the call is of the party's kind, and the
+    /// loan or sample that it names is its own and out; a send needs a finished write of its loan. A go on fits inside a call.
+    pub fn step(&mut self, party: Party, step: &Move) -> Stepped
+        ensures steps { StepsTo self.old party step.now result self.new }
+        ensures apart { StaysApart self.old party step.now result self.new }
+        ensures orders { OrdersFollow self.new }
+        ensures receipts { ReceiptsFollow self.new }
+    {
+        self.state.step(party, step)
+    }
+
+    /// Makes the entries one after the other, leaves out those that do not fit, and stops where no memory is found. The answer is how many were made.
+    pub fn run(&mut self, schedule: &[Entry]) -> usize
+        ensures runs { RunsTo self.old schedule.now result self.new }
+        ensures orders { OrdersFollow self.new }
+    {
+        self.follow();
+        let mut made = 0;
+        let mut rest = schedule;
+        while let Some((entry, tail)) = rest.split_first() {
+            let stepped = self.step(entry.party, &entry.step);
+            if stepped.is_stopped() {
+                return made;
+            }
+            made += stepped.count();
+            rest = tail;
+        }
+        made
+    }
+
+    // What all lanes keep.
+    fn follow(&self)
+        ensures { OrdersFollow self.now }
+    {
+        let _ = &self.state;
+    }
+
+    /// The connections, by their numbers.
+    pub fn links(&self) -> &[Link]
+        ensures { result.now ≡ self.now.links }
+    {
+        self.state.links.as_slice()
+    }
+
+    /// The puts, takes and looks of a connection, in their order; none of a connection that isn't there. As long as at most 2^63 steps were made, they answer
+    /// as the connection's mailbox does, and their moments never fall.
+    pub fn order(&self, connection: u64) -> &[Placed]
+        ensures value { result.now ≡ get_or self.now.orders connection [] }
+        ensures follows { OrderFollows self.now connection result.now }
+    {
+        self.state.order(connection)
+    }
+
+    /// The four positions of a connection. As long as at most 2^63 steps were made, no more messages stand between the two of the messages than may wait, and
+    /// one more while a full ring lets its oldest go.
+    pub fn position(&self, connection: u64) -> Positions
+        requires { connection < length self.now.links }
+        ensures value { result ≡ positions_of self.now.table connection }
+        ensures near { PositionsNear self.now connection result }
+    {
+        self.state.positions(connection)
+    }
+
+    /// The calls that ended, in their order. As long as at most 2^63 steps were made, the receives among them gave just the slots that were taken at each
+    /// connection, in that order, but for the one that a receive has in hand.
+    pub fn finished(&self) -> &[FinishedCall]
+        ensures value { result.now ≡ self.now.finished }
+        ensures receipts { ReceiptsFollow self.now }
+    {
+        self.state.finished.as_slice()
+    }
+
+    /// The words that finished reads loaded, one read after the other: header, user header and payload of each.
+    pub fn words_read(&self) -> &[u64]
+        ensures { result.now ≡ self.now.read }
+    {
+        self.state.read.as_slice()
+    }
+
+    /// How many steps were made.
+    pub fn moments(&self) -> u64
+        ensures { result ≡ self.now.moments }
+    {
+        self.state.moments
+    }
+}

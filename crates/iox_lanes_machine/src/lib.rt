@@ -1,0 +1,22 @@
+//! Publishers and subscribers of one service that go one shared word at a time, in any order.
+//!
+//! - [`link`]: the connections.
+//! - [`sizes`]: how many ports there are, and their sizes.
+//! - `made`: the ports as they are made.
+//! - `order`: the order of a connection.
+//! - `placing`: what stands in it at a step.
+//! - `state`: all ports with their words, and one step.
+//! - [`lanes`]: the lanes as one value.
+#![tactic(auto)]
+
+pub mod lanes;
+pub mod link;
+mod made;
+mod order;
+mod placing;
+pub mod sizes;
+mod state;
+
+pub use lanes::Lanes;
+pub use link::{Link, Positions};
+pub use sizes::LaneSizes;

@@ -1,0 +1,213 @@
+//! The parts of lanes, as they are made.
+ghost use Rattle.std.specs.Prelude.{◌≡◌, ◌+◌, ◌*◌, [], replicate, IfOk};
+ghost use Rattle.iox_lanes_machine.specs.Made.{listed, link_at, publisher_at, subscriber_at, sending_routes, receiving_routes, first_head, route_to, table_sizes};
+
+use crate::link::Link;
+use crate::order::Order;
+use crate::sizes::LaneSizes;
+use iox_lanes_calls::Route;
+use iox_lanes_calls::subscriber::SlotExtent;
+use iox_lanes_parties::{Head, PublisherLane, SubscriberLane};
+use iox_lanes_publisher::{LanePublisher, SlotBook};
+use iox_lanes_subscriber::LaneSubscriber;
+use iox_lanes_words::TableSizes;
+use std::alloc::{AllocError, Global};
+
+/// The links that the first connections are.
+pub(crate) fn links(alloc: Global, sizes: &LaneSizes, count: u64) -> Result<Vec<Link>, AllocError>
+    ensures { IfOk result (λ made. made.items ≡ listed (link_at sizes.now) count) }
+{
+    let mut list = Vec::new(alloc);
+    for connection in 0..count {
+        let Some(link) = sizes.link(connection) else {
+            return Err(AllocError);
+        };
+        list.reserve(1)?;
+        list.push_reserved(link);
+    }
+    Ok(list)
+}
+
+/// The orders of so many connections.
+pub(crate) fn orders(alloc: Global, count: u64) -> Result<Vec<Order>, AllocError>
+    ensures { IfOk result (λ made. made.items ≡ listed (λ connection. []) count) }
+{
+    let mut list = Vec::new(alloc);
+    for _connection in 0..count {
+        list.reserve(1)?;
+        list.push_reserved(Order::new(alloc));
+    }
+    Ok(list)
+}
+
+/// The publishers.
+pub(crate) fn publishers(
+    alloc: Global,
+    sizes: &LaneSizes,
+    table: &TableSizes,
+) -> Result<Vec<PublisherLane>, AllocError>
+    requires { table.now ≡ table_sizes sizes.now }
+    ensures { IfOk result (λ made. made.items ≡ listed (publisher_at sizes.now) sizes.now.publishers) }
+{
+    let mut list = Vec::new(alloc);
+    for place in 0..sizes.publishers {
+        let lane = publisher(alloc, sizes, table, place)?;
+        list.reserve(1)?;
+        list.push_reserved(lane);
+    }
+    Ok(list)
+}
+
+/// The subscribers.
+pub(crate) fn subscribers(
+    alloc: Global,
+    sizes: &LaneSizes,
+    table: &TableSizes,
+) -> Result<Vec<SubscriberLane>, AllocError>
+    requires { table.now ≡ table_sizes sizes.now }
+    ensures { IfOk result (λ made. made.items ≡ listed (subscriber_at sizes.now) sizes.now.subscribers) }
+{
+    let mut list = Vec::new(alloc);
+    for place in 0..sizes.subscribers {
+        let lane = subscriber(alloc, sizes, table, place)?;
+        list.reserve(1)?;
+        list.push_reserved(lane);
+    }
+    Ok(list)
+}
+
+fn publisher(
+    alloc: Global,
+    sizes: &LaneSizes,
+    table: &TableSizes,
+    place: u64,
+) -> Result<PublisherLane, AllocError>
+    requires { table.now ≡ table_sizes sizes.now }
+    ensures { IfOk result (λ made. made ≡ publisher_at sizes.now place) }
+{
+    let routes = sending_routes(alloc, sizes, table, place)?;
+    let heads = heads(alloc, sizes, place)?;
+    let Some(first) = place.checked_mul(sizes.slots) else {
+        return Err(AllocError);
+    };
+    let Some(head_words) = sizes.user_header_words.checked_add(3) else {
+        return Err(AllocError);
+    };
+    let book = SlotBook::new(
+        alloc,
+        first,
+        sizes.slots as usize,
+        sizes.subscribers as usize,
+        sizes.most_loans,
+        sizes.history as usize,
+    )?;
+    let port = LanePublisher::new(
+        alloc,
+        &routes,
+        book,
+        sizes.payload_words as usize,
+        head_words as usize,
+    )?;
+    Ok(PublisherLane::new(port, heads))
+}
+
+// The headers of a publisher's slots.
+fn heads(alloc: Global, sizes: &LaneSizes, place: u64) -> Result<Vec<Head>, AllocError>
+    ensures { IfOk result (λ made. made.items ≡ replicate sizes.now.slots (first_head sizes.now place)) }
+{
+    let mut list = Vec::new(alloc);
+    for _slot in 0..sizes.slots {
+        let head = Head::new(alloc, &[0, place, 1], sizes.user_header_words as usize)?;
+        list.reserve(1)?;
+        list.push_reserved(head);
+    }
+    Ok(list)
+}
+
+// The connections of a publisher.
+fn sending_routes(
+    alloc: Global,
+    sizes: &LaneSizes,
+    table: &TableSizes,
+    place: u64,
+) -> Result<Vec<Route>, AllocError>
+    requires { table.now ≡ table_sizes sizes.now }
+    ensures { IfOk result (λ made. made.items ≡ sending_routes sizes.now place sizes.now.subscribers) }
+{
+    let mut list = Vec::new(alloc);
+    for subscriber in 0..sizes.subscribers {
+        let route = route(sizes, table, place, subscriber)?;
+        list.reserve(1)?;
+        list.push_reserved(route);
+    }
+    Ok(list)
+}
+
+// The connections of a subscriber.
+fn receiving_routes(
+    alloc: Global,
+    sizes: &LaneSizes,
+    table: &TableSizes,
+    place: u64,
+) -> Result<Vec<Route>, AllocError>
+    requires { table.now ≡ table_sizes sizes.now }
+    ensures { IfOk result (λ made. made.items ≡ receiving_routes sizes.now place sizes.now.publishers) }
+{
+    let mut list = Vec::new(alloc);
+    for publisher in 0..sizes.publishers {
+        let route = route(sizes, table, publisher, place)?;
+        list.reserve(1)?;
+        list.push_reserved(route);
+    }
+    Ok(list)
+}
+
+// The connection of a publisher to a subscriber.
+fn route(
+    sizes: &LaneSizes,
+    table: &TableSizes,
+    publisher: u64,
+    subscriber: u64,
+) -> Result<Route, AllocError>
+    requires { table.now ≡ table_sizes sizes.now }
+    ensures { IfOk result (λ made. made ≡ route_to sizes.now (publisher * sizes.now.subscribers + subscriber)) }
+{
+    let Some(before) = publisher.checked_mul(sizes.subscribers) else {
+        return Err(AllocError);
+    };
+    let Some(connection) = before.checked_add(subscriber) else {
+        return Err(AllocError);
+    };
+    Ok(sizes.route(table, connection))
+}
+
+fn subscriber(
+    alloc: Global,
+    sizes: &LaneSizes,
+    table: &TableSizes,
+    place: u64,
+) -> Result<SubscriberLane, AllocError>
+    requires { table.now ≡ table_sizes sizes.now }
+    ensures { IfOk result (λ made. made ≡ subscriber_at sizes.now place) }
+{
+    let routes = receiving_routes(alloc, sizes, table, place)?;
+    let Some(head_words) = sizes.user_header_words.checked_add(3) else {
+        return Err(AllocError);
+    };
+    let Some(words) = head_words.checked_add(sizes.payload_words) else {
+        return Err(AllocError);
+    };
+    let extent = SlotExtent {
+        user_header_words: sizes.user_header_words,
+        payload_words: sizes.payload_words,
+    };
+    let port = LaneSubscriber::new(
+        alloc,
+        &routes,
+        table.slots as usize,
+        extent,
+        words as usize,
+        sizes.most_borrowed,
+    )?;
+    Ok(SubscriberLane::new(port))
+}

@@ -1,0 +1,62 @@
+//! What stands in the order of a connection at a step.
+ghost use Rattle.std.specs.Prelude.{◌≡◌, if◌then◌else◌, [], None};
+ghost use Rattle.std.specs.Option.{option_to_list};
+ghost use Rattle.iox_queues_rings.specs.Ends.{late_put};
+ghost use Rattle.iox_lanes_words.specs.Numbers.{IsWord};
+ghost use Rattle.iox_lanes_words.specs.Table.{held_by};
+ghost use Rattle.iox_lanes_machine.specs.Rings.{push_on, sent_word};
+
+use iox_lanes_calls::PublisherCall;
+use iox_lanes_words::{ConnectionRing, SharedWord, WordTable};
+use iox_queues_rings::{Push, RingKind};
+use iox_queues_steps::{Act, Word};
+
+/// The acts that stand at a step, and the connection of them.
+#[derive(Clone, Copy)]
+pub(crate) struct Placing {
+    pub(crate) connection: Option<u64>,
+    pub(crate) first: Option<Act>,
+    pub(crate) second: Option<Act>,
+}
+
+impl Placing {
+    /// Nothing stands there.
+    pub(crate) fn none() -> Placing
+        ensures { result ≡ record { connection = None; first = None; second = None } }
+    {
+        Placing {
+            connection: None,
+            first: None,
+            second: None,
+        }
+    }
+}
+
+/// A position of the ring of messages of a connection.
+pub(crate) fn position(table: &WordTable, connection: u64, word: Word) -> u64
+    requires { IsWord table.now.sizes (sent_word connection word) }
+    ensures { result ≡ held_by table.now (sent_word connection word) }
+{
+    table.word(SharedWord::Ring {
+        connection,
+        ring: ConnectionRing::Submission,
+        word,
+    })
+}
+
+/// The push of a call on a connection; a call that stands elsewhere makes none there.
+pub(crate) fn push_on(connection: u64, kind: RingKind, call: PublisherCall) -> Push
+    ensures { result ≡ push_on connection kind call }
+{
+    match call {
+        PublisherCall::Pushing { route, push, .. } if route.connection == connection => push,
+        _ => Push::idle(kind),
+    }
+}
+
+/// The put that waited, where the pop moves the read position.
+pub(crate) fn late_put(push: &Push, read: u64, moves: bool) -> Option<Act>
+    ensures { option_to_list result ≡ (if moves then late_put read push.now else []) }
+{
+    if moves { push.late(read) } else { None }
+}

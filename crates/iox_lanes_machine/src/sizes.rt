@@ -1,0 +1,85 @@
+//! How many ports lanes have, and their sizes.
+ghost use Rattle.std.specs.Prelude.{◌≡◌, IfSome};
+ghost use Rattle.iox_queues_rings.specs.Ends.{cells_of};
+ghost use Rattle.iox_lanes_machine.specs.Made.{table_sizes, link_at};
+
+use crate::link::Link;
+use iox_lanes_calls::Route;
+use iox_lanes_words::TableSizes;
+use iox_queues_rings::RingKind;
+
+/// How many ports lanes have, and their sizes. Each publisher has a connection to each subscriber.
+#[derive(Clone, Copy, Debug, PartialEq, Eq)]
+pub struct LaneSizes {
+    /// How many publishers there are.
+    pub publishers: u64,
+    /// How many subscribers there are.
+    pub subscribers: u64,
+    /// What a connection does with a message when as many wait as may.
+    pub kind: RingKind,
+    /// How many messages may wait at a connection.
+    pub buffer: u64,
+    /// How many samples of a connection a subscriber may borrow.
+    pub most_borrowed: u64,
+    /// How many of its last messages a publisher keeps.
+    pub history: u64,
+    /// How many loans a publisher may have out.
+    pub most_loans: u64,
+    /// How many slots a publisher has.
+    pub slots: u64,
+    /// How many words a user header has.
+    pub user_header_words: u64,
+    /// How many words a payload has.
+    pub payload_words: u64,
+}
+
+impl LaneSizes {
+    /// The sizes of the table of all words, where they are numbers of 64 bits.
+    pub(crate) fn table(&self) -> Option<TableSizes>
+        ensures { IfSome result (λ table. table ≡ table_sizes self.now) }
+    {
+        Some(TableSizes {
+            connections: self.publishers.checked_mul(self.subscribers)?,
+            submission_cells: cells_of(self.kind, self.buffer)?,
+            completion_cells: self.buffer.checked_add(self.most_borrowed)?.checked_add(1)?,
+            slots: self.publishers.checked_mul(self.slots)?,
+            user_header_words: self.user_header_words,
+            payload_words: self.payload_words,
+        })
+    }
+
+    /// The link that a connection is, if there are subscribers.
+    pub(crate) fn link(&self, connection: u64) -> Option<Link>
+        ensures { IfSome result (λ link. link ≡ link_at self.now connection) }
+    {
+        Some(Link {
+            publisher: connection.checked_div(self.subscribers)?,
+            subscriber: connection.checked_rem(self.subscribers)?,
+            kind: self.kind,
+            limit: self.buffer,
+        })
+    }
+
+    /// A connection as its ports know it.
+    pub(crate) fn route(&self, table: &TableSizes, connection: u64) -> Route
+        ensures { result ≡ record { connection = connection; kind = self.now.kind; limit = self.now.buffer; submission_cells = table.now.submission_cells; completion_cells = table.now.completion_cells } }
+    {
+        Route {
+            connection,
+            kind: self.kind,
+            limit: self.buffer,
+            submission_cells: table.submission_cells,
+            completion_cells: table.completion_cells,
+        }
+    }
+}
+
+// How many cells a ring has, if that is a number of 64 bits.
+fn cells_of(kind: RingKind, limit: u64) -> Option<u64>
+    ensures { IfSome result (λ cells. cells ≡ cells_of kind limit) }
+{
+    match kind {
+        RingKind::Overflowing => limit.checked_add(1),
+        RingKind::Refusing => Some(if limit > 0 { limit } else { 1 }),
+    }
+}

@@ -1,0 +1,473 @@
+//! The state of lanes, and their steps.
+ghost use Rattle.std.specs.Prelude.{[], IfOk, get_or, ◌≡◌, ◌+◌, ◌≤◌, ◌<◌, ◌++◌, Some, OnOk, OnErr, true, false, length, slice_get, is_some, vec_len, vec_capacity};
+ghost use Rattle.std.specs.Option.{option_to_list};
+ghost use Rattle.iox_lanes_words.specs.Numbers.{IsWord};
+ghost use Rattle.iox_lanes_words.specs.Table.{held_by, shared_answer, after_shared, IsOfTable};
+ghost use Rattle.iox_lanes_calls.specs.Publishing.{publisher_next, publisher_is_over};
+ghost use Rattle.iox_lanes_calls.specs.Subscribing.{subscriber_next, subscriber_is_over};
+ghost use Rattle.iox_lanes_parties.specs.Parties.{publisher_after, subscriber_after, subscriber_answer};
+ghost use Rattle.iox_lanes_machine.specs.World.{StepsTo, added, acts_at, connection_at, ended, ends, party_ends, fits, goes_on, happens, placed, pop_acts, pops_from, push_acts, push_at, pushes_to, sender_stage, publisher_begins, publisher_given, publisher_ending, publisher_goes_on, subscriber_begins, subscriber_given, subscriber_goes_on, words_ending};
+
+use crate::link::{Link, Positions};
+use crate::made;
+use crate::order::Order;
+use crate::placing::{Placing, late_put, position, push_on};
+use crate::sizes::LaneSizes;
+use iox_lanes_calls::{PublisherCall, SubscriberCall};
+use iox_lanes_parties::{
+    Answer, Call, CallName, FinishedCall, Move, Party, PublisherLane, SubscriberLane,
+};
+use iox_lanes_words::{ConnectionRing, SharedWord, TableSizes, WordTable};
+use iox_queues_rings::{Push, RingKind};
+use iox_queues_steps::{Placed, Stepped, Word};
+use std::alloc::{AllocError, Global};
+
+#[derive(Drop)]
+pub(crate) struct State {
+    pub(crate) table: WordTable,
+    pub(crate) links: Vec<Link>,
+    pub(crate) publishers: Vec<PublisherLane>,
+    pub(crate) subscribers: Vec<SubscriberLane>,
+    pub(crate) orders: Vec<Order>,
+    pub(crate) moments: u64,
+    pub(crate) finished: Vec<FinishedCall>,
+    pub(crate) read: Vec<u64>,
+}
+
+impl State {
+    ghost use Rattle.iox_lanes_machine.specs.State.{world_of};
+    ghost use Rattle.iox_lanes_machine.specs.Kept.{IsWithin, StandsInService};
+    ghost use Rattle.iox_lanes_machine.specs.Made.{start, table_sizes};
+    ghost use Rattle.iox_lanes_machine.specs.Mailboxes.{positions_of};
+
+    /// Nothing was done yet.
+    pub(crate) fn new(
+        alloc: Global,
+        sizes: &LaneSizes,
+        table: &TableSizes,
+    ) -> Result<State, AllocError>
+        requires { table.now ≡ table_sizes sizes.now }
+        ensures { IfOk result (λ made. world_of made ≡ start sizes.now) }
+    {
+        Ok(State {
+            table: WordTable::new(alloc, *table)?,
+            links: made::links(alloc, sizes, table.connections)?,
+            publishers: made::publishers(alloc, sizes, table)?,
+            subscribers: made::subscribers(alloc, sizes, table)?,
+            orders: made::orders(alloc, table.connections)?,
+            moments: 0,
+            finished: Vec::new(alloc),
+            read: Vec::new(alloc),
+        })
+    }
+
+    /// The order of a connection; nothing of one that isn't there.
+    pub(crate) fn order(&self, connection: u64) -> &[Placed]
+        ensures { result.now ≡ get_or self.now.orders.items connection [] }
+    {
+        match self.orders.get(connection as usize) {
+            Some(order) => order.placed(),
+            None => &[],
+        }
+    }
+
+    /// The positions of a connection.
+    pub(crate) fn positions(&self, connection: u64) -> Positions
+        requires { connection < self.now.table.sizes.connections }
+        ensures { result ≡ positions_of self.now.table connection }
+    {
+        Positions {
+            submission_write: position(&self.table, connection, Word::Write),
+            submission_read: position(&self.table, connection, Word::Read),
+            completion_write: self.back(connection, Word::Write),
+            completion_read: self.back(connection, Word::Read),
+        }
+    }
+
+    // A word of the ring of samples given back at a connection.
+    fn back(&self, connection: u64, word: Word) -> u64
+        requires { IsWord self.now.table.sizes (SharedWord.Ring connection ConnectionRing.Completion word) }
+        ensures { result ≡ held_by self.now.table (SharedWord.Ring connection ConnectionRing.Completion word) }
+    {
+        self.table.word(SharedWord::Ring {
+            connection,
+            ring: ConnectionRing::Completion,
+            word,
+        })
+    }
+
+    fn fits(&self, party: Party, step: &Move) -> bool
+        ensures { result ≡ fits (world_of self.now) party step.now }
+    {
+        match party {
+            Party::Publisher(place) => match self.publishers.get(place) {
+                Some(lane) => lane.fits(step),
+                None => false,
+            },
+            Party::Subscriber(place) => match self.subscribers.get(place) {
+                Some(lane) => lane.fits(step),
+                None => false,
+            },
+        }
+    }
+
+    fn ends(&self, party: Party, step: &Move) -> bool
+        ensures { result ≡ ends (world_of self.now) party step.now }
+    {
+        match step {
+            Move::Begin(_) => false,
+            Move::GoOn => self.party_ends(party),
+        }
+    }
+
+    fn party_ends(&self, party: Party) -> bool
+        ensures { result ≡ party_ends (world_of self.now) party }
+    {
+        match party {
+            Party::Publisher(place) => match self.publishers.get(place) {
+                Some(lane) => lane.is_over(),
+                None => false,
+            },
+            Party::Subscriber(place) => match self.subscribers.get(place) {
+                Some(lane) => lane.is_over(),
+                None => false,
+            },
+        }
+    }
+
+    // How many words of a read the step keeps, if it is the last of one.
+    fn words_ending(&self, party: Party) -> usize
+        ensures { result ≡ length (words_ending (world_of self.now) party) }
+    {
+        match party {
+            Party::Publisher(_) => 0,
+            Party::Subscriber(place) => match self.subscribers.get(place) {
+                Some(lane) => lane.words_read().len(),
+                None => 0,
+            },
+        }
+    }
+
+    // Room for a call that ends, and for the words that it read.
+    fn reserve(&mut self, party: Party) -> Result<(), AllocError>
+        ensures same { world_of self.new ≡ world_of self.old }
+        ensures call { OnOk result (vec_len self.new.finished < vec_capacity self.new.finished) }
+        ensures words { OnOk result (vec_len self.new.read + length (words_ending (world_of self.old) party) ≤ vec_capacity self.new.read) }
+    {
+        let words = self.words_ending(party);
+        self.finished.reserve(1)?;
+        self.read.reserve(words)
+    }
+
+    fn begin(&mut self, party: Party, call: &Call)
+        requires fits { fits (world_of self.old) party (Move.Begin call.now) ≡ true }
+        requires within { IsWithin (world_of self.old) }
+        ensures { world_of self.new ≡ happens (world_of self.old) party (Move.Begin call.now) }
+    {
+        match party {
+            Party::Publisher(place) => self.begin_publisher(place, call),
+            Party::Subscriber(place) => self.begin_subscriber(place, call),
+        }
+    }
+
+    fn begin_publisher(&mut self, place: usize, call: &Call)
+        requires fits { fits (world_of self.old) (Party.Publisher place) (Move.Begin call.now) ≡ true }
+        requires within { IsWithin (world_of self.old) }
+        ensures { world_of self.new ≡ publisher_begins (world_of self.old) place call.now (slice_get self.old.publishers.items place) }
+    {
+        if let Some(lane) = self.publishers.get_mut(place) {
+            lane.begin(self.moments, call);
+            self.moments = self.moments.saturating_add(1);
+        }
+    }
+
+    fn begin_subscriber(&mut self, place: usize, call: &Call)
+        requires fits { fits (world_of self.old) (Party.Subscriber place) (Move.Begin call.now) ≡ true }
+        ensures { world_of self.new ≡ subscriber_begins (world_of self.old) place call.now (slice_get self.old.subscribers.items place) }
+    {
+        if let Some(lane) = self.subscribers.get_mut(place) {
+            lane.begin(self.moments, call);
+            self.moments = self.moments.saturating_add(1);
+        }
+    }
+
+    // What stands at the next step of a party.
+    fn placing(&self, party: Party) -> Placing
+        requires { IsWithin (world_of self.now) }
+        ensures connection { result.connection ≡ connection_at (world_of self.now) party }
+        ensures acts { option_to_list result.first ++ option_to_list result.second ≡ acts_at (world_of self.now) party }
+    {
+        match party {
+            Party::Publisher(place) => match self.publishers.get(place) {
+                Some(lane) => self.pushed(lane.stage()),
+                None => Placing::none(),
+            },
+            Party::Subscriber(place) => match self.subscribers.get(place) {
+                Some(lane) => self.popped(lane.stage()),
+                None => Placing::none(),
+            },
+        }
+    }
+
+    // What stands at the next step of a publisher.
+    fn pushed(&self, call: PublisherCall) -> Placing
+        requires { StandsInService self.now.table.sizes (pushes_to call) }
+        ensures connection { result.connection ≡ pushes_to call }
+        ensures acts { option_to_list result.first ++ option_to_list result.second ≡ push_acts self.now.table call }
+    {
+        match call {
+            PublisherCall::Pushing { route, push, .. } => {
+                let read = position(&self.table, route.connection, Word::Read);
+                Placing {
+                    connection: Some(route.connection),
+                    first: push.placed(route.limit, read),
+                    second: None,
+                }
+            }
+            _ => Placing::none(),
+        }
+    }
+
+    // What stands at the next step of a subscriber.
+    fn popped(&self, call: SubscriberCall) -> Placing
+        requires { StandsInService self.now.table.sizes (pops_from call) }
+        ensures connection { result.connection ≡ pops_from call }
+        ensures acts { option_to_list result.first ++ option_to_list result.second ≡ pop_acts (world_of self.now) call }
+    {
+        match call {
+            SubscriberCall::Receiving { route, pop, .. } => {
+                let write = position(&self.table, route.connection, Word::Write);
+                let read = position(&self.table, route.connection, Word::Read);
+                let push = self.push_at(route.connection, route.kind);
+                Placing {
+                    connection: Some(route.connection),
+                    first: pop.taken(write, read),
+                    second: late_put(&push, read, pop.moves(read)),
+                }
+            }
+            _ => Placing::none(),
+        }
+    }
+
+    // The push that stands at a connection.
+    fn push_at(&self, connection: u64, kind: RingKind) -> Push
+        ensures { result ≡ push_at (world_of self.now) connection kind }
+    {
+        push_on(connection, kind, self.sender_stage(connection))
+    }
+
+    // Where the call of a connection's publisher stands.
+    fn sender_stage(&self, connection: u64) -> PublisherCall
+        ensures { result ≡ sender_stage (world_of self.now) (slice_get self.now.links.items connection) }
+    {
+        match self.links.get(connection as usize) {
+            Some(link) => match self.publishers.get(link.publisher as usize) {
+                Some(lane) => lane.stage(),
+                None => PublisherCall::Idle,
+            },
+            None => PublisherCall::Idle,
+        }
+    }
+
+    // Puts what stands at a step into its order.
+    fn place(&mut self, placing: Placing) -> Result<(), AllocError>
+        ensures placed { OnOk result (world_of self.new ≡ record (world_of self.old) { orders = added self.old.orders.items placing.connection self.old.moments (option_to_list placing.first ++ option_to_list placing.second) }) }
+        ensures same { OnErr result (world_of self.new ≡ world_of self.old) }
+        ensures some { OnErr result (0 < length (option_to_list placing.first ++ option_to_list placing.second)) }
+        ensures finished { self.new.finished ≡ self.old.finished }
+        ensures read { self.new.read ≡ self.old.read }
+    {
+        let Some(connection) = placing.connection else {
+            return Ok(());
+        };
+        match self.orders.get_mut(connection as usize) {
+            Some(order) => order.add(self.moments, placing.first, placing.second),
+            None => Ok(()),
+        }
+    }
+
+    // Puts what stands at the next step of a party into its order.
+    fn record(&mut self, party: Party) -> Result<(), AllocError>
+        requires { IsWithin (world_of self.old) }
+        ensures placed { OnOk result (world_of self.new ≡ placed (world_of self.old) party) }
+        ensures same { OnErr result (world_of self.new ≡ world_of self.old) }
+        ensures some { OnErr result (0 < length (acts_at (world_of self.old) party)) }
+        ensures finished { self.new.finished ≡ self.old.finished }
+        ensures read { self.new.read ≡ self.old.read }
+    {
+        let placing = self.placing(party);
+        self.place(placing)
+    }
+
+    fn go_on(&mut self, party: Party)
+        requires within { IsWithin (world_of self.old) }
+        requires call { party_ends (world_of self.old) party ≡ true → vec_len self.old.finished < vec_capacity self.old.finished }
+        requires words { vec_len self.old.read + length (words_ending (world_of self.old) party) ≤ vec_capacity self.old.read }
+        ensures { world_of self.new ≡ goes_on (world_of self.old) party }
+    {
+        match party {
+            Party::Publisher(place) => self.go_on_publisher(place),
+            Party::Subscriber(place) => self.go_on_subscriber(place),
+        }
+    }
+
+    fn go_on_publisher(&mut self, place: usize)
+        requires within { IsWithin (world_of self.old) }
+        requires call { party_ends (world_of self.old) (Party.Publisher place) ≡ true → vec_len self.old.finished < vec_capacity self.old.finished }
+        ensures { world_of self.new ≡ publisher_goes_on (world_of self.old) place (slice_get self.old.publishers.items place) }
+    {
+        if let Some(lane) = self.publishers.get_mut(place) {
+            let answer = go_on_publisher(&mut self.table, lane);
+            end_call(
+                &mut self.finished,
+                Party::Publisher(place),
+                lane.call(),
+                lane.first(),
+                self.moments,
+                answer,
+            );
+            self.moments = self.moments.saturating_add(1);
+        }
+    }
+
+    fn go_on_subscriber(&mut self, place: usize)
+        requires within { IsWithin (world_of self.old) }
+        requires call { party_ends (world_of self.old) (Party.Subscriber place) ≡ true → vec_len self.old.finished < vec_capacity self.old.finished }
+        requires words { vec_len self.old.read + length (words_ending (world_of self.old) (Party.Subscriber place)) ≤ vec_capacity self.old.read }
+        ensures { world_of self.new ≡ subscriber_goes_on (world_of self.old) place (slice_get self.old.subscribers.items place) }
+    {
+        if let Some(lane) = self.subscribers.get_mut(place) {
+            let from = self.read.len();
+            add_reserved(&mut self.read, lane.words_read());
+            let answer = go_on_subscriber(&mut self.table, lane, from);
+            end_call(
+                &mut self.finished,
+                Party::Subscriber(place),
+                lane.call(),
+                lane.first(),
+                self.moments,
+                answer,
+            );
+            self.moments = self.moments.saturating_add(1);
+        }
+    }
+
+    /// Makes one step.
+    pub(crate) fn step(&mut self, party: Party, step: &Move) -> Stepped
+        requires { IsWithin (world_of self.old) }
+        ensures { StepsTo (world_of self.old) party step.now result (world_of self.new) }
+    {
+        if !self.fits(party, step) {
+            return Stepped::Skipped;
+        }
+        match step {
+            Move::Begin(call) => {
+                self.begin(party, call);
+                Stepped::Went
+            }
+            Move::GoOn => self.step_on(party),
+        }
+    }
+
+    // One more step inside a call.
+    fn step_on(&mut self, party: Party) -> Stepped
+        requires within { IsWithin (world_of self.old) }
+        requires fits { fits (world_of self.old) party Move.GoOn ≡ true }
+        ensures { StepsTo (world_of self.old) party Move.GoOn result (world_of self.new) }
+    {
+        if self.party_ends(party) {
+            self.step_last(party)
+        } else {
+            self.step_between(party)
+        }
+    }
+
+    // The last step of a call.
+    #[tactic(auto, using(crate::proofs::Within::placed_within))]
+    fn step_last(&mut self, party: Party) -> Stepped
+        requires within { IsWithin (world_of self.old) }
+        requires fits { fits (world_of self.old) party Move.GoOn ≡ true }
+        requires ends { party_ends (world_of self.old) party ≡ true }
+        ensures { StepsTo (world_of self.old) party Move.GoOn result (world_of self.new) }
+    {
+        if self.reserve(party).is_err() {
+            return Stepped::NoMemory;
+        }
+        if self.record(party).is_err() {
+            return Stepped::NoMemory;
+        }
+        self.go_on(party);
+        Stepped::Finished
+    }
+
+    // A step that is not the last of its call.
+    #[tactic(auto, using(crate::proofs::Within::placed_within, crate::proofs::Within::no_words))]
+    fn step_between(&mut self, party: Party) -> Stepped
+        requires within { IsWithin (world_of self.old) }
+        requires fits { fits (world_of self.old) party Move.GoOn ≡ true }
+        requires ends { party_ends (world_of self.old) party ≡ false }
+        ensures { StepsTo (world_of self.old) party Move.GoOn result (world_of self.new) }
+    {
+        if self.record(party).is_err() {
+            return Stepped::NoMemory;
+        }
+        self.go_on(party);
+        Stepped::Went
+    }
+}
+
+// The next access of a publisher, and what its call answers if that ends it.
+fn go_on_publisher(table: &mut WordTable, lane: &mut PublisherLane) -> Option<Answer>
+    requires { IsOfTable table.old.sizes (publisher_next lane.old.port.call) }
+    ensures table { table.new ≡ after_shared table.old (publisher_next lane.old.port.call) }
+    ensures lane { lane.new ≡ publisher_after (publisher_given table.old lane.old) lane.old }
+    ensures answer { result ≡ publisher_ending table.old lane.old }
+    ensures ends { is_some result ≡ publisher_is_over lane.old.port.call }
+{
+    let given = table.apply(lane.next());
+    lane.go_on(given)
+}
+
+// The next access of a subscriber, and what its call answers if that ends it.
+fn go_on_subscriber(table: &mut WordTable, lane: &mut SubscriberLane, from: usize) -> Option<Answer>
+    requires { IsOfTable table.old.sizes (subscriber_next lane.old.port.call) }
+    ensures table { table.new ≡ after_shared table.old (subscriber_next lane.old.port.call) }
+    ensures lane { lane.new ≡ subscriber_after (subscriber_given table.old lane.old) lane.old }
+    ensures answer { result ≡ subscriber_answer lane.old.port.call from }
+    ensures ends { is_some result ≡ subscriber_is_over lane.old.port.call }
+{
+    let given = table.apply(lane.next());
+    lane.go_on(given, from)
+}
+
+// Records a call that ended.
+fn end_call(
+    finished: &mut Vec<FinishedCall>,
+    party: Party,
+    call: CallName,
+    first: u64,
+    last: u64,
+    answer: Option<Answer>,
+)
+    requires { is_some answer ≡ true → vec_len finished.old < vec_capacity finished.old }
+    ensures { finished.new.items ≡ finished.old.items ++ ended party call first last answer }
+{
+    if let Some(answer) = answer {
+        finished.push_reserved(FinishedCall {
+            party,
+            call,
+            answer,
+            first,
+            last,
+        });
+    }
+}
+
+// Adds words for which there is room.
+fn add_reserved(list: &mut Vec<u64>, words: &[u64])
+    requires { vec_len list.old + length words.now ≤ vec_capacity list.old }
+    ensures { list.new.items ≡ list.old.items ++ words.now }
+{
+    // There is room, so that no memory is asked for.
+    let _ = list.extend_from_slice(words);
+}

@@ -1,0 +1,219 @@
+-- A publisher and a subscriber with the call that each is in: which calls fit, what a step leaves, what a call answers.
+use Rattle.std.specs.Prelude.{ℕ, ◌+◌, ◌-◌, Bool, true, false, not, ◌&&◌, ◌==◌, List, [], ◌++◌, length, take, set, get_or, slice_get, Option, Some, None}
+use Rattle.iox_lanes_calls.specs.Publishing.{publisher_is_idle, publisher_is_over}
+use Rattle.iox_lanes_calls.specs.Subscribing.{subscriber_is_idle, subscriber_is_over}
+use Rattle.iox_lanes_calls.specs.declared.publisher.PublisherCall.{PublisherCall}
+use Rattle.iox_lanes_calls.specs.declared.publisher.PublisherCall.TheVariants as publishing
+use Rattle.iox_lanes_calls.specs.declared.route.Route.{Route}
+use Rattle.iox_lanes_calls.specs.declared.subscriber.SubscriberCall.{SubscriberCall}
+use Rattle.iox_lanes_calls.specs.declared.subscriber.SubscriberCall.TheVariants as subscribing
+use Rattle.iox_lanes_publisher.specs.Keeping.{BookState, loan_of}
+use Rattle.iox_lanes_publisher.specs.Publishers as publishers
+use Rattle.iox_lanes_publisher.specs.Publishers.{PublisherState}
+use Rattle.iox_lanes_publisher.specs.declared.slot_book.LoanMark.{LoanMark}
+use Rattle.iox_lanes_publisher.specs.declared.slot_book.LoanMark.TheVariants as mark
+use Rattle.iox_lanes_publisher.specs.declared.slot_book.LoanAnswer.{LoanAnswer}
+use Rattle.iox_lanes_publisher.specs.declared.slot_book.LoanAnswer.TheVariants as loan_answer
+use Rattle.iox_lanes_subscriber.specs.Keeping as subscribers
+use Rattle.iox_lanes_subscriber.specs.Keeping.{SubscriberState}
+use Rattle.iox_lanes_parties.specs.declared.call.Call.{Call}
+use Rattle.iox_lanes_parties.specs.declared.call.Call.TheVariants as call
+use Rattle.iox_lanes_parties.specs.declared.call.CallName.{CallName}
+use Rattle.iox_lanes_parties.specs.declared.call.CallName.TheVariants as name
+use Rattle.iox_lanes_parties.specs.declared.call.Move.{Move}
+use Rattle.iox_lanes_parties.specs.declared.call.Move.TheVariants.{Begin, GoOn}
+use Rattle.iox_lanes_parties.specs.declared.call.Answer.{Answer}
+use Rattle.iox_lanes_parties.specs.declared.call.Answer.TheVariants as answer
+
+-- A publisher: its port, for each of its slots the header and user header that a send stores, and the call that it began last, at its first moment.
+pub record PublisherLaneState : Type 0 where
+  pub port : PublisherState
+  pub heads : List (List ℕ)
+  pub call : CallName
+  pub first : ℕ
+
+-- a subscriber: its port, and the call that it began last, at its first moment
+pub record SubscriberLaneState : Type 0 where
+  pub port : SubscriberState
+  pub call : CallName
+  pub first : ℕ
+
+-- a call without the words of a write
+abbrev pub name_of : Call → CallName
+name_of call.LoanUninit = name.LoanUninit
+name_of (call.Write loan payload user_header) = name.Write loan
+name_of (call.Send loan) = name.Send loan
+name_of (call.DropLoan loan) = name.DropLoan loan
+name_of call.Receive = name.Receive
+name_of (call.Read sample) = name.Read sample
+name_of (call.Release sample) = name.Release sample
+
+-- a slot is a loan, written or not
+abbrev pub is_out : LoanMark → Bool
+is_out mark.No = false
+is_out mark.Lent = true
+is_out mark.Written = true
+
+-- a slot is a loan that a write ended on
+abbrev pub is_written : LoanMark → Bool
+is_written mark.No = false
+is_written mark.Lent = false
+is_written mark.Written = true
+
+-- a slot is borrowed of some connection
+abbrev pub is_borrowed : Option ℕ → Bool
+is_borrowed None = false
+is_borrowed (Some place) = true
+
+-- the call is one of a publisher; a loan that it names is out, of a send also written; the words of a write are as many as fit the slot
+abbrev pub publisher_may : PublisherLaneState → Call → Bool
+publisher_may lane call.LoanUninit = true
+publisher_may lane (call.Write loan payload user_header) =
+    is_out (loan_of loan lane.port.book)
+    && (length payload.items == length lane.port.payload)
+    && (3 + length user_header.items == length lane.port.head)
+publisher_may lane (call.Send loan) = is_written (loan_of loan lane.port.book)
+publisher_may lane (call.DropLoan loan) = is_out (loan_of loan lane.port.book)
+publisher_may lane call.Receive = false
+publisher_may lane (call.Read sample) = false
+publisher_may lane (call.Release sample) = false
+
+-- a begin fits between calls, a go on inside one
+abbrev pub publisher_fits : PublisherLaneState → Move → Bool
+publisher_fits lane (Begin c) = publisher_is_idle lane.port.call && publisher_may lane c
+publisher_fits lane GoOn = not (publisher_is_idle lane.port.call)
+
+-- which of a publisher's slots a slot of the service is
+abbrev pub index_of : ℕ → PublisherLaneState → ℕ
+index_of slot lane = slot - lane.port.book.first
+
+-- the header and user header of a slot
+abbrev pub head_of : ℕ → PublisherLaneState → List ℕ
+head_of slot lane = get_or lane.heads (index_of slot lane) []
+
+-- another user header behind the three words of a header
+abbrev pub with_user_header : List ℕ → List ℕ → List ℕ
+with_user_header head user_header = take 3 head ++ user_header
+
+-- a slot keeps another user header for its send
+abbrev pub kept : ℕ → List ℕ → PublisherLaneState → PublisherLaneState
+kept slot user_header lane =
+    record lane { heads = set lane.heads (index_of slot lane) (with_user_header (head_of slot lane) user_header) }
+
+-- a write of a slot begins
+abbrev pub write_begun : ℕ → List ℕ → List ℕ → PublisherLaneState → PublisherLaneState
+write_begun slot payload user_header lane =
+    record (kept slot user_header lane) { port = publishers.begun_write slot payload lane.port }
+
+-- a send of a slot begins
+abbrev pub send_begun : ℕ → PublisherLaneState → PublisherLaneState
+send_begun slot lane = record lane { port = publishers.begun_send slot (head_of slot lane) lane.port }
+
+-- a publisher that begins a call; what isn't a call of publishers leaves it as it is
+abbrev pub publisher_begun : ℕ → Call → PublisherLaneState → PublisherLaneState
+publisher_begun moment call.LoanUninit lane =
+    record lane { port = publishers.begun_loan lane.port; call = name.LoanUninit; first = moment }
+publisher_begun moment (call.Write loan payload user_header) lane =
+    record (write_begun loan payload.items user_header.items lane) { call = name.Write loan; first = moment }
+publisher_begun moment (call.Send loan) lane = record (send_begun loan lane) { call = name.Send loan; first = moment }
+publisher_begun moment (call.DropLoan loan) lane =
+    record lane { port = publishers.begun_drop loan lane.port; call = name.DropLoan loan; first = moment }
+publisher_begun moment call.Receive lane = lane
+publisher_begun moment (call.Read sample) lane = lane
+publisher_begun moment (call.Release sample) lane = lane
+
+-- a publisher after the answer of its next access
+abbrev pub publisher_after : ℕ → PublisherLaneState → PublisherLaneState
+publisher_after given lane = record lane { port = publishers.after_answer given lane.port }
+
+-- a loan's answer; a loan that ends has one
+abbrev pub lent : Option LoanAnswer → Answer
+lent None = answer.Lent loan_answer.OutOfMemory
+lent (Some given) = answer.Lent given
+
+-- what a publisher's call answers, if its next step is its last; `loan` is what a loan says after that step
+abbrev pub publisher_answer : PublisherCall → Option LoanAnswer → Option Answer
+publisher_answer publishing.Idle loan = None
+publisher_answer (publishing.LoanReclaims place route pop) loan = None
+publisher_answer publishing.Lending loan = Some (lent loan)
+publisher_answer (publishing.Writing slot word value) loan = None
+publisher_answer (publishing.Written slot) loan = Some answer.Written
+publisher_answer (publishing.Heading slot word value) loan = None
+publisher_answer (publishing.Remembering slot) loan = None
+publisher_answer (publishing.SendReclaims slot place route pop) loan = None
+publisher_answer (publishing.Pushing slot place route push delivery) loan = None
+publisher_answer (publishing.Sent slot delivery) loan = Some (answer.Sent delivery)
+publisher_answer (publishing.Dropping slot) loan = Some answer.Dropped
+
+-- the place of the connection that a subscriber borrows a slot of
+abbrev pub place_of : ℕ → SubscriberLaneState → Option ℕ
+place_of slot lane = get_or lane.port.samples slot None
+
+-- the connection at a place, if there is one
+abbrev pub route_at : Option ℕ → SubscriberLaneState → Option Route
+route_at None lane = None
+route_at (Some place) lane = slice_get lane.port.routes place
+
+-- there is such a connection
+abbrev pub is_route : Option Route → Bool
+is_route None = false
+is_route (Some route) = true
+
+-- the call is one of a subscriber; a sample that it names is borrowed of one of its connections
+abbrev pub subscriber_may : SubscriberLaneState → Call → Bool
+subscriber_may lane call.LoanUninit = false
+subscriber_may lane (call.Write loan payload user_header) = false
+subscriber_may lane (call.Send loan) = false
+subscriber_may lane (call.DropLoan loan) = false
+subscriber_may lane call.Receive = true
+subscriber_may lane (call.Read sample) = is_borrowed (place_of sample lane)
+subscriber_may lane (call.Release sample) = is_route (route_at (place_of sample lane) lane)
+
+-- a begin fits between calls, a go on inside one
+abbrev pub subscriber_fits : SubscriberLaneState → Move → Bool
+subscriber_fits lane (Begin c) = subscriber_is_idle lane.port.call && subscriber_may lane c
+subscriber_fits lane GoOn = not (subscriber_is_idle lane.port.call)
+
+-- a release begins at the connection that the sample is borrowed of
+abbrev pub release_begun : ℕ → ℕ → Option ℕ → Option Route → SubscriberLaneState → SubscriberLaneState
+release_begun moment sample None route lane = lane
+release_begun moment sample (Some place) None lane = lane
+release_begun moment sample (Some place) (Some route) lane =
+    record lane { port = subscribers.begun_release place route sample lane.port; call = name.Release sample; first = moment }
+
+-- a subscriber that begins a call; what isn't a call of subscribers leaves it as it is
+abbrev pub subscriber_begun : ℕ → Call → SubscriberLaneState → SubscriberLaneState
+subscriber_begun moment call.LoanUninit lane = lane
+subscriber_begun moment (call.Write loan payload user_header) lane = lane
+subscriber_begun moment (call.Send loan) lane = lane
+subscriber_begun moment (call.DropLoan loan) lane = lane
+subscriber_begun moment call.Receive lane =
+    record lane { port = subscribers.begun_receive lane.port; call = name.Receive; first = moment }
+subscriber_begun moment (call.Read sample) lane =
+    record lane { port = subscribers.begun_read sample lane.port; call = name.Read sample; first = moment }
+subscriber_begun moment (call.Release sample) lane =
+    release_begun moment sample (place_of sample lane) (route_at (place_of sample lane) lane) lane
+
+-- a subscriber after the answer of its next access
+abbrev pub subscriber_after : ℕ → SubscriberLaneState → SubscriberLaneState
+subscriber_after given lane = record lane { port = subscribers.after_answer given lane.port }
+
+-- what a subscriber's call answers, if its next step is its last; the words of a read begin at `from` among all that were read
+abbrev pub subscriber_answer : SubscriberCall → ℕ → Option Answer
+subscriber_answer subscribing.Idle from = None
+subscriber_answer (subscribing.Receiving place route pop waits) from = None
+subscriber_answer (subscribing.Received receipt) from = Some (answer.Received receipt)
+subscriber_answer (subscribing.Reading slot word extent) from = None
+subscriber_answer (subscribing.WasRead slot) from = Some (answer.Read from)
+subscriber_answer (subscribing.Releasing place route push) from = None
+subscriber_answer (subscribing.Released done) from = Some (answer.Released done)
+
+-- the words of a read whose next step is its last
+abbrev pub words_read : SubscriberCall → List ℕ → List ℕ
+words_read subscribing.Idle words = []
+words_read (subscribing.Receiving place route pop waits) words = []
+words_read (subscribing.Received receipt) words = []
+words_read (subscribing.Reading slot word extent) words = []
+words_read (subscribing.WasRead slot) words = words
+words_read (subscribing.Releasing place route push) words = []
+words_read (subscribing.Released done) words = []

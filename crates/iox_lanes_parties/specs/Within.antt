@@ -1,0 +1,92 @@
+-- Ports that keep to their own service: each call names connections, slots and words of the service alone.
+use Rattle.std.specs.Prelude.{ℕ, ◌≡◌, ◌+◌, ◌<◌, ◌≤◌, true, List, length, slice_get, Option, Some}
+use Rattle.std.specs.List.{All}
+use Rattle.iox_lanes_words.specs.Table.{IsOfTable}
+use Rattle.iox_lanes_words.specs.declared.sizes.TableSizes.{TableSizes}
+use Rattle.iox_lanes_calls.specs.Publishing.{publisher_next}
+use Rattle.iox_lanes_calls.specs.Subscribing.{subscriber_next}
+use Rattle.iox_lanes_calls.specs.declared.publisher.PublisherCall.{PublisherCall}
+use Rattle.iox_lanes_calls.specs.declared.publisher.PublisherCall.TheVariants as publishing
+use Rattle.iox_lanes_calls.specs.declared.route.Route.{Route}
+use Rattle.iox_lanes_calls.specs.declared.subscriber.SlotExtent.{SlotExtent}
+use Rattle.iox_lanes_calls.specs.declared.subscriber.SubscriberCall.{SubscriberCall}
+use Rattle.iox_lanes_calls.specs.declared.subscriber.SubscriberCall.TheVariants as subscribing
+use Rattle.iox_lanes_publisher.specs.Publishers.{words_of}
+use Rattle.iox_lanes_parties.specs.Parties.{PublisherLaneState, SubscriberLaneState, publisher_fits, publisher_begun, publisher_after, subscriber_fits, subscriber_begun, subscriber_after}
+use Rattle.iox_lanes_parties.specs.declared.call.Call.{Call}
+use Rattle.iox_lanes_parties.specs.declared.call.Move.TheVariants.{Begin}
+
+-- a connection of the service, whose rings have cells
+pub record IsRoute (sizes : TableSizes) (route : Route) : Type 0 where
+  pub connection : route.connection < sizes.connections
+  pub sends : 0 < route.submission_cells
+  pub submission : route.submission_cells ≤ sizes.submission_cells
+  pub gives_back : 0 < route.completion_cells
+  pub completion : route.completion_cells ≤ sizes.completion_cells
+
+-- the connection is the one at its place
+abbrev pub IsAt : List Route → ℕ → Route → Type 0
+IsAt routes place route = slice_get routes place ≡ Some route
+
+-- a call of a publisher stands at a connection of its own, or at a word of a slot; `words` are those that a write or a send stores
+abbrev pub IsPublishing : TableSizes → List Route → List ℕ → PublisherCall → Type 0
+IsPublishing sizes routes words publishing.Idle = Unit {0}
+IsPublishing sizes routes words (publishing.LoanReclaims place route pop) = IsAt routes place route
+IsPublishing sizes routes words publishing.Lending = Unit {0}
+IsPublishing sizes routes words (publishing.Writing slot word value) =
+    (slot < sizes.slots) × (word < sizes.payload_words) × (length words ≤ sizes.payload_words)
+IsPublishing sizes routes words (publishing.Written slot) = Unit {0}
+IsPublishing sizes routes words (publishing.Heading slot word value) =
+    (slot < sizes.slots) × (word < 3 + sizes.user_header_words) × (length words ≤ 3 + sizes.user_header_words)
+IsPublishing sizes routes words (publishing.Remembering slot) = Unit {0}
+IsPublishing sizes routes words (publishing.SendReclaims slot place route pop) = IsAt routes place route
+IsPublishing sizes routes words (publishing.Pushing slot place route push delivery) = IsAt routes place route
+IsPublishing sizes routes words (publishing.Sent slot delivery) = Unit {0}
+IsPublishing sizes routes words (publishing.Dropping slot) = Unit {0}
+
+-- a publisher of the service: its connections, its slots, the words of a slot, and where its call stands
+pub record IsPublisher (sizes : TableSizes) (lane : PublisherLaneState) : Type 0 where
+  pub routes : All (IsRoute sizes) lane.port.routes
+  pub call : IsPublishing sizes lane.port.routes (words_of lane.port) lane.port.call
+  pub slots : lane.port.book.first + length lane.port.book.loans ≤ sizes.slots
+  pub payload : length lane.port.payload ≡ sizes.payload_words
+  pub head : length lane.port.head ≡ 3 + sizes.user_header_words
+  pub heads : length lane.heads ≡ length lane.port.book.loans
+  pub widths : All (λ head. length head ≡ 3 + sizes.user_header_words) lane.heads
+
+-- a slot of the service has this extent
+pub record IsExtent (sizes : TableSizes) (extent : SlotExtent) : Type 0 where
+  pub user_header : extent.user_header_words ≡ sizes.user_header_words
+  pub payload : extent.payload_words ≡ sizes.payload_words
+
+-- a call of a subscriber stands at a connection of its own, or at a word of a slot
+abbrev pub IsSubscribing : TableSizes → List Route → SubscriberCall → Type 0
+IsSubscribing sizes routes subscribing.Idle = Unit {0}
+IsSubscribing sizes routes (subscribing.Receiving place route pop waits) = IsAt routes place route
+IsSubscribing sizes routes (subscribing.Received receipt) = Unit {0}
+IsSubscribing sizes routes (subscribing.Reading slot word extent) =
+    (slot < sizes.slots) × (word < 3 + sizes.user_header_words + sizes.payload_words) × IsExtent sizes extent
+IsSubscribing sizes routes (subscribing.WasRead slot) = Unit {0}
+IsSubscribing sizes routes (subscribing.Releasing place route push) = IsAt routes place route
+IsSubscribing sizes routes (subscribing.Released done) = Unit {0}
+
+-- a subscriber of the service: its connections, the slots that it may borrow, the words of a slot, and where its call stands
+pub record IsSubscriber (sizes : TableSizes) (lane : SubscriberLaneState) : Type 0 where
+  pub routes : All (IsRoute sizes) lane.port.routes
+  pub call : IsSubscribing sizes lane.port.routes lane.port.call
+  pub slots : length lane.port.samples ≤ sizes.slots
+  pub extent : IsExtent sizes lane.port.extent
+
+-- a publisher's begin that fits, and its next step, keep it within the service, and touch a word of the service or none
+abbrev pub PublishersStayWithin : Type 0
+PublishersStayWithin = (sizes : TableSizes) (lane : PublisherLaneState) → IsPublisher sizes lane
+    → ((moment : ℕ) (call : Call) → publisher_fits lane (Begin call) ≡ true → IsPublisher sizes (publisher_begun moment call lane))
+    × ((answer : ℕ) → IsPublisher sizes (publisher_after answer lane))
+    × IsOfTable sizes (publisher_next lane.port.call)
+
+-- a subscriber's begin that fits, and its next step, keep it within the service, and touch a word of the service or none
+abbrev pub SubscribersStayWithin : Type 0
+SubscribersStayWithin = (sizes : TableSizes) (lane : SubscriberLaneState) → IsSubscriber sizes lane
+    → ((moment : ℕ) (call : Call) → subscriber_fits lane (Begin call) ≡ true → IsSubscriber sizes (subscriber_begun moment call lane))
+    × ((answer : ℕ) → IsSubscriber sizes (subscriber_after answer lane))
+    × IsOfTable sizes (subscriber_next lane.port.call)

@@ -1,0 +1,105 @@
+//! What may be asked of lanes, and what they answered.
+use iox_lanes_calls::{Delivery, Receipt};
+use iox_lanes_publisher::LoanAnswer;
+
+/// A publisher or a subscriber, by its number among those of its kind.
+#[derive(Clone, Copy, Debug, PartialEq, Eq)]
+pub enum Party {
+    Publisher(usize),
+    Subscriber(usize),
+}
+
+/// A call that a party may begin. Loans and samples go by the numbers of their slots.
+#[derive(Debug, Drop)]
+pub enum Call {
+    /// A publisher asks for a slot to be written.
+    LoanUninit,
+    /// A publisher writes these words of payload into a loan, and keeps those of the user header for its send.
+    Write {
+        loan: u64,
+        payload: Vec<u64>,
+        user_header: Vec<u64>,
+    },
+    /// A publisher sends a loan that is written.
+    Send {
+        loan: u64,
+    },
+    /// A publisher gives a loan up.
+    DropLoan {
+        loan: u64,
+    },
+    /// A subscriber asks for a message.
+    Receive,
+    /// A subscriber reads a sample.
+    Read {
+        sample: u64,
+    },
+    /// A subscriber gives a sample back.
+    Release {
+        sample: u64,
+    },
+}
+
+/// What a party is to do.
+#[derive(Debug, Drop)]
+pub enum Move {
+    /// It begins a call.
+    Begin(Call),
+    /// It makes the next step of the call that it is in.
+    GoOn,
+}
+
+/// One entry of a schedule.
+#[derive(Debug, Drop)]
+pub struct Entry {
+    /// Who is to do it.
+    pub party: Party,
+    /// What is to be done.
+    pub step: Move,
+}
+
+/// A call that was asked for, without the words of a write.
+#[derive(Clone, Copy, Debug, PartialEq, Eq)]
+pub enum CallName {
+    LoanUninit,
+    Write { loan: u64 },
+    Send { loan: u64 },
+    DropLoan { loan: u64 },
+    Receive,
+    Read { sample: u64 },
+    Release { sample: u64 },
+}
+
+/// What a call answered.
+#[derive(Clone, Copy, Debug, PartialEq, Eq)]
+pub enum Answer {
+    /// What a loan answered.
+    Lent(LoanAnswer),
+    /// The loan is written.
+    Written,
+    /// To how many connections the message went.
+    Sent(Delivery),
+    /// The loan is given up.
+    Dropped,
+    /// What a receive answered.
+    Received(Receipt),
+    /// The sample is read: where its words begin among all that were read.
+    Read { from: usize },
+    /// Whether the sample went back, which it does.
+    Released(bool),
+}
+
+/// A call that ended.
+#[derive(Clone, Copy, Debug, PartialEq, Eq)]
+pub struct FinishedCall {
+    /// Who made it.
+    pub party: Party,
+    /// What was asked for.
+    pub call: CallName,
+    /// What it answered.
+    pub answer: Answer,
+    /// The moment at which it began.
+    pub first: u64,
+    /// The moment of its last step.
+    pub last: u64,
+}

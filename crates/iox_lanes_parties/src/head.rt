@@ -1,0 +1,46 @@
+//! The header and user header of a slot, as its send will store them.
+ghost use Rattle.std.specs.Prelude.{◌≡◌, ◌+◌, ◌++◌, length, take, replicate, IfOk};
+
+use std::alloc::{AllocError, Global};
+use std::marker::Model;
+
+/// The words of a header and behind them those of a user header.
+#[derive(Drop)]
+pub struct Head {
+    words: Vec<u64>,
+}
+
+impl Model for Head {
+    ghost use Rattle.std.specs.Prelude.{ℕ, List};
+
+    ghost Value = { List ℕ };
+
+    ghost view = { λ h. h.words.items };
+}
+
+impl Head {
+    /// This header, and so many words of user header that are 0. It fails only where memory is wanting.
+    pub fn new(alloc: Global, header: &[u64], user_header_words: usize) -> Result<Head, AllocError>
+        ensures { IfOk result (λ made. made ≡ header.now ++ replicate user_header_words 0) }
+    {
+        let mut words = Vec::from_slice(alloc, header)?;
+        let blank = vec![in alloc; 0; user_header_words]?;
+        words.extend_from_slice(&blank)?;
+        Ok(Head { words })
+    }
+
+    /// Keeps another user header.
+    pub fn keep(&mut self, user_header: &[u64])
+        requires { 3 + length user_header.now ≡ length self.old }
+        ensures { self.new ≡ take 3 self.old ++ user_header.now }
+    {
+        self.words[3..].copy_from_slice(user_header);
+    }
+
+    /// The words.
+    pub fn words(&self) -> &[u64]
+        ensures { result.now ≡ self.now }
+    {
+        &self.words
+    }
+}

@@ -1,0 +1,18 @@
+//! The publishers and subscribers of one service, each with the call that it is in, free of any words.
+//!
+//! - [`call`]: what may be asked, and what was answered.
+//! - [`head`]: the header and user header of a slot.
+//! - [`laws`]: ports keep to their own service.
+//! - [`publisher_lane`], [`subscriber_lane`]: a port with the call that it began last.
+#![tactic(auto)]
+
+pub mod call;
+pub mod head;
+pub mod laws;
+pub mod publisher_lane;
+pub mod subscriber_lane;
+
+pub use call::{Answer, Call, CallName, Entry, FinishedCall, Move, Party};
+pub use head::Head;
+pub use publisher_lane::PublisherLane;
+pub use subscriber_lane::SubscriberLane;

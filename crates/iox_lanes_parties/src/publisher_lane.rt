@@ -1,0 +1,230 @@
+//! A publisher, its call in hand, and the headers of its slots.
+ghost use Rattle.std.specs.Prelude.{◌≡◌, ◌+◌, ◌<◌, ◌&&◌, ◌==◌, true, false, [], length, IsSome, is_some};
+ghost use Rattle.std.specs.List.{All};
+ghost use Rattle.iox_lanes_calls.specs.Publishing.{publisher_next, publisher_is_idle, publisher_is_over};
+ghost use Rattle.iox_lanes_parties.specs.Parties.{name_of, is_out, is_written, publisher_may, publisher_fits, publisher_begun, publisher_after, publisher_answer, lent, index_of, head_of, kept, send_begun};
+
+use crate::call::{Answer, Call, CallName, Move};
+use crate::head::Head;
+use iox_lanes_calls::PublisherCall;
+use iox_lanes_publisher::{LanePublisher, LoanAnswer, LoanMark};
+use iox_lanes_words::SharedAccess;
+use std::alloc::{AllocError, Global};
+use std::marker::Model;
+
+/// A publisher, the header and user header that each of its slots will be sent with, and the call that it began last.
+#[derive(Drop)]
+pub struct PublisherLane {
+    port: LanePublisher,
+    heads: Vec<Head>,
+    call: CallName,
+    first: u64,
+}
+
+impl Model for PublisherLane {
+    ghost use Rattle.iox_lanes_parties.specs.Parties.{PublisherLaneState};
+
+    ghost Value = { PublisherLaneState };
+
+    ghost view = { λ l. record { port = l.port; heads = l.heads.items; call = l.call; first = l.first } };
+}
+
+impl PublisherLane {
+    /// A publisher between calls whose slots will be sent with these headers.
+    pub fn new(port: LanePublisher, heads: Vec<Head>) -> PublisherLane
+        ensures { result ≡ record { port = port; heads = heads.items; call = CallName.LoanUninit; first = 0 } }
+    {
+        PublisherLane {
+            port,
+            heads,
+            call: CallName::LoanUninit,
+            first: 0,
+        }
+    }
+
+    /// Whether this may be done now.
+    pub fn fits(&self, step: &Move) -> bool
+        ensures { result ≡ publisher_fits self.now step.now }
+    {
+        match step {
+            Move::Begin(call) => self.port.is_idle() && self.may(call),
+            Move::GoOn => !self.port.is_idle(),
+        }
+    }
+
+    fn may(&self, call: &Call) -> bool
+        ensures { result ≡ publisher_may self.now call.now }
+    {
+        match call {
+            Call::LoanUninit => true,
+            Call::Write {
+                loan,
+                payload,
+                user_header,
+            } => {
+                is_out(self.port.loan(*loan))
+                    && payload.len() == self.port.payload_words()
+                    && is_head(user_header.len(), self.port.head_words())
+            }
+            Call::Send { loan } => is_written(self.port.loan(*loan)),
+            Call::DropLoan { loan } => is_out(self.port.loan(*loan)),
+            Call::Receive | Call::Read { .. } | Call::Release { .. } => false,
+        }
+    }
+
+    /// Begins a call at a moment.
+    pub fn begin(&mut self, moment: u64, call: &Call)
+        requires fits { publisher_fits self.old (Move.Begin call.now) ≡ true }
+        requires heads { length self.old.heads ≡ length self.old.port.book.loans }
+        requires widths { All (λ head. length head ≡ length self.old.port.head) self.old.heads }
+        ensures { self.new ≡ publisher_begun moment call.now self.old }
+    {
+        match call {
+            Call::LoanUninit => {
+                self.port.begin_loan();
+                self.call = CallName::LoanUninit;
+            }
+            Call::Write {
+                loan,
+                payload,
+                user_header,
+            } => {
+                self.keep(*loan, user_header);
+                self.port.begin_write(*loan, payload);
+                self.call = CallName::Write { loan: *loan };
+            }
+            Call::Send { loan } => {
+                self.begin_send(*loan);
+                self.call = CallName::Send { loan: *loan };
+            }
+            Call::DropLoan { loan } => {
+                self.port.begin_drop(*loan);
+                self.call = CallName::DropLoan { loan: *loan };
+            }
+            Call::Receive | Call::Read { .. } | Call::Release { .. } => return,
+        }
+        self.first = moment;
+    }
+
+    // Which of its slots a slot of the service is.
+    fn index(&self, slot: u64) -> usize
+        ensures { result ≡ index_of slot self.now }
+    {
+        slot.saturating_sub(self.port.first_slot()) as usize
+    }
+
+    // Keeps the user header of a slot for its send.
+    fn keep(&mut self, slot: u64, user_header: &[u64])
+        requires there { index_of slot self.old < length self.old.heads }
+        requires width { 3 + length user_header.now ≡ length (head_of slot self.old) }
+        ensures { self.new ≡ kept slot user_header.now self.old }
+    {
+        let index = self.index(slot);
+        self.heads[index].keep(user_header);
+    }
+
+    fn begin_send(&mut self, slot: u64)
+        requires idle { publisher_is_idle self.old.port.call ≡ true }
+        requires there { index_of slot self.old < length self.old.heads }
+        requires width { length (head_of slot self.old) ≡ length self.old.port.head }
+        ensures { self.new ≡ send_begun slot self.old }
+    {
+        let index = self.index(slot);
+        self.port.begin_send(slot, self.heads[index].words());
+    }
+
+    /// The access that comes next.
+    pub fn next(&self) -> SharedAccess
+        ensures { result ≡ publisher_next self.now.port.call }
+    {
+        self.port.next()
+    }
+
+    /// Goes on after the answer of that access. It tells what the call answers, if that was its last step.
+    pub fn go_on(&mut self, given: u64) -> Option<Answer>
+        ensures lane { self.new ≡ publisher_after given self.old }
+        ensures answer { result ≡ publisher_answer self.old.port.call self.new.port.book.answer }
+        ensures ends { is_some result ≡ publisher_is_over self.old.port.call }
+    {
+        let call = self.port.call();
+        self.port.take(given);
+        answer_of(call, self.port.answer())
+    }
+
+    /// Where its call stands.
+    pub fn stage(&self) -> PublisherCall
+        ensures { result ≡ self.now.port.call }
+    {
+        self.port.call()
+    }
+
+    /// The next step is the last of its call.
+    pub fn is_over(&self) -> bool
+        ensures { result ≡ publisher_is_over self.now.port.call }
+    {
+        self.port.is_over()
+    }
+
+    /// The call that it began last.
+    pub fn call(&self) -> CallName
+        ensures { result ≡ self.now.call }
+    {
+        self.call
+    }
+
+    /// The moment at which that call began.
+    pub fn first(&self) -> u64
+        ensures { result ≡ self.now.first }
+    {
+        self.first
+    }
+}
+
+fn is_out(mark: LoanMark) -> bool
+    ensures { result ≡ is_out mark }
+{
+    matches!(mark, LoanMark::Lent | LoanMark::Written)
+}
+
+fn is_written(mark: LoanMark) -> bool
+    ensures { result ≡ is_written mark }
+{
+    matches!(mark, LoanMark::Written)
+}
+
+// So many words of user header make a head of so many words.
+fn is_head(user_header_words: usize, head_words: usize) -> bool
+    ensures { result ≡ (3 + user_header_words == head_words) }
+{
+    head_words >= 3 && head_words - 3 == user_header_words
+}
+
+// What a publisher's call answers whose next step is its last.
+fn answer_of(call: PublisherCall, loan: Option<LoanAnswer>) -> Option<Answer>
+    ensures answer { result ≡ publisher_answer call loan }
+    ensures ends { is_some result ≡ publisher_is_over call }
+{
+    match call {
+        PublisherCall::Lending => Some(lent(loan)),
+        PublisherCall::Written { .. } => Some(Answer::Written),
+        PublisherCall::Sent { delivery, .. } => Some(Answer::Sent(delivery)),
+        PublisherCall::Dropping { .. } => Some(Answer::Dropped),
+        PublisherCall::Idle
+        | PublisherCall::LoanReclaims { .. }
+        | PublisherCall::Writing { .. }
+        | PublisherCall::Heading { .. }
+        | PublisherCall::Remembering { .. }
+        | PublisherCall::SendReclaims { .. }
+        | PublisherCall::Pushing { .. } => None,
+    }
+}
+
+// A loan's answer; a loan that ends has one.
+fn lent(loan: Option<LoanAnswer>) -> Answer
+    ensures { result ≡ lent loan }
+{
+    match loan {
+        Some(answer) => Answer::Lent(answer),
+        None => Answer::Lent(LoanAnswer::OutOfMemory),
+    }
+}

@@ -1,0 +1,186 @@
+//! A subscriber and its call in hand.
+ghost use Rattle.std.specs.Prelude.{◌≡◌, ◌&&◌, true, false, is_some};
+ghost use Rattle.iox_lanes_calls.specs.Subscribing.{subscriber_next, subscriber_is_idle, subscriber_is_over};
+ghost use Rattle.iox_lanes_parties.specs.Parties.{subscriber_may, subscriber_fits, subscriber_begun, subscriber_after, subscriber_answer, words_read, place_of, route_at, is_route, is_borrowed, release_begun};
+
+use crate::call::{Answer, Call, CallName, Move};
+use iox_lanes_calls::{Route, SubscriberCall};
+use iox_lanes_subscriber::LaneSubscriber;
+use iox_lanes_words::SharedAccess;
+use std::marker::Model;
+
+/// A subscriber, and the call that it began last.
+#[derive(Drop)]
+pub struct SubscriberLane {
+    port: LaneSubscriber,
+    call: CallName,
+    first: u64,
+}
+
+impl Model for SubscriberLane {
+    ghost use Rattle.iox_lanes_parties.specs.Parties.{SubscriberLaneState};
+
+    ghost Value = { SubscriberLaneState };
+
+    ghost view = { λ l. record { port = l.port; call = l.call; first = l.first } };
+}
+
+impl SubscriberLane {
+    /// A subscriber between calls.
+    pub fn new(port: LaneSubscriber) -> SubscriberLane
+        ensures { result ≡ record { port = port; call = CallName.Receive; first = 0 } }
+    {
+        SubscriberLane {
+            port,
+            call: CallName::Receive,
+            first: 0,
+        }
+    }
+
+    /// Whether this may be done now.
+    pub fn fits(&self, step: &Move) -> bool
+        ensures { result ≡ subscriber_fits self.now step.now }
+    {
+        match step {
+            Move::Begin(call) => self.port.is_idle() && self.may(call),
+            Move::GoOn => !self.port.is_idle(),
+        }
+    }
+
+    fn may(&self, call: &Call) -> bool
+        ensures { result ≡ subscriber_may self.now call.now }
+    {
+        match call {
+            Call::Receive => true,
+            Call::Read { sample } => self.place(*sample).is_some(),
+            Call::Release { sample } => self.route(*sample).is_some(),
+            Call::LoanUninit | Call::Write { .. } | Call::Send { .. } | Call::DropLoan { .. } =>
+                false,
+        }
+    }
+
+    // The place of the connection that it borrows a slot of.
+    fn place(&self, sample: u64) -> Option<u64>
+        ensures { result ≡ place_of sample self.now }
+    {
+        self.port.place_of(sample as usize)
+    }
+
+    // The connection that it borrows a slot of.
+    fn route(&self, sample: u64) -> Option<Route>
+        ensures { result ≡ route_at (place_of sample self.now) self.now }
+    {
+        match self.place(sample) {
+            Some(place) => self.port.route(place),
+            None => None,
+        }
+    }
+
+    /// Begins a call at a moment.
+    pub fn begin(&mut self, moment: u64, call: &Call)
+        requires { subscriber_fits self.old (Move.Begin call.now) ≡ true }
+        ensures { self.new ≡ subscriber_begun moment call.now self.old }
+    {
+        match call {
+            Call::Receive => {
+                self.port.begin_receive();
+                self.call = CallName::Receive;
+                self.first = moment;
+            }
+            Call::Read { sample } => {
+                self.port.begin_read(*sample);
+                self.call = CallName::Read { sample: *sample };
+                self.first = moment;
+            }
+            Call::Release { sample } => self.begin_release(moment, *sample),
+            Call::LoanUninit | Call::Write { .. } | Call::Send { .. } | Call::DropLoan { .. } => {}
+        }
+    }
+
+    fn begin_release(&mut self, moment: u64, sample: u64)
+        requires { subscriber_is_idle self.old.port.call ≡ true }
+        ensures { self.new ≡ release_begun moment sample (place_of sample self.old) (route_at (place_of sample self.old) self.old) self.old }
+    {
+        let Some(place) = self.place(sample) else {
+            return;
+        };
+        let Some(route) = self.port.route(place) else {
+            return;
+        };
+        self.port.begin_release(place, route, sample);
+        self.call = CallName::Release { sample };
+        self.first = moment;
+    }
+
+    /// The access that comes next.
+    pub fn next(&self) -> SharedAccess
+        ensures { result ≡ subscriber_next self.now.port.call }
+    {
+        self.port.next()
+    }
+
+    /// The words of a read whose next step is its last.
+    pub fn words_read(&self) -> &[u64]
+        ensures { result.now ≡ words_read self.now.port.call self.now.port.words }
+    {
+        match self.port.call() {
+            SubscriberCall::WasRead { .. } => self.port.words(),
+            _ => &[],
+        }
+    }
+
+    /// Goes on after the answer of that access. It tells what the call answers, if that was its last step; the words of a read begin at `from`.
+    pub fn go_on(&mut self, given: u64, from: usize) -> Option<Answer>
+        ensures lane { self.new ≡ subscriber_after given self.old }
+        ensures answer { result ≡ subscriber_answer self.old.port.call from }
+        ensures ends { is_some result ≡ subscriber_is_over self.old.port.call }
+    {
+        let call = self.port.call();
+        self.port.take(given);
+        answer_of(call, from)
+    }
+
+    /// Where its call stands.
+    pub fn stage(&self) -> SubscriberCall
+        ensures { result ≡ self.now.port.call }
+    {
+        self.port.call()
+    }
+
+    /// The next step is the last of its call.
+    pub fn is_over(&self) -> bool
+        ensures { result ≡ subscriber_is_over self.now.port.call }
+    {
+        self.port.is_over()
+    }
+
+    /// The call that it began last.
+    pub fn call(&self) -> CallName
+        ensures { result ≡ self.now.call }
+    {
+        self.call
+    }
+
+    /// The moment at which that call began.
+    pub fn first(&self) -> u64
+        ensures { result ≡ self.now.first }
+    {
+        self.first
+    }
+}
+
+// What a subscriber's call answers whose next step is its last.
+fn answer_of(call: SubscriberCall, from: usize) -> Option<Answer>
+    ensures answer { result ≡ subscriber_answer call from }
+    ensures ends { is_some result ≡ subscriber_is_over call }
+{
+    match call {
+        SubscriberCall::Received { receipt } => Some(Answer::Received(receipt)),
+        SubscriberCall::WasRead { .. } => Some(Answer::Read { from }),
+        SubscriberCall::Released { done } => Some(Answer::Released(done)),
+        SubscriberCall::Idle
+        | SubscriberCall::Receiving { .. }
+        | SubscriberCall::Reading { .. }
+        | SubscriberCall::Releasing { .. } => None,
+    }
+}
