@@ -28,7 +28,7 @@ positions_of table connection = record {
   completion_read = held_by table (Ring connection Completion Read);
 }
 
--- no more messages stand between the two positions than may wait, and one more while a full ring lets its oldest go
+-- no more messages stand between the two positions than may wait, and at most one more where the ring drops its oldest
 pub record AreNear (link : Link) (positions : Positions) : Type 0 where
   pub behind : positions.submission_read ≤ positions.submission_write
   pub near : positions.submission_write ≤ positions.submission_read + link.limit + (if overflows link.kind then 1 else 0)

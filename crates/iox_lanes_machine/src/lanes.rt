@@ -109,7 +109,7 @@ impl Lanes {
     }
 
     /// The four positions of a connection. As long as at most 2^63 steps were made, no more messages stand between the two of the messages than may wait, and
-    /// one more while a full ring lets its oldest go.
+    /// at most one more where the ring drops its oldest.
     pub fn position(&self, connection: u64) -> Positions
         requires { connection < length self.now.links }
         ensures value { result ≡ positions_of self.now.table connection }
