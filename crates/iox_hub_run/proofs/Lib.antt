@@ -1,0 +1,5 @@
+pub mod Coming
+pub mod FactoryCounts
+pub mod MadeCounts
+pub mod StepCounts
+pub mod RunLemmas

@@ -1,0 +1,5 @@
+-- The definitions that contracts about commands cite.
+pub mod Numbers
+pub mod Services
+pub mod Steps
+pub mod Runs

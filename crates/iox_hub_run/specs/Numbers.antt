@@ -1,0 +1,17 @@
+-- How many numbers were given out.
+use Rattle.std.specs.Prelude.{ℕ, ◌≡◌, ◌+◌}
+use Rattle.iox_hub_base.specs.Hubs.{IsNewHub}
+use Rattle.iox_hub_base.specs.declared.hub.HubConfig.{HubConfig}
+use Rattle.iox_hub_factories.specs.Tables.{no_factories}
+use Rattle.iox_hub_ports.specs.Tables.{IsEmpty}
+use Rattle.iox_hub_run.specs.declared.numbered_hub.NumberedHub.{NumberedHub}
+
+-- A hub in which nothing was made.
+pub record IsNew {T U B D : Type 0} (config : HubConfig) (hub : NumberedHub T U B D) : Type 0 where
+  pub hub_is_new : IsNewHub config hub.hub
+  pub no_factory : hub.factories.made ≡ no_factories
+  pub nothing_made : IsEmpty hub.made
+
+-- the numbers that come next, of each kind but nodes, all together: each command adds one at most
+abbrev pub numbers_used : {T U B D : Type 0} → NumberedHub T U B D → ℕ
+numbers_used hub = hub.factories.made.next + (hub.made.publishers.next + (hub.made.subscribers.next + (hub.made.loans.next + hub.made.samples.next)))

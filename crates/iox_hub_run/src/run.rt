@@ -1,0 +1,63 @@
+//! A list of commands.
+ghost use Rattle.std.specs.Prelude.{◌+◌, ◌<◌, ◌≤◌, ◌^◌, length};
+ghost use Rattle.iox_describe_base.specs.Detail.{detail};
+ghost use Rattle.iox_describe_base.specs.declared.type_detail.TypeVariant.TheVariants.{FixedSize};
+ghost use Rattle.iox_hub_requests.specs.Asked.{types_of};
+ghost use Rattle.iox_hub_run.specs.Numbers.{numbers_used};
+ghost use Rattle.iox_hub_run.specs.Runs.{IsRun};
+ghost use Rattle.iox_hub_run.specs.Steps.{Step};
+
+use crate::numbered_hub::NumberedHub;
+use iox_command::{Command, Reply};
+use iox_describe_base::ZeroCopySend;
+use iox_hub_commands::{PublisherHandlers, SubscriberHandler};
+use iox_queues_base::Words;
+use std::alloc::Global;
+
+/// The replies to a list of commands.
+///
+/// This port's own.
+#[derive(Drop)]
+pub struct RunReport<T> {
+    /// One for each command, in order, unless the run stopped.
+    pub replies: Vec<Reply<T>>,
+    /// Whether the run stopped before the last reply: no memory was found for the list of replies, for one more number of a loan or a
+    /// sample, or for the values of a reply.
+    pub stopped: bool,
+}
+
+impl<
+    T: Words + ZeroCopySend + Default,
+    U: Copy + ZeroCopySend + Default,
+    B: PublisherHandlers,
+    D: SubscriberHandler,
+> NumberedHub<T, U, B, D> {
+    /// Carries out commands, one after another.
+    ///
+    /// A run that stopped carried out as many commands as there are replies, or one more.
+    pub fn run(&mut self, alloc: Global, commands: Vec<Command<T>>) -> RunReport<T>
+        requires { numbers_used self.old + length commands.items < 2 ^ 64 }
+        ensures ran { IsRun (Step (detail FixedSize T.name T.size T.alignment) (detail FixedSize U.name U.size U.alignment) (types_of T.name T.size T.alignment U.name U.size U.alignment) T.is_default U.is_default B.fixed (λ handlers. B.degrades handlers) (λ handlers. B.decides handlers) D.fixed (λ handler. D.degrades handler)) commands.entry.items self.old result.replies.items result.stopped self.new }
+        ensures counts { numbers_used self.new ≤ numbers_used self.old + length commands.entry.items }
+    {
+        let Ok(mut replies) = Vec::with_capacity(alloc, commands.len()) else {
+            return RunReport {
+                replies: Vec::new(alloc),
+                stopped: true,
+            };
+        };
+        for command in commands {
+            let Ok(reply) = self.step(alloc, command) else {
+                return RunReport {
+                    replies,
+                    stopped: true,
+                };
+            };
+            replies.push_reserved(reply);
+        }
+        RunReport {
+            replies,
+            stopped: false,
+        }
+    }
+}
