@@ -1,5 +1,5 @@
 -- How little a step touches.
-use Rattle.std.proofs.Common.{ℕ, ◌≡◌, ◌+◌, ◌==◌, Bool, true, false, if◌then◌else◌, List, [], ◌∷◌, ◌++◌, length, set, slice_get, Option, Some, None, is_some, refl, sym, ◌∙◌, ap, subst, arith, length-append}
+use Rattle.std.proofs.Common.{ℕ, ◌≡◌, ◌+◌, ◌==◌, Bool, true, false, if◌then◌else◌, List, length, slice_get, Option, Some, None, is_some, refl, sym, ◌∙◌, ap, subst, arith, length-append}
 use Rattle.std.proofs.lemmas.List.{get_or-set_other}
 use Rattle.iox_queues_steps.specs.declared.order.Placed.{Placed}
 use Rattle.iox_queues_steps.specs.declared.schedule.Stepped.{Stepped}
@@ -29,7 +29,7 @@ use Rattle.iox_lanes_parties.specs.declared.call.Party.TheVariants.{Publisher, S
 use Rattle.iox_lanes_parties.proofs.Rings.{all_at}
 use Rattle.iox_lanes_parties.proofs.PublishersWithin.{publishers_stay_within}
 use Rattle.iox_lanes_parties.proofs.SubscribersWithin.{subscribers_stay_within}
-use Rattle.iox_lanes_machine.specs.Apart.{publisher_access, subscriber_access, access_of, MayChange, OthersHold, OthersStay, OrdersStay, grows_at, more_ended, StaysApart}
+use Rattle.iox_lanes_machine.specs.Apart.{publisher_access, subscriber_access, access_of, OthersHold, OthersStay, OrdersStay, grows_at, more_ended, StaysApart}
 use Rattle.iox_lanes_machine.specs.Kept.{IsWithin}
 use Rattle.iox_lanes_machine.specs.World.{World, connection_at, acts_at, placed, fits, ends, publisher_fits_at, subscriber_fits_at, publisher_ends_at, subscriber_ends_at, ended, publisher_given, subscriber_given, publisher_ending, publisher_begins, subscriber_begins, publisher_goes_on, subscriber_goes_on, happens, StepsTo}
 use Rattle.iox_lanes_machine.proofs.Steps.{added_other}
@@ -87,7 +87,7 @@ begun_subscriber m place c (Some lane) fit = record {
 }
 
 -- a call has an answer exactly where its next step is its last
-publisher_answers : (call : PublisherCall) (loan : Option LoanAnswer) → is_some (publisher_answer call loan) ≡ publisher_is_over call
+pub publisher_answers : (call : PublisherCall) (loan : Option LoanAnswer) → is_some (publisher_answer call loan) ≡ publisher_is_over call
 publisher_answers publishing.Idle loan = refl
 publisher_answers (publishing.LoanReclaims place route pop) loan = refl
 publisher_answers publishing.Lending loan = refl
@@ -100,7 +100,7 @@ publisher_answers (publishing.Pushing slot place route push delivery) loan = ref
 publisher_answers (publishing.Sent slot delivery) loan = refl
 publisher_answers (publishing.Dropping slot) loan = refl
 
-subscriber_answers : (call : SubscriberCall) (from : ℕ) → is_some (subscriber_answer call from) ≡ subscriber_is_over call
+pub subscriber_answers : (call : SubscriberCall) (from : ℕ) → is_some (subscriber_answer call from) ≡ subscriber_is_over call
 subscriber_answers subscribing.Idle from = refl
 subscriber_answers (subscribing.Receiving place route pop waits) from = refl
 subscriber_answers (subscribing.Received receipt) from = refl

@@ -1,5 +1,5 @@
 -- The two ends of a ring as calls of ports: idle at a connection, fresh there, or under way.
-use Rattle.std.proofs.Common.{ℕ, ◌≡◌, ◌+◌, ◌<◌, ◌≤◌, ◌^◌, ◌==◌, ◌||◌, ◌⊎◌, Bool, true, false, if◌then◌else◌, nat_lt, List, slice_get, Option, Some, None, refl, sym, ◌∙◌, ap, subst, inl, inr, arith}
+use Rattle.std.proofs.Common.{ℕ, ◌≡◌, ◌+◌, ◌==◌, ◌||◌, ◌⊎◌, Bool, true, false, if◌then◌else◌, nat_lt, List, slice_get, Option, Some, None, refl, sym, ◌∙◌, ap, subst, inl, inr}
 use Rattle.std.specs.List.{All}
 use Rattle.std.proofs.lemmas.Bool.{eq-eqb}
 use Rattle.std.proofs.lemmas.Bool.Decides.{eqb_tells}
@@ -27,8 +27,8 @@ use Rattle.iox_queues_rings.specs.declared.ends.Pop.{Pop}
 use Rattle.iox_queues_rings.specs.declared.ends.Pop.TheVariants as pop
 use Rattle.iox_queues_rings.proofs.EitherRing.{push_begins_shape, pop_begins_shape}
 use Rattle.iox_lanes_calls.specs.Answers.{push_answer, pop_answer, refusing_pop_answer, refusing_push_answer}
-use Rattle.iox_lanes_calls.specs.Publishing.{publisher_is_idle, publisher_take, loan_from, loan_at, loan_reclaimed, write_from, write_at, head_from, head_at, push_from, push_at, sweep_from, sweep_at, send_reclaimed, pushed, counted, nothing_sent}
-use Rattle.iox_lanes_calls.specs.Subscribing.{subscriber_is_idle, subscriber_take, receive_from, received, is_full_at, read_at, released}
+use Rattle.iox_lanes_calls.specs.Publishing.{publisher_is_idle, publisher_take, loan_from, loan_reclaimed, write_from, head_from, push_from, push_at, sweep_from, send_reclaimed, pushed, counted, nothing_sent}
+use Rattle.iox_lanes_calls.specs.Subscribing.{subscriber_is_idle, subscriber_take, receive_from, received, is_full_at, released}
 use Rattle.iox_lanes_calls.specs.declared.publisher.Delivery.{Delivery}
 use Rattle.iox_lanes_calls.specs.declared.publisher.PublisherCall.{PublisherCall}
 use Rattle.iox_lanes_calls.specs.declared.publisher.PublisherCall.TheVariants as publishing

@@ -9,9 +9,9 @@ use Rattle.iox_queues_steps.specs.declared.access.Word.{Word}
 use Rattle.iox_queues_steps.specs.declared.access.Word.TheVariants.{Write, Read, Cell}
 use Rattle.iox_queues_steps.specs.declared.access.Access.{Access}
 use Rattle.iox_queues_steps.specs.declared.access.Access.TheVariants as own
-use Rattle.iox_lanes_words.specs.Numbers.{number_of, words_of, ring_first, IsWord}
+use Rattle.iox_lanes_words.specs.Numbers.{number_of, words_of, IsWord}
 use Rattle.iox_lanes_words.specs.Table.{TableWords, held_by, stored_in, shared_answer, after_shared}
-use Rattle.iox_lanes_words.specs.Words.{cell_word, in_ring, on_ring}
+use Rattle.iox_lanes_words.specs.Words.{in_ring, on_ring}
 use Rattle.iox_lanes_words.specs.declared.access.SharedAccess.{SharedAccess}
 use Rattle.iox_lanes_words.specs.declared.access.SharedAccess.TheVariants.{Load, Store, Exchange, Local}
 use Rattle.iox_lanes_words.specs.declared.word.ConnectionRing.TheVariants.{Submission, Completion}

@@ -1,56 +1,39 @@
 -- Every step keeps what each connection's ring and order say of one another.
-use Rattle.std.proofs.Common.{ℕ, ◌≡◌, ◌+◌, ◌<◌, ◌≤◌, ◌^◌, ◌==◌, ◌⊎◌, Bool, true, false, if◌then◌else◌, nat_lt, List, [], ◌∷◌, ◌++◌, length, set, slice_get, Option, Some, None, refl, sym, ◌∙◌, ap, subst, inl, inr, arith}
+use Rattle.std.proofs.Common.{ℕ, ◌≡◌, ◌+◌, ◌<◌, ◌≤◌, ◌^◌, Bool, true, false, if◌then◌else◌, nat_lt, List, [], ◌∷◌, ◌++◌, slice_get, Option, Some, refl, sym, ◌∙◌, ap, subst, arith}
 use Rattle.std.specs.List.{All}
 use Rattle.std.proofs.lemmas.Bool.{ltb-true}
-use Rattle.std.proofs.lemmas.Bool.Decides.{eqb_tells}
-use Rattle.std.proofs.lemmas.Option.{slice_get_within, slice_get-get_or}
 use Rattle.iox_queues_steps.specs.Access.{RingWords, successor, answer_of, after_access}
 use Rattle.iox_queues_steps.specs.Order.{Acts, after_acts, acts_of, at, Rises}
 use Rattle.iox_queues_steps.specs.declared.access.Word.TheVariants.{Read}
-use Rattle.iox_queues_steps.specs.declared.access.Access.{Access}
-use Rattle.iox_queues_steps.specs.declared.access.Access.TheVariants as own
 use Rattle.iox_queues_steps.specs.declared.order.Act.{Act}
 use Rattle.iox_queues_steps.specs.declared.order.Placed.{Placed}
 use Rattle.iox_queues_steps.proofs.Orders.{acts_more, Acts-append, after_acts-append, rises_more}
-use Rattle.iox_queues_refusing.specs.Refusing as refusing
-use Rattle.iox_queues_rings.specs.Ends.{Shape, overflows, cells_of, push_idle, push_next, push_take, placed_by_push, pop_idle, pop_next, pop_take, placed_by_pop}
+use Rattle.iox_queues_rings.specs.Ends.{Shape, overflows, cells_of, push_next, push_take, placed_by_push, pop_next, pop_take, placed_by_pop}
 use Rattle.iox_queues_rings.specs.declared.ends.RingKind.{RingKind}
 use Rattle.iox_queues_rings.specs.declared.ends.RingKind.TheVariants as kind
 use Rattle.iox_queues_rings.specs.declared.ends.Push.{Push}
 use Rattle.iox_queues_rings.specs.declared.ends.Pop.{Pop}
-use Rattle.iox_queues_rings.proofs.EitherRing.{holds, push_goes, pop_goes, push_grows, pop_grows}
-use Rattle.iox_lanes_words.specs.Table.{TableWords, held_by, shared_answer, after_shared, IsOfTable}
+use Rattle.iox_queues_rings.proofs.EitherRing.{push_goes, pop_goes, push_grows, pop_grows}
+use Rattle.iox_lanes_words.specs.Table.{TableWords, held_by, shared_answer, after_shared}
 use Rattle.iox_lanes_words.specs.Words.{on_ring}
-use Rattle.iox_lanes_words.specs.declared.word.ConnectionRing.TheVariants.{Submission, Completion}
+use Rattle.iox_lanes_words.specs.declared.word.ConnectionRing.TheVariants.{Submission}
 use Rattle.iox_lanes_calls.specs.Answers.{push_answer, pop_answer}
 use Rattle.iox_lanes_calls.specs.Publishing.{publisher_next, publisher_take, pushed}
-use Rattle.iox_lanes_calls.specs.Subscribing.{subscriber_next, subscriber_take, subscriber_change, received}
+use Rattle.iox_lanes_calls.specs.Subscribing.{subscriber_next, subscriber_take, received}
 use Rattle.iox_lanes_calls.specs.declared.publisher.PublisherCall.{PublisherCall}
 use Rattle.iox_lanes_calls.specs.declared.publisher.PublisherCall.TheVariants as publishing
 use Rattle.iox_lanes_calls.specs.declared.route.Route.{Route}
 use Rattle.iox_lanes_calls.specs.declared.publisher.Delivery.{Delivery}
 use Rattle.iox_lanes_calls.specs.declared.subscriber.SubscriberCall.{SubscriberCall}
 use Rattle.iox_lanes_calls.specs.declared.subscriber.SubscriberCall.TheVariants as subscribing
-use Rattle.iox_lanes_publisher.specs.Publishers.{words_of}
-use Rattle.iox_lanes_parties.specs.Parties.{PublisherLaneState, SubscriberLaneState, publisher_begun, publisher_after, subscriber_begun, subscriber_after}
-use Rattle.iox_lanes_parties.specs.Within.{IsAt, IsPublishing, IsPublisher, IsSubscribing, IsSubscriber}
-use Rattle.iox_lanes_parties.specs.declared.call.Call.{Call}
-use Rattle.iox_lanes_parties.specs.declared.call.Move.{Move}
-use Rattle.iox_lanes_parties.specs.declared.call.Move.TheVariants.{Begin, GoOn}
-use Rattle.iox_lanes_parties.specs.declared.call.Party.{Party}
-use Rattle.iox_lanes_parties.specs.declared.call.Party.TheVariants.{Publisher, Subscriber}
+use Rattle.iox_lanes_parties.specs.Within.{IsPublishing, IsSubscribing}
 use Rattle.iox_lanes_parties.proofs.Rings.{all_at}
-use Rattle.iox_lanes_parties.proofs.PublishersWithin.{publishers_stay_within}
-use Rattle.iox_lanes_parties.proofs.SubscribersWithin.{subscribers_stay_within}
-use Rattle.iox_queues_steps.specs.declared.schedule.Stepped.{Stepped}
-use Rattle.iox_queues_steps.specs.declared.schedule.Stepped.TheVariants as stepped
 use Rattle.iox_lanes_machine.specs.Rings.{sent_word, ring_in, push_on, pop_on}
-use Rattle.iox_lanes_machine.specs.World.{World, publisher_stage, subscriber_stage, sender_stage, push_at, pushes_to, pops_from, push_acts, pop_acts, added, added_to, placed, fits, happens, publisher_fits_at, subscriber_fits_at, publisher_begins, publisher_goes_on, publisher_given, subscriber_begins, subscriber_goes_on, subscriber_given, StepsTo}
-use Rattle.iox_lanes_machine.specs.Kept.{IsLink, IsLinkOf, sender, receiver, IsWithin, IsKept, IsKeptAt, AreKept, FollowsMailbox, waiting}
+use Rattle.iox_lanes_machine.specs.World.{World, publisher_stage, sender_stage, push_at, pushes_to, pops_from, push_acts, pop_acts, placed}
+use Rattle.iox_lanes_machine.specs.Kept.{IsLink, IsLinkOf, sender, receiver, IsWithin, IsKeptAt, FollowsMailbox, waiting}
 use Rattle.iox_lanes_machine.specs.declared.link.Link.{Link}
-use Rattle.iox_lanes_machine.proofs.InTable.{IsSeat, IsElsewhere, GoesElsewhere, access_answer, access_after, access_elsewhere}
-use Rattle.iox_lanes_machine.proofs.Within.{set_other, set_same, changed_routes, happens_within}
-use Rattle.iox_lanes_machine.proofs.Ends.{some_is, IsFreshPush, IsFreshPop, fresh_push_shape, fresh_pop_shape, push_off, pop_off, push_here, pop_here, fresh_take, next_push, fresh_subscriber_take, next_pop, push_begins, pop_begins}
+use Rattle.iox_lanes_machine.proofs.InTable.{IsSeat, access_answer, access_after}
+use Rattle.iox_lanes_machine.proofs.Ends.{some_is, push_here, pop_here, next_push, next_pop}
 
 -- moments that never fall lie below a later number too
 pub rises_later : (low : ℕ) (order : List Placed) (high higher : ℕ) → high ≤ higher → Rises low order high → Rises low order higher

@@ -7,6 +7,17 @@ pub mod Kept
 pub mod Steps
 pub mod Start
 pub mod Mailboxes
+pub mod Arrivals
 pub mod Apart
 pub mod Receipts
+pub mod Calls
+pub mod Puts
+pub mod Sends
+pub mod SendSteps
+pub mod Slots
+pub mod Told
+pub mod ReadWords
+pub mod InBack
+pub mod Returns
+pub mod ReturnSteps
 pub mod Whole

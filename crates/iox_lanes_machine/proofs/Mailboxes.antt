@@ -1,9 +1,8 @@
 -- What is kept says it of each connection's order and positions.
-use Rattle.std.proofs.Common.{ℕ, ◌≡◌, ◌+◌, ◌<◌, ◌≤◌, ◌^◌, if◌then◌else◌, List, [], length, get_or, slice_get, Some, refl, sym, ◌∙◌, inl, inr, arith}
+use Rattle.std.proofs.Common.{ℕ, ◌≡◌, ◌+◌, ◌<◌, ◌≤◌, if◌then◌else◌, List, [], length, get_or, slice_get, Some, inl, inr, arith}
 use Rattle.std.proofs.lemmas.Bool.{cases_lt}
 use Rattle.std.proofs.lemmas.Option.{slice_get_within, slice_get-get_or}
 use Rattle.iox_queues_steps.specs.Access.{RingWords}
-use Rattle.iox_queues_steps.specs.declared.order.Placed.{Placed}
 use Rattle.iox_queues_overflowing.specs.OverflowingRing as overflowing_ring
 use Rattle.iox_queues_overflowing.specs.declared.push.Push as overflowing_push_type
 use Rattle.iox_queues_overflowing.specs.declared.push.Push.TheVariants as overflowing_push
@@ -14,8 +13,9 @@ use Rattle.iox_queues_rings.specs.declared.ends.Push.{Push}
 use Rattle.iox_queues_rings.specs.declared.ends.Push.TheVariants as push
 use Rattle.iox_queues_rings.specs.declared.ends.Pop.{Pop}
 use Rattle.iox_queues_rings.specs.declared.ends.Pop.TheVariants as pop
-use Rattle.iox_lanes_machine.specs.Kept.{IsKept, IsLink}
-use Rattle.iox_lanes_machine.specs.Mailboxes.{OrderFollows, OrdersFollow, positions_of, AreNear, PositionsNear}
+use Rattle.iox_lanes_machine.specs.Kept.{IsKept}
+use Rattle.iox_lanes_machine.specs.Mailboxes.{OrderFollows, OrdersFollow, positions_of, PositionsNear}
+use Rattle.iox_lanes_machine.specs.Returns.{ReturnsNear}
 use Rattle.iox_lanes_machine.specs.World.{World}
 use Rattle.iox_lanes_machine.specs.declared.link.Link.{Link}
 
@@ -73,3 +73,10 @@ pub is_connection : (m : World) (connection : ℕ) → IsKept m → connection <
 is_connection m connection k below =
     let d : Link = record { publisher = 0; subscriber = 0; kind = kind.Refusing; limit = 0 } in
     (k.within.links connection (get_or m.links connection d) (slice_get-get_or m.links connection d below)).connection_is
+
+-- no more samples stand given back than there are cells
+pub returns_near : (m : World) (connection : ℕ) → IsKept m → connection < length m.links → ReturnsNear m (positions_of m.table connection)
+returns_near m connection k below = λ few.
+    let d : Link = record { publisher = 0; subscriber = 0; kind = kind.Refusing; limit = 0 } in
+    let is = ((k.returns).rings few) connection (get_or m.links connection d) (slice_get-get_or m.links connection d below) in
+    record { behind = omega (arith, (is.shape).level); near = omega (arith, (is.shape).level, (is.shape).room) }

@@ -1,5 +1,5 @@
 -- Every step keeps that receives give the slots taken, in that order.
-use Rattle.std.proofs.Common.{ℕ, ◌≡◌, ◌+◌, ◌<◌, ◌^◌, ◌==◌, ◌||◌, ◌⊎◌, Bool, true, false, if◌then◌else◌, nat_lt, ◌-◌, List, [], ◌∷◌, ◌++◌, length, set, slice_get, Option, Some, None, refl, sym, ◌∙◌, ap, subst, inl, inr, arith, append_assoc, append-nil}
+use Rattle.std.proofs.Common.{ℕ, ◌≡◌, ◌+◌, ◌<◌, ◌^◌, ◌==◌, ◌||◌, Bool, true, false, if◌then◌else◌, nat_lt, ◌-◌, List, [], ◌∷◌, ◌++◌, length, set, slice_get, Option, Some, None, refl, sym, ◌∙◌, ap, subst, inl, inr, arith, append_assoc, append-nil}
 use Rattle.std.specs.List.{All}
 use Rattle.std.proofs.lemmas.Bool.{eq-eqb}
 use Rattle.std.proofs.lemmas.Bool.Decides.{eqb_tells}
@@ -41,7 +41,7 @@ use Rattle.iox_lanes_calls.specs.declared.route.Route.{Route}
 use Rattle.iox_lanes_calls.specs.declared.subscriber.SlotExtent.{SlotExtent}
 use Rattle.iox_lanes_calls.specs.declared.subscriber.SubscriberCall.{SubscriberCall}
 use Rattle.iox_lanes_calls.specs.declared.subscriber.SubscriberCall.TheVariants as subscribing
-use Rattle.iox_lanes_parties.specs.Parties.{PublisherLaneState, SubscriberLaneState, publisher_after, subscriber_may, subscriber_fits, subscriber_begun, subscriber_after, subscriber_answer, release_begun, place_of, route_at}
+use Rattle.iox_lanes_parties.specs.Parties.{PublisherLaneState, SubscriberLaneState, subscriber_may, subscriber_begun, subscriber_after, subscriber_answer, release_begun, place_of, route_at}
 use Rattle.iox_lanes_parties.specs.Within.{IsAt, IsSubscribing, IsSubscriber}
 use Rattle.iox_lanes_parties.specs.declared.call.Answer.{Answer}
 use Rattle.iox_lanes_parties.specs.declared.call.Answer.TheVariants as answer
@@ -54,7 +54,7 @@ use Rattle.iox_lanes_parties.specs.declared.call.Move.TheVariants.{Begin, GoOn}
 use Rattle.iox_lanes_parties.specs.declared.call.Party.{Party}
 use Rattle.iox_lanes_parties.specs.declared.call.Party.TheVariants.{Publisher, Subscriber}
 use Rattle.iox_lanes_parties.proofs.Rings.{and_left, all_at}
-use Rattle.iox_lanes_machine.specs.Rings.{sent_word, ring_in, push_on, pop_on}
+use Rattle.iox_lanes_machine.specs.Rings.{sent_word, ring_in, push_on}
 use Rattle.iox_lanes_machine.specs.World.{World, publisher_stage, subscriber_stage, sender_stage, push_at, pushes_to, pops_from, push_acts, pop_acts, added, ended, fits, happens, publisher_fits_at, subscriber_fits_at, publisher_begins, publisher_goes_on, publisher_ending, subscriber_begins, subscriber_goes_on, subscriber_given}
 use Rattle.iox_lanes_machine.specs.Kept.{IsLinkOf, receiver, IsWithin, IsKeptAt, AreKept, waiting}
 use Rattle.iox_lanes_machine.specs.Receipts.{slots_of, slots_taken, given_at, given_by, given_answer, is_receiver, given_calls, given_in_hand, routes_of, ReceivesGive, AllReceivesGive}

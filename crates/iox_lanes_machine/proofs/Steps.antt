@@ -1,6 +1,5 @@
 -- One step of lanes, and what it keeps at each connection.
-use Rattle.std.proofs.Common.{ℕ, ◌≡◌, ◌+◌, ◌<◌, ◌≤◌, ◌^◌, ◌⊎◌, Bool, true, List, [], ◌++◌, length, set, slice_get, Option, Some, None, refl, sym, ◌∙◌, ap, subst, inl, inr, arith}
-use Rattle.std.specs.List.{All}
+use Rattle.std.proofs.Common.{ℕ, ◌≡◌, ◌<◌, ◌≤◌, ◌^◌, ◌⊎◌, true, List, ◌++◌, set, slice_get, Option, Some, None, refl, sym, ◌∙◌, ap, subst, inl, inr, arith}
 use Rattle.std.proofs.lemmas.Bool.Decides.{eqb_tells}
 use Rattle.iox_queues_steps.specs.Access.{RingWords, successor}
 use Rattle.iox_queues_steps.specs.Order.{at}
@@ -9,13 +8,12 @@ use Rattle.iox_queues_steps.specs.declared.access.Access.TheVariants as own
 use Rattle.iox_queues_steps.specs.declared.order.Act.{Act}
 use Rattle.iox_queues_steps.specs.declared.order.Placed.{Placed}
 use Rattle.iox_queues_rings.specs.Ends.{Shape, cells_of, push_idle, pop_idle}
-use Rattle.iox_queues_rings.specs.declared.ends.RingKind.{RingKind}
 use Rattle.iox_queues_rings.specs.declared.ends.Push.{Push}
 use Rattle.iox_queues_rings.specs.declared.ends.Pop.{Pop}
-use Rattle.iox_lanes_words.specs.Table.{TableWords, shared_answer, after_shared, IsOfTable}
+use Rattle.iox_lanes_words.specs.Table.{TableWords, after_shared, IsOfTable}
 use Rattle.iox_lanes_words.specs.Words.{on_ring}
 use Rattle.iox_lanes_words.specs.declared.word.ConnectionRing.TheVariants.{Submission, Completion}
-use Rattle.iox_lanes_calls.specs.Publishing.{publisher_next, publisher_take}
+use Rattle.iox_lanes_calls.specs.Publishing.{publisher_next}
 use Rattle.iox_lanes_calls.specs.Subscribing.{subscriber_next, subscriber_take, subscriber_change}
 use Rattle.iox_lanes_calls.specs.declared.publisher.PublisherCall.{PublisherCall}
 use Rattle.iox_lanes_calls.specs.declared.publisher.PublisherCall.TheVariants as publishing
@@ -32,7 +30,7 @@ use Rattle.iox_lanes_parties.specs.declared.call.Party.TheVariants.{Publisher, S
 use Rattle.iox_lanes_parties.proofs.Rings.{all_at}
 use Rattle.iox_lanes_parties.proofs.PublishersWithin.{publishers_stay_within}
 use Rattle.iox_lanes_parties.proofs.SubscribersWithin.{subscribers_stay_within}
-use Rattle.iox_lanes_machine.specs.Rings.{ring_in, push_on, pop_on}
+use Rattle.iox_lanes_machine.specs.Rings.{push_on, pop_on}
 use Rattle.iox_lanes_machine.specs.World.{World, publisher_stage, subscriber_stage, pushes_to, pops_from, push_acts, pop_acts, added, added_to, placed, fits, happens, publisher_fits_at, subscriber_fits_at, publisher_begins, publisher_goes_on, publisher_given, subscriber_begins, subscriber_goes_on, subscriber_given}
 use Rattle.iox_lanes_machine.specs.Kept.{IsLinkOf, sender, receiver, IsWithin, IsKeptAt, AreKept, waiting}
 use Rattle.iox_lanes_machine.specs.declared.link.Link.{Link}
@@ -56,7 +54,7 @@ other_elsewhere table here connection cells (own.Store word value) off h = (h, �
 other_elsewhere table here connection cells (own.Exchange word old new) off h = (h, λ e. off (ap (λ (n : ℕ). Some n) e))
 other_elsewhere table here connection cells own.Local off h = tt
 
-publisher_elsewhere : (table : TableWords) (here : ℕ) (call : PublisherCall) → (pushes_to call ≡ Some here → ⊥) → IsOfTable table.sizes (publisher_next call) → GoesElsewhere table here (publisher_next call)
+pub publisher_elsewhere : (table : TableWords) (here : ℕ) (call : PublisherCall) → (pushes_to call ≡ Some here → ⊥) → IsOfTable table.sizes (publisher_next call) → GoesElsewhere table here (publisher_next call)
 publisher_elsewhere table here publishing.Idle off h = tt
 publisher_elsewhere table here (publishing.LoanReclaims place route p) off h = back_elsewhere table here route.connection route.completion_cells _ h
 publisher_elsewhere table here publishing.Lending off h = tt
@@ -69,7 +67,7 @@ publisher_elsewhere table here (publishing.Pushing slot place route p delivery) 
 publisher_elsewhere table here (publishing.Sent slot delivery) off h = tt
 publisher_elsewhere table here (publishing.Dropping slot) off h = tt
 
-subscriber_elsewhere : (table : TableWords) (here : ℕ) (call : SubscriberCall) → (pops_from call ≡ Some here → ⊥) → IsOfTable table.sizes (subscriber_next call) → GoesElsewhere table here (subscriber_next call)
+pub subscriber_elsewhere : (table : TableWords) (here : ℕ) (call : SubscriberCall) → (pops_from call ≡ Some here → ⊥) → IsOfTable table.sizes (subscriber_next call) → GoesElsewhere table here (subscriber_next call)
 subscriber_elsewhere table here subscribing.Idle off h = tt
 subscriber_elsewhere table here (subscribing.Receiving place route p waits) off h = other_elsewhere table here route.connection route.submission_cells _ off h
 subscriber_elsewhere table here (subscribing.Received receipt) off h = tt
@@ -167,7 +165,7 @@ begun_subscriber m place c (Some lane) e fit bound w k = λ connection link orde
     (pop_again m.subscribers place lane (subscriber_begun m.moments c lane) connection link _ (waiting link order) _ e fresh.0 fresh.1 was.shape) was
 
 -- the link of a connection where a publisher pushes is its own
-pushes_own : (m : World) (place : ℕ) (lane : PublisherLaneState) (connection : ℕ) (link : Link) → slice_get m.publishers place ≡ Some lane → IsWithin m → slice_get m.links connection ≡ Some link → pushes_to lane.port.call ≡ Some connection → link.publisher ≡ place
+pub pushes_own : (m : World) (place : ℕ) (lane : PublisherLaneState) (connection : ℕ) (link : Link) → slice_get m.publishers place ≡ Some lane → IsWithin m → slice_get m.links connection ≡ Some link → pushes_to lane.port.call ≡ Some connection → link.publisher ≡ place
 pushes_own m place lane connection link e w found here =
     by_call lane.port.call here (all_at (IsPublisher m.table.sizes) m.publishers place lane e w.publishers).call
   where

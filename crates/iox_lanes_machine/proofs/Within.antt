@@ -1,11 +1,9 @@
 -- Every step keeps ports, connections and words to those of one service.
-use Rattle.std.proofs.Common.{ℕ, ◌≡◌, ◌<◌, ◌≤◌, zero, suc, Bool, true, false, not, ◌==◌, if◌then◌else◌, List, [], ◌∷◌, ◌++◌, length, set, slice_get, Option, Some, None, refl, sym, ◌∙◌, ap, subst, inl, inr, arith}
+use Rattle.std.proofs.Common.{ℕ, ◌≡◌, zero, suc, Bool, true, false, ◌==◌, if◌then◌else◌, List, [], ◌∷◌, ◌++◌, length, set, slice_get, Option, Some, None, refl, sym, ◌∙◌, ap, subst, inl, inr}
 use Rattle.std.specs.List.{All}
 use Rattle.std.proofs.lemmas.Bool.Decides.{eqb_tells}
 use Rattle.std.proofs.lemmas.List.{length-set}
 use Rattle.std.proofs.lemmas.List.Elements.{All-set}
-use Rattle.std.proofs.lemmas.Option.{slice_get_within}
-use Rattle.iox_queues_steps.specs.Access.{successor}
 use Rattle.iox_queues_steps.specs.Order.{at}
 use Rattle.iox_queues_steps.specs.declared.order.Act.{Act}
 use Rattle.iox_queues_steps.specs.declared.order.Placed.{Placed}
@@ -22,7 +20,7 @@ use Rattle.iox_lanes_calls.specs.declared.subscriber.SubscriberCall.TheVariants 
 use Rattle.iox_lanes_calls.specs.declared.subscriber.SubscriberChange.{SubscriberChange}
 use Rattle.iox_lanes_calls.specs.declared.subscriber.SubscriberChange.TheVariants as change
 use Rattle.iox_lanes_subscriber.specs.Keeping.{SubscriberState, changed}
-use Rattle.iox_lanes_parties.specs.Parties.{PublisherLaneState, SubscriberLaneState, publisher_fits, publisher_begun, publisher_after, subscriber_fits, subscriber_begun, subscriber_after, release_begun, place_of, route_at, words_read}
+use Rattle.iox_lanes_parties.specs.Parties.{PublisherLaneState, SubscriberLaneState, publisher_begun, publisher_after, subscriber_begun, subscriber_after, release_begun, place_of, route_at, words_read}
 use Rattle.iox_lanes_parties.specs.Within.{IsPublisher, IsSubscriber}
 use Rattle.iox_lanes_parties.specs.declared.call.Call.{Call}
 use Rattle.iox_lanes_parties.specs.declared.call.Call.TheVariants as call

@@ -1,5 +1,5 @@
 -- What every step of lanes keeps.
-use Rattle.std.specs.Prelude.{ℕ, ◌≡◌, ◌+◌, ◌<◌, ◌≤◌, ◌^◌, List, [], length, slice_get, Option, Some, None}
+use Rattle.std.specs.Prelude.{ℕ, ◌≡◌, ◌<◌, ◌≤◌, ◌^◌, List, [], length, slice_get, Option, Some, None}
 use Rattle.std.specs.List.{All}
 use Rattle.iox_queues_steps.specs.Order.{Acts, after_acts, acts_of, Rises}
 use Rattle.iox_queues_steps.specs.declared.order.Placed.{Placed}
@@ -13,7 +13,12 @@ use Rattle.iox_lanes_calls.specs.declared.subscriber.SubscriberCall.{SubscriberC
 use Rattle.iox_lanes_parties.specs.Parties.{PublisherLaneState, SubscriberLaneState}
 use Rattle.iox_lanes_parties.specs.Within.{IsPublisher, IsSubscriber}
 use Rattle.iox_lanes_machine.specs.Rings.{ring_in, push_on, pop_on}
+use Rattle.iox_lanes_machine.specs.Calls.{CallsKeepTime}
+use Rattle.iox_lanes_machine.specs.Reads.{ReadsLie}
 use Rattle.iox_lanes_machine.specs.Receipts.{ReceiptsFollow}
+use Rattle.iox_lanes_machine.specs.Returns.{ReturnsKept}
+use Rattle.iox_lanes_machine.specs.Sends.{SendsFollow}
+use Rattle.iox_lanes_machine.specs.Slots.{LoansStand}
 use Rattle.iox_lanes_machine.specs.World.{World, publisher_stage, subscriber_stage}
 use Rattle.iox_lanes_machine.specs.declared.link.Link.{Link}
 
@@ -79,3 +84,8 @@ pub record IsKept (m : World) : Type 0 where
   pub within : IsWithin m
   pub rings : m.moments ≤ 2 ^ 63 → AreKept m
   pub receipts : ReceiptsFollow m
+  pub calls : CallsKeepTime m
+  pub sends : SendsFollow m
+  pub loans : LoansStand m
+  pub returns : ReturnsKept m
+  pub reads : ReadsLie m

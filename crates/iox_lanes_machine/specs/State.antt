@@ -1,5 +1,4 @@
 -- The fields of lanes, as lists and numbers.
-use Rattle.std.specs.Prelude.{ℕ}
 use Rattle.iox_lanes_machine.specs.World.{World}
 use Rattle.iox_lanes_machine.specs.declared.state.State.{State}
 

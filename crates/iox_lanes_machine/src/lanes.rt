@@ -35,16 +35,26 @@ impl Lanes {
     ghost use Rattle.iox_lanes_machine.specs.World.{RunsTo, StepsTo};
     ghost use Rattle.iox_lanes_machine.specs.Apart.{StaysApart};
     ghost use Rattle.iox_lanes_machine.specs.Made.{start};
+    ghost use Rattle.iox_lanes_machine.specs.Arrivals.{OrderArrives};
+    ghost use Rattle.iox_lanes_machine.specs.Calls.{CallsKeepTime};
+    ghost use Rattle.iox_lanes_machine.specs.Reads.{ReadsLie};
     ghost use Rattle.iox_lanes_machine.specs.Receipts.{ReceiptsFollow};
+    ghost use Rattle.iox_lanes_machine.specs.Returns.{ReturnsNear};
+    ghost use Rattle.iox_lanes_machine.specs.Sends.{SendsFollow};
+    ghost use Rattle.iox_lanes_machine.specs.Slots.{LoansApart, SlotsStay};
+    ghost use Rattle.iox_lanes_machine.specs.Told.{Told};
     ghost use Rattle.iox_lanes_machine.specs.Mailboxes.{OrderFollows, OrdersFollow, PositionsNear, positions_of};
 
     /// Lanes of these sizes, on which nothing was done yet: each publisher has a connection to each subscriber, numbered publisher by publisher. It fails
-    /// only where memory is wanting; no memory has room for buffers of 2^62 messages.
+    /// only where memory is wanting; no memory has room for buffers of 2^61 messages, or for the rings of as many samples given back.
     pub fn new(alloc: Global, sizes: LaneSizes) -> Result<Lanes, AllocError>
         requires { 0 < sizes.buffer }
         ensures { IfOk result (λ made. made ≡ start sizes) }
     {
-        if sizes.buffer >= 1 << 62 {
+        if sizes.buffer >= 1 << 61 {
+            return Err(AllocError);
+        }
+        if sizes.most_borrowed >= 1 << 61 {
             return Err(AllocError);
         }
         let Some(table) = sizes.table() else {
@@ -60,8 +70,14 @@ impl Lanes {
     pub fn step(&mut self, party: Party, step: &Move) -> Stepped
         ensures steps { StepsTo self.old party step.now result self.new }
         ensures apart { StaysApart self.old party step.now result self.new }
+        ensures told { Told self.old party step.now result self.new }
+        ensures slots { SlotsStay self.old party self.new }
         ensures orders { OrdersFollow self.new }
         ensures receipts { ReceiptsFollow self.new }
+        ensures sends { SendsFollow self.new }
+        ensures calls { CallsKeepTime self.new }
+        ensures loans { LoansApart self.new }
+        ensures reads { ReadsLie self.new }
     {
         self.state.step(party, step)
     }
@@ -70,6 +86,11 @@ impl Lanes {
     pub fn run(&mut self, schedule: &[Entry]) -> usize
         ensures runs { RunsTo self.old schedule.now result self.new }
         ensures orders { OrdersFollow self.new }
+        ensures receipts { ReceiptsFollow self.new }
+        ensures sends { SendsFollow self.new }
+        ensures calls { CallsKeepTime self.new }
+        ensures loans { LoansApart self.new }
+        ensures reads { ReadsLie self.new }
     {
         self.follow();
         let mut made = 0;
@@ -87,7 +108,12 @@ impl Lanes {
 
     // What all lanes keep.
     fn follow(&self)
-        ensures { OrdersFollow self.now }
+        ensures orders { OrdersFollow self.now }
+        ensures receipts { ReceiptsFollow self.now }
+        ensures sends { SendsFollow self.now }
+        ensures calls { CallsKeepTime self.now }
+        ensures loans { LoansApart self.now }
+        ensures reads { ReadsLie self.now }
     {
         let _ = &self.state;
     }
@@ -100,36 +126,46 @@ impl Lanes {
     }
 
     /// The puts, takes and looks of a connection, in their order; none of a connection that isn't there. As long as at most 2^63 steps were made, they answer
-    /// as the connection's mailbox does, and their moments never fall.
+    /// as the connection's mailbox does, and their moments never fall; so the slots taken are part of those put, in the order of the puts, and each put is
+    /// taken at most once.
     pub fn order(&self, connection: u64) -> &[Placed]
         ensures value { result.now ≡ get_or self.now.orders connection [] }
         ensures follows { OrderFollows self.now connection result.now }
+        ensures arrives { OrderArrives self.now connection result.now }
     {
         self.state.order(connection)
     }
 
     /// The four positions of a connection. As long as at most 2^63 steps were made, no more messages stand between the two of the messages than may wait, and
-    /// at most one more where the ring drops its oldest.
+    /// at most one more where the ring drops its oldest; and no more samples stand given back and not taken back than the ring of these has cells, which is
+    /// one more than may wait and be borrowed together.
     pub fn position(&self, connection: u64) -> Positions
         requires { connection < length self.now.links }
         ensures value { result ≡ positions_of self.now.table connection }
         ensures near { PositionsNear self.now connection result }
+        ensures back { ReturnsNear self.now result }
     {
         self.state.positions(connection)
     }
 
-    /// The calls that ended, in their order. As long as at most 2^63 steps were made, the receives among them gave just the slots that were taken at each
-    /// connection, in that order, but for the one that a receive has in hand.
+    /// The calls that ended, in their order. As long as at most 2^63 steps were made: each was answered in its own kind, and those of one party don't overlap;
+    /// the receives gave just the slots that were taken at each connection, in that order, but for the one that a receive has in hand; and each send has one
+    /// put at each connection of its publisher, of its slot and inside it, one connection after the other, and counts how many were taken in and how many
+    /// refused. At each connection these puts stand in the order of the sends; what stands behind them is of the send that the publisher is in.
     pub fn finished(&self) -> &[FinishedCall]
         ensures value { result.now ≡ self.now.finished }
         ensures receipts { ReceiptsFollow self.now }
+        ensures sends { SendsFollow self.now }
+        ensures calls { CallsKeepTime self.now }
+        ensures reads { ReadsLie self.now }
     {
         self.state.finished.as_slice()
     }
 
-    /// The words that finished reads loaded, one read after the other: header, user header and payload of each.
+    /// The words that finished reads loaded, one read after the other: header, user header and payload of each. Each read tells where its words begin.
     pub fn words_read(&self) -> &[u64]
-        ensures { result.now ≡ self.now.read }
+        ensures value { result.now ≡ self.now.read }
+        ensures reads { ReadsLie self.now }
     {
         self.state.read.as_slice()
     }

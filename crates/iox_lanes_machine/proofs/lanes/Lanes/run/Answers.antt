@@ -24,6 +24,11 @@ loop-entry-preserved c =
           (run_more c.loop-entry.self c.in-Some.entry.now c.in-Some.tail.now c.step-stepped.result c.step-stepped.new.self n k (c.count-made.result + k) c.step-stepped.ensures.steps (sym c.is_stopped.ensures ∙ c.if-is_stopped.false) (ap (λ (x : ℕ). x + k) c.count-made.ensures) runs))),
       omega (arith, c.loop-entry.invariant.1),
       c.step-stepped.ensures.orders,
+      c.step-stepped.ensures.receipts,
+      c.step-stepped.ensures.sends,
+      c.step-stepped.ensures.calls,
+      c.step-stepped.ensures.loans,
+      c.step-stepped.ensures.reads,
     )
 
 pub returns-clause-runs : goal.returns-clause-runs

@@ -1,9 +1,13 @@
 use Rattle.std.proofs.Common.{◌≡◌, subst, sym}
 use Rattle.iox_lanes_machine.specs.Apart.{StaysApart}
+use Rattle.iox_lanes_machine.specs.Told.{Told}
 use Rattle.iox_lanes_machine.specs.World.{World}
+use Rattle.iox_lanes_machine.specs.Slots.{SlotsStay}
 use Rattle.iox_lanes_machine.specs.State.{world_of}
 use Rattle.iox_lanes_machine.proofs.Apart.{steps_apart}
 use Rattle.iox_lanes_machine.proofs.Mailboxes.{orders_follow}
+use Rattle.iox_lanes_machine.proofs.Slots.{loans_apart, slots_stay}
+use Rattle.iox_lanes_machine.proofs.Told.{steps_told}
 use Rattle.iox_lanes_machine.proofs.Whole.{steps_keep}
 use Rattle.iox_lanes_machine.proofs.lanes.Lanes.step.Goals as goal
 
@@ -23,3 +27,36 @@ pub returns-clause-receipts : goal.returns-clause-receipts
 returns-clause-receipts c =
     let kept = steps_keep (world_of c.self.inside.state) c.args.party c.args.step.now c.step.result (world_of c.step.new.self) c.step.ensures c.self.invariant in
     kept.receipts
+
+pub returns-clause-sends : goal.returns-clause-sends
+returns-clause-sends c =
+    let kept = steps_keep (world_of c.self.inside.state) c.args.party c.args.step.now c.step.result (world_of c.step.new.self) c.step.ensures c.self.invariant in
+    kept.sends
+
+pub returns-clause-calls : goal.returns-clause-calls
+returns-clause-calls c =
+    let kept = steps_keep (world_of c.self.inside.state) c.args.party c.args.step.now c.step.result (world_of c.step.new.self) c.step.ensures c.self.invariant in
+    kept.calls
+
+pub returns-clause-slots : goal.returns-clause-slots
+returns-clause-slots c =
+    let is : c.args.self.now ≡ world_of c.self.inside.state = cc c.self.view_is in
+    subst (λ (m : World). SlotsStay m c.args.party (world_of c.step.new.self)) (sym is)
+    (slots_stay (world_of c.self.inside.state) c.args.party c.args.step.now c.step.result (world_of c.step.new.self) c.self.invariant.loans
+    (steps_apart (world_of c.self.inside.state) c.args.party c.args.step.now c.step.result (world_of c.step.new.self) c.step.ensures c.self.invariant.within))
+
+pub returns-clause-loans : goal.returns-clause-loans
+returns-clause-loans c =
+    let kept = steps_keep (world_of c.self.inside.state) c.args.party c.args.step.now c.step.result (world_of c.step.new.self) c.step.ensures c.self.invariant in
+    loans_apart (world_of c.step.new.self) kept.loans
+
+pub returns-clause-told : goal.returns-clause-told
+returns-clause-told c =
+    let is : c.args.self.now ≡ world_of c.self.inside.state = cc c.self.view_is in
+    subst (λ (m : World). Told m c.args.party c.args.step.now c.step.result (world_of c.step.new.self)) (sym is)
+    (steps_told (world_of c.self.inside.state) c.args.party c.args.step.now c.step.result (world_of c.step.new.self) c.step.ensures)
+
+pub returns-clause-reads : goal.returns-clause-reads
+returns-clause-reads c =
+    let kept = steps_keep (world_of c.self.inside.state) c.args.party c.args.step.now c.step.result (world_of c.step.new.self) c.step.ensures c.self.invariant in
+    kept.reads

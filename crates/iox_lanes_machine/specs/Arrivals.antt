@@ -1,0 +1,26 @@
+-- What is taken at a connection is part of what was put there, in the order of the puts, and each put at most once.
+use Rattle.std.specs.Prelude.{ℕ, ◌≡◌, ◌≤◌, ◌^◌, ◌⊎◌, List, [], ◌∷◌, ◌++◌, map, slice_get, Some}
+use Rattle.iox_queues_steps.specs.Order.{puts}
+use Rattle.iox_queues_steps.specs.declared.order.Placed.{Placed}
+use Rattle.iox_lanes_machine.specs.Kept.{waiting}
+use Rattle.iox_lanes_machine.specs.Receipts.{slots_taken}
+use Rattle.iox_lanes_machine.specs.World.{World}
+use Rattle.iox_lanes_machine.specs.declared.link.Link.{Link}
+
+-- the first list is what is left of the second if some of its values are taken out
+abbrev pub IsPartOf : List ℕ → List ℕ → Type 0
+IsPartOf [] ys = Unit {0}
+IsPartOf (x ∷ xs) [] = ⊥
+IsPartOf (x ∷ xs) (y ∷ ys) = ((x ≡ y) × IsPartOf xs ys) ⊎ IsPartOf (x ∷ xs) ys
+
+-- the slots put at a connection, by its order
+abbrev pub slots_put : List Placed → List ℕ
+slots_put order = map (λ put. put.value) (puts order)
+
+-- the slots taken at a connection, and behind them those that wait there, are part of those that were put there
+abbrev pub SlotsArrive : Link → List Placed → Type 0
+SlotsArrive link order = IsPartOf (slots_taken order ++ waiting link order) (slots_put order)
+
+-- so it is of an order of a connection, as long as at most 2^63 steps were made
+abbrev pub OrderArrives : World → ℕ → List Placed → Type 0
+OrderArrives m connection order = m.moments ≤ 2 ^ 63 → (link : Link) → slice_get m.links connection ≡ Some link → SlotsArrive link order

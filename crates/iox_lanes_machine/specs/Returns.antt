@@ -1,0 +1,96 @@
+-- The ring of samples given back at a connection, and what every step keeps of it.
+use Rattle.std.specs.Prelude.{ℕ, ◌≡◌, ◌+◌, ◌<◌, ◌≤◌, ◌^◌, ◌==◌, if◌then◌else◌, List, take, drop, slice_get, Some}
+use Rattle.std.specs.List.{All}
+use Rattle.iox_queues_steps.specs.Access.{RingWords}
+use Rattle.iox_queues_steps.specs.declared.access.Word.{Word}
+use Rattle.iox_queues_steps.specs.declared.access.Word.TheVariants.{Write, Read, Cell}
+use Rattle.iox_queues_refusing.specs.Refusing.{Shape}
+use Rattle.iox_queues_refusing.specs.declared.push.Push.{Push}
+use Rattle.iox_queues_refusing.specs.declared.push.Push.TheVariants as push
+use Rattle.iox_queues_refusing.specs.declared.pop.Pop.{Pop}
+use Rattle.iox_queues_refusing.specs.declared.pop.Pop.TheVariants as pop
+use Rattle.iox_lanes_words.specs.Numbers.{number_of}
+use Rattle.iox_lanes_words.specs.Table.{TableWords, held_by}
+use Rattle.iox_lanes_words.specs.declared.word.ConnectionRing.TheVariants.{Completion}
+use Rattle.iox_lanes_words.specs.declared.word.SharedWord.{SharedWord}
+use Rattle.iox_lanes_words.specs.declared.word.SharedWord.TheVariants.{Ring}
+use Rattle.iox_lanes_calls.specs.declared.publisher.PublisherCall.{PublisherCall}
+use Rattle.iox_lanes_calls.specs.declared.publisher.PublisherCall.TheVariants as publishing
+use Rattle.iox_lanes_calls.specs.declared.route.Route.{Route}
+use Rattle.iox_lanes_calls.specs.declared.subscriber.SubscriberCall.{SubscriberCall}
+use Rattle.iox_lanes_calls.specs.declared.subscriber.SubscriberCall.TheVariants as subscribing
+use Rattle.iox_lanes_parties.specs.Parties.{PublisherLaneState, SubscriberLaneState}
+use Rattle.iox_lanes_machine.specs.World.{World, publisher_stage, subscriber_stage}
+use Rattle.iox_lanes_machine.specs.declared.link.Link.{Link}
+use Rattle.iox_lanes_machine.specs.declared.link.Positions.{Positions}
+
+-- a word of the ring of samples given back at a connection
+abbrev pub back_word : ℕ → Word → SharedWord
+back_word connection word = Ring connection Completion word
+
+-- the cells of that ring, if there are so many
+abbrev pub back_cells : TableWords → ℕ → ℕ → List ℕ
+back_cells table connection cells = take cells (drop (number_of table.sizes (back_word connection (Cell 0))) table.words)
+
+-- that ring
+abbrev pub back_ring : TableWords → ℕ → ℕ → RingWords
+back_ring table connection cells = record {
+  cells = back_cells table connection cells;
+  write = held_by table (back_word connection Write);
+  read = held_by table (back_word connection Read);
+}
+
+-- the pop of a publisher that takes back at a connection; one that stands elsewhere makes none there
+abbrev pub reclaim_on : ℕ → PublisherCall → Pop
+reclaim_on connection publishing.Idle = pop.Idle
+reclaim_on connection (publishing.LoanReclaims place route p) = if route.connection == connection then p else pop.Idle
+reclaim_on connection publishing.Lending = pop.Idle
+reclaim_on connection (publishing.Writing slot word value) = pop.Idle
+reclaim_on connection (publishing.Written slot) = pop.Idle
+reclaim_on connection (publishing.Heading slot word value) = pop.Idle
+reclaim_on connection (publishing.Remembering slot) = pop.Idle
+reclaim_on connection (publishing.SendReclaims slot place route p) = if route.connection == connection then p else pop.Idle
+reclaim_on connection (publishing.Pushing slot place route push delivery) = pop.Idle
+reclaim_on connection (publishing.Sent slot delivery) = pop.Idle
+reclaim_on connection (publishing.Dropping slot) = pop.Idle
+
+-- the push of a subscriber that gives back at a connection; one that stands elsewhere makes none there
+abbrev pub release_on : ℕ → SubscriberCall → Push
+release_on connection subscribing.Idle = push.Idle
+release_on connection (subscribing.Receiving place route pop waits) = push.Idle
+release_on connection (subscribing.Received given) = push.Idle
+release_on connection (subscribing.Reading slot word extent) = push.Idle
+release_on connection (subscribing.WasRead slot) = push.Idle
+release_on connection (subscribing.Releasing place route p) = if route.connection == connection then p else push.Idle
+release_on connection (subscribing.Released done) = push.Idle
+
+-- the ring holds a list of samples that were given back and not taken back, which its two ends know
+pub record IsReturning (cells : ℕ) (table : TableWords) (moments connection : ℕ) (sends : PublisherCall) (receives : SubscriberCall) : Type 0 where
+  pub list : List ℕ
+  pub shape : Shape cells (back_ring table connection cells) list (release_on connection receives) (reclaim_on connection sends)
+  pub few : (back_ring table connection cells).write ≤ moments
+
+-- so it is at each connection
+abbrev pub AreReturning : World → Type 0
+AreReturning m = (connection : ℕ) (link : Link) → slice_get m.links connection ≡ Some link
+    → IsReturning m.table.sizes.completion_cells m.table m.moments connection (publisher_stage (slice_get m.publishers link.publisher)) (subscriber_stage (slice_get m.subscribers link.subscriber))
+
+-- both ends go round as many cells as the ring has
+abbrev pub GoesRound : ℕ → List Route → Type 0
+GoesRound cells routes = All (λ route. route.completion_cells ≡ cells) routes
+
+-- what every step keeps of the samples given back
+pub record ReturnsKept (m : World) : Type 0 where
+  pub some : 0 < m.table.sizes.completion_cells
+  pub publishers : (place : ℕ) (lane : PublisherLaneState) → slice_get m.publishers place ≡ Some lane → GoesRound m.table.sizes.completion_cells lane.port.routes
+  pub subscribers : (place : ℕ) (lane : SubscriberLaneState) → slice_get m.subscribers place ≡ Some lane → GoesRound m.table.sizes.completion_cells lane.port.routes
+  pub rings : m.moments ≤ 2 ^ 63 → AreReturning m
+
+-- no more samples stand given back and not taken back than there are cells
+pub record BackNear (cells : ℕ) (positions : Positions) : Type 0 where
+  pub behind : positions.completion_read ≤ positions.completion_write
+  pub near : positions.completion_write ≤ positions.completion_read + cells
+
+-- so it is at a connection
+abbrev pub ReturnsNear : World → Positions → Type 0
+ReturnsNear m positions = m.moments ≤ 2 ^ 63 → BackNear m.table.sizes.completion_cells positions

@@ -1,0 +1,56 @@
+-- Words of slots are stored only while the slot is a loan of the publisher that stores them, and no slot is a loan of two publishers.
+use Rattle.std.specs.Prelude.{ℕ, ◌≡◌, ◌+◌, ◌<◌, ◌≤◌, true, length, slice_get, Some}
+use Rattle.iox_lanes_words.specs.Numbers.{IsWord}
+use Rattle.iox_lanes_words.specs.Table.{held_by}
+use Rattle.iox_lanes_words.specs.declared.word.SlotWord.{SlotWord}
+use Rattle.iox_lanes_words.specs.declared.word.SharedWord.TheVariants.{Slot}
+use Rattle.iox_lanes_calls.specs.declared.publisher.PublisherCall.{PublisherCall}
+use Rattle.iox_lanes_calls.specs.declared.publisher.PublisherCall.TheVariants as publishing
+use Rattle.iox_lanes_publisher.specs.Keeping.{BookState, loan_of}
+use Rattle.iox_lanes_parties.specs.Parties.{PublisherLaneState, is_out}
+use Rattle.iox_lanes_parties.specs.declared.call.Party.{Party}
+use Rattle.iox_lanes_parties.specs.declared.call.Party.TheVariants.{Publisher, Subscriber}
+use Rattle.iox_lanes_machine.specs.World.{World}
+
+-- a slot is a loan of a publisher
+pub record IsLoanAt (m : World) (place slot : ℕ) : Type 0 where
+  pub lane : PublisherLaneState
+  pub found : slice_get m.publishers place ≡ Some lane
+  pub out : is_out (loan_of slot lane.port.book) ≡ true
+
+-- a slot is a loan of a party, which only a publisher has
+abbrev pub IsLoanOf : World → Party → ℕ → Type 0
+IsLoanOf m (Publisher place) slot = IsLoanAt m place slot
+IsLoanOf m (Subscriber place) slot = ⊥
+
+-- a step changes no word of a slot that is no loan of its party
+abbrev pub SlotsStay : World → Party → World → Type 0
+SlotsStay m party n = (slot : ℕ) (word : SlotWord) → IsWord m.table.sizes (Slot slot word) → (IsLoanOf m party slot → ⊥) → held_by n.table (Slot slot word) ≡ held_by m.table (Slot slot word)
+
+-- no slot is a loan of two publishers
+abbrev pub LoansApart : World → Type 0
+LoansApart m = (one other slot : ℕ) → IsLoanAt m one slot → IsLoanAt m other slot → one ≡ other
+
+-- a call that stores words of a slot, marks it, gives it to the history or drops it stands at a loan
+abbrev pub StandsAtLoan : BookState → PublisherCall → Type 0
+StandsAtLoan book publishing.Idle = Unit {0}
+StandsAtLoan book (publishing.LoanReclaims place route pop) = Unit {0}
+StandsAtLoan book publishing.Lending = Unit {0}
+StandsAtLoan book (publishing.Writing slot word value) = is_out (loan_of slot book) ≡ true
+StandsAtLoan book (publishing.Written slot) = is_out (loan_of slot book) ≡ true
+StandsAtLoan book (publishing.Heading slot word value) = is_out (loan_of slot book) ≡ true
+StandsAtLoan book (publishing.Remembering slot) = is_out (loan_of slot book) ≡ true
+StandsAtLoan book (publishing.SendReclaims slot place route pop) = Unit {0}
+StandsAtLoan book (publishing.Pushing slot place route push delivery) = Unit {0}
+StandsAtLoan book (publishing.Sent slot delivery) = Unit {0}
+StandsAtLoan book (publishing.Dropping slot) = is_out (loan_of slot book) ≡ true
+
+-- the slots of a publisher lie before those of the publishers behind it
+abbrev pub SlotsInRows : World → Type 0
+SlotsInRows m = (one other : ℕ) (lane behind : PublisherLaneState) → slice_get m.publishers one ≡ Some lane → slice_get m.publishers other ≡ Some behind → one < other
+    → lane.port.book.first + length lane.port.book.loans ≤ behind.port.book.first
+
+-- each publisher stands at a loan of its own slots
+pub record LoansStand (m : World) : Type 0 where
+  pub stages : (place : ℕ) (lane : PublisherLaneState) → slice_get m.publishers place ≡ Some lane → StandsAtLoan lane.port.book lane.port.call
+  pub rows : SlotsInRows m
