@@ -4,12 +4,11 @@
 //! found for a reply; after a fault one line on standard error says which. Arguments are ignored.
 #![tactic(auto)]
 
-use iox_hub::HubConfig;
-use iox_script::{Input, Output, serve, status};
+use iox_script::{HubConfig, Input, Output, serve, status};
 use std::process::ExitCode;
 
 /// How many connections of publishers that left a subscriber keeps.
-const EXPIRED_CONNECTION_BUFFER: u64 = 128;
+const EXPIRED_CONNECTION_BUFFER: u32 = 128;
 
 fn main(rt: HostRuntime) -> ExitCode {
     let config = HubConfig {

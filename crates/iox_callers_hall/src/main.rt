@@ -1,33 +1,32 @@
-//! A first call of each crate of the hall and the street, as a function whose contract follows from the contracts of that
-//! crate alone; each is run, and what it returns is printed.
+//! A first call of the crate of lines, as functions whose contracts follow from the contracts of that crate alone; each is
+//! run, and what it returns is printed.
 #![tactic(auto)]
 
-ghost use Rattle.std.specs.Prelude.{◌≡◌, ◌++◌, codes, IfSome, IfNone, IfOk};
-ghost use Rattle.iox_hub.specs.Machine.{Step};
-ghost use Rattle.iox_script.specs.ReplyText.{reply_text};
+ghost use Rattle.std.specs.Prelude.{◌≡◌, ℕ, IfOk, true};
+ghost use Rattle.iox_command.specs.declared.command.Command.{Command};
+ghost use Rattle.iox_line.specs.ReplyText.{reply_text};
+ghost use Rattle.iox_line.specs.Spelling.{Spells};
 
-use iox_hub::{Command, Hub, HubConfig, Reply};
-use iox_script::{print_reply, read_command};
+use iox_command::Reply;
+use iox_line::{Scratch, print_reply, read_command};
 use std::alloc::{AllocError, Global};
 use std::{io, str};
 
-const CONFIG: HubConfig = HubConfig {
-    expired_connection_buffer: 128,
-    id: 0,
-};
-
-/// `iox_hub`: carries out a command; None, and nothing has changed, once the hub has counted to 2^64.
-fn asked(hub: &mut Hub<u64, u64>, alloc: Global, command: &Command<u64>) -> Option<Reply<u64>>
-    ensures step { IfSome result (λ reply. Step hub.old command.now reply hub.new) }
-    ensures full { IfNone result (hub.new ≡ hub.old) }
+/// `iox_line`: whether a line is taken for a command, which it then spells.
+fn is_command(
+    alloc: Global,
+    line: &[u8],
+    scratch: &mut Scratch,
+) -> Result<bool, AllocError>
+    ensures { IfOk result (λ is. is ≡ true → (command : Command ℕ) × Spells line.now command) }
 {
-    if !hub.has_room(1) {
-        return None;
+    match read_command(alloc, line, scratch)? {
+        Ok(_) => Ok(true),
+        Err(_) => Ok(false),
     }
-    Some(hub.step(alloc, command))
 }
 
-/// `iox_script`: the line of a reply.
+/// `iox_line`: the line of a reply.
 fn line_of(alloc: Global, reply: &Reply<u64>) -> Result<Vec<u8>, AllocError>
     ensures { IfOk result (λ line. line.items ≡ reply_text reply.now) }
 {
@@ -37,15 +36,14 @@ fn line_of(alloc: Global, reply: &Reply<u64>) -> Result<Vec<u8>, AllocError>
 }
 
 fn main(rt: HostRuntime) -> io::Result<()> {
-    let mut hub = Hub::new(rt.alloc(), CONFIG);
-    if let Some(command) = read_command(b"node") {
-        if let Some(reply) = asked(&mut hub, rt.alloc(), &command) {
-            println!(rt; "iox_hub: {reply:?}")?;
-            let line = line_of(rt.alloc(), &reply)?;
-            if let Ok(text) = str::from_utf8(line.as_slice()) {
-                println!(rt; "iox_script: {text}")?;
-            }
-        }
+    let mut scratch = Scratch::new(rt.alloc())?;
+    for line in ["loan p1 3", "loan p1"] {
+        let is = is_command(rt.alloc(), line.as_bytes(), &mut scratch)?;
+        println!(rt; "iox_line: `{line}` is a command: {is}")?;
+    }
+    let line = line_of(rt.alloc(), &Reply::NodeMade(1))?;
+    if let Ok(text) = str::from_utf8(line.as_slice()) {
+        println!(rt; "iox_line: {text}")?;
     }
     Ok(())
 }

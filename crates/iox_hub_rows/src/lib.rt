@@ -6,7 +6,6 @@
 //! - `domains`: domains that are made, taken and put back.
 //! - `lives`: a name is used again.
 //! - `foreign`: nodes of others act between the calls, and between the accesses of one.
-//! - `patterns`: services of events and of requests.
 #![tactic(auto)]
 
 #[cfg(test)]
@@ -19,7 +18,5 @@ mod domains;
 mod foreign;
 #[cfg(test)]
 mod lives;
-#[cfg(test)]
-mod patterns;
 #[cfg(test)]
 mod shared;

@@ -1,27 +1,56 @@
 -- What a script is answered, line by line.
-use Rattle.std.specs.Prelude.{◌≡◌, ℕ, Bool, true, false, List, Option, None, Some, codes, length, nat_lt}
-use Rattle.iox_hub.specs.Machine.{HubState, Step, at_start}
-use Rattle.iox_hub.specs.declared.hub.HubConfig.{HubConfig}
-use Rattle.iox_hub.specs.declared.command.Command.{Command}
-use Rattle.iox_hub.specs.declared.command.Reply.{Reply}
-use Rattle.iox_script.specs.CommandText.{command_of}
-use Rattle.iox_script.specs.ReplyText.{reply_text}
+use Rattle.std.specs.Prelude.{◌≡◌, ◌++◌, ℕ, List, [], Option, Result, Ok, Err, codes}
+use Rattle.std.specs.declared.alloc.AllocError.{AllocError}
+use Rattle.iox_command.specs.declared.command.Command.{Command}
+use Rattle.iox_command.specs.declared.reply.Reply.{Reply}
+use Rattle.iox_conversation.specs.Conversation.{BreaksOff}
+use Rattle.iox_conversation.specs.declared.error.ServeError.{ServeError}
+use Rattle.iox_describe_base.specs.Detail.{Detail, detail}
+use Rattle.iox_describe_base.specs.declared.type_detail.TypeVariant.TheVariants.{FixedSize}
+use Rattle.iox_domain_values.specs.Actions.{decision_of}
+use Rattle.iox_hub_base.specs.declared.hub.HubConfig.{HubConfig}
+use Rattle.iox_hub_commands.specs.declared.handlers.FixedDegradation.{FixedDegradation}
+use Rattle.iox_hub_commands.specs.declared.handlers.FixedHandlers.{FixedHandlers}
+use Rattle.iox_hub_requests.specs.Asked.{types_of}
+use Rattle.iox_hub_run.specs.Numbers.{IsNew, numbers_used}
+use Rattle.iox_hub_run.specs.Steps.{Step}
+use Rattle.iox_hub_run.specs.declared.numbered_hub.NumberedHub.{NumberedHub}
+use Rattle.iox_line.specs.LineFault.{fault_text}
+use Rattle.iox_line.specs.Outcome.{Answers}
+use Rattle.iox_line.specs.ReplyText.{reply_text}
+use Rattle.iox_line.specs.declared.error.LineError.{LineError}
 use Rattle.iox_script.specs.declared.script.Script.{Script}
 
--- a command is answered by a step of the machine; a line that spells none is faulty and changes nothing
-abbrev pub AnswersCommand : HubState ℕ ℕ → Option (Command ℕ) → List ℕ → HubState ℕ ℕ → Type 0
-AnswersCommand old None text new = (text ≡ codes "err faulty line") × (new ≡ old)
-AnswersCommand old (Some command) text new = (reply : Reply ℕ) × Step old command reply new × (text ≡ reply_text reply)
+-- a hub whose messages are slices of 64-bit numbers with one more as user header, and whose ports are decided for by fixed actions
+abbrev pub ScriptHub : Type 0
+ScriptHub = NumberedHub ℕ ℕ FixedHandlers FixedDegradation
 
--- a line of more than 1,024 bytes is too long and changes nothing
-abbrev pub AnswersIf : HubState ℕ ℕ → Bool → List ℕ → List ℕ → HubState ℕ ℕ → Type 0
-AnswersIf old true line text new = (text ≡ codes "err line too long") × (new ≡ old)
-AnswersIf old false line text new = AnswersCommand old (command_of line) text new
+-- what a command does to it: a default value is 0, and so is a default user header
+abbrev pub ScriptStep : Command ℕ → ScriptHub → Result (Reply ℕ) AllocError → ScriptHub → Type 0
+ScriptStep =
+    Step (detail FixedSize (codes "u64") 8 8) (detail FixedSize (codes "u64") 8 8) (types_of (codes "u64") 8 8 (codes "u64") 8 8)
+    (λ value. value ≡ 0) (λ header. header ≡ 0)
+    (λ strategy backpressure degradation. record { strategy = strategy; backpressure = backpressure; degradation = degradation })
+    (λ handlers cause info action. action ≡ handlers.degradation)
+    (λ handlers info decision. decision ≡ decision_of handlers.strategy handlers.backpressure)
+    (λ degradation. record { action = degradation })
+    (λ handler cause info action. action ≡ handler.action)
+
+-- a command is answered by the reply to it; a line that is none changes nothing, and is answered why
+abbrev pub AnswersRead : Result (Command ℕ) LineError → ScriptHub → List ℕ → ScriptHub → Type 0
+AnswersRead (Ok command) old text new = (reply : Reply ℕ) × ScriptStep command old (Ok reply) new × (text ≡ reply_text reply)
+AnswersRead (Err fault) old text new = (text ≡ codes "err " ++ fault_text fault) × (new ≡ old)
 
 -- a line is answered by the hub that a script drives
 abbrev pub AnswersLine : Script → List ℕ → List ℕ → Script → Type 0
-AnswersLine old line text new = AnswersIf old.hub (nat_lt 1024 (length line)) line text new.hub
+AnswersLine old line text new = (read : Result (Command ℕ) LineError) × Answers line (Ok read) × AnswersRead read old.hub text new.hub
 
--- a new hub, which a script is to drive
-abbrev pub new_script : HubConfig → Script
-new_script config = record { hub = at_start config 0 }
+-- a script drives a new hub
+abbrev pub IsNewScript : HubConfig → Script → Type 0
+IsNewScript config script = IsNew config script.hub
+
+-- a conversation on a new hub broke off
+abbrev pub BreaksOffAnew : HubConfig → ServeError → Option (List ℕ) → Option (List ℕ) → Option (List ℕ) → Option (List ℕ) → Type 0
+BreaksOffAnew config error left leaves held holds =
+    (script : Script) × IsNewScript config script
+    × BreaksOff AnswersLine (λ script. numbers_used script.hub) error (record { machine = script; line = [] }) left leaves held holds

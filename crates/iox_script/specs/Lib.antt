@@ -1,5 +1,2 @@
--- The definitions that contracts about script lines cite.
-pub mod Words
-pub mod CommandText
-pub mod ReplyText
+-- The definitions that contracts about scripts cite.
 pub mod Conversation

@@ -1,33 +1,35 @@
 //! A hub that a script drives, one line at a time.
-ghost use Rattle.std.specs.Prelude.{◌≡◌, ◌⊎◌, ◌+◌, ◌<◌, ◌^◌, ℕ, List, true, OnOk, IfErr, IfSome, Err, [], codes};
+ghost use Rattle.std.specs.Prelude.{◌≡◌, ◌⊎◌, ◌+◌, ◌<◌, ◌^◌, ℕ, List, true, OnOk, IfErr, IfSome, Err, ◌++◌, codes};
 ghost use Rattle.std.specs.Io.KnownBytes.{Appends};
-ghost use Rattle.iox_conversation.specs.Conversation.{BreaksOff, IsConversation};
+ghost use Rattle.iox_conversation.specs.Conversation.{IsConversation};
 ghost use Rattle.iox_conversation.specs.declared.error.ServeError.TheVariants as failed;
-ghost use Rattle.iox_hub.specs.Machine.{total};
-ghost use Rattle.iox_script.specs.Conversation.{AnswersLine, new_script};
+ghost use Rattle.iox_hub_run.specs.Numbers.{numbers_used};
+ghost use Rattle.iox_line.specs.LineFault.{fault_text};
+ghost use Rattle.iox_script.specs.Conversation.{AnswersLine, IsNewScript, BreaksOffAnew};
+ghost use Rattle.iox_script.specs.declared.script.Script.{Script};
 
-use crate::print::print_reply;
-use crate::read::read_command;
 use iox_conversation::{AnswersLines, Input, Output, ServeError};
-use iox_hub::{Hub, HubConfig};
+use iox_hub_base::HubConfig;
+use iox_hub_commands::{FixedDegradation, FixedHandlers};
+use iox_hub_run::NumberedHub;
+use iox_line::{LineError, Scratch, print_reply, read_command};
 use std::alloc::{AllocError, Global};
 use std::io::{Read, Write};
 
-/// The most bytes of a line, without its newline.
-const LINE_LIMIT: usize = 1024;
-
-/// A hub that a script drives.
+/// A hub that a script drives: messages are slices of 64-bit numbers, each with a 64-bit number as user header, which is 0.
 ///
 /// This port's own.
 #[derive(Drop)]
 pub struct Script {
-    hub: Hub<u64, u64>,
+    hub: NumberedHub<u64, u64, FixedHandlers, FixedDegradation>,
+    // The values of the line that is read.
+    scratch: Scratch,
 }
 
 impl AnswersLines for Script {
     ghost answers = { AnswersLine };
 
-    ghost used = { λ script. total script.hub };
+    ghost used = { λ script. numbers_used script.hub };
 
     fn answer_line(
         &mut self,
@@ -35,17 +37,22 @@ impl AnswersLines for Script {
         line: &[u8],
         out: &mut Vec<u8>,
     ) -> Result<(), AllocError> {
-        if line.len() > LINE_LIMIT {
-            out.extend_from_slice(b"err line too long")?;
-            return Ok(());
+        match read_command(alloc, line, &mut self.scratch)? {
+            Ok(command) => {
+                let reply = self.hub.step(alloc, command)?;
+                print_reply(&reply, out)
+            }
+            Err(fault) => print_fault(fault, out),
         }
-        let Some(command) = read_command(line) else {
-            out.extend_from_slice(b"err faulty line")?;
-            return Ok(());
-        };
-        let reply = self.hub.step(alloc, &command);
-        print_reply(&reply, out)
     }
+}
+
+// Appends why a line is no command, or changes nothing that was there for want of memory.
+fn print_fault(fault: LineError, out: &mut Vec<u8>) -> Result<(), AllocError>
+    ensures { OnOk result (out.new.items ≡ out.old.items ++ (codes "err " ++ fault_text fault)) }
+{
+    out.extend_from_slice(b"err ")?;
+    out.extend_from_slice(fault.text().as_bytes())
 }
 
 /// Answers each line of the input by one line of output, on a new hub, until a read gives no bytes.
@@ -65,16 +72,17 @@ pub fn serve<R: Read, W: Write>(
     requires { input.old.calls + 2 ^ 20 < 2 ^ 64 }
     // The premise is that the reader tells the bytes that it has left.
     ensures conversation { OnOk result (IfSome (R.remaining input.old.reader) (λ bytes.
-        (text : List ℕ) × Appends (W.contents output.old.writer) (W.contents output.new.writer) text
-        × IsConversation AnswersLine (new_script config) bytes text)) }
-    ensures broken { IfErr result (λ error. BreaksOff AnswersLine (λ script. total script.hub) error (record { machine = new_script config; line = [] })
-        (R.remaining input.old.reader) (R.remaining input.new.reader) (W.contents output.old.writer) (W.contents output.new.writer)) }
+        (text : List ℕ) × (script : Script) × IsNewScript config script × Appends (W.contents output.old.writer) (W.contents output.new.writer) text
+        × IsConversation AnswersLine script bytes text)) }
+    ensures broken { IfErr result (λ error. BreaksOffAnew config error (R.remaining input.old.reader) (R.remaining input.new.reader) (W.contents output.old.writer) (W.contents output.new.writer)) }
     ensures ended { OnOk result (input.new.ended ≡ true) }
     ensures read_fault { result ≡ Err failed.ReadFault → (input.new.failed ≡ true) ⊎ (input.new.calls ≡ input.old.calls + 2 ^ 20) }
     ensures write_fault { result ≡ Err failed.WriteFault → output.new.failed ≡ true }
 {
-    let script = Script {
-        hub: Hub::new(alloc, config),
+    let hub = NumberedHub::new(alloc, config);
+    let Ok(scratch) = Scratch::new(alloc) else {
+        return Err(ServeError::OutOfMemory);
     };
+    let script = Script { hub, scratch };
     iox_conversation::serve(alloc, script, input, output)
 }

@@ -1,2 +1,0 @@
-pub mod WordLemmas
-pub mod WordCount

@@ -1,0 +1,14 @@
+use Rattle.std.proofs.Common.{[], refl}
+use Rattle.std.proofs.KnownBytes.{Consumes-nil, Appends-nil}
+use Rattle.iox_conversation.proofs.Advancing.{Advances-none, BreaksOff-answered}
+use Rattle.iox_conversation.specs.declared.error.ServeError.TheVariants.{OutOfMemory}
+use Rattle.iox_hub_run.specs.Numbers.{numbers_used}
+use Rattle.iox_script.specs.Conversation.{AnswersLine}
+use Rattle.iox_script.proofs.script.serve.Goals as goal
+
+pub returns-in_default-clause-broken : goal.returns-in_default-clause-broken
+returns-in_default-clause-broken g c = (
+  record { hub = c.new-hub.result; scratch = [] },
+  c.new-hub.ensures.is_new,
+  BreaksOff-answered AnswersLine (λ script. numbers_used script.hub) OutOfMemory _ _ _ _ _ _ [] [] (Consumes-nil _) (Appends-nil _) (Advances-none _ _ _) refl,
+)
