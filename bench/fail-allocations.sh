@@ -1,12 +1,12 @@
 #!/usr/bin/env bash
-# Runs the program on its stored input once for each request for memory, and has that request refused.
+# Runs the program on the first script once for each request for memory, and has that request refused.
 #
 # Usage: bench/fail-allocations.sh [FIRST [LAST]]
 #
 # For each N it prints the status and the replies, and whether they are one of the answers that may come: those of the
 # whole run, those that follow from one refused call, or none but `out of memory` on standard error and status 2, with
 # the first replies or with none written. It ends at the first N that no request has, and then its own status is 0 only
-# if each run was as it may be. Each run takes `rt try` some seconds, and a minute where the machine is busy.
+# if each run was as it may be. Each run takes `rt try` two minutes: it reads all crates of the program.
 set -u
 here=$(cd "$(dirname "$0")" && pwd)
 cd "$here/../crates/iox" || exit 3
@@ -17,7 +17,8 @@ out=$(mktemp) err=$(mktemp)
 trap 'rm -f "$out" "$err"' EXIT
 
 joined() { tr '\n' '|'; }
-whole=$(joined < stdout)
+script=../../examples/first.iox
+whole=$(joined < ../../examples/rows/a-full-mailbox-drops-its-oldest.replies)
 
 # What the machine answers where one call finds no memory: later lines that name what it would have made are skipped.
 made='ok n1|ok n2|'
@@ -29,7 +30,7 @@ no_publisher="${made}ok f1|ok f2|ok s1|err PublisherCreateError::UnableToCreateD
 
 wrong=0
 for ((n = first; n <= last; n++)); do
-    timeout "$seconds" rt try --fail-alloc "$n" < stdin > "$out" 2> "$err"
+    timeout "$seconds" rt try --fail-alloc "$n" < "$script" > "$out" 2> "$err"
     status=$?
     replies=$(joined < "$out")
     said=$(grep -c '^out of memory$' "$err")

@@ -13,11 +13,7 @@ use std::alloc::{AllocError, Global};
 use std::{io, str};
 
 /// `iox_line`: whether a line is taken for a command, which it then spells.
-fn is_command(
-    alloc: Global,
-    line: &[u8],
-    scratch: &mut Scratch,
-) -> Result<bool, AllocError>
+fn is_command(alloc: Global, line: &[u8], scratch: &mut Scratch) -> Result<bool, AllocError>
     ensures { IfOk result (λ is. is ≡ true → (command : Command ℕ) × Spells line.now command) }
 {
     match read_command(alloc, line, scratch)? {
