@@ -3,8 +3,7 @@ use iox_describe::{
     AttributeSpecifier, Description, Header, LimitError, MessageTypeDetails, MessagingPattern,
     ServiceHash, ServiceName, Settings, TypeVariant, publish_subscribe, service_hash,
 };
-use iox_negotiate_table::{ForeignStep, StepList, Stepped, Table};
-use std::alloc::Global;
+use iox_negotiate_table::{ForeignStep, Table};
 use std::test::Fail;
 
 /// What a foreign node does to the publish-subscribe service `A`.
@@ -58,20 +57,4 @@ pub(crate) fn act(table: &mut Table, steps: &[Step]) -> Result<(), Fail> {
         table.act(&hash, &foreign_step(*step)?)?;
     }
     Ok(())
-}
-
-/// The table, with these steps to do right before its second access.
-pub(crate) fn before_the_second(
-    alloc: Global,
-    table: Table,
-    steps: &[Step],
-) -> Result<Stepped, Fail> {
-    let mut second = Vec::new(alloc);
-    for step in steps {
-        second.push(foreign_step(*step)?)?;
-    }
-    let mut lists = Vec::new(alloc);
-    lists.push(StepList::new(Vec::new(alloc)))?;
-    lists.push(StepList::new(second))?;
-    Ok(Stepped::new(table, lists))
 }

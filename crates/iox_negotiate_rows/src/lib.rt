@@ -4,17 +4,13 @@
 //! It has no items of its own, only tests: `rounds` counts the rounds that lead to nothing, `lines` holds the lines
 //! that builders publish against rows from outside, `closing` the three refusals of `close`, `refusals` those of each other
 //! access, `texts` what errors display as.
-//! Over the table, `clauses` has the openers that each clause refuses, `conversations` what nodes answer each other, `lives` each pattern from creation to end and again,
+//! Over the table, `lives` has each pattern from creation to end and again,
 //! `phases` each foreign step where it fits and where it doesn't, `undoing` creations of which an access fails.
-//! `shared` and `foreign` are what they share.
+//! `shared` and `foreign` are what they share. What nodes answer each other, and which clause refuses which opener, scripts say: `crates/iox/stdin`.
 #![tactic(auto)]
 
 #[cfg(test)]
-mod clauses;
-#[cfg(test)]
 mod closing;
-#[cfg(test)]
-mod conversations;
 #[cfg(test)]
 mod foreign;
 #[cfg(test)]
