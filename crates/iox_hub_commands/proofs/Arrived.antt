@@ -1,5 +1,5 @@
 -- A sample that came is held, and read under its number.
-use Rattle.std.proofs.Common.{◌≡◌, ◌∙◌, ℕ, List, Option, None, Some, IsSome, IfOk, Result, Ok, Err, option_map, refl, sym, ap}
+use Rattle.std.proofs.Common.{◌≡◌, ◌∙◌, ℕ, List, Option, None, Some, IsSome, Result, Ok, Err, option_map, refl, sym, ap}
 use Rattle.std.specs.declared.alloc.AllocError.{AllocError}
 use Rattle.iox_command.specs.declared.reply.Reply.{Reply}
 use Rattle.iox_delivery.specs.Holding.{message_found}
@@ -22,7 +22,7 @@ use Rattle.iox_hub_ports.specs.Reading.{values_under}
 use Rattle.iox_hub_ports.specs.Tables.{IsFull}
 use Rattle.iox_hub_ports.specs.declared.made.Made.{Made}
 use Rattle.iox_hub_ports.specs.declared.made.MadeSample.{MadeSample}
-use Rattle.iox_hub_commands.specs.Receiving.{IsArrival, IsTold}
+use Rattle.iox_hub_commands.specs.Receiving.{IsShown, IsTold}
 use Rattle.iox_numbered.proofs.Telling.{found_and_gone}
 use Rattle.iox_numbered.specs.NumberTable.{Rises, value_at}
 
@@ -76,6 +76,6 @@ module _ {T U H : Type 0} (ports_of : DomainId → H → Option (ServicePorts T 
     next_of (Some port) (Some (Ok (Some taken))) roomier after numbers = cc (numbers.0)
 
 -- what is replied of a sample that came
-pub came_is_told : {T : Type 0} (read : ℕ → Option (List T)) (sample number : ℕ) (answer : Result (Reply T) AllocError) → sample ≡ number → IfOk answer (λ reply. IsArrival number (read number) reply) → IsTold read (Ok (Some (Ok (Some sample)))) answer
+pub came_is_told : {T : Type 0} (read : ℕ → Option (List T)) (sample number : ℕ) (answer : Result (Reply T) AllocError) → sample ≡ number → IsShown number (read number) answer → IsTold read (Ok (Some (Ok (Some sample)))) answer
 came_is_told read sample number (Ok reply) same arrives = rw same arrives
-came_is_told read sample number (Err lacking) same arrives = tt
+came_is_told read sample number (Err lacking) same arrives = rw same arrives

@@ -1,8 +1,9 @@
 -- What the commands on loans, sends and samples do: to the tables of what goes by numbers, and to the home of the ports. `ports_of` finds
 -- the ports of a domain in a home, `with_ports` puts others there.
-use Rattle.std.specs.Prelude.{ℕ, ◌≡◌, Bool, List, is_some, Option, None, Some, Result, if◌then◌else◌}
+use Rattle.std.specs.Prelude.{ℕ, ◌≡◌, ◌<◌, Bool, List, length, is_some, Option, None, Some, Result, Ok, Err, if◌then◌else◌}
 use Rattle.std.specs.Vec.{vec_items}
 use Rattle.std.specs.Global.{Vec}
+use Rattle.std.specs.declared.alloc.AllocError.{AllocError}
 use Rattle.iox_command.specs.declared.reply.Reply.{Reply}
 use Rattle.iox_command.specs.declared.reply.Reply.TheVariants as reply
 use Rattle.iox_domain_home.specs.declared.domain_id.DomainId.{DomainId}
@@ -67,10 +68,15 @@ abbrev pub IsReadReply : {T : Type 0} → Option (List T) → Reply T → Type 0
 IsReadReply None answer = answer ≡ reply.Skipped
 IsReadReply {T} (Some found) answer = (values : Vec T) × (vec_items values ≡ found) × (answer ≡ reply.Values values)
 
--- A sample is read.
-abbrev pub ReadStep : {T U H : Type 0} → (DomainId → H → Option (ServicePorts T U)) → ℕ → Made → H → Reply T → Type 0
-ReadStep ports_of sample made old answer =
-    IsReadReply (values_under ports_of (value_at made.samples sample) old) answer
+-- a message with some values
+abbrev pub SomeValues : {T : Type 0} → Option (List T) → Type 0
+SomeValues None = ⊥
+SomeValues (Some values) = 0 < length values
+
+-- A sample is read; it isn't replied to only where it has values, and no memory is found for them.
+abbrev pub ReadStep : {T U H : Type 0} → (DomainId → H → Option (ServicePorts T U)) → ℕ → Made → H → Result (Reply T) AllocError → Type 0
+ReadStep ports_of sample made old (Ok answer) = IsReadReply (values_under ports_of (value_at made.samples sample) old) answer
+ReadStep ports_of sample made old (Err lacking) = SomeValues (values_under ports_of (value_at made.samples sample) old)
 
 -- A sample is released.
 abbrev pub ReleaseStep : {T U H : Type 0} → (DomainId → H → Option (ServicePorts T U)) → (DomainId → ServicePorts T U → H → H) → ℕ → Made → H → Reply T → Made → H → Type 0

@@ -17,6 +17,7 @@ use Rattle.iox_hub_ports.specs.Reading.{values_under}
 use Rattle.iox_hub_ports.specs.Tables.{IsFull}
 use Rattle.iox_hub_ports.specs.declared.made.Made.{Made}
 use Rattle.iox_numbered.specs.NumberTable.{value_at}
+use Rattle.iox_hub_commands.specs.Messages.{SomeValues}
 
 module _ {T : Type 0} where
   -- the reply of a sample that came: its number, and the values that are read under it
@@ -31,18 +32,23 @@ module _ {T : Type 0} where
   IsReceiveReply read (Some (Ok None)) answer = answer ≡ reply.NothingWaits
   IsReceiveReply read (Some (Ok (Some sample))) answer = IsArrival sample (read sample) answer
 
--- A sample came.
-abbrev pub HasCome : Option (Result (Option ℕ) ReceiveError) → Type 0
-HasCome None = ⊥
-HasCome (Some (Err error)) = ⊥
-HasCome (Some (Ok None)) = ⊥
-HasCome (Some (Ok (Some sample))) = Unit {0}
+-- what is replied of a sample that came: nothing where it has values, and no memory was found for them
+abbrev pub IsShown : {T : Type 0} → ℕ → Option (List T) → Result (Reply T) AllocError → Type 0
+IsShown sample found (Ok answer) = IsArrival sample found answer
+IsShown sample found (Err lacking) = SomeValues found
+
+-- A sample with some values came.
+abbrev pub HasCome : {T : Type 0} → (ℕ → Option (List T)) → Option (Result (Option ℕ) ReceiveError) → Type 0
+HasCome read None = ⊥
+HasCome read (Some (Err error)) = ⊥
+HasCome read (Some (Ok None)) = ⊥
+HasCome read (Some (Ok (Some sample))) = SomeValues (read sample)
 
 -- what is replied: nothing where no memory was found for one more number, or for the values of a sample that came
 abbrev pub IsTold : {T : Type 0} → (ℕ → Option (List T)) → Result (Option (Result (Option ℕ) ReceiveError)) AllocError → Result (Reply T) AllocError → Type 0
 IsTold read (Err lacking) answer = answer ≡ Err lacking
 IsTold read (Ok received) (Ok told) = IsReceiveReply read received told
-IsTold read (Ok received) (Err lacking) = HasCome received
+IsTold read (Ok received) (Err lacking) = HasCome read received
 
 -- A subscriber receives, and a sample that came gets the next number.
 abbrev pub ReceiveStep : {T U H : Type 0} → (DomainId → H → Option (ServicePorts T U)) → (DomainId → ServicePorts T U → H → H) → (DomainId → ℕ → H → DegradationInfo → DegradationAction → Type 0) → ℕ → Made → H → Result (Reply T) AllocError → Made → H → Type 0

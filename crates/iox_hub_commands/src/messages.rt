@@ -1,5 +1,5 @@
 //! The commands on loans, sends and samples, over the tables of what goes by numbers and any home of ports.
-ghost use Rattle.std.specs.Prelude.{◌≡◌, IfOk};
+ghost use Rattle.std.specs.Prelude.{◌≡◌, ◌<◌, length, IfOk, OnErr};
 ghost use Rattle.iox_hub_commands.specs.Messages.{SetStep, FillStep, DropStep, SendStep, RetryStep, GiveUpStep, ReadStep, ReleaseStep};
 
 use crate::replies::{done_reply, given_up_reply, sent_reply};
@@ -83,14 +83,14 @@ pub fn release<T: Copy, U: Copy, H: Home<T, U>>(
     done_reply(made.release(home, sample))
 }
 
-// Refused only where no memory is found for the values; then nothing has changed.
+// Fails only where the sample has values and no memory is found for them; then nothing has changed.
 pub fn read<T: Copy, U: Copy, H: Home<T, U>>(
     alloc: Global,
     made: &Made,
     home: &H,
     sample: u64,
 ) -> Result<Reply<T>, AllocError>
-    ensures { IfOk result (λ reply. ReadStep H.ports_of sample made.now home.now reply) }
+    ensures { ReadStep H.ports_of sample made.now home.now result }
 {
     match made.read(home, sample) {
         Some(values) => Ok(Reply::Values(copied(alloc, values)?)),
@@ -98,9 +98,10 @@ pub fn read<T: Copy, U: Copy, H: Home<T, U>>(
     }
 }
 
-// A list of the same values.
+// A list of the same values; fails only where there are some, and no memory for them.
 pub(crate) fn copied<T: Copy>(alloc: Global, values: &[T]) -> Result<Vec<T>, AllocError>
-    ensures { IfOk result (λ copy. copy.items ≡ values.now) }
+    ensures copy { IfOk result (λ copy. copy.items ≡ values.now) }
+    ensures lacking { OnErr result (0 < length values.now) }
 {
     let mut copy = Vec::new(alloc);
     copy.extend_from_slice(values)?;

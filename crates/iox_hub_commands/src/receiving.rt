@@ -1,6 +1,6 @@
 //! The command that receives, over the tables of what goes by numbers and any home of ports.
-ghost use Rattle.std.specs.Prelude.{◌+◌, ◌<◌, ◌^◌, IsSome, IfOk};
-ghost use Rattle.iox_hub_commands.specs.Receiving.{IsArrival, ReceiveStep};
+ghost use Rattle.std.specs.Prelude.{◌+◌, ◌<◌, ◌^◌, IsSome};
+ghost use Rattle.iox_hub_commands.specs.Receiving.{IsShown, ReceiveStep};
 ghost use Rattle.iox_hub_ports.specs.Reading.{values_under};
 ghost use Rattle.iox_numbered.specs.NumberTable.{value_at};
 
@@ -14,7 +14,7 @@ use std::alloc::{AllocError, Global};
 /// `Made::receive` answers None, and refused as that is.
 ///
 /// Fails where the table of samples is full and no memory is found for one more number, and then nothing has changed; and where no memory
-/// is found for the values of a sample that came, which is held then under its number.
+/// is found for the values of a sample that came, if it has any; it is held then under its number.
 pub fn receive<T: Copy, U: Copy, H: Home<T, U>>(
     alloc: Global,
     made: &mut Made,
@@ -34,7 +34,7 @@ pub fn receive<T: Copy, U: Copy, H: Home<T, U>>(
     }
 }
 
-// The reply of a sample that came: its number, and its values. Fails only where no memory is found for these.
+// The reply of a sample that came: its number, and its values. Fails only where it has some and no memory is found for them.
 fn arrival<T: Copy, U: Copy, H: Home<T, U>>(
     alloc: Global,
     made: &Made,
@@ -42,7 +42,7 @@ fn arrival<T: Copy, U: Copy, H: Home<T, U>>(
     sample: u64,
 ) -> Result<Reply<T>, AllocError>
     requires { IsSome (values_under H.ports_of (value_at made.now.samples sample) home.now) }
-    ensures { IfOk result (λ reply. IsArrival sample (values_under H.ports_of (value_at made.now.samples sample) home.now) reply) }
+    ensures { IsShown sample (values_under H.ports_of (value_at made.now.samples sample) home.now) result }
 {
     let Some(values) = made.read(home, sample) else {
         unreachable!();

@@ -1,5 +1,11 @@
 pub mod Coming
-pub mod FactoryCounts
-pub mod MadeCounts
-pub mod StepCounts
+pub mod GoingOn
+pub mod FactoryChanges
+pub mod MadeChanges
+pub mod StepChanges
+pub mod Loosening
+pub mod Grown
+pub mod PortsMove
+pub mod ServicesMove
+pub mod StepMoves
 pub mod RunLemmas

@@ -3,3 +3,5 @@ pub mod Numbers
 pub mod Services
 pub mod Steps
 pub mod Runs
+pub mod Lives
+pub mod Grown

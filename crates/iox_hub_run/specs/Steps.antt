@@ -1,5 +1,5 @@
 -- The machine: what each command does, and what it is replied.
-use Rattle.std.specs.Prelude.{ℕ, ◌≡◌, Option, Result, Ok, Err, IfOk}
+use Rattle.std.specs.Prelude.{ℕ, ◌≡◌, Option, Result, Ok, Err}
 use Rattle.std.specs.declared.alloc.AllocError.{AllocError}
 use Rattle.iox_command.specs.declared.command.Command.{Command}
 use Rattle.iox_command.specs.declared.command.Command.TheVariants as command
@@ -87,7 +87,7 @@ module _ {T U B D : Type 0} where
   Step payload user_header types is_default is_default_header fixed degrades decides fixed_reader reader_degrades (command.Receive subscriber) old answer new =
       ReceiveStep hub_ports with_hub_ports (subscriber_may_degrade reader_degrades) subscriber old.made old.hub answer new.made new.hub × (new.factories ≡ old.factories)
   Step payload user_header types is_default is_default_header fixed degrades decides fixed_reader reader_degrades (command.Read sample) old answer new =
-      IfOk answer (λ reply. ReadStep hub_ports sample old.made old.hub reply) × (new ≡ old)
+      ReadStep hub_ports sample old.made old.hub answer × (new ≡ old)
   Step payload user_header types is_default is_default_header fixed degrades decides fixed_reader reader_degrades (command.Release sample) old answer new =
       IsReplied (λ reply. ReleaseStep hub_ports with_hub_ports sample old.made old.hub reply new.made new.hub × (new.factories ≡ old.factories)) answer
   Step payload user_header types is_default is_default_header fixed degrades decides fixed_reader reader_degrades (command.Update port) old answer new =

@@ -3,6 +3,8 @@ ghost use Rattle.std.specs.Prelude.{◌+◌, ◌<◌, ◌≤◌, ◌^◌, length
 ghost use Rattle.iox_describe_base.specs.Detail.{detail};
 ghost use Rattle.iox_describe_base.specs.declared.type_detail.TypeVariant.TheVariants.{FixedSize};
 ghost use Rattle.iox_hub_requests.specs.Asked.{types_of};
+ghost use Rattle.iox_hub_run.specs.Grown.{GrowsOn};
+ghost use Rattle.iox_hub_run.specs.Lives.{NumbersGoOn};
 ghost use Rattle.iox_hub_run.specs.Numbers.{numbers_used};
 ghost use Rattle.iox_hub_run.specs.Runs.{IsRun};
 ghost use Rattle.iox_hub_run.specs.Steps.{Step};
@@ -34,8 +36,20 @@ impl<
 > NumberedHub<T, U, B, D> {
     /// Carries out commands, one after another.
     ///
-    /// A run that stopped carried out as many commands as there are replies, or one more.
+    /// It stops before the first of some commands, where no memory is found for the list of replies; or at a command that `step` doesn't
+    /// reply to, and those before it are replied to.
     pub fn run(&mut self, alloc: Global, commands: Vec<Command<T>>) -> RunReport<T>
+        requires { numbers_used self.old + length commands.items < 2 ^ 64 }
+        ensures ran { IsRun (Step (detail FixedSize T.name T.size T.alignment) (detail FixedSize U.name U.size U.alignment) (types_of T.name T.size T.alignment U.name U.size U.alignment) T.is_default U.is_default B.fixed (λ handlers. B.degrades handlers) (λ handlers. B.decides handlers) D.fixed (λ handler. D.degrades handler)) commands.entry.items self.old result.replies.items result.stopped self.new }
+        ensures counts { numbers_used self.new ≤ numbers_used self.old + length commands.entry.items }
+        ensures goes_on { NumbersGoOn self.old self.new }
+        ensures grows { GrowsOn self.old.hub self.new.hub }
+    {
+        self.carry_out_all(alloc, commands)
+    }
+
+    // The same, without what that comes to in other words.
+    fn carry_out_all(&mut self, alloc: Global, commands: Vec<Command<T>>) -> RunReport<T>
         requires { numbers_used self.old + length commands.items < 2 ^ 64 }
         ensures ran { IsRun (Step (detail FixedSize T.name T.size T.alignment) (detail FixedSize U.name U.size U.alignment) (types_of T.name T.size T.alignment U.name U.size U.alignment) T.is_default U.is_default B.fixed (λ handlers. B.degrades handlers) (λ handlers. B.decides handlers) D.fixed (λ handler. D.degrades handler)) commands.entry.items self.old result.replies.items result.stopped self.new }
         ensures counts { numbers_used self.new ≤ numbers_used self.old + length commands.entry.items }

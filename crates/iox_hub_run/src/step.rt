@@ -3,6 +3,8 @@ ghost use Rattle.std.specs.Prelude.{◌+◌, ◌<◌, ◌≤◌, ◌^◌};
 ghost use Rattle.iox_describe_base.specs.Detail.{detail};
 ghost use Rattle.iox_describe_base.specs.declared.type_detail.TypeVariant.TheVariants.{FixedSize};
 ghost use Rattle.iox_hub_requests.specs.Asked.{types_of};
+ghost use Rattle.iox_hub_run.specs.Grown.{GrowsOn, OneDomainMoves};
+ghost use Rattle.iox_hub_run.specs.Lives.{ChangesOneThing};
 ghost use Rattle.iox_hub_run.specs.Numbers.{numbers_used};
 ghost use Rattle.iox_hub_run.specs.Steps.{Step};
 
@@ -34,11 +36,14 @@ impl<
         requires { numbers_used self.old + 1 < 2 ^ 64 }
         ensures steps { Step (detail FixedSize T.name T.size T.alignment) (detail FixedSize U.name U.size U.alignment) (types_of T.name T.size T.alignment U.name U.size U.alignment) T.is_default U.is_default B.fixed (λ handlers. B.degrades handlers) (λ handlers. B.decides handlers) D.fixed (λ handler. D.degrades handler) command.entry self.old result self.new }
         ensures counts { numbers_used self.new ≤ numbers_used self.old + 1 }
+        ensures one { ChangesOneThing self.old self.new }
+        ensures grows { GrowsOn self.old.hub self.new.hub }
+        ensures apart { OneDomainMoves self.old.hub self.new.hub }
     {
         self.carry_out(alloc, command)
     }
 
-    // The same, without what that says of the numbers given out.
+    // The same, without what that comes to in other words.
     fn carry_out(&mut self, alloc: Global, command: Command<T>) -> Result<Reply<T>, AllocError>
         requires { numbers_used self.old + 1 < 2 ^ 64 }
         ensures { Step (detail FixedSize T.name T.size T.alignment) (detail FixedSize U.name U.size U.alignment) (types_of T.name T.size T.alignment U.name U.size U.alignment) T.is_default U.is_default B.fixed (λ handlers. B.degrades handlers) (λ handlers. B.decides handlers) D.fixed (λ handler. D.degrades handler) command.entry self.old result self.new }

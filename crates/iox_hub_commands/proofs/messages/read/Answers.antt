@@ -3,4 +3,4 @@ use Rattle.iox_hub_commands.proofs.messages.read.Goals as goal
 
 pub returns-in_ok-copied-in-Some : goal.returns-in_ok-copied-in-Some
 returns-in_ok-copied-in-Some g c =
-    rw (← c.read.ensures, c.in-Some.is) (c.in_ok-copied-in-Some.field-0, c.in_ok-copied-in-Some.ensures, refl)
+    rw (← c.read.ensures, c.in-Some.is) (c.in_ok-copied-in-Some.field-0, c.in_ok-copied-in-Some.ensures.copy, refl)

@@ -6,7 +6,7 @@ use Rattle.iox_hub_requests.specs.Asked.{types_of}
 use Rattle.iox_hub_run.specs.Numbers.{numbers_used}
 use Rattle.iox_hub_run.specs.Runs.{Runs}
 use Rattle.iox_hub_run.specs.Steps.{Step}
-use Rattle.iox_hub_run.proofs.numbered_hub.NumberedHub.run.Given as goal
+use Rattle.iox_hub_run.proofs.numbered_hub.NumberedHub.carry_out_all.Given as goal
 
 -- what was taken from the list was carried out and replied to
 abbrev pub invariant-loop-command : goal.invariant-loop-command
