@@ -64,7 +64,7 @@ def nearest(below, name):
 
 
 def short(name):
-    return name.removeprefix("iox_")
+    return re.sub("^iox_", "", name)
 
 
 def box(x, y, name, named, is_used):

@@ -7,6 +7,19 @@
 //! | `byte_atomic` | `FixedSizeByteAtomic`: a value's bytes in a cell |
 //! | `maybe_torn` | `MaybeTorn`: bytes that were read one by one, and may be no value's |
 //! | `byte_machine` | `ByteMachine`: the cell one byte step at a time |
+//!
+//! A first call, which `iox_callers_ground` proves and runs:
+//!
+//! ```
+//! /// `iox_byte_cells`: a value that is stored byte by byte, and read back.
+//! fn stored(value: u64) -> Option<u64>
+//!     ensures { result ≡ Some value }
+//! {
+//!     FixedSizeByteAtomic::<u64, 8>::new(value)
+//!         .read()
+//!         .assume_consistent()
+//! }
+//! ```
 #![tactic(auto)]
 
 mod byte_atomic;

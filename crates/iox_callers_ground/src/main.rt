@@ -2,17 +2,22 @@
 //! alone; each is run, and what it returns is printed.
 #![tactic(auto)]
 
-ghost use Rattle.std.specs.Prelude.{◌≡◌, ◌<◌, ◌↔◌, ◌++◌, ◌∷◌, [], Some, None, IfSome, IfNone, length, codes, true, unwrap_or};
+ghost use Rattle.std.specs.Prelude.{◌≡◌, ◌==◌, ◌+◌, ◌<◌, ◌^◌, ◌↔◌, ◌++◌, ◌∷◌, [], Some, None, IfSome, IfNone, length, codes, true, false, unwrap_or, refl};
+ghost use Rattle.std.specs.List.{list_any};
 ghost use Rattle.std.specs.Option.{option_to_list};
 ghost use Rattle.iox_maps.specs.SlotTable.{value_at};
+ghost use Rattle.iox_semantic.specs.Accepted.{IsAccepted};
 
 use iox_byte_cells::FixedSizeByteAtomic;
 use iox_container::FixedSizeQueue;
 use iox_maps::SlotMap;
+use iox_numbered::Numbered;
+use iox_numbered::laws::found_and_gone;
 use iox_queues_base::IndexQueue;
+use iox_semantic::{Rules, Semantic};
 use iox_string::{StaticString, String};
 use std::alloc::{AllocError, Global};
-use std::io;
+use std::io::{self, Print};
 
 /// `iox_string`: a greeting of at most 32 bytes; None where the name is too long, or has a byte that no string has.
 fn greeting(name: &[u8]) -> Option<StaticString<32>>
@@ -37,6 +42,57 @@ fn filed(map: &mut SlotMap<u64>, value: u64) -> Option<u64>
 {
     let key = map.insert(value)?;
     map.get(key).copied()
+}
+
+/// The rules for the name of a file: it isn't empty and has no slash.
+struct FileName;
+
+impl<const CAPACITY: usize> Rules<CAPACITY> for FileName {
+    ghost refuses_content = { λ text. length text == 0 };
+
+    ghost refuses_characters = { λ text. list_any (λ byte. byte == 47) text };
+
+    ghost normal = { λ text. text };
+
+    fn invalid_content(text: &StaticString<CAPACITY>) -> bool {
+        text.as_bytes().len() == 0
+    }
+
+    fn invalid_characters(text: &StaticString<CAPACITY>) -> bool {
+        text.as_bytes().contains(&b'/')
+    }
+
+    fn normalise(text: &StaticString<CAPACITY>) -> StaticString<CAPACITY> {
+        *text
+    }
+
+    ghost normalised_once = { λ text fits bytes. refl };
+}
+
+/// `iox_semantic`: a file's name, with a byte more; None where that is none.
+fn longer(name: &[u8], byte: u8) -> Option<Semantic<FileName, 32>>
+    ensures { IfSome result (λ text. text ≡ name.now ++ byte ∷ []) }
+{
+    let mut text = Semantic::new(name).ok()?;
+    text.push(byte).ok()?;
+    Some(text)
+}
+
+/// How long a file's name is with a byte more.
+fn length_with(name: &[u8], byte: u8) -> Option<usize> {
+    Some(longer(name, byte)?.len())
+}
+
+/// `iox_numbered`: puts a value under the next number, and finds it there.
+fn numbered(table: &mut Numbered<u64>, value: u64) -> Option<u64>
+    requires room { length table.old.entries < table.old.room }
+    requires number { table.old.next + 1 < 2 ^ 64 }
+    ensures { result ≡ Some value }
+{
+    found_and_gone::<u64>();
+    let number = table.next_number();
+    table.insert_next(value);
+    table.get(number).copied()
 }
 
 /// `iox_byte_cells`: a value that is stored byte by byte, and read back.
@@ -65,17 +121,33 @@ fn through_a_queue(alloc: Global, number: u64) -> Result<Option<u64>, AllocError
     Ok(passed(&mut queue, number))
 }
 
-fn main(rt: HostRuntime) -> io::Result<()> {
+/// The value that was found in a new table.
+fn in_a_table(alloc: Global, value: u64) -> Result<Option<u64>, AllocError> {
+    let mut table = Numbered::new(alloc);
+    table.reserve(4)?;
+    Ok(numbered(&mut table, value))
+}
+
+fn print_texts(rt: &impl Print, alloc: Global) -> io::Result<()> {
     if let Some(text) = greeting(b"world") {
         println!(rt; "iox_string: {text}")?;
     }
-    let mut latest = FixedSizeQueue::new(rt.alloc())?;
+    println!(rt; "iox_semantic: {:?}", length_with(b"light", b's'))?;
+    let mut latest = FixedSizeQueue::new(alloc)?;
     keep(&mut latest, 7);
     keep(&mut latest, 1);
-    println!(rt; "iox_container: {latest:?}")?;
-    let mut map = SlotMap::new(rt.alloc(), 4)?;
+    println!(rt; "iox_container: {latest:?}")
+}
+
+fn print_numbers(rt: &impl Print, alloc: Global) -> io::Result<()> {
+    let mut map = SlotMap::new(alloc, 4)?;
     println!(rt; "iox_maps: {:?}", filed(&mut map, 21))?;
+    println!(rt; "iox_numbered: {:?}", in_a_table(alloc, 12)?)?;
     println!(rt; "iox_byte_cells: {:?}", stored(8))?;
-    println!(rt; "iox_queues_base: {:?}", through_a_queue(rt.alloc(), 9)?)?;
-    Ok(())
+    println!(rt; "iox_queues_base: {:?}", through_a_queue(alloc, 9)?)
+}
+
+fn main(rt: HostRuntime) -> io::Result<()> {
+    print_texts(&rt, rt.alloc())?;
+    print_numbers(&rt, rt.alloc())
 }

@@ -11,6 +11,19 @@
 //! | `values` | the values of a message |
 //! | `reply` | the replies |
 //! | `refusal` | why a command was refused |
+//!
+//! A first call, which `iox_callers_hall` proves and runs:
+//!
+//! ```
+//! /// `iox_line`: the line of a reply.
+//! fn line_of(alloc: Global, reply: &Reply<u64>) -> Result<Vec<u8>, AllocError>
+//!     ensures { IfOk result (λ line. line.items ≡ reply_text reply.now) }
+//! {
+//!     let mut line = Vec::new(alloc);
+//!     print_reply(reply, &mut line)?;
+//!     Ok(line)
+//! }
+//! ```
 #![tactic(auto)]
 
 pub mod command;

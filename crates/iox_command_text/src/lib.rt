@@ -7,6 +7,12 @@
 //! | `options` | options of the form `key=value`, in any order |
 //! | `value` | what an option may be set to |
 //! | `visible` | texts of visible bytes |
+//!
+//! A first call. `iox_line` makes them.
+//!
+//! ```
+//! let words = Words::new(line);
+//! ```
 #![tactic(auto)]
 
 pub mod number;

@@ -10,6 +10,17 @@
 //!
 //! Each takes all its memory when it is made. A call that would pass the capacity is refused whole, and a refused call
 //! changes nothing.
+//!
+//! A first call, which `iox_callers_ground` proves and runs:
+//!
+//! ```
+//! /// `iox_container`: keeps a number as the newest of three; the oldest leaves where there are three already.
+//! fn keep(latest: &mut FixedSizeQueue<u64, 3>, number: u64) -> Option<u64>
+//!     ensures { latest.old ++ number ∷ [] ≡ option_to_list result ++ latest.new }
+//! {
+//!     latest.push_with_overflow(number)
+//! }
+//! ```
 #![tactic(auto)]
 
 pub mod callback_progression;

@@ -12,6 +12,35 @@
 //! | `session` | who answers, and the line that isn't whole yet |
 //! | `conversation` | all lines of an input |
 //! | `error` | why a conversation ended, and how a program says so |
+//!
+//! A first call, which `iox_callers_street` proves and runs:
+//!
+//! ```
+//! #[derive(Drop)]
+//! struct Listener;
+//!
+//! impl AnswersLines for Listener {
+//!     ghost answers = { λ old line text new. text ≡ codes "said " ++ line };
+//!
+//!     ghost used = { λ listener. 0 };
+//!
+//!     fn answer_line(
+//!         &mut self,
+//!         _alloc: Global,
+//!         line: &[u8],
+//!         out: &mut Vec<u8>,
+//!     ) -> Result<(), AllocError> {
+//!         out.extend_from_slice(b"said ")?;
+//!         out.extend_from_slice(line)
+//!     }
+//! }
+//!
+//! fn main(rt: HostRuntime) -> ExitCode {
+//!     let mut input = Input::new(rt.stdin());
+//!     let mut output = Output::new(rt.stdout());
+//!     ExitCode::from(status(serve(rt.alloc(), Listener, &mut input, &mut output)))
+//! }
+//! ```
 #![tactic(auto)]
 
 pub mod conversation;

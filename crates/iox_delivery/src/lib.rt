@@ -12,6 +12,19 @@
 //! - [`laws`]: what a loan comes to that was just made.
 //!
 //! No port, loan, sample or waiting send may be let go: it is spent by the call that ends it.
+//!
+//! First calls. Tests in `iox_hub_rows` make them, with a hub as the home.
+//!
+//! ```
+//! let loan = publisher.loan_uninit(alloc, &mut home)?;
+//! let sample = loan.write_payload(&mut home, 7);
+//! let sent = sample.send(alloc, &mut home);
+//! // the subscriber's side
+//! if let Some(sample) = subscriber.receive(alloc, &mut home)? {
+//!     let value = *sample.payload(&home);
+//!     sample.release(&mut home);
+//! }
+//! ```
 #![tactic(auto)]
 
 pub mod laws;

@@ -6,6 +6,13 @@
 //! | `laws` | what builders come to, in other words |
 //! | `publisher` | makes a publisher of single values, or of slices |
 //! | `subscriber` | makes a subscriber of single values, or of slices |
+//!
+//! First calls. Tests in `iox_delivery_rows` make them.
+//!
+//! ```
+//! let builder = publisher_builder(&domain, node_id, owner).max_loaned_samples(6);
+//! let publisher = builder.create(alloc, &mut domain)?;
+//! ```
 #![tactic(auto)]
 
 pub mod builders;

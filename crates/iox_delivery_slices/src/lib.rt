@@ -8,6 +8,13 @@
 //! - [`filling`]: slices that are lent and written at once, by port.
 //!
 //! No port, loan or sample may be let go: it is spent by the call that ends it.
+//!
+//! First calls. Tests in `iox_delivery_rows` make them.
+//!
+//! ```
+//! let loan = publisher.loan_slice_uninit(alloc, &mut home, 4)?;
+//! let sample = loan.write_from_slice(&mut home, &[1, 2, 3, 4]);
+//! ```
 #![tactic(auto)]
 
 pub mod filling;

@@ -8,6 +8,19 @@
 //!
 //! Names, types and attributes stand in `iox_describe_base`, settings and the description in `iox_describe_settings`,
 //! what an opener requires of one in `iox_describe_verdict`; their items are named again here.
+//!
+//! A first call, which `iox_callers_pantry` proves and runs:
+//!
+//! ```
+//! /// `iox_describe`: a description that was written as one line, and read back; None where memory is wanting.
+//! fn read_back(alloc: Global, description: &Description) -> Option<Description>
+//!     requires { IsWithinLimits description.now }
+//!     ensures { IfSome result (λ back. back ≡ description.now) }
+//! {
+//!     let line = encode(alloc, description).ok()?;
+//!     decode(alloc, line.as_slice()).ok()
+//! }
+//! ```
 #![tactic(auto)]
 
 pub mod error;

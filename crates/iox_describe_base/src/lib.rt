@@ -10,6 +10,18 @@
 //! | `few` | a list that takes no memory while it is empty |
 //! | `attribute`, `verifier` | attributes, and what an opener requires of them |
 //! | `laws` | what holds of compatibility |
+//!
+//! A first call, which `iox_callers_pantry` proves and runs:
+//!
+//! ```
+//! /// `iox_describe_base`: under which hash an event service of this name is found; None where no service may have the name.
+//! fn hash_of(name: &[u8]) -> Option<ServiceHash>
+//!     ensures { IfSome result (λ hash. hash ≡ service_hash_of Event name.now) }
+//! {
+//!     let name = ServiceName::new(name).ok()?;
+//!     Some(service_hash(MessagingPattern::Event, &name))
+//! }
+//! ```
 #![tactic(auto)]
 
 pub mod attribute;

@@ -13,6 +13,15 @@
 //! | `subscribing` | a subscriber comes, follows the publishers, receives and leaves |
 //!
 //! Lending, writing, reading and releasing ask nobody: these calls are those of the domain's `ports`.
+//!
+//! First calls. Tests in `iox_delivery_rows` make them.
+//!
+//! ```
+//! if Domain::<u64, ()>::fits(&description) {
+//!     let mut domain = Domain::<u64, ()>::new(alloc, id, &description, 128)?;
+//!     let living = domain.living(owner);
+//! }
+//! ```
 #![tactic(auto)]
 
 pub mod domain;

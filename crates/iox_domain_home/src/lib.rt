@@ -3,6 +3,14 @@
 //! - [`domain_id`]: which domain it is.
 //! - [`home`]: what holds domains, and lends the ports of one by its id.
 //! - [`makes_ports`]: a home in which ports are made.
+//!
+//! First calls. `Domain` of `iox_domain` and `Hub` of `iox_hub_base` are homes.
+//!
+//! ```
+//! if let Some(ports) = home.ports(domain_id) {
+//!     // the ports of that domain
+//! }
+//! ```
 #![tactic(auto)]
 
 pub mod domain_id;

@@ -7,6 +7,12 @@
 //! - [`living`]: how much lives.
 //! - [`numbering`]: each number is given to one port.
 //! - [`service`]: which service ports are of, and how much it allows.
+//!
+//! A proof cites a law by a call of its function, which does nothing; what it states is then among the facts of the caller:
+//!
+//! ```
+//! held_stays::<T, U, O, B>(overriding, handlers);
+//! ```
 #![tactic(auto)]
 
 pub mod living;

@@ -9,6 +9,15 @@
 //! - [`subscribing`]: a subscriber follows the publishers, receives, releases and leaves.
 //! - [`reading`]: what is read of a sample.
 //! - [`living`]: how much lives.
+//!
+//! First calls. `Domain` of `iox_domain` makes them, and tests in `iox_domain_port_rows`.
+//!
+//! ```
+//! if let Some(Ok(slot)) = ports.loan(alloc, number, 1, 1, blank) {
+//!     ports.write_payload(number, slot, value);
+//!     let sent = ports.send(alloc, number, slot, &handlers);
+//! }
+//! ```
 #![tactic(auto)]
 
 pub mod lending;

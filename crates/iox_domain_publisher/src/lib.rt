@@ -15,6 +15,13 @@
 //! - [`laws`]: what its steps come to, in other words.
 //! - [`updating`]: it follows the list of subscribers.
 //! - [`sending`]: it sends.
+//!
+//! First calls. `ServicePorts` of `iox_domain_ports` makes them.
+//!
+//! ```
+//! port.write(slot, place, value);
+//! let sent = port.send(alloc, slot, list.places(), list.changes(), &handlers);
+//! ```
 #![tactic(auto)]
 
 pub mod connecting;

@@ -7,6 +7,14 @@
 //! - [`sender_config`]: how a publisher is made.
 //! - [`laws`]: what the steps of a publisher come to, in other words.
 //! - [`sender`]: all of one publisher together.
+//!
+//! First calls. `PublisherPort` of `iox_domain_publisher` makes them.
+//!
+//! ```
+//! if sender.may_loan() {
+//!     let slot = sender.loan(values, elements);
+//! }
+//! ```
 #![tactic(auto)]
 
 pub mod laws;

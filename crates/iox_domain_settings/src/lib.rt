@@ -9,6 +9,13 @@
 //! | `publisher_settings`, `subscriber_settings` | what a publisher and a subscriber are made with |
 //!
 //! It names the header of a message and the types that can be sent again.
+//!
+//! First calls. `Domain::new` of `iox_domain` makes the first, the builders of `iox_delivery_factories` the second.
+//!
+//! ```
+//! let sizes = sizes_of(&description, 128)?;
+//! let settings = PublisherSettings::default().max_loaned_samples(6);
+//! ```
 #![tactic(auto)]
 
 pub mod custom;

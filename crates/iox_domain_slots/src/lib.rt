@@ -8,6 +8,14 @@
 //! - [`link`]: a connection: its mailbox, what is borrowed of it, what came back.
 //! - [`links`]: the connections of a publisher.
 //! - [`uses`]: all of one publisher together.
+//!
+//! First calls. `Sender` of `iox_domain_sender` makes them.
+//!
+//! ```
+//! if uses.may_loan() {
+//!     let slot = uses.loan();
+//! }
+//! ```
 #![tactic(auto)]
 
 pub mod link;

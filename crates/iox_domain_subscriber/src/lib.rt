@@ -12,6 +12,12 @@
 //! - [`updating`]: it follows all of them.
 //! - [`living`]: how much lives.
 //! - [`laws`]: what its steps come to, in other words.
+//!
+//! A first call. `ServicePorts` of `iox_domain_ports` makes them.
+//!
+//! ```
+//! let taken = port.receive(alloc, list.places(), list.changes(), &handler, &mut publishers)?;
+//! ```
 #![tactic(auto)]
 
 pub mod attached;

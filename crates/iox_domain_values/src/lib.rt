@@ -15,6 +15,14 @@
 //! | `handlers` | who decides for a publisher: its strategy and its handlers |
 //!
 //! Each error displays as its type's name, `::` and the variant, an inner variant in parentheses, at any depth.
+//!
+//! First calls. Tests in `iox_domain_rows` make handlers so; `Handlers` asks one, and decides.
+//!
+//! ```
+//! let handler = BackpressureHandler::new_with(BackpressureAction::DiscardData);
+//! let answer = handler.call(&info);
+//! let decision = backpressure::decision(strategy, Some(answer));
+//! ```
 #![tactic(auto)]
 
 pub mod backpressure;

@@ -12,6 +12,12 @@
 //! | `lock_free` | sets of indices, containers of members, queues and bit sets |
 //!
 //! What isn't there yet has no name here: it comes with its crate.
+//!
+//! A first call. All that it names is of the crates below, whose first calls are on their own pages.
+//!
+//! ```
+//! use iox_facade::prelude::{Hub, ServiceName};
+//! ```
 #![tactic(auto)]
 
 pub mod container;

@@ -12,6 +12,13 @@
 //! | `messages` | loans are written, sent and given up; samples are read and released |
 //! | `receiving` | subscribers receive |
 //! | `following` | ports follow the list of the others, tell whether messages wait, and leave |
+//!
+//! First calls. `NumberedHub` of `iox_hub_run` makes them.
+//!
+//! ```
+//! let reply = lending::put(alloc, &made, &mut home, 1, &[7]);
+//! let reply = messages::release(&mut made, &mut home, 1);
+//! ```
 #![tactic(auto)]
 
 pub mod arriving;

@@ -11,6 +11,14 @@
 //! | `closing` | factories are closed |
 //! | `acting` | nodes of others act |
 //! | `laws` | what these calls come to for the factories, in other words than theirs |
+//!
+//! First calls. `NumberedHub` of `iox_hub_run` makes them.
+//!
+//! ```
+//! let mut factories = Factories::new(alloc);
+//! let number = factories.create(alloc, &mut hub, &asked, &attributes, &steps);
+//! let closed = factories.close(&mut hub, 1);
+//! ```
 #![tactic(auto)]
 
 pub mod acting;

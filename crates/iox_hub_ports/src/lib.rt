@@ -10,6 +10,15 @@
 //! | `samples` | a sample is read, and released |
 //! | `growing` | loans and samples that come where there may be no room for one more |
 //! | `laws` | what the calls come to, in other words |
+//!
+//! First calls. `iox_hub_commands` makes them.
+//!
+//! ```
+//! if let Some(Ok(loan)) = made.loan_uninit(alloc, &mut home, publisher, 1) {
+//!     made.fill(&mut home, loan, &[7]);
+//!     let sent = made.send(alloc, &mut home, loan);
+//! }
+//! ```
 #![tactic(auto)]
 
 pub mod growing;

@@ -7,6 +7,13 @@
 //! | `steps` | the steps of foreign nodes before each access |
 //!
 //! Services of a hub over values of `T` carry slices of them, with a user header of `U`; those of request-response in both directions.
+//!
+//! First calls. `iox_hub_factories` makes them.
+//!
+//! ```
+//! let requirement = publish_subscribe(&options, message_types::<u64, ()>());
+//! let steps = step_lists(alloc, &name, &types, &asked_steps)?;
+//! ```
 #![tactic(auto)]
 
 pub mod asked;

@@ -6,6 +6,14 @@
 //! | `services` | the commands on nodes and services |
 //! | `step` | one command, and its reply |
 //! | `run` | a list of commands |
+//!
+//! First calls. `Script` of `iox_script` makes the first two.
+//!
+//! ```
+//! let mut hub = NumberedHub::<u64, ()>::new(alloc, config);
+//! let reply = hub.step(alloc, Command::Node)?;
+//! let report = hub.run(alloc, commands);
+//! ```
 #![tactic(auto)]
 
 pub mod numbered_hub;

@@ -8,6 +8,15 @@
 //! | `home` | the services of a hub as a home of ports |
 //! | `laws` | what holds of these calls, in other words |
 //! | `presences` | what is open, by numbers |
+//!
+//! First calls. `Hub` of `iox_hub_base` makes them.
+//!
+//! ```
+//! let mut services = Services::new(alloc, 1);
+//! services.open(alloc, &description, number, 128)?;
+//! let domain = services.take(number)?;
+//! services.put(domain)?;
+//! ```
 #![tactic(auto)]
 
 pub mod home;

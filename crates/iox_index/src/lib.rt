@@ -8,6 +8,19 @@
 //! | `container` | `FixedSizeContainer`, members at indices |
 //!
 //! All else comes from `iox_index_base`.
+//!
+//! A first call, which `iox_callers_pantry` proves and runs:
+//!
+//! ```
+//! /// `iox_index`: takes an index, which is then held; None where each is held already, or the set is locked.
+//! fn taken(set: &mut FixedSizeUniqueIndexSet<8>) -> Option<usize>
+//!     ensures held { IfSome result (λ index. is_held index set.new ≡ true) }
+//!     ensures more { IfSome result (λ index. borrowed set.new ≡ borrowed set.old + 1) }
+//!     ensures none { IfNone result (set.new ≡ set.old) }
+//! {
+//!     set.acquire_raw_index().ok()
+//! }
+//! ```
 #![tactic(auto)]
 
 pub mod container;

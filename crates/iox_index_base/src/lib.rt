@@ -11,6 +11,20 @@
 //! | `places` | places in a row that take memory as they are first used |
 //! | `robust` | sets that know their holders, so that all of one can be recovered |
 //! | `container` | members at indices, each with its owner |
+//!
+//! A first call, which `iox_callers_pantry` proves and runs:
+//!
+//! ```
+//! /// `iox_index_base`: adds a member, and returns its index; None where the container is full or locked.
+//! fn joined(container: &mut Container<u64>, value: u64, owner: OwnerId) -> Option<usize>
+//!     requires { HasRoom container.old }
+//!     ensures added { IfSome result (λ index. container.new ≡ with_member index (record { number = container.old.changes + 1; owner = owner; value = value }) container.old) }
+//!     ensures none { IfNone result (container.new ≡ container.old) }
+//! {
+//!     let handle = container.add(value, owner).ok()?;
+//!     Some(handle.index())
+//! }
+//! ```
 #![tactic(auto)]
 
 pub mod container;

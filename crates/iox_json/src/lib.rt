@@ -2,6 +2,13 @@
 //!
 //! Contracts see a `Value` as `serde_json`'s `Data`. `proofs/ReadBack` has what holds of plain values: they have no
 //! float, their text is UTF-8, and it reads as the value.
+//!
+//! First calls. `decode` of `iox_describe` makes them.
+//!
+//! ```
+//! let name = text_at(&value, "name");
+//! let nodes = number_at(&value, "max_nodes");
+//! ```
 #![tactic(auto)]
 
 ghost use Rattle.std.specs.Prelude.{◌≡◌, option_map, option_and_then};

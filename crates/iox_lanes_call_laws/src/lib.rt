@@ -1,6 +1,12 @@
 //! What the calls of ports do with shared words, in other words than theirs.
 //!
 //! Each law is the contract of a function that does nothing: it is proved of the definitions that the contracts of the calls name.
+//!
+//! A proof cites a law by a call of its function, which does nothing; what it states is then among the facts of the caller:
+//!
+//! ```
+//! loans_take_back();
+//! ```
 #![tactic(auto)]
 
 ghost use Rattle.iox_lanes_call_laws.specs.Seats.{PublishersStay, SubscribersStay};

@@ -7,6 +7,8 @@
 //! - [`answers`]: what an end of a ring was answered.
 //! - [`publisher`]: a loan, a write, a send and the dropping of a loan.
 //! - [`subscriber`]: a receive, a read and a release.
+//!
+//! First calls: `next` says the access of a call, `take` goes on after its answer. `Lanes` of `iox_lanes_machine` makes them.
 #![tactic(auto)]
 
 pub mod answers;

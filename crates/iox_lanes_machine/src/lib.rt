@@ -7,6 +7,15 @@
 //! - `placing`: what stands in it at a step.
 //! - `state`: all ports with their words, and one step.
 //! - [`lanes`]: the lanes as one value.
+//!
+//! First calls. Tests in `iox_lanes_rows` make them.
+//!
+//! ```
+//! let mut lanes = Lanes::new(alloc, sizes)?;
+//! lanes.step(party, &step);
+//! lanes.run(&schedule);
+//! let order = lanes.order(connection);
+//! ```
 #![tactic(auto)]
 
 pub mod lanes;

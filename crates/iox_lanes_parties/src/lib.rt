@@ -4,6 +4,8 @@
 //! - [`head`]: the header and user header of a slot.
 //! - [`laws`]: ports keep to their own service.
 //! - [`publisher_lane`], [`subscriber_lane`]: a port with the call that it began last.
+//!
+//! First calls: those of `Lanes` of `iox_lanes_machine`, which is made of it.
 #![tactic(auto)]
 
 pub mod call;

@@ -2,6 +2,8 @@
 //!
 //! - [`slot_book`]: what its slots are used for.
 //! - [`lane_publisher`]: the publisher.
+//!
+//! First calls: those of `Lanes` of `iox_lanes_machine`, which is made of it.
 #![tactic(auto)]
 
 pub mod lane_publisher;

@@ -7,6 +7,13 @@
 //! - [`access`]: what a step does with one of them.
 //! - [`sizes`]: how many there are, and the number of each in a table.
 //! - [`table`]: the table.
+//!
+//! First calls. `Lanes` of `iox_lanes_machine` makes them.
+//!
+//! ```
+//! let mut table = WordTable::new(alloc, sizes)?;
+//! let answer = table.apply(access);
+//! ```
 #![tactic(auto)]
 
 pub mod access;

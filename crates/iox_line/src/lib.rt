@@ -13,6 +13,20 @@
 //! | `laws` | that a line spells one command at most, and that each command has one |
 //! | `print` | from a reply to its line |
 //! | `error` | why a line is no command |
+//!
+//! A first call, which `iox_callers_hall` proves and runs:
+//!
+//! ```
+//! /// `iox_line`: whether a line is taken for a command, which it then spells.
+//! fn is_command(alloc: Global, line: &[u8], scratch: &mut Scratch) -> Result<bool, AllocError>
+//!     ensures { IfOk result (λ is. is ≡ true → (command : Command ℕ) × Spells line.now command) }
+//! {
+//!     match read_command(alloc, line, scratch)? {
+//!         Ok(_) => Ok(true),
+//!         Err(_) => Ok(false),
+//!     }
+//! }
+//! ```
 #![tactic(auto)]
 
 mod arguments;

@@ -7,6 +7,13 @@
 //! | `part` | one word of attributes |
 //! | `specifier` | the attributes that words define |
 //! | `verifier` | what words require |
+//!
+//! First calls. `read_command` of `iox_line` makes them.
+//!
+//! ```
+//! let attributes = defined_attributes(alloc, words)?;
+//! let verifier = required_attributes(alloc, words)?;
+//! ```
 #![tactic(auto)]
 
 pub mod part;

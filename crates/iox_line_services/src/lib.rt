@@ -7,6 +7,12 @@
 //! | `value` | switches, numbers that may be off, patterns and names |
 //! | `options` | the options of each pattern |
 //! | `service` | the service that a line names |
+//!
+//! A first call. `read_command` of `iox_line` makes it.
+//!
+//! ```
+//! let service = named_service(words)?;
+//! ```
 #![tactic(auto)]
 
 pub mod options;

@@ -7,6 +7,13 @@
 //! | `step` | one step |
 //! | `foreign` | the steps of a line of their own |
 //! | `lists` | the lists of steps before accesses |
+//!
+//! First calls. `read_command` of `iox_line` makes them.
+//!
+//! ```
+//! let lists = listed_steps(alloc, pattern, words)?;
+//! let steps = foreign_steps(alloc, pattern, words)?;
+//! ```
 #![tactic(auto)]
 
 pub mod foreign;

@@ -8,6 +8,19 @@
 //! | (`iox_byte_cells`) | values that are copied byte by byte: `FixedSizeByteAtomic`, `MaybeTorn`, `ByteMachine` |
 //!
 //! A map takes all its memory when it is made, and touches it as it is used. A refused call changes nothing.
+//!
+//! A first call, which `iox_callers_ground` proves and runs:
+//!
+//! ```
+//! /// `iox_maps`: takes a value into a slot map; the key under which it is found again, or None where the map is full.
+//! fn filed(map: &mut SlotMap<u64>, value: u64) -> Option<u64>
+//!     ensures found { IfSome result (λ found. found ≡ value) }
+//!     ensures full { IfNone result (map.new ≡ map.old) }
+//! {
+//!     let key = map.insert(value)?;
+//!     map.get(key).copied()
+//! }
+//! ```
 #![tactic(auto)]
 
 pub mod flat_map;

@@ -9,6 +9,14 @@
 //! | `payload` | what messages carry: a type, or a slice of one |
 //! | `builder` | builders of the three patterns |
 //! | `laws` | what holds of every open service |
+//!
+//! First calls. Tests in `iox_negotiate_rows` make them.
+//!
+//! ```
+//! let builder = Builder::new(node, name).publish_subscribe::<u64>();
+//! let factory = builder.open_or_create(alloc, &mut table)?;
+//! factory.close(&mut table);
+//! ```
 #![tactic(auto)]
 
 pub mod asked;

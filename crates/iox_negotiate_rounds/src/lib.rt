@@ -11,6 +11,12 @@
 //! | `opening` | from a description to a place among the nodes |
 //! | `rounds` | `create`, `open`, `open_or_create` |
 //! | `laws` | what holds of all of them, in other words |
+//!
+//! A first call. The builders of `iox_negotiate` make them.
+//!
+//! ```
+//! let opened = open_or_create(alloc, &request, &mut storage)?;
+//! ```
 #![tactic(auto)]
 
 pub mod answer;

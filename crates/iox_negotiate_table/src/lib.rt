@@ -8,6 +8,15 @@
 //! | `entry` | what lies under a hash |
 //! | `table` | the table, and its own calls |
 //! | `storage` | the table as a storage |
+//!
+//! First calls. `Hub` of `iox_hub_base` keeps one.
+//!
+//! ```
+//! let mut table = Table::new(alloc, id);
+//! let factory = builder.open_or_create(alloc, &mut table)?;
+//! // a node of others acts
+//! table.act(&hash, &step)?;
+//! ```
 #![tactic(auto)]
 
 pub mod acts;

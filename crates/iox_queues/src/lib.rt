@@ -5,6 +5,19 @@
 //!   ends of the two rings from `iox_queues_overflowing` and `iox_queues_refusing` (here
 //!   [`overflowing`] and [`refusing`]), either of them and their machine from `iox_queues_rings` (here
 //!   [`rings`]), steps of bit sets from `iox_queues_bits` (here [`sets`]).
+//!
+//! First calls. Tests in `iox_queues_rows` make them.
+//!
+//! ```
+//! if let Ok(shared) = SafelyOverflowingIndexQueue::new(alloc, 4)?.share(alloc) {
+//!     if let Some(mut producer) = shared.acquire_producer() {
+//!         producer.push(7);
+//!     }
+//!     if let Some(mut consumer) = shared.acquire_consumer() {
+//!         let number = consumer.pop();
+//!     }
+//! }
+//! ```
 #![tactic(auto)]
 
 pub mod overflowing;

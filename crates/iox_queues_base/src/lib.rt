@@ -6,6 +6,21 @@
 //! - [`value_queue`]: the queue of any copied value.
 //! - [`bits`]: sets of numbers, and counts of them.
 //! - [`atomic`]: a single value that is stored and loaded whole.
+//!
+//! A first call, which `iox_callers_ground` proves and runs:
+//!
+//! ```
+//! /// `iox_queues_base`: a number that goes through an empty queue.
+//! fn passed(queue: &mut IndexQueue, number: u64) -> Option<u64>
+//!     requires empty { queue.old.waiting ≡ [] }
+//!     requires room { 0 < queue.old.capacity }
+//!     ensures same { result ≡ Some number }
+//!     ensures empty { queue.new ≡ queue.old }
+//! {
+//!     queue.push(number);
+//!     queue.pop()
+//! }
+//! ```
 #![tactic(auto)]
 
 pub mod atomic;

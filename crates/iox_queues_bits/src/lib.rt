@@ -5,6 +5,14 @@
 //!
 //! - [`call`]: what each party does next, free of any set.
 //! - [`machine`]: a set with its parties, which go in any order.
+//!
+//! First calls. Tests in `iox_queues_rows` make them.
+//!
+//! ```
+//! let mut machine = SetMachine::new(alloc, max, capacity, parties)?;
+//! machine.run(&schedule);
+//! let calls = machine.finished();
+//! ```
 #![tactic(auto)]
 
 pub mod call;

@@ -2,6 +2,14 @@
 //!
 //! - [`ends`]: what each end does next, free of any ring.
 //! - [`machine`]: a ring with its two ends, which go in any order.
+//!
+//! First calls. Tests in `iox_queues_rows` make them.
+//!
+//! ```
+//! let mut machine = RingMachine::overflowing(alloc, 2, &[])?;
+//! machine.run(&schedule);
+//! let order = machine.order();
+//! ```
 #![tactic(auto)]
 
 pub mod ends;

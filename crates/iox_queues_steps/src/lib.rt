@@ -6,6 +6,13 @@
 //! - [`order`]: the order of puts and takes, and the calls that made them.
 //! - [`log`]: what a machine records.
 //! - [`end`]: a call that asks for one access after the other, and the words that answer.
+//!
+//! First calls. `RingMachine` of `iox_queues_rings` makes them.
+//!
+//! ```
+//! let answer = ring.apply(push.next());
+//! let push = push.take(answer);
+//! ```
 #![tactic(auto)]
 
 pub mod access;

@@ -2,6 +2,12 @@
 //!
 //! A number lies aside while its push stored the write position, but its put waits for the next move
 //! of the read position. The two laws stand on functions that do nothing.
+//!
+//! A proof cites a law by a call of its function, which does nothing; what it states is then among the facts of the caller:
+//!
+//! ```
+//! push_moves();
+//! ```
 #![tactic(auto)]
 
 ghost use Rattle.iox_queues_waiting.specs.Moves.{PopMoves, PushMoves};

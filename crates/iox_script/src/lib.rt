@@ -8,6 +8,15 @@
 //! | Module | What it has |
 //! |---|---|
 //! | `script` | a hub that a script drives |
+//!
+//! First calls. The program `iox` makes them.
+//!
+//! ```
+//! let mut input = Input::new(rt.stdin());
+//! let mut output = Output::new(rt.stdout());
+//! let ending = serve(rt.alloc(), config, &mut input, &mut output);
+//! ExitCode::from(status(ending))
+//! ```
 #![tactic(auto)]
 
 pub mod script;

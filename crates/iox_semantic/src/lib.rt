@@ -7,6 +7,19 @@
 //! | `error` | why a text was refused |
 //!
 //! No call allocates, and a refused call changes nothing.
+//!
+//! A first call, which `iox_callers_ground` proves and runs:
+//!
+//! ```
+//! /// `iox_semantic`: a file's name, with a byte more; None where that is none.
+//! fn longer(name: &[u8], byte: u8) -> Option<Semantic<FileName, 32>>
+//!     ensures { IfSome result (λ text. text ≡ name.now ++ byte ∷ []) }
+//! {
+//!     let mut text = Semantic::new(name).ok()?;
+//!     text.push(byte).ok()?;
+//!     Some(text)
+//! }
+//! ```
 #![tactic(auto)]
 
 mod error;

@@ -12,6 +12,19 @@
 //!
 //! Each takes all its memory when it is made. A call that would pass the capacity is refused whole, and a refused call
 //! changes nothing.
+//!
+//! A first call, which `iox_callers_ground` proves and runs:
+//!
+//! ```
+//! /// `iox_string`: a greeting of at most 32 bytes; None where the name is too long, or has a byte that no string has.
+//! fn greeting(name: &[u8]) -> Option<StaticString<32>>
+//!     ensures { IfSome result (λ text. text ≡ codes "hello " ++ name.now) }
+//! {
+//!     let mut text = StaticString::<32>::from_bytes(b"hello ").ok()?;
+//!     text.push_bytes(name).ok()?;
+//!     Some(text)
+//! }
+//! ```
 #![tactic(auto)]
 
 mod bytes;
