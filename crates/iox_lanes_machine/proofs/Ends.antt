@@ -169,7 +169,7 @@ fresh_push_from links port who routes slot place delivery connection link (Some 
       | inr there ↦ inl (choose_other (route.connection == connection) (push_begun route.kind route.limit slot) (push_idle link.kind) there.0)
     ]
 
-fresh_push_at : (links : List Link) (port : Link → ℕ) (who : ℕ) (routes : List Route) (slot place : ℕ) (delivery : Delivery) (connection : ℕ) (link : Link)
+pub fresh_push_at : (links : List Link) (port : Link → ℕ) (who : ℕ) (routes : List Route) (slot place : ℕ) (delivery : Delivery) (connection : ℕ) (link : Link)
     → All (IsLinkOf links port who) routes → slice_get links connection ≡ Some link → IsFreshPush link.kind link.limit (push_on connection link.kind (push_at routes slot place delivery))
 fresh_push_at links port who routes slot place delivery connection link all found =
     fresh_push_from links port who routes slot place delivery connection link (slice_get routes place) refl all found

@@ -28,9 +28,9 @@ use Rattle.iox_lanes_calls.specs.declared.subscriber.SubscriberCall.{SubscriberC
 use Rattle.iox_lanes_calls.specs.declared.subscriber.SubscriberCall.TheVariants as subscribing
 use Rattle.iox_lanes_parties.specs.Within.{IsPublishing, IsSubscribing}
 use Rattle.iox_lanes_parties.proofs.Rings.{all_at}
-use Rattle.iox_lanes_machine.specs.Rings.{sent_word, ring_in, push_on, pop_on}
+use Rattle.iox_lanes_machine.specs.Rings.{sent_word, ring_in, push_on, pop_on, waiting}
 use Rattle.iox_lanes_machine.specs.World.{World, publisher_stage, sender_stage, push_at, pushes_to, pops_from, push_acts, pop_acts, placed}
-use Rattle.iox_lanes_machine.specs.Kept.{IsLink, IsLinkOf, sender, receiver, IsWithin, IsKeptAt, FollowsMailbox, waiting}
+use Rattle.iox_lanes_machine.specs.Kept.{IsLink, IsLinkOf, sender, receiver, IsWithin, IsKeptAt, FollowsMailbox}
 use Rattle.iox_lanes_machine.specs.declared.link.Link.{Link}
 use Rattle.iox_lanes_machine.proofs.InTable.{IsSeat, access_answer, access_after}
 use Rattle.iox_lanes_machine.proofs.Ends.{some_is, push_here, pop_here, next_push, next_pop}

@@ -20,4 +20,14 @@ pub mod ReadWords
 pub mod InBack
 pub mod Returns
 pub mod ReturnSteps
+pub mod Standing
+pub mod SlotMoves
+pub mod PublisherUses
+pub mod SubscriberUses
+pub mod UsesSteps
+pub mod StartUses
+pub mod Alone
+pub mod Held
+pub mod Left
 pub mod Whole
+pub mod WholeReads

@@ -54,9 +54,9 @@ use Rattle.iox_lanes_parties.specs.declared.call.Move.TheVariants.{Begin, GoOn}
 use Rattle.iox_lanes_parties.specs.declared.call.Party.{Party}
 use Rattle.iox_lanes_parties.specs.declared.call.Party.TheVariants.{Publisher, Subscriber}
 use Rattle.iox_lanes_parties.proofs.Rings.{and_left, all_at}
-use Rattle.iox_lanes_machine.specs.Rings.{sent_word, ring_in, push_on}
+use Rattle.iox_lanes_machine.specs.Rings.{sent_word, ring_in, push_on, waiting}
 use Rattle.iox_lanes_machine.specs.World.{World, publisher_stage, subscriber_stage, sender_stage, push_at, pushes_to, pops_from, push_acts, pop_acts, added, ended, fits, happens, publisher_fits_at, subscriber_fits_at, publisher_begins, publisher_goes_on, publisher_ending, subscriber_begins, subscriber_goes_on, subscriber_given}
-use Rattle.iox_lanes_machine.specs.Kept.{IsLinkOf, receiver, IsWithin, IsKeptAt, AreKept, waiting}
+use Rattle.iox_lanes_machine.specs.Kept.{IsLinkOf, receiver, IsWithin, IsKeptAt, AreKept}
 use Rattle.iox_lanes_machine.specs.Receipts.{slots_of, slots_taken, given_at, given_by, given_answer, is_receiver, given_calls, given_in_hand, routes_of, ReceivesGive, AllReceivesGive}
 use Rattle.iox_lanes_machine.specs.declared.link.Link.{Link}
 use Rattle.iox_lanes_machine.proofs.InTable.{IsSeat, access_answer}

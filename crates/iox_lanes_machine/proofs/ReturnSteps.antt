@@ -45,7 +45,7 @@ use Rattle.iox_lanes_machine.proofs.Within.{set_same, at_each, sizes_stay, publi
 next_le : (n : ℕ) → n < 2 ^ 63 → n ≤ successor n
 next_le n h = omega arith
 
-back_seat : (m : World) (connection : ℕ) (link : Link) → slice_get m.links connection ≡ Some link → 0 < m.table.sizes.completion_cells → IsWithin m → IsBackSeat m.table connection m.table.sizes.completion_cells
+pub back_seat : (m : World) (connection : ℕ) (link : Link) → slice_get m.links connection ≡ Some link → 0 < m.table.sizes.completion_cells → IsWithin m → IsBackSeat m.table connection m.table.sizes.completion_cells
 back_seat m connection link found some w =
     let is : IsLink m.table.sizes connection link = w.links connection link found in
     record { there = is.connection_is; some = some; room = omega arith; words = w.words }
@@ -82,7 +82,7 @@ none_shape : (cells connection : ℕ) (words : RingWords) (q : List ℕ) (c : Po
 none_shape cells connection words q c receives e p s = subst (λ (x : Push). Shape cells words q x c) (sym e) (idle_shape cells words q p c s)
 
 -- the link of a connection where a publisher takes back is its own
-reclaims_own : (m : World) (place : ℕ) (lane : PublisherLaneState) (connection : ℕ) (link : Link) → slice_get m.publishers place ≡ Some lane → IsWithin m → slice_get m.links connection ≡ Some link → reclaims_at lane.port.call ≡ Some connection → link.publisher ≡ place
+pub reclaims_own : (m : World) (place : ℕ) (lane : PublisherLaneState) (connection : ℕ) (link : Link) → slice_get m.publishers place ≡ Some lane → IsWithin m → slice_get m.links connection ≡ Some link → reclaims_at lane.port.call ≡ Some connection → link.publisher ≡ place
 reclaims_own m place lane connection link e w found here =
     by_call lane.port.call here (all_at (IsPublisher m.table.sizes) m.publishers place lane e w.publishers).call
   where
@@ -105,7 +105,7 @@ reclaims_own m place lane connection link e w found here =
     by_call (publishing.Sent slot delivery) h is = absurd (cc)
     by_call (publishing.Dropping slot) h is = absurd (cc)
 
-releases_own : (m : World) (place : ℕ) (lane : SubscriberLaneState) (connection : ℕ) (link : Link) → slice_get m.subscribers place ≡ Some lane → IsWithin m → slice_get m.links connection ≡ Some link → releases_at lane.port.call ≡ Some connection → link.subscriber ≡ place
+pub releases_own : (m : World) (place : ℕ) (lane : SubscriberLaneState) (connection : ℕ) (link : Link) → slice_get m.subscribers place ≡ Some lane → IsWithin m → slice_get m.links connection ≡ Some link → releases_at lane.port.call ≡ Some connection → link.subscriber ≡ place
 releases_own m place lane connection link e w found here =
     by_call lane.port.call here (all_at (IsSubscriber m.table.sizes) m.subscribers place lane e w.subscribers).call
   where
@@ -357,8 +357,8 @@ happens_rings m (Publisher place) GoOn fit bound w r k = gone_publisher m place 
 happens_rings m (Subscriber place) GoOn fit bound w r k = gone_subscriber m place _ (slice_get m.subscribers place) refl fit bound w r k
 
 -- the ports keep their connections, and the table its sizes
-record SameEnds (m n : World) : Type 0 where
-  sizes : n.table.sizes ≡ m.table.sizes
+pub record SameEnds (m n : World) : Type 0 where
+  pub sizes : n.table.sizes ≡ m.table.sizes
   publishers : (place : ℕ) (lane : PublisherLaneState) → slice_get n.publishers place ≡ Some lane → GoesRound m.table.sizes.completion_cells lane.port.routes
   subscribers : (place : ℕ) (lane : SubscriberLaneState) → slice_get n.subscribers place ≡ Some lane → GoesRound m.table.sizes.completion_cells lane.port.routes
 
@@ -395,7 +395,7 @@ gone_subscriber_ends m place orders (Some lane) e fit r =
     subscriber_ends m (subscriber_goes_on (record m { orders = orders }) place (Some lane)) place lane (subscriber_after (subscriber_given m.table lane) lane) e refl refl ((sizes_stay m.table (subscriber_next lane.port.call)).0)
     ((changed_routes (subscriber_change lane.port.call (subscriber_given m.table lane)) _).0) r
 
-happens_ends : (m : World) (party : Party) (step : Move) → fits m party step ≡ true → ReturnsKept m → SameEnds m (happens m party step)
+pub happens_ends : (m : World) (party : Party) (step : Move) → fits m party step ≡ true → ReturnsKept m → SameEnds m (happens m party step)
 happens_ends m (Publisher place) (Begin c) fit r = begun_publisher_ends m place c (slice_get m.publishers place) refl fit r
 happens_ends m (Subscriber place) (Begin c) fit r = begun_subscriber_ends m place c (slice_get m.subscribers place) refl fit r
 happens_ends m (Publisher place) GoOn fit r = gone_publisher_ends m place _ (slice_get m.publishers place) refl fit r

@@ -46,8 +46,8 @@ use Rattle.iox_lanes_parties.proofs.Rings.{and_left, all_at}
 use Rattle.iox_lanes_parties.proofs.PublishersWithin.{publishers_stay_within}
 use Rattle.iox_lanes_parties.proofs.SubscribersWithin.{subscribers_stay_within}
 use Rattle.iox_lanes_machine.specs.Calls.{IsStageOf, CallsFollow}
-use Rattle.iox_lanes_machine.specs.Kept.{IsLinkOf, sender, receiver, IsWithin, IsKeptAt, AreKept, waiting}
-use Rattle.iox_lanes_machine.specs.Rings.{sent_word, ring_in, push_on, pop_on}
+use Rattle.iox_lanes_machine.specs.Kept.{IsLinkOf, sender, receiver, IsWithin, IsKeptAt, AreKept}
+use Rattle.iox_lanes_machine.specs.Rings.{sent_word, ring_in, push_on, pop_on, waiting}
 use Rattle.iox_lanes_machine.specs.Sends.{puts_at, IsSent, sends_of, read_at, PutSoFar, done_at, in_hand_at, HasConnections, SendsPut, AllSendsPut}
 use Rattle.iox_lanes_machine.specs.World.{World, publisher_stage, subscriber_stage, sender_stage, push_at, pushes_to, pops_from, push_acts, pop_acts, added, ended, fits, happens, publisher_fits_at, subscriber_fits_at, publisher_begins, publisher_goes_on, publisher_given, publisher_ending, subscriber_begins, subscriber_goes_on}
 use Rattle.iox_lanes_machine.specs.declared.link.Link.{Link}

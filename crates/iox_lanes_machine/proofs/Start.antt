@@ -33,7 +33,7 @@ use Rattle.iox_lanes_parties.specs.Parties.{PublisherLaneState, SubscriberLaneSt
 use Rattle.iox_lanes_parties.specs.Within.{IsRoute, IsPublisher, IsSubscriber}
 use Rattle.iox_lanes_machine.specs.Rings.{sent_word, ring_in, push_on, pop_on}
 use Rattle.iox_lanes_machine.specs.World.{publisher_stage, subscriber_stage}
-use Rattle.iox_lanes_machine.specs.Kept.{IsLink, IsLinkOf, sender, receiver, IsWithin, IsKept, IsKeptAt, AreKept}
+use Rattle.iox_lanes_machine.specs.Kept.{IsLink, IsLinkOf, sender, receiver, IsWithin, IsKeptAt, AreKept}
 use Rattle.iox_lanes_machine.specs.Calls.{IsEnded, PublisherFollows, SubscriberFollows, CallsFollow}
 use Rattle.iox_lanes_machine.specs.Receipts.{ReceivesGive, ReceiptsFollow}
 use Rattle.iox_lanes_machine.specs.Sends.{puts_at, read_at, HasConnections, SendsPut, AllSendsPut}
@@ -49,11 +49,11 @@ use Rattle.iox_lanes_machine.proofs.Kept.{cells_some}
 use Rattle.iox_lanes_machine.proofs.InBack.{IsBackSeat, ends_below as back_ends_below, write_below as back_write_below, read_below as back_read_below}
 use Rattle.iox_lanes_machine.proofs.Puts.{idle_hand}
 
-listed_length : {X : Type 0} (f : ℕ → X) (n : ℕ) → length (listed f n) ≡ n
+pub listed_length : {X : Type 0} (f : ℕ → X) (n : ℕ) → length (listed f n) ≡ n
 listed_length f zero = refl
 listed_length f (suc n) = omega (arith, length-append (listed f n) (f n ∷ []), listed_length f n)
 
-listed_get : {X : Type 0} (f : ℕ → X) (n k : ℕ) (d : X) → k < n → get_or (listed f n) k d ≡ f k
+pub listed_get : {X : Type 0} (f : ℕ → X) (n k : ℕ) (d : X) → k < n → get_or (listed f n) k d ≡ f k
 listed_get f zero k d below = absurd (omega (arith, below))
 listed_get {X} f (suc n) k d below = elim (cases_lt k n) [
   | inl lt ↦ get_or-append (listed f n) (f n ∷ []) d k (omega (arith, lt, listed_length f n)) ∙ listed_get f n k d lt
@@ -121,7 +121,7 @@ start_link sizes port who connection h own = record {
   cells = refl;
 }
 
-start_within : (sizes : LaneSizes) → IsWithin (start sizes)
+pub start_within : (sizes : LaneSizes) → IsWithin (start sizes)
 start_within sizes = record {
   publishers = all_listed (IsPublisher (table_sizes sizes)) (publisher_at sizes) sizes.publishers (λ k below. start_publisher sizes k below);
   subscribers = all_listed (IsSubscriber (table_sizes sizes)) (subscriber_at sizes) sizes.subscribers (λ k below. start_subscriber sizes k below);
@@ -182,7 +182,7 @@ start_at sizes connection h some small = record {
   few = omega (arith, ap (λ (words : RingWords). words.write) (start_ring sizes connection h));
 }
 
-start_rings : (sizes : LaneSizes) → 0 < sizes.buffer → sizes.buffer < 2 ^ 62 → AreKept (start sizes)
+pub start_rings : (sizes : LaneSizes) → 0 < sizes.buffer → sizes.buffer < 2 ^ 62 → AreKept (start sizes)
 start_rings sizes some small = λ connection link order found got.
     let is = listed_is (link_at sizes) (sizes.publishers * sizes.subscribers) connection link found in
     let none = listed_is {X = List Placed} (λ c. []) (sizes.publishers * sizes.subscribers) connection order got in
@@ -196,14 +196,14 @@ idle_receives sizes connection place link None e = refl
 idle_receives sizes connection place link (Some lane) e =
     subst (λ (x : SubscriberLaneState). ReceivesGive [] connection link [] (Some x)) (sym ((listed_is (subscriber_at sizes) sizes.subscribers place lane e).1)) refl
 
-start_receipts : (sizes : LaneSizes) → ReceiptsFollow (start sizes)
+pub start_receipts : (sizes : LaneSizes) → ReceiptsFollow (start sizes)
 start_receipts sizes = λ few connection link order found got.
     let none = listed_is {X = List Placed} (λ c. []) (sizes.publishers * sizes.subscribers) connection order got in
     subst (λ (o : List Placed). ReceivesGive [] connection link o (slice_get (start sizes).subscribers link.subscriber)) (sym none.1)
     (idle_receives sizes connection link.subscriber link (slice_get (start sizes).subscribers link.subscriber) refl)
 
 -- no call began yet
-start_calls : (sizes : LaneSizes) → CallsFollow (start sizes)
+pub start_calls : (sizes : LaneSizes) → CallsFollow (start sizes)
 start_calls sizes = record {
   ended = All-nil (IsEnded 0);
   in_turn = tt;
@@ -248,7 +248,7 @@ no_puts sizes route = ap puts (empty (sizes.publishers * sizes.subscribers) rout
       | inr ge ↦ get_or_past {X = List Placed} (listed (λ connection. []) n) c [] (omega (arith, ge, listed_length {X = List Placed} (λ connection. []) n))
     ]
 
-start_sends : (sizes : LaneSizes) → AllSendsPut (start sizes)
+pub start_sends : (sizes : LaneSizes) → AllSendsPut (start sizes)
 start_sends sizes = λ who lane e.
     let is = listed_is (publisher_at sizes) sizes.publishers who lane e in
     subst (λ (x : PublisherLaneState). SendsPut (start sizes) who x.port.routes x.first x.port.call) (sym is.1)
@@ -262,7 +262,7 @@ start_sends sizes = λ who lane e.
     })
 
 -- each publisher's slots follow those of the one before it
-start_loans : (sizes : LaneSizes) → LoansStand (start sizes)
+pub start_loans : (sizes : LaneSizes) → LoansStand (start sizes)
 start_loans sizes = record {
   stages = λ place lane e. let is = (listed_is (publisher_at sizes) sizes.publishers place lane e).1 in
       subst (λ (x : PublisherLaneState). StandsAtLoan x.port.book x.port.call) (sym is) tt;
@@ -280,7 +280,7 @@ start_loans sizes = record {
 }
 
 -- nothing was given back yet
-start_back : (sizes : LaneSizes) (connection : ℕ) → connection < sizes.publishers * sizes.subscribers
+pub start_back : (sizes : LaneSizes) (connection : ℕ) → connection < sizes.publishers * sizes.subscribers
     → back_ring (start sizes).table connection (sizes.buffer + sizes.most_borrowed + 1) ≡ first_words kind.Refusing (sizes.buffer + sizes.most_borrowed + 1) []
 start_back sizes connection h =
     let cells : ℕ = sizes.buffer + sizes.most_borrowed + 1 in
@@ -318,7 +318,7 @@ start_returning sizes small = λ connection link found.
       few = omega (arith, ap (λ (words : RingWords). words.write) (start_back sizes connection is.0));
     }
 
-start_returns : (sizes : LaneSizes) → sizes.buffer + sizes.most_borrowed + 1 < 2 ^ 62 → ReturnsKept (start sizes)
+pub start_returns : (sizes : LaneSizes) → sizes.buffer + sizes.most_borrowed + 1 < 2 ^ 62 → ReturnsKept (start sizes)
 start_returns sizes small = record {
   some = omega arith;
   publishers = λ place lane e. let is = (listed_is (publisher_at sizes) sizes.publishers place lane e).1 in
@@ -331,22 +331,10 @@ start_returns sizes small = record {
 }
 
 -- nothing was read yet, and each subscriber has room for the words of a slot
-start_reads : (sizes : LaneSizes) → ReadsLie (start sizes)
+pub start_reads : (sizes : LaneSizes) → ReadsLie (start sizes)
 start_reads sizes = record {
   each = λ number call found. absurd (cc found);
   all = omega arith;
   rooms = λ place lane e. let is = (listed_is (subscriber_at sizes) sizes.subscribers place lane e).1 in
       ap (λ (x : SubscriberLaneState). length x.port.words) is ∙ length-replicate {A = ℕ} (3 + sizes.user_header_words + sizes.payload_words) 0;
-}
-
-pub start_kept : (sizes : LaneSizes) → 0 < sizes.buffer → sizes.buffer + sizes.most_borrowed + 1 < 2 ^ 62 → IsKept (start sizes)
-start_kept sizes some small = record {
-  within = start_within sizes;
-  rings = λ few. start_rings sizes some (omega (arith, small));
-  receipts = start_receipts sizes;
-  calls = λ few. start_calls sizes;
-  sends = λ few. start_sends sizes;
-  loans = start_loans sizes;
-  returns = start_returns sizes small;
-  reads = start_reads sizes;
 }

@@ -30,9 +30,9 @@ use Rattle.iox_lanes_parties.specs.declared.call.Party.TheVariants.{Publisher, S
 use Rattle.iox_lanes_parties.proofs.Rings.{all_at}
 use Rattle.iox_lanes_parties.proofs.PublishersWithin.{publishers_stay_within}
 use Rattle.iox_lanes_parties.proofs.SubscribersWithin.{subscribers_stay_within}
-use Rattle.iox_lanes_machine.specs.Rings.{push_on, pop_on}
+use Rattle.iox_lanes_machine.specs.Rings.{push_on, pop_on, waiting}
 use Rattle.iox_lanes_machine.specs.World.{World, publisher_stage, subscriber_stage, pushes_to, pops_from, push_acts, pop_acts, added, added_to, placed, fits, happens, publisher_fits_at, subscriber_fits_at, publisher_begins, publisher_goes_on, publisher_given, subscriber_begins, subscriber_goes_on, subscriber_given}
-use Rattle.iox_lanes_machine.specs.Kept.{IsLinkOf, sender, receiver, IsWithin, IsKeptAt, AreKept, waiting}
+use Rattle.iox_lanes_machine.specs.Kept.{IsLinkOf, sender, receiver, IsWithin, IsKeptAt, AreKept}
 use Rattle.iox_lanes_machine.specs.declared.link.Link.{Link}
 use Rattle.iox_lanes_machine.proofs.InTable.{GoesElsewhere, access_elsewhere}
 use Rattle.iox_lanes_machine.proofs.Within.{set_other, set_same, changed_routes}

@@ -2,7 +2,7 @@
 use Rattle.std.specs.Prelude.{ℕ, ◌≡◌, ◌≤◌, ◌^◌, ◌⊎◌, List, [], ◌∷◌, ◌++◌, map, slice_get, Some}
 use Rattle.iox_queues_steps.specs.Order.{puts}
 use Rattle.iox_queues_steps.specs.declared.order.Placed.{Placed}
-use Rattle.iox_lanes_machine.specs.Kept.{waiting}
+use Rattle.iox_lanes_machine.specs.Rings.{waiting}
 use Rattle.iox_lanes_machine.specs.Receipts.{slots_taken}
 use Rattle.iox_lanes_machine.specs.World.{World}
 use Rattle.iox_lanes_machine.specs.declared.link.Link.{Link}

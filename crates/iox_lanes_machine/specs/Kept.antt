@@ -1,7 +1,7 @@
 -- What every step of lanes keeps.
 use Rattle.std.specs.Prelude.{ℕ, ◌≡◌, ◌<◌, ◌≤◌, ◌^◌, List, [], length, slice_get, Option, Some, None}
 use Rattle.std.specs.List.{All}
-use Rattle.iox_queues_steps.specs.Order.{Acts, after_acts, acts_of, Rises}
+use Rattle.iox_queues_steps.specs.Order.{Acts, acts_of, Rises}
 use Rattle.iox_queues_steps.specs.declared.order.Placed.{Placed}
 use Rattle.iox_queues_rings.specs.Ends.{overflows, cells_of, Shape}
 use Rattle.iox_lanes_words.specs.Numbers.{words_of}
@@ -12,13 +12,16 @@ use Rattle.iox_lanes_calls.specs.declared.publisher.PublisherCall.{PublisherCall
 use Rattle.iox_lanes_calls.specs.declared.subscriber.SubscriberCall.{SubscriberCall}
 use Rattle.iox_lanes_parties.specs.Parties.{PublisherLaneState, SubscriberLaneState}
 use Rattle.iox_lanes_parties.specs.Within.{IsPublisher, IsSubscriber}
-use Rattle.iox_lanes_machine.specs.Rings.{ring_in, push_on, pop_on}
+use Rattle.iox_lanes_machine.specs.Rings.{ring_in, waiting, push_on, pop_on}
 use Rattle.iox_lanes_machine.specs.Calls.{CallsKeepTime}
+use Rattle.iox_lanes_machine.specs.Held.{ReadsFollow}
+use Rattle.iox_lanes_machine.specs.Left.{StoresFollow}
 use Rattle.iox_lanes_machine.specs.Reads.{ReadsLie}
 use Rattle.iox_lanes_machine.specs.Receipts.{ReceiptsFollow}
 use Rattle.iox_lanes_machine.specs.Returns.{ReturnsKept}
 use Rattle.iox_lanes_machine.specs.Sends.{SendsFollow}
 use Rattle.iox_lanes_machine.specs.Slots.{LoansStand}
+use Rattle.iox_lanes_machine.specs.Uses.{UsesFollow}
 use Rattle.iox_lanes_machine.specs.World.{World, publisher_stage, subscriber_stage}
 use Rattle.iox_lanes_machine.specs.declared.link.Link.{Link}
 
@@ -64,10 +67,6 @@ pub record FollowsMailbox (link : Link) (order : List Placed) (moments : ℕ) : 
   pub acts : Acts (overflows link.kind) link.limit [] (acts_of order)
   pub rises : Rises 0 order moments
 
--- what waits at a connection, by its order
-abbrev pub waiting : Link → List Placed → List ℕ
-waiting link order = after_acts (overflows link.kind) link.limit [] (acts_of order)
-
 -- a connection has its order, and its ring holds what the order leaves; the calls are those of its two ports
 pub record IsKeptAt (table : TableWords) (moments connection : ℕ) (link : Link) (order : List Placed) (sends : PublisherCall) (receives : SubscriberCall) : Type 0 where
   pub mailbox : FollowsMailbox link order moments
@@ -89,3 +88,6 @@ pub record IsKept (m : World) : Type 0 where
   pub loans : LoansStand m
   pub returns : ReturnsKept m
   pub reads : ReadsLie m
+  pub uses : UsesFollow m
+  pub held : ReadsFollow m
+  pub left : StoresFollow m

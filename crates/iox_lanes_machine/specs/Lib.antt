@@ -12,5 +12,10 @@ pub mod Sends
 pub mod Slots
 pub mod Told
 pub mod Returns
+pub mod Uses
+pub mod Alone
+pub mod Held
+pub mod Left
+pub mod WholeReads
 pub mod Reads
 pub mod Arrivals

@@ -1,9 +1,11 @@
 -- The ring of messages of a connection, as it lies in the table of all words, and the two ends that stand at it.
-use Rattle.std.specs.Prelude.{ℕ, ◌==◌, if◌then◌else◌, List, take, drop}
+use Rattle.std.specs.Prelude.{ℕ, ◌==◌, if◌then◌else◌, List, [], take, drop}
 use Rattle.iox_queues_steps.specs.Access.{RingWords}
+use Rattle.iox_queues_steps.specs.Order.{after_acts, acts_of}
 use Rattle.iox_queues_steps.specs.declared.access.Word.{Word}
 use Rattle.iox_queues_steps.specs.declared.access.Word.TheVariants.{Write, Read, Cell}
-use Rattle.iox_queues_rings.specs.Ends.{push_idle, pop_idle}
+use Rattle.iox_queues_steps.specs.declared.order.Placed.{Placed}
+use Rattle.iox_queues_rings.specs.Ends.{overflows, push_idle, pop_idle}
 use Rattle.iox_queues_rings.specs.declared.ends.RingKind.{RingKind}
 use Rattle.iox_queues_rings.specs.declared.ends.Push.{Push}
 use Rattle.iox_queues_rings.specs.declared.ends.Pop.{Pop}
@@ -16,6 +18,7 @@ use Rattle.iox_lanes_calls.specs.declared.publisher.PublisherCall.{PublisherCall
 use Rattle.iox_lanes_calls.specs.declared.publisher.PublisherCall.TheVariants as publishing
 use Rattle.iox_lanes_calls.specs.declared.subscriber.SubscriberCall.{SubscriberCall}
 use Rattle.iox_lanes_calls.specs.declared.subscriber.SubscriberCall.TheVariants as subscribing
+use Rattle.iox_lanes_machine.specs.declared.link.Link.{Link}
 
 -- a word of the ring of messages of a connection
 abbrev pub sent_word : ℕ → Word → SharedWord
@@ -32,6 +35,10 @@ ring_in table connection cells = record {
   write = held_by table (sent_word connection Write);
   read = held_by table (sent_word connection Read);
 }
+
+-- what waits at a connection, by its order
+abbrev pub waiting : Link → List Placed → List ℕ
+waiting link order = after_acts (overflows link.kind) link.limit [] (acts_of order)
 
 -- the push of a call on a connection; a call that stands elsewhere makes none there
 abbrev pub push_on : ℕ → RingKind → PublisherCall → Push

@@ -35,8 +35,11 @@ impl Lanes {
     ghost use Rattle.iox_lanes_machine.specs.World.{RunsTo, StepsTo};
     ghost use Rattle.iox_lanes_machine.specs.Apart.{StaysApart};
     ghost use Rattle.iox_lanes_machine.specs.Made.{start};
+    ghost use Rattle.iox_lanes_machine.specs.Alone.{LoansStandAlone, UsedSlotsStay};
     ghost use Rattle.iox_lanes_machine.specs.Arrivals.{OrderArrives};
     ghost use Rattle.iox_lanes_machine.specs.Calls.{CallsKeepTime};
+    ghost use Rattle.iox_lanes_machine.specs.Held.{ReadsWhole};
+    ghost use Rattle.iox_lanes_machine.specs.Left.{StoresLeft};
     ghost use Rattle.iox_lanes_machine.specs.Reads.{ReadsLie};
     ghost use Rattle.iox_lanes_machine.specs.Receipts.{ReceiptsFollow};
     ghost use Rattle.iox_lanes_machine.specs.Returns.{ReturnsNear};
@@ -46,7 +49,7 @@ impl Lanes {
     ghost use Rattle.iox_lanes_machine.specs.Mailboxes.{OrderFollows, OrdersFollow, PositionsNear, positions_of};
 
     /// Lanes of these sizes, on which nothing was done yet: each publisher has a connection to each subscriber, numbered publisher by publisher. It fails
-    /// only where memory is wanting; no memory has room for buffers of 2^61 messages, or for the rings of as many samples given back.
+    /// only where memory is wanting; no memory has room for buffers of 2^61 messages, for the rings of as many samples given back, or for as many subscribers.
     pub fn new(alloc: Global, sizes: LaneSizes) -> Result<Lanes, AllocError>
         requires { 0 < sizes.buffer }
         ensures { IfOk result (λ made. made ≡ start sizes) }
@@ -55,6 +58,9 @@ impl Lanes {
             return Err(AllocError);
         }
         if sizes.most_borrowed >= 1 << 61 {
+            return Err(AllocError);
+        }
+        if sizes.subscribers >= 1 << 61 {
             return Err(AllocError);
         }
         let Some(table) = sizes.table() else {
@@ -67,16 +73,23 @@ impl Lanes {
     /// Begins a call of a party, or goes on inside one. Answers whether the step was made, and whether it was the last of its call; where it doesn't fit, or
     /// where it finds no memory for the call that it ends or for what it puts into an order, nothing changes. A begin fits between calls, if the call is of the party's kind, and the
     /// loan or sample that it names is its own and out; a send needs a finished write of its loan. A go on fits inside a call.
+    ///
+    /// As long as at most 2^63 steps were made: a loan stands in no history and at no connection; no step changes a word of a slot that does; a write and a
+    /// send leave in their slot what they were given; and a read gives just what its slot holds.
     pub fn step(&mut self, party: Party, step: &Move) -> Stepped
         ensures steps { StepsTo self.old party step.now result self.new }
         ensures apart { StaysApart self.old party step.now result self.new }
         ensures told { Told self.old party step.now result self.new }
         ensures slots { SlotsStay self.old party self.new }
+        ensures uses { UsedSlotsStay self.old self.new }
+        ensures left { StoresLeft self.old self.new }
+        ensures whole { ReadsWhole self.old self.new }
         ensures orders { OrdersFollow self.new }
         ensures receipts { ReceiptsFollow self.new }
         ensures sends { SendsFollow self.new }
         ensures calls { CallsKeepTime self.new }
         ensures loans { LoansApart self.new }
+        ensures alone { LoansStandAlone self.new }
         ensures reads { ReadsLie self.new }
     {
         self.state.step(party, step)
@@ -90,6 +103,7 @@ impl Lanes {
         ensures sends { SendsFollow self.new }
         ensures calls { CallsKeepTime self.new }
         ensures loans { LoansApart self.new }
+        ensures alone { LoansStandAlone self.new }
         ensures reads { ReadsLie self.new }
     {
         self.follow();
@@ -113,6 +127,7 @@ impl Lanes {
         ensures sends { SendsFollow self.now }
         ensures calls { CallsKeepTime self.now }
         ensures loans { LoansApart self.now }
+        ensures alone { LoansStandAlone self.now }
         ensures reads { ReadsLie self.now }
     {
         let _ = &self.state;

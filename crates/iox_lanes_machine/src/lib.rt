@@ -7,6 +7,7 @@
 //! - `placing`: what stands in it at a step.
 //! - `state`: all ports with their words, and one step.
 //! - [`lanes`]: the lanes as one value.
+//! - [`laws`]: what they do over many steps.
 //!
 //! First calls. Tests in `iox_lanes_rows` make them.
 //!
@@ -19,6 +20,7 @@
 #![tactic(auto)]
 
 pub mod lanes;
+pub mod laws;
 pub mod link;
 mod made;
 mod order;

@@ -1,4 +1,5 @@
 use Rattle.std.proofs.Common.{◌≡◌, subst, sym}
+use Rattle.iox_lanes_machine.specs.Alone.{LoansStandAlone}
 use Rattle.iox_lanes_machine.specs.Calls.{CallsKeepTime}
 use Rattle.iox_lanes_machine.specs.Mailboxes.{OrdersFollow}
 use Rattle.iox_lanes_machine.specs.Reads.{ReadsLie}
@@ -6,6 +7,7 @@ use Rattle.iox_lanes_machine.specs.Receipts.{ReceiptsFollow}
 use Rattle.iox_lanes_machine.specs.Sends.{SendsFollow}
 use Rattle.iox_lanes_machine.specs.Slots.{LoansApart}
 use Rattle.iox_lanes_machine.specs.State.{world_of}
+use Rattle.iox_lanes_machine.proofs.Alone.{loans_alone}
 use Rattle.iox_lanes_machine.proofs.Mailboxes.{orders_follow}
 use Rattle.iox_lanes_machine.proofs.Slots.{loans_apart}
 use Rattle.iox_lanes_machine.proofs.lanes.Lanes.follow.Goals as goal
@@ -39,3 +41,8 @@ pub returns-clause-reads : goal.returns-clause-reads
 returns-clause-reads c =
     let is : c.args.self.now ≡ world_of c.self.inside.state = cc c.self.view_is in
     subst ReadsLie (sym is) c.self.invariant.reads
+
+pub returns-clause-alone : goal.returns-clause-alone
+returns-clause-alone c =
+    let is : c.args.self.now ≡ world_of c.self.inside.state = cc c.self.view_is in
+    subst LoansStandAlone (sym is) (loans_alone (world_of c.self.inside.state) c.self.invariant)

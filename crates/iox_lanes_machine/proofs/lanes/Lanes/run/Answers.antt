@@ -28,6 +28,7 @@ loop-entry-preserved c =
       c.step-stepped.ensures.sends,
       c.step-stepped.ensures.calls,
       c.step-stepped.ensures.loans,
+      c.step-stepped.ensures.alone,
       c.step-stepped.ensures.reads,
     )
 

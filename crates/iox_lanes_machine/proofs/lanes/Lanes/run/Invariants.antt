@@ -1,5 +1,6 @@
 use Rattle.std.proofs.Common.{ℕ, ◌+◌, ◌≤◌, length}
 use Rattle.iox_lanes_machine.specs.World.{World, RunsTo}
+use Rattle.iox_lanes_machine.specs.Alone.{LoansStandAlone}
 use Rattle.iox_lanes_machine.specs.Calls.{CallsKeepTime}
 use Rattle.iox_lanes_machine.specs.Mailboxes.{OrdersFollow}
 use Rattle.iox_lanes_machine.specs.Reads.{ReadsLie}
@@ -17,6 +18,7 @@ invariant-loop-entry l =
     × SendsFollow l.self
     × CallsKeepTime l.self
     × LoansApart l.self
+    × LoansStandAlone l.self
     × ReadsLie l.self
 
 abbrev pub decreases-loop-entry : goal.decreases-loop-entry

@@ -1,10 +1,16 @@
 use Rattle.std.proofs.Common.{◌≡◌, subst, sym}
 use Rattle.iox_lanes_machine.specs.Apart.{StaysApart}
+use Rattle.iox_lanes_machine.specs.Held.{ReadsWhole}
+use Rattle.iox_lanes_machine.specs.Left.{StoresLeft}
 use Rattle.iox_lanes_machine.specs.Told.{Told}
 use Rattle.iox_lanes_machine.specs.World.{World}
 use Rattle.iox_lanes_machine.specs.Slots.{SlotsStay}
 use Rattle.iox_lanes_machine.specs.State.{world_of}
+use Rattle.iox_lanes_machine.specs.Alone.{UsedSlotsStay}
+use Rattle.iox_lanes_machine.proofs.Alone.{loans_alone, used_stay}
 use Rattle.iox_lanes_machine.proofs.Apart.{steps_apart}
+use Rattle.iox_lanes_machine.proofs.Held.{reads_whole}
+use Rattle.iox_lanes_machine.proofs.Left.{stores_left}
 use Rattle.iox_lanes_machine.proofs.Mailboxes.{orders_follow}
 use Rattle.iox_lanes_machine.proofs.Slots.{loans_apart, slots_stay}
 use Rattle.iox_lanes_machine.proofs.Told.{steps_told}
@@ -60,3 +66,30 @@ pub returns-clause-reads : goal.returns-clause-reads
 returns-clause-reads c =
     let kept = steps_keep (world_of c.self.inside.state) c.args.party c.args.step.now c.step.result (world_of c.step.new.self) c.step.ensures c.self.invariant in
     kept.reads
+
+pub returns-clause-alone : goal.returns-clause-alone
+returns-clause-alone c = loans_alone (world_of c.step.new.self) (steps_keep (world_of c.self.inside.state) c.args.party c.args.step.now c.step.result (world_of c.step.new.self) c.step.ensures c.self.invariant)
+
+pub returns-clause-uses : goal.returns-clause-uses
+returns-clause-uses c =
+    let is : c.args.self.now ≡ world_of c.self.inside.state = cc c.self.view_is in
+    subst (λ (m : World). UsedSlotsStay m (world_of c.step.new.self)) (sym is)
+    (used_stay (world_of c.self.inside.state) c.args.party (world_of c.step.new.self) c.self.invariant
+    (slots_stay (world_of c.self.inside.state) c.args.party c.args.step.now c.step.result (world_of c.step.new.self) c.self.invariant.loans
+    (steps_apart (world_of c.self.inside.state) c.args.party c.args.step.now c.step.result (world_of c.step.new.self) c.step.ensures c.self.invariant.within)))
+
+pub returns-clause-whole : goal.returns-clause-whole
+returns-clause-whole c =
+    let is : c.args.self.now ≡ world_of c.self.inside.state = cc c.self.view_is in
+    subst (λ (m : World). ReadsWhole m (world_of c.step.new.self)) (sym is)
+    (reads_whole (world_of c.self.inside.state) c.args.party c.args.step.now c.step.result (world_of c.step.new.self) c.step.ensures
+    (steps_told (world_of c.self.inside.state) c.args.party c.args.step.now c.step.result (world_of c.step.new.self) c.step.ensures)
+    c.self.invariant.within c.self.invariant.uses c.self.invariant.reads c.self.invariant.calls c.self.invariant.held)
+
+pub returns-clause-left : goal.returns-clause-left
+returns-clause-left c =
+    let is : c.args.self.now ≡ world_of c.self.inside.state = cc c.self.view_is in
+    subst (λ (m : World). StoresLeft m (world_of c.step.new.self)) (sym is)
+    (stores_left (world_of c.self.inside.state) c.args.party c.args.step.now c.step.result (world_of c.step.new.self) c.step.ensures
+    (steps_told (world_of c.self.inside.state) c.args.party c.args.step.now c.step.result (world_of c.step.new.self) c.step.ensures)
+    c.self.invariant.calls c.self.invariant.left)

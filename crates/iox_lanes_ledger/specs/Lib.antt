@@ -1,0 +1,5 @@
+-- The definitions that contracts about the uses of slots cite.
+pub mod Uses
+pub mod Stored
+pub mod Sending
+pub mod Borrowing

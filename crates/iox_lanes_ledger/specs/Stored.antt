@@ -1,0 +1,34 @@
+-- What a connection's two rings hold beside the messages that wait there: what lies aside, and what was given back.
+use Rattle.std.specs.Prelude.{ℕ, zero, suc, ◌+◌, ◌-◌, ◌%◌, List, [], ◌∷◌, ◌++◌, length, slice_index}
+use Rattle.iox_queues_steps.specs.Access.{RingWords}
+use Rattle.iox_queues_steps.specs.declared.order.Act.{Act}
+use Rattle.iox_queues_steps.specs.declared.order.Act.TheVariants.{Put, Take}
+use Rattle.iox_queues_steps.specs.declared.order.PushAnswer.{PushAnswer}
+use Rattle.iox_queues_steps.specs.declared.order.PushAnswer.TheVariants.{Kept, LeftOut, Refused}
+use Rattle.iox_queues_rings.specs.Ends.{late_put}
+use Rattle.iox_queues_rings.specs.declared.ends.Push.{Push}
+
+-- a value that was put, unless it was refused
+abbrev pub taken_in : ℕ → PushAnswer → List ℕ
+taken_in value Kept = value ∷ []
+taken_in value (LeftOut oldest) = value ∷ []
+taken_in value Refused = []
+
+-- the values of some puts that were taken in
+abbrev pub put_in : List Act → List ℕ
+put_in [] = []
+put_in (Put value answer ∷ acts) = taken_in value answer ++ put_in acts
+put_in (Take answer ∷ acts) = put_in acts
+
+-- what lies aside: a push has stored it, and its put waits for the next move of the read position
+abbrev pub aside : ℕ → Push → List ℕ
+aside read push = put_in (late_put read push)
+
+-- so many cells of a ring, from a position on
+abbrev pub cells_from : RingWords → ℕ → ℕ → List ℕ
+cells_from words position zero = []
+cells_from words position (suc more) = slice_index words.cells (position % length words.cells) ∷ cells_from words (position + 1) more
+
+-- what stands in a ring between its two positions
+abbrev pub between : RingWords → List ℕ
+between words = cells_from words words.read (words.write - words.read)

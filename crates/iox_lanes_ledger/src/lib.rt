@@ -1,0 +1,11 @@
+//! What the slots of a publisher are used for, counted.
+//!
+//! The law is the contract of a function that does nothing: it is proved of the definitions that the contracts of a publisher's lane name.
+#![tactic(auto)]
+
+ghost use Rattle.iox_lanes_ledger.specs.Uses.{ChangesKeepCount};
+
+/// The uses that a publisher counts of a slot are those that it has: one as a loan, one in the history, one at each connection that has it.
+pub fn changes_keep_count()
+    ensures { ChangesKeepCount }
+{}

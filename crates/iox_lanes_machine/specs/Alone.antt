@@ -1,0 +1,58 @@
+-- A loan is used for nothing else: so the words of a slot stand still from the end of its send until nothing has it any longer.
+use Rattle.std.specs.Prelude.{ℕ, ◌≡◌, ◌<◌, ◌≤◌, ◌^◌, ◌⊎◌, false, slice_get, Some, List}
+use Rattle.iox_queues_steps.specs.declared.order.Placed.{Placed}
+use Rattle.iox_lanes_words.specs.Numbers.{IsWord}
+use Rattle.iox_lanes_words.specs.Table.{held_by}
+use Rattle.iox_lanes_words.specs.declared.word.SlotWord.{SlotWord}
+use Rattle.iox_lanes_words.specs.declared.word.SharedWord.TheVariants.{Slot}
+use Rattle.iox_lanes_parties.specs.Parties.{PublisherLaneState}
+use Rattle.iox_lanes_ledger.specs.Borrowing.{borrows}
+use Rattle.iox_lanes_ledger.specs.Uses.{count}
+use Rattle.iox_lanes_machine.specs.Rings.{waiting}
+use Rattle.iox_lanes_machine.specs.Slots.{IsLoanAt}
+use Rattle.iox_lanes_machine.specs.Uses.{aside_at, given_back, stands_at}
+use Rattle.iox_lanes_machine.specs.World.{World, publisher_stage}
+use Rattle.iox_lanes_machine.specs.declared.link.Link.{Link}
+
+-- a slot stands in no publisher's history
+abbrev pub InNoHistory : World → ℕ → Type 0
+InNoHistory m slot = (place : ℕ) (lane : PublisherLaneState) → slice_get m.publishers place ≡ Some lane → count slot lane.port.book.history ≡ 0
+
+-- a slot does not stand at a connection: it doesn't wait there, lies aside at none of its pushes, is not borrowed of it, and is not among the samples given back there
+pub record IsNotAt (m : World) (connection : ℕ) (link : Link) (order : List Placed) (slot : ℕ) : Type 0 where
+  pub waits : count slot (waiting link order) ≡ 0
+  pub aside : count slot (aside_at m.table connection link (publisher_stage (slice_get m.publishers link.publisher))) ≡ 0
+  pub borrowed : borrows connection slot (slice_get m.subscribers link.subscriber) ≡ false
+  pub given_back : count slot (given_back m.table connection) ≡ 0
+
+-- a slot stands at no connection
+abbrev pub AtNoConnection : World → ℕ → Type 0
+AtNoConnection m slot = (connection : ℕ) (link : Link) (order : List Placed) → slice_get m.links connection ≡ Some link → slice_get m.orders connection ≡ Some order → IsNotAt m connection link order slot
+
+-- each loan stands in no history and at no connection
+abbrev pub LoansAlone : World → Type 0
+LoansAlone m = (place slot : ℕ) → IsLoanAt m place slot → InNoHistory m slot × AtNoConnection m slot
+
+-- so it is as long as at most 2^63 steps were made
+abbrev pub LoansStandAlone : World → Type 0
+LoansStandAlone m = m.moments ≤ 2 ^ 63 → LoansAlone m
+
+-- a slot stands in some publisher's history
+pub record IsRemembered (m : World) (slot : ℕ) : Type 0 where
+  pub place : ℕ
+  pub lane : PublisherLaneState
+  pub found : slice_get m.publishers place ≡ Some lane
+  pub has : 0 < count slot lane.port.book.history
+
+-- a slot stands at some connection: it waits there, lies aside, is borrowed or was given back
+pub record IsAtConnection (m : World) (slot : ℕ) : Type 0 where
+  pub connection : ℕ
+  pub link : Link
+  pub order : List Placed
+  pub found : slice_get m.links connection ≡ Some link
+  pub got : slice_get m.orders connection ≡ Some order
+  pub has : 0 < stands_at m.table connection link order (publisher_stage (slice_get m.publishers link.publisher)) (slice_get m.subscribers link.subscriber) slot
+
+-- a step changes no word of a slot that stands in a history or at a connection, as long as at most 2^63 steps were made
+abbrev pub UsedSlotsStay : World → World → Type 0
+UsedSlotsStay m n = m.moments ≤ 2 ^ 63 → (slot : ℕ) (word : SlotWord) → IsWord m.table.sizes (Slot slot word) → IsRemembered m slot ⊎ IsAtConnection m slot → held_by n.table (Slot slot word) ≡ held_by m.table (Slot slot word)

@@ -1,0 +1,57 @@
+-- Who has which slot: a publisher's record of it is what stands at its connections.
+use Rattle.std.specs.Prelude.{ℕ, ◌≡◌, ◌+◌, ◌<◌, ◌≤◌, ◌^◌, List, length, slice_get, Option, Some}
+use Rattle.iox_queues_steps.specs.declared.access.Word.TheVariants.{Read}
+use Rattle.iox_queues_steps.specs.declared.order.Placed.{Placed}
+use Rattle.iox_lanes_words.specs.Table.{TableWords, held_by}
+use Rattle.iox_lanes_calls.specs.declared.publisher.PublisherCall.{PublisherCall}
+use Rattle.iox_lanes_calls.specs.declared.route.Route.{Route}
+use Rattle.iox_lanes_parties.specs.Parties.{PublisherLaneState, SubscriberLaneState}
+use Rattle.iox_lanes_ledger.specs.Borrowing.{borrows, UsesBorrowed, ArePlaced}
+use Rattle.iox_lanes_ledger.specs.Sending.{SendsLacking}
+use Rattle.iox_lanes_ledger.specs.Stored.{aside, between}
+use Rattle.iox_lanes_ledger.specs.Uses.{one_if, count, refers_to, UsesCounted}
+use Rattle.iox_lanes_machine.specs.Returns.{back_ring}
+use Rattle.iox_lanes_machine.specs.Rings.{sent_word, push_on, waiting}
+use Rattle.iox_lanes_machine.specs.World.{World}
+use Rattle.iox_lanes_machine.specs.declared.link.Link.{Link}
+
+-- what lies aside at a connection, where its publisher's call stands
+abbrev pub aside_at : TableWords → ℕ → Link → PublisherCall → List ℕ
+aside_at table connection link call = aside (held_by table (sent_word connection Read)) (push_on connection link.kind call)
+
+-- the samples that were given back at a connection and not taken back
+abbrev pub given_back : TableWords → ℕ → List ℕ
+given_back table connection = between (back_ring table connection table.sizes.completion_cells)
+
+-- how often a slot stands at a connection: among the messages that wait, aside, borrowed, and given back
+abbrev pub stands_at : TableWords → ℕ → Link → List Placed → PublisherCall → Option SubscriberLaneState → ℕ → ℕ
+stands_at table connection link order call receiver slot =
+    count slot (waiting link order) + count slot (aside_at table connection link call) + one_if (borrows connection slot receiver) + count slot (given_back table connection)
+
+-- what a publisher's record says of each of its connections stands there
+abbrev pub IsBalanced : World → PublisherLaneState → Type 0
+IsBalanced m lane = (place : ℕ) (route : Route) (link : Link) (order : List Placed) → slice_get lane.port.routes place ≡ Some route → slice_get m.links route.connection ≡ Some link → slice_get m.orders route.connection ≡ Some order
+    → (slot : ℕ) → stands_at m.table route.connection link order lane.port.call (slice_get m.subscribers link.subscriber) slot ≡ one_if (refers_to lane.port.book place slot)
+
+-- what every step keeps of a publisher's slots
+pub record PublisherUses (m : World) (lane : PublisherLaneState) : Type 0 where
+  pub counted : UsesCounted (length lane.port.routes) lane.port.book
+  pub lacking : SendsLacking (length lane.port.routes) lane.port.book lane.port.call
+  pub balanced : IsBalanced m lane
+
+-- and of a subscriber's samples: it has a place for each slot of the service
+pub record SubscriberUses (m : World) (lane : SubscriberLaneState) : Type 0 where
+  pub all : length lane.port.samples ≡ m.table.sizes.slots
+  pub borrowed : UsesBorrowed lane.port.samples lane.port.call
+  pub placed : ArePlaced lane.port.samples (length lane.port.routes)
+
+-- what every step keeps of the uses of slots; each connection has a publisher, and a publisher and a subscriber have one connection
+pub record UsesKept (m : World) : Type 0 where
+  pub publishers : (place : ℕ) (lane : PublisherLaneState) → slice_get m.publishers place ≡ Some lane → PublisherUses m lane
+  pub subscribers : (place : ℕ) (lane : SubscriberLaneState) → slice_get m.subscribers place ≡ Some lane → SubscriberUses m lane
+  pub senders : (connection : ℕ) (link : Link) → slice_get m.links connection ≡ Some link → link.publisher < length m.publishers
+  pub pairs : (one other : ℕ) (link behind : Link) → slice_get m.links one ≡ Some link → slice_get m.links other ≡ Some behind → link.publisher ≡ behind.publisher → link.subscriber ≡ behind.subscriber → one ≡ other
+
+-- so it is as long as at most 2^63 steps were made
+abbrev pub UsesFollow : World → Type 0
+UsesFollow m = m.moments ≤ 2 ^ 63 → UsesKept m

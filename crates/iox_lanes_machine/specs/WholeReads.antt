@@ -1,0 +1,58 @@
+-- A read gives what its slot held when its message was sent, whatever steps lie between.
+use Rattle.std.specs.Prelude.{ℕ, ◌≡◌, ◌+◌, ◌<◌, ◌≤◌, ◌^◌, ◌⊎◌, true, false, List, [], ◌∷◌, ◌++◌, length, get_or}
+use Rattle.iox_lanes_words.specs.Table.{held_by}
+use Rattle.iox_lanes_words.specs.declared.word.SharedWord.{SharedWord}
+use Rattle.iox_lanes_words.specs.declared.word.SharedWord.TheVariants.{Slot}
+use Rattle.iox_lanes_calls.specs.Subscribing.{word_at}
+use Rattle.iox_lanes_parties.specs.declared.call.CallName.TheVariants as name
+use Rattle.iox_lanes_parties.specs.declared.call.Entry.{Entry}
+use Rattle.iox_lanes_parties.specs.declared.call.FinishedCall.{FinishedCall}
+use Rattle.iox_lanes_parties.specs.declared.call.Move.{Move}
+use Rattle.iox_lanes_parties.specs.declared.call.Party.{Party}
+use Rattle.iox_lanes_machine.specs.Alone.{IsRemembered, IsAtConnection}
+use Rattle.iox_lanes_machine.specs.Apart.{MayChange, access_of}
+use Rattle.iox_lanes_machine.specs.Held.{extent_of, slot_held}
+use Rattle.iox_lanes_machine.specs.Made.{start}
+use Rattle.iox_lanes_machine.specs.Reads.{width}
+use Rattle.iox_lanes_machine.specs.World.{World, fits, happens, RunsTo}
+use Rattle.iox_lanes_machine.specs.declared.sizes.LaneSizes.{LaneSizes}
+
+-- lanes that were made, and where some steps brought them
+pub record CameTo (m : World) : Type 0 where
+  pub sizes : LaneSizes
+  pub some : 0 < sizes.buffer
+  pub ports : sizes.subscribers < 2 ^ 61
+  pub small : sizes.buffer + sizes.most_borrowed + 1 < 2 ^ 62
+  pub schedule : List Entry
+  pub made : ℕ
+  pub runs : RunsTo (start sizes) schedule made m
+
+-- a list of steps leads from one place to another, and before each of them the slot stands in a history or at a connection
+abbrev pub UsedThrough : ℕ → World → List Entry → World → Type 0
+UsedThrough slot m [] n = n ≡ m
+UsedThrough slot m (entry ∷ entries) n =
+    (IsRemembered m slot ⊎ IsAtConnection m slot)
+    × (((fits m entry.party entry.step ≡ false) × UsedThrough slot m entries n)
+    ⊎ ((fits m entry.party entry.step ≡ true) × UsedThrough slot (happens m entry.party entry.step) entries n))
+
+-- However lanes came to where they are, and whatever steps follow: if the slot has a use before each of them, then a read of it that ends behind them gives just the words that the slot
+-- held at first. So it is as long as at most 2^63 steps were made.
+abbrev pub ReadsGiveWhatStood : Type 0
+ReadsGiveWhatStood = (m : World) → CameTo m → (slot : ℕ) (entries : List Entry) (n : World) → UsedThrough slot m entries n → n.moments ≤ 2 ^ 63
+    → (party : Party) (step : Move) (call : FinishedCall) → fits n party step ≡ true → (happens n party step).finished ≡ n.finished ++ call ∷ [] → call.call ≡ name.Read slot
+    → (happens n party step).read ≡ n.read ++ slot_held m.table slot
+
+-- a list of steps leads from one place to another, and none of them that is made may change this word
+abbrev pub UntouchedThrough : SharedWord → World → List Entry → World → Type 0
+UntouchedThrough word m [] n = n ≡ m
+UntouchedThrough word m (entry ∷ entries) n =
+    ((fits m entry.party entry.step ≡ false) × UntouchedThrough word m entries n)
+    ⊎ ((fits m entry.party entry.step ≡ true) × (MayChange (access_of m entry.party entry.step) word → ⊥) × UntouchedThrough word (happens m entry.party entry.step) entries n)
+
+-- However lanes came to where they are, and whatever steps follow of which none may change a word of a slot: a read of the slot that ends behind them gives, at the place of this word, just
+-- what it held at first, be it of the header, the user header or the payload. So it is as long as at most 2^63 steps were made.
+abbrev pub ReadsGiveWhatWasStored : Type 0
+ReadsGiveWhatWasStored = (m : World) → CameTo m → (slot place : ℕ) → place < width m.table.sizes
+    → (entries : List Entry) (n : World) → UntouchedThrough (Slot slot (word_at (extent_of m.table.sizes) place)) m entries n → n.moments ≤ 2 ^ 63
+    → (party : Party) (step : Move) (call : FinishedCall) → fits n party step ≡ true → (happens n party step).finished ≡ n.finished ++ call ∷ [] → call.call ≡ name.Read slot
+    → get_or (happens n party step).read (length n.read + place) 0 ≡ held_by m.table (Slot slot (word_at (extent_of m.table.sizes) place))
