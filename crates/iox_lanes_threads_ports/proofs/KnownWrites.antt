@@ -1,0 +1,163 @@
+-- After a write the port knows its payload in the slot.
+use Rattle.std.proofs.Common.{ℕ, ◌≡◌, ◌<◌, ◌≤◌, ◌⊎◌, Bool, true, false, if◌then◌else◌, List, length, set, slice_get, slice_index, Option, Some, None, is_some, refl, sym, ◌∙◌, ap, subst, inl, inr, arith}
+use Rattle.std.proofs.lemmas.Bool.{cases_lt, cases_order}
+use Rattle.std.proofs.lemmas.Option.{slice_get-get_or, slice_get_within}
+use Rattle.iox_queues_steps.specs.Access.{successor}
+use Rattle.iox_lanes_words.specs.Numbers.{number_of, words_of, IsWord}
+use Rattle.iox_lanes_words.specs.declared.word.SharedWord.TheVariants.{Slot}
+use Rattle.iox_lanes_words.specs.declared.word.SlotWord.TheVariants.{Payload}
+use Rattle.iox_lanes_calls.specs.Publishing.{publisher_next, publisher_take, publisher_is_over, write_from}
+use Rattle.iox_lanes_calls.specs.declared.publisher.PublisherCall.{PublisherCall}
+use Rattle.iox_lanes_calls.specs.declared.publisher.PublisherCall.TheVariants as publishing
+use Rattle.iox_lanes_calls.specs.declared.route.Route.{Route}
+use Rattle.iox_lanes_publisher.specs.Publishers.{words_of as call_words}
+use Rattle.iox_lanes_parties.specs.Parties.{PublisherLaneState, publisher_fits, publisher_after}
+use Rattle.iox_lanes_parties.specs.Within.{IsPublishing}
+use Rattle.iox_lanes_parties.specs.declared.call.Answer.{Answer}
+use Rattle.iox_lanes_parties.specs.declared.call.Call.TheVariants as call
+use Rattle.iox_lanes_parties.specs.declared.call.Move.{Move}
+use Rattle.iox_lanes_parties.specs.declared.call.Move.TheVariants.{Begin, GoOn}
+use Rattle.iox_lanes_threads_rule.specs.Acts.{stepped, ToldBy}
+use Rattle.iox_lanes_threads_rule.specs.declared.view.Port.{Port}
+use Rattle.iox_lanes_threads_rule.specs.declared.view.PortParty.{PortParty}
+use Rattle.iox_lanes_threads_rule.proofs.Held.{word_at}
+use Rattle.iox_lanes_threads_ports.specs.Courses.{publisher_party, publisher_stepped, PublisherGoes, PublisherRuns}
+use Rattle.iox_lanes_threads_ports.specs.Courses.PublisherGoes.{stays, goes}
+use Rattle.iox_lanes_threads_ports.specs.Ends.{knows}
+use Rattle.iox_lanes_threads_ports.specs.Known.{payload_word, KnowsPayload}
+use Rattle.iox_lanes_threads_ports.specs.Ports.{PublisherStands}
+use Rattle.iox_lanes_threads_ports.specs.Values.{Asks, publisher_begins, PublisherDoes}
+use Rattle.iox_lanes_threads_ports.proofs.PublisherSteps as publishers
+use Rattle.iox_lanes_threads_ports.proofs.Running.{publisher_begun_stands}
+
+-- what each step of a publisher keeps, its run keeps
+pub publisher_along : (I : Port → PublisherLaneState → Type 0)
+    → ((q : Port) (now : PublisherLaneState) (n : ℕ) → PublisherStands q now → ToldBy q (publisher_next now.port.call) n → I q now → I (publisher_stepped q now n) (publisher_after n now))
+    → (p : Port) (lane : PublisherLaneState) (q : Port) (now : PublisherLaneState) → PublisherGoes p lane q now → PublisherStands p lane → I p lane → PublisherStands q now × I q now
+publisher_along I keeps p lane _ _ stays stands h = (stands, h)
+publisher_along I keeps p lane _ _ (goes q now n run told) stands h =
+    let was = publisher_along I keeps p lane q now run stands h in
+    (publishers.goes_on q now was.0 n told, keeps q now n was.0 told was.1)
+
+pub none_past : (xs : List ℕ) (n : ℕ) → slice_get xs n ≡ None → length xs ≤ n
+none_past xs n e = elim (cases_lt n (length xs)) [
+  | inl less ↦ absurd (cc (e, slice_get-get_or xs n 0 less))
+  | inr past ↦ past
+]
+
+pub some_value : (xs : List ℕ) (n v : ℕ) → slice_get xs n ≡ Some v → slice_index xs n ≡ v
+some_value xs n v e = some_is (sym (slice_get-get_or xs n 0 (slice_get_within xs n v e)) ∙ e)
+  where
+    some_is : {x y : ℕ} → Some x ≡ Some y → x ≡ y
+    some_is h = cc h
+
+-- the first words of the payload
+abbrev UpTo : Port → ℕ → List ℕ → ℕ → Type 0
+UpTo q slot payload n = (k : ℕ) → k < n → k < length payload → knows q (payload_word slot k) ≡ slice_index payload k
+
+abbrev InWrite : ℕ → List ℕ → Port → PublisherCall → Type 0
+InWrite slot payload q publishing.Idle = KnowsPayload q slot payload
+InWrite slot payload q (publishing.LoanReclaims place route pop) = ⊥
+InWrite slot payload q publishing.Lending = ⊥
+InWrite slot payload q (publishing.Writing s w v) = (s ≡ slot) × (slice_get payload w ≡ Some v) × UpTo q slot payload w
+InWrite slot payload q (publishing.Written s) = KnowsPayload q slot payload
+InWrite slot payload q (publishing.Heading s w v) = ⊥
+InWrite slot payload q (publishing.Remembering s) = ⊥
+InWrite slot payload q (publishing.SendReclaims s place route pop) = ⊥
+InWrite slot payload q (publishing.Pushing s place route push delivery) = ⊥
+InWrite slot payload q (publishing.Sent s delivery) = ⊥
+InWrite slot payload q (publishing.Dropping s) = ⊥
+
+from_word : (q : Port) (slot : ℕ) (payload : List ℕ) (n : ℕ) (at : Option ℕ) → slice_get payload n ≡ at → UpTo q slot payload n → InWrite slot payload q (write_from slot n at)
+from_word q slot payload n None e up = λ k h. let past = none_past payload n e in up k (omega (arith, h, past)) h
+from_word q slot payload n (Some v) e up = (refl, e, up)
+
+same_payload : (s t k w : ℕ) → Slot s (Payload k) ≡ Slot t (Payload w) → k ≡ w
+same_payload s t k w e = cc e
+
+payload_here : (slot s k w : ℕ) → s ≡ slot → k ≡ w → payload_word slot k ≡ payload_word s w
+payload_here slot s k w e f = cc (e, f)
+
+-- one more word
+one_more : (q : Port) (slot s w v : ℕ) (payload : List ℕ) (party : PortParty) → length q.known ≡ words_of q.service.sizes → s < q.service.sizes.slots → w < q.service.sizes.payload_words → s ≡ slot → slice_get payload w ≡ Some v
+    → UpTo q slot payload w → UpTo (record q { known = set q.known (number_of q.service.sizes (payload_word s w)) v; party = party }) slot payload (successor w)
+one_more q slot s w v payload party wide there below e at up k less within =
+    let is_w : IsWord q.service.sizes (payload_word s w) = (there, below) in
+    let is_k : IsWord q.service.sizes (payload_word slot k) = (subst (λ (z : ℕ). z < q.service.sizes.slots) e there, omega (arith, less, below)) in
+    elim (word_at q.service q.known (payload_word s w) (payload_word slot k) v wide is_w is_k) [
+      | inl same ↦ same.1 ∙ sym (ap (slice_index payload) (same_payload slot s k w same.0) ∙ some_value payload w v at)
+      | inr other ↦ other.1 ∙ up k (below_w (cases_order k w) other.0) within
+    ]
+  where
+    below_w : (k ≡ w) ⊎ ((k < w) ⊎ (w < k)) → (payload_word slot k ≡ payload_word s w → ⊥) → k < w
+    below_w (inl f) off = absurd (off (payload_here slot s k w e f))
+    below_w (inr (inl h)) off = h
+    below_w (inr (inr h)) off = absurd (omega (arith, h, less))
+
+module _ (slot : ℕ) (payload : List ℕ) (q : Port) (routes : List Route) (words : List ℕ) (n : ℕ) (after : ℕ → PortParty) (wide : length q.known ≡ words_of q.service.sizes) (same : words ≡ payload) where
+  write_goes : (c : PublisherCall) → IsPublishing q.service.sizes routes words c → InWrite slot payload q c → InWrite slot payload (stepped q (publisher_next c) n after) (publisher_take routes words c n)
+  write_goes publishing.Idle is h = h
+  write_goes (publishing.LoanReclaims place route pop) is h = absurd h
+  write_goes publishing.Lending is h = absurd h
+  write_goes (publishing.Writing s w v) is h =
+      let q' : Port = stepped q (publisher_next (publishing.Writing s w v)) n after in
+      subst (λ (z : ℕ). InWrite slot payload q' (write_from z (successor w) (slice_get words (successor w)))) (sym h.0)
+      (from_word q' slot payload (successor w) (slice_get words (successor w)) (ap (λ (xs : List ℕ). slice_get xs (successor w)) (sym same)) (one_more q slot s w v payload (after 0) wide is.0 is.1 h.0 h.1 h.2))
+  write_goes (publishing.Written s) is h = h
+  write_goes (publishing.Heading s w v) is h = absurd h
+  write_goes (publishing.Remembering s) is h = absurd h
+  write_goes (publishing.SendReclaims s place route pop) is h = absurd h
+  write_goes (publishing.Pushing s place route push delivery) is h = absurd h
+  write_goes (publishing.Sent s delivery) is h = absurd h
+  write_goes (publishing.Dropping s) is h = absurd h
+
+-- a publisher that writes
+record Writing (slot : ℕ) (payload : List ℕ) (q : Port) (lane : PublisherLaneState) : Type 0 where
+  sends : lane.port.sends ≡ false
+  words : lane.port.payload ≡ payload
+  stage : InWrite slot payload q lane.port.call
+
+writing_on : (slot : ℕ) (payload : List ℕ) (q : Port) (now : PublisherLaneState) (n : ℕ) → PublisherStands q now → ToldBy q (publisher_next now.port.call) n → Writing slot payload q now
+    → Writing slot payload (publisher_stepped q now n) (publisher_after n now)
+writing_on slot payload q now n stands told h = record {
+  sends = h.sends;
+  words = h.words;
+  stage = write_goes slot payload q now.port.routes (call_words now.port) n (publisher_party now) stands.wide (ap (λ (b : Bool). if b then now.port.head else now.port.payload) h.sends ∙ h.words) now.port.call stands.within.call h.stage;
+}
+
+over_known : (slot : ℕ) (payload : List ℕ) (q : Port) (c : PublisherCall) → InWrite slot payload q c → publisher_is_over c ≡ true → KnowsPayload q slot payload
+over_known slot payload q publishing.Idle h over = h
+over_known slot payload q (publishing.LoanReclaims place route pop) h over = absurd h
+over_known slot payload q publishing.Lending h over = absurd h
+over_known slot payload q (publishing.Writing s w v) h over = absurd (cc over)
+over_known slot payload q (publishing.Written s) h over = h
+over_known slot payload q (publishing.Heading s w v) h over = absurd h
+over_known slot payload q (publishing.Remembering s) h over = absurd h
+over_known slot payload q (publishing.SendReclaims s place route pop) h over = absurd h
+over_known slot payload q (publishing.Pushing s place route push delivery) h over = absurd h
+over_known slot payload q (publishing.Sent s delivery) h over = absurd h
+over_known slot payload q (publishing.Dropping s) h over = absurd h
+
+written : (p : Port) (lane : PublisherLaneState) (q : Port) (now : PublisherLaneState) (loan : ℕ) (payload user_header : List ℕ) (step : Move) (a : Answer) → PublisherStands p lane → publisher_fits lane step ≡ true
+    → Asks loan payload user_header step → PublisherRuns p (publisher_begins step lane) q now (Some a) → KnowsPayload q loan payload
+written p lane q now loan payload user_header GoOn a stands fit asks run = absurd asks
+written p lane q now loan payload user_header (Begin call.LoanUninit) a stands fit asks run = absurd asks
+written p lane q now loan payload user_header (Begin (call.Write slot words header)) a stands fit asks run =
+    let begun : PublisherLaneState = publisher_begins (Begin (call.Write slot words header)) lane in
+    let first : Writing slot words.items p begun = record { sends = refl; words = refl; stage = from_word p slot words.items 0 (slice_get words.items 0) refl (λ k less within. absurd (omega (arith, less))) } in
+    let end = publisher_along (Writing slot words.items) (writing_on slot words.items) p begun q run.last run.goes (publisher_begun_stands p lane (Begin (call.Write slot words header)) stands fit) first in
+    subst (λ (z : ℕ × List ℕ). KnowsPayload q z.0 z.1) (λ i. (asks.0 i, asks.1 i)) (over_known slot words.items q run.last.port.call end.1.stage run.ends)
+written p lane q now loan payload user_header (Begin (call.Send slot)) a stands fit asks run = absurd asks
+written p lane q now loan payload user_header (Begin (call.DropLoan slot)) a stands fit asks run = absurd asks
+written p lane q now loan payload user_header (Begin call.Receive) a stands fit asks run = absurd asks
+written p lane q now loan payload user_header (Begin (call.Read sample)) a stands fit asks run = absurd asks
+written p lane q now loan payload user_header (Begin (call.Release sample)) a stands fit asks run = absurd asks
+
+-- a write that was answered
+pub write_known : (p : Port) (lane : PublisherLaneState) (q : Port) (now : PublisherLaneState) (loan : ℕ) (payload user_header : List ℕ) (step : Move) (given : Option Answer) → PublisherStands p lane
+    → Asks loan payload user_header step → PublisherDoes p lane step q now given → is_some given ≡ true → KnowsPayload q loan payload
+write_known p lane q now loan payload user_header step None stands asks does some = absurd (cc some)
+write_known p lane q now loan payload user_header step (Some a) stands asks does some = elim does [
+  | inl none ↦ absurd (cc none.1)
+  | inr done ↦ written p lane q now loan payload user_header step a stands done.0 asks done.1
+]

@@ -1,0 +1,9 @@
+use Rattle.std.proofs.Common.{sym, subst}
+use Rattle.iox_lanes_words.specs.declared.access.SharedAccess.{SharedAccess}
+use Rattle.iox_lanes_threads_rule.specs.Acts.{MayAct}
+use Rattle.iox_lanes_threads_ports.proofs.PublisherSteps.{may_act}
+use Rattle.iox_lanes_threads_ports.proofs.publishing.step_as.Goals as goal
+
+pub act-given-requires-clause-may : goal.act-given-requires-clause-may
+act-given-requires-clause-may g c =
+    subst (λ (access : SharedAccess). MayAct g.M.Doing.port access) (sym c.next.ensures) (may_act g.M.Doing.port c.args.lane.now c.requires.stands)

@@ -1,0 +1,12 @@
+use Rattle.std.proofs.Common.{◌≡◌}
+use Rattle.iox_lanes_threads_rule.specs.Acts.{port_of}
+use Rattle.iox_lanes_threads_ports.specs.Values.{IsShort, steps_left}
+use Rattle.iox_lanes_threads_ports.proofs.Running.{Subscribes}
+use Rattle.iox_lanes_threads_ports.proofs.subscribing.finish.Given as goal
+
+abbrev pub invariant-loop-seat : goal.invariant-loop-seat
+invariant-loop-seat g l =
+    (l.seat.table_id ≡ l.initial.seat.table_id) × (l.seat.id ≡ l.initial.seat.id) × Subscribes (port_of l.initial.seat.me) l.initial.lane l.seat.me l.lane × IsShort l.lane.port.call
+
+abbrev pub decreases-loop-seat : goal.decreases-loop-seat
+decreases-loop-seat g l = steps_left l.lane.port.call

@@ -1,0 +1,14 @@
+use Rattle.std.proofs.Common.{refl, ◌∙◌}
+use Rattle.iox_lanes_threads_rule.specs.Acts.{port_of}
+use Rattle.iox_lanes_threads_ports.proofs.Running.{subscribes, subscribes_on}
+use Rattle.iox_lanes_threads_ports.proofs.subscribing.run_on.Goals as goal
+
+pub loop-init : goal.loop-init
+loop-init g c = (refl, refl, subscribes (port_of c.args.seat.now.me) c.args.lane.now c.args.seat.now.me c.requires.seat.0 refl c.requires.stands)
+
+pub loop-preserved : goal.loop-preserved
+loop-preserved g c = (
+  c.step.ensures.table.0 ∙ c.loop.invariant.0,
+  c.step.ensures.table.1 ∙ c.loop.invariant.1,
+  subscribes_on (port_of c.args.seat.now.me) c.args.lane.now c.loop.seat.me c.loop.lane c.step.new.seat.me c.step.new.lane c.loop.invariant.2 c.step.ensures.steps,
+)

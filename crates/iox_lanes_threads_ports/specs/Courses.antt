@@ -1,0 +1,69 @@
+-- The steps of a port in threads: each is the access that the stage of its call names, with the answer that it got.
+use Rattle.std.specs.Prelude.{ℕ, ◌≡◌, true, Option, None, Some}
+use Rattle.atomic_table.specs.Table.{Me}
+use Rattle.iox_lanes_calls.specs.Publishing.{publisher_next, publisher_is_over}
+use Rattle.iox_lanes_calls.specs.Subscribing.{subscriber_next, subscriber_is_over}
+use Rattle.iox_lanes_parties.specs.Parties.{PublisherLaneState, SubscriberLaneState, publisher_after, publisher_answer, subscriber_after, subscriber_answer}
+use Rattle.iox_lanes_parties.specs.declared.call.Answer.{Answer}
+use Rattle.iox_lanes_threads_rule.specs.Acts.{single, stepped, ToldBy}
+use Rattle.iox_lanes_threads_rule.specs.declared.view.Port.{Port}
+use Rattle.iox_lanes_threads_rule.specs.declared.view.PortParty.{PortParty}
+use Rattle.iox_lanes_threads_rule.specs.declared.view.PortParty.TheVariants as party
+use Rattle.iox_lanes_threads_rule.specs.declared.view.View.{View}
+
+-- a publisher after an answer
+abbrev pub publisher_party : PublisherLaneState → ℕ → PortParty
+publisher_party lane answer = party.Publisher (publisher_after answer lane)
+
+-- a subscriber after an answer
+abbrev pub subscriber_party : SubscriberLaneState → ℕ → PortParty
+subscriber_party lane answer = party.Subscriber (subscriber_after answer lane)
+
+-- the port of a publisher after its next access was answered
+abbrev pub publisher_stepped : Port → PublisherLaneState → ℕ → Port
+publisher_stepped p lane answer = stepped p (publisher_next lane.port.call) answer (publisher_party lane)
+
+-- the port of a subscriber after its next access was answered
+abbrev pub subscriber_stepped : Port → SubscriberLaneState → ℕ → Port
+subscriber_stepped p lane answer = stepped p (subscriber_next lane.port.call) answer (subscriber_party lane)
+
+-- steps of a publisher, one after the other: each makes the access that its call names next, and goes on after the answer
+pub data PublisherGoes (p : Port) (lane : PublisherLaneState) : Port → PublisherLaneState → Type 0 where
+  stays : PublisherGoes p lane p lane
+  goes : (q : Port) (now : PublisherLaneState) (answer : ℕ) → PublisherGoes p lane q now → ToldBy q (publisher_next now.port.call) answer
+      → PublisherGoes p lane (publisher_stepped q now answer) (publisher_after answer now)
+
+-- steps of a subscriber
+pub data SubscriberGoes (p : Port) (lane : SubscriberLaneState) : Port → SubscriberLaneState → Type 0 where
+  stays : SubscriberGoes p lane p lane
+  goes : (q : Port) (now : SubscriberLaneState) (answer : ℕ) → SubscriberGoes p lane q now → ToldBy q (subscriber_next now.port.call) answer
+      → SubscriberGoes p lane (subscriber_stepped q now answer) (subscriber_after answer now)
+
+-- one step of a publisher on the shared words, with what its answer tells
+abbrev pub PublisherSteps : Port → PublisherLaneState → Me ℕ View → PublisherLaneState → Type 0
+PublisherSteps p lane me now = (answer : ℕ) × ToldBy p (publisher_next lane.port.call) answer × (me ≡ single (publisher_stepped p lane answer)) × (now ≡ publisher_after answer lane)
+
+-- one step of a subscriber
+abbrev pub SubscriberSteps : Port → SubscriberLaneState → Me ℕ View → SubscriberLaneState → Type 0
+SubscriberSteps p lane me now = (answer : ℕ) × ToldBy p (subscriber_next lane.port.call) answer × (me ≡ single (subscriber_stepped p lane answer)) × (now ≡ subscriber_after answer lane)
+
+-- the steps of a publisher's call up to its last, and that one, which answers
+pub record PublisherEnds (p : Port) (lane : PublisherLaneState) (q : Port) (now : PublisherLaneState) (answer : Answer) : Type 0 where
+  pub last : PublisherLaneState
+  pub goes : PublisherGoes p lane q last
+  pub ends : publisher_is_over last.port.call ≡ true
+  pub after : now ≡ publisher_after 0 last
+  pub answers : publisher_answer last.port.call now.port.book.answer ≡ Some answer
+
+-- likewise of a subscriber's call
+pub record SubscriberEnds (p : Port) (lane : SubscriberLaneState) (q : Port) (now : SubscriberLaneState) (answer : Answer) : Type 0 where
+  pub last : SubscriberLaneState
+  pub goes : SubscriberGoes p lane q last
+  pub ends : subscriber_is_over last.port.call ≡ true
+  pub after : now ≡ subscriber_after 0 last
+  pub answers : subscriber_answer last.port.call 0 ≡ Some answer
+
+-- the steps of a publisher's call: with an answer to its end, and else to somewhere inside it
+abbrev pub PublisherRuns : Port → PublisherLaneState → Port → PublisherLaneState → Option Answer → Type 0
+PublisherRuns p lane q now None = PublisherGoes p lane q now
+PublisherRuns p lane q now (Some answer) = PublisherEnds p lane q now answer

@@ -1,0 +1,49 @@
+-- What a port knows of the words of a slot.
+use Rattle.std.specs.Prelude.{ℕ, ◌≡◌, ◌+◌, ◌<◌, ◌%◌, List, length, slice_get, slice_index, Some}
+use Rattle.iox_queues_steps.specs.Access.{successor}
+use Rattle.iox_queues_steps.specs.declared.access.Word.TheVariants.{Write, Cell}
+use Rattle.iox_lanes_words.specs.declared.word.ConnectionRing.{ConnectionRing}
+use Rattle.iox_lanes_words.specs.declared.word.ConnectionRing.TheVariants.{Completion}
+use Rattle.iox_lanes_words.specs.declared.word.SharedWord.{SharedWord}
+use Rattle.iox_lanes_words.specs.declared.word.SharedWord.TheVariants.{Ring, Slot}
+use Rattle.iox_lanes_words.specs.declared.word.SlotWord.TheVariants.{Payload}
+use Rattle.iox_lanes_calls.specs.Publishing.{header_word}
+use Rattle.iox_lanes_calls.specs.Subscribing.{word_at}
+use Rattle.iox_lanes_calls.specs.declared.route.Route.{Route}
+use Rattle.iox_lanes_calls.specs.declared.subscriber.SlotExtent.{SlotExtent}
+use Rattle.iox_lanes_parties.specs.Parties.{SubscriberLaneState, place_of}
+use Rattle.iox_lanes_threads_rule.specs.declared.view.Port.{Port}
+use Rattle.iox_lanes_threads_ports.specs.Ends.{knows}
+
+-- a word of the payload of a slot
+abbrev pub payload_word : ℕ → ℕ → SharedWord
+payload_word slot k = Slot slot (Payload k)
+
+-- the slot has this payload
+abbrev pub KnowsPayload : Port → ℕ → List ℕ → Type 0
+KnowsPayload p slot payload = (k : ℕ) → k < length payload → knows p (payload_word slot k) ≡ slice_index payload k
+
+-- the slot has these words of header and user header
+abbrev pub KnowsHead : Port → ℕ → List ℕ → Type 0
+KnowsHead p slot head = (k : ℕ) → k < length head → knows p (Slot slot (header_word k)) ≡ slice_index head k
+
+-- the words are those of header, user header and payload of the slot, as far as they go
+abbrev pub KnowsRead : Port → SlotExtent → ℕ → List ℕ → Type 0
+KnowsRead p extent slot words =
+    (k : ℕ) → k < length words → k < 3 + extent.user_header_words + extent.payload_words → knows p (Slot slot (word_at extent k)) ≡ slice_index words k
+
+-- Something was put into a ring that the port writes: it stands in the cell of the write position that the port knew, which is one higher now; positions stop at
+-- the largest number.
+abbrev pub KnowsPut : Port → Port → ℕ → ConnectionRing → ℕ → ℕ → Type 0
+KnowsPut old new connection ring cells value =
+    (knows new (Ring connection ring Write) ≡ successor (knows old (Ring connection ring Write)))
+    × (knows new (Ring connection ring (Cell (knows old (Ring connection ring Write) % cells))) ≡ value)
+
+-- a sample was given back at the connection that it was borrowed of
+abbrev pub KnowsGivenBack : Port → Port → SubscriberLaneState → ℕ → Type 0
+KnowsGivenBack old new lane sample =
+    (place : ℕ) (route : Route) → place_of sample lane ≡ Some place → slice_get lane.port.routes place ≡ Some route → KnowsPut old new route.connection Completion route.completion_cells sample
+
+-- a slot's payload is as it was
+abbrev pub KeepsPayload : Port → Port → ℕ → Type 0
+KeepsPayload old new slot = (k : ℕ) → k < old.service.sizes.payload_words → knows new (payload_word slot k) ≡ knows old (payload_word slot k)

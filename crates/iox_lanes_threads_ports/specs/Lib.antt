@@ -1,0 +1,6 @@
+-- The definitions that contracts about ports in threads cite.
+pub mod Ends
+pub mod Ports
+pub mod Known
+pub mod Values
+pub mod Courses

@@ -1,0 +1,115 @@
+-- A port in threads: its lane, what it knows, and how the two fit.
+use Rattle.std.specs.Prelude.{ℕ, ◌≡◌, ◌+◌, ◌<◌, ◌≤◌, length, slice_get, Some, true}
+use Rattle.std.specs.List.{All}
+use Rattle.iox_queues_steps.specs.declared.access.Word.TheVariants.{Write, Read}
+use Rattle.iox_lanes_words.specs.Numbers.{words_of}
+use Rattle.iox_lanes_words.specs.declared.word.ConnectionRing.TheVariants.{Completion}
+use Rattle.iox_lanes_words.specs.declared.word.SharedWord.{SharedWord}
+use Rattle.iox_lanes_words.specs.declared.word.SharedWord.TheVariants.{Ring}
+use Rattle.iox_lanes_calls.specs.declared.publisher.PublisherCall.{PublisherCall}
+use Rattle.iox_lanes_calls.specs.declared.publisher.PublisherCall.TheVariants as publishing
+use Rattle.iox_lanes_calls.specs.declared.route.Route.{Route}
+use Rattle.iox_lanes_calls.specs.declared.subscriber.SubscriberCall.{SubscriberCall}
+use Rattle.iox_lanes_calls.specs.declared.subscriber.SubscriberCall.TheVariants as subscribing
+use Rattle.iox_lanes_publisher.specs.Keeping.{BookState}
+use Rattle.iox_lanes_calls.specs.Publishing.{publisher_next}
+use Rattle.iox_lanes_calls.specs.Subscribing.{subscriber_next}
+use Rattle.iox_lanes_parties.specs.Parties.{PublisherLaneState, SubscriberLaneState, publisher_fits, publisher_begun, publisher_after, subscriber_fits, subscriber_begun, subscriber_after}
+use Rattle.iox_lanes_parties.specs.declared.call.Call.{Call}
+use Rattle.iox_lanes_parties.specs.declared.call.Move.TheVariants.{Begin}
+use Rattle.iox_lanes_threads_rule.specs.Acts.{MayAct, ToldBy}
+use Rattle.iox_lanes_threads_ports.specs.Courses.{publisher_stepped, subscriber_stepped}
+use Rattle.iox_lanes_parties.specs.Within.{IsPublisher, IsSubscriber}
+use Rattle.iox_lanes_parties.specs.declared.call.Party.{Party}
+use Rattle.iox_lanes_parties.specs.declared.call.Party.TheVariants.{Publisher, Subscriber}
+use Rattle.iox_lanes_threads_rule.specs.declared.service.Line.{Line}
+use Rattle.iox_lanes_threads_rule.specs.declared.service.Service.{Service}
+use Rattle.iox_lanes_threads_rule.specs.declared.service.SlotRange.{SlotRange}
+use Rattle.iox_lanes_threads_rule.specs.declared.view.Port.{Port}
+use Rattle.iox_lanes_threads_ports.specs.Ends.{LonePop, LonePush, PushKnows, PopKnows}
+
+-- the publisher of a line
+abbrev pub sender_of : Line → Party
+sender_of line = Publisher line.publisher
+
+-- the subscriber of a line
+abbrev pub receiver_of : Line → Party
+receiver_of line = Subscriber line.subscriber
+
+-- a connection that a port has is a line of its service, at the end that is its own
+pub record IsEnd (s : Service) (end : Line → Party) (name : Party) (route : Route) : Type 0 where
+  pub line : Line
+  pub found : slice_get s.lines route.connection ≡ Some line
+  pub own : name ≡ end line
+  pub kind : route.kind ≡ line.kind
+  pub room : 0 < route.limit
+
+-- a slot of the publisher's own
+abbrev pub IsOwnSlot : BookState → ℕ → Type 0
+IsOwnSlot book slot = (book.first ≤ slot) × (slot < book.first + length book.loans)
+
+-- the read position of the samples given back at a connection
+abbrev pub back_read : Route → SharedWord
+back_read route = Ring route.connection Completion Read
+
+-- and their write position
+abbrev pub back_write : Route → SharedWord
+back_write route = Ring route.connection Completion Write
+
+-- what a publisher knows at each stage of its calls
+abbrev pub PublisherKnows : Port → BookState → PublisherCall → Type 0
+PublisherKnows p book publishing.Idle = Unit {0}
+PublisherKnows p book (publishing.LoanReclaims place route pop) = LonePop p (back_read route) pop
+PublisherKnows p book publishing.Lending = Unit {0}
+PublisherKnows p book (publishing.Writing slot word value) = IsOwnSlot book slot
+PublisherKnows p book (publishing.Written slot) = Unit {0}
+PublisherKnows p book (publishing.Heading slot word value) = IsOwnSlot book slot
+PublisherKnows p book (publishing.Remembering slot) = IsOwnSlot book slot
+PublisherKnows p book (publishing.SendReclaims slot place route pop) = IsOwnSlot book slot × LonePop p (back_read route) pop
+PublisherKnows p book (publishing.Pushing slot place route push delivery) = IsOwnSlot book slot × PushKnows p route push
+PublisherKnows p book (publishing.Sent slot delivery) = Unit {0}
+PublisherKnows p book (publishing.Dropping slot) = Unit {0}
+
+-- what a subscriber knows at each stage of its calls
+abbrev pub SubscriberKnows : Port → SubscriberCall → Type 0
+SubscriberKnows p subscribing.Idle = Unit {0}
+SubscriberKnows p (subscribing.Receiving place route pop waits) = PopKnows p route pop
+SubscriberKnows p (subscribing.Received receipt) = Unit {0}
+SubscriberKnows p (subscribing.Reading slot word extent) = Unit {0}
+SubscriberKnows p (subscribing.WasRead slot) = Unit {0}
+SubscriberKnows p (subscribing.Releasing place route push) = LonePush p (back_write route) push
+SubscriberKnows p (subscribing.Released done) = Unit {0}
+
+-- a publisher's lane stands where its port knows what the next step needs
+pub record PublisherStands (p : Port) (lane : PublisherLaneState) : Type 0 where
+  pub place : ℕ
+  pub range : SlotRange
+  pub name : p.name ≡ Publisher place
+  pub wide : length p.known ≡ words_of p.service.sizes
+  pub within : IsPublisher p.service.sizes lane
+  pub routes : All (IsEnd p.service sender_of p.name) lane.port.routes
+  pub found : slice_get p.service.ranges place ≡ Some range
+  pub first : range.first ≡ lane.port.book.first
+  pub count : range.count ≡ length lane.port.book.loans
+  pub knows : PublisherKnows p lane.port.book lane.port.call
+
+-- a subscriber's lane likewise
+pub record SubscriberStands (p : Port) (lane : SubscriberLaneState) : Type 0 where
+  pub wide : length p.known ≡ words_of p.service.sizes
+  pub within : IsSubscriber p.service.sizes lane
+  pub routes : All (IsEnd p.service receiver_of p.name) lane.port.routes
+  pub knows : SubscriberKnows p lane.port.call
+
+-- a publisher's begin that fits keeps it standing so, and its next access is one that its port may make, after whose answer it stands so again
+abbrev pub PublishersGoOn : Type 0
+PublishersGoOn = (p : Port) (lane : PublisherLaneState) → PublisherStands p lane
+    → ((moment : ℕ) (call : Call) → publisher_fits lane (Begin call) ≡ true → PublisherStands p (publisher_begun moment call lane))
+    × MayAct p (publisher_next lane.port.call)
+    × ((answer : ℕ) → ToldBy p (publisher_next lane.port.call) answer → PublisherStands (publisher_stepped p lane answer) (publisher_after answer lane))
+
+-- a subscriber's likewise
+abbrev pub SubscribersGoOn : Type 0
+SubscribersGoOn = (p : Port) (lane : SubscriberLaneState) → SubscriberStands p lane
+    → ((moment : ℕ) (call : Call) → subscriber_fits lane (Begin call) ≡ true → SubscriberStands p (subscriber_begun moment call lane))
+    × MayAct p (subscriber_next lane.port.call)
+    × ((answer : ℕ) → ToldBy p (subscriber_next lane.port.call) answer → SubscriberStands (subscriber_stepped p lane answer) (subscriber_after answer lane))

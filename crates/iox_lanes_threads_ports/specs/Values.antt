@@ -1,0 +1,206 @@
+-- A port in threads as its callers see it, and what its calls leave.
+use Rattle.std.specs.Prelude.{ℕ, ◌≡◌, ◌+◌, ◌-◌, ◌<◌, ◌⊎◌, Bool, true, false, ◌||◌, if◌then◌else◌, List, length, Option, None, Some}
+use Rattle.atomic_table.specs.Seated.{TableId}
+use Rattle.atomic_table.specs.Table.{Me}
+use Rattle.iox_lanes_words.specs.Numbers.{words_of, IsSmall}
+use Rattle.iox_lanes_words.specs.declared.sizes.TableSizes.{TableSizes}
+use Rattle.iox_queues_refusing.specs.declared.push.Push.TheVariants as push
+use Rattle.iox_lanes_calls.specs.Subscribing.{subscriber_is_idle, subscriber_is_over}
+use Rattle.iox_lanes_calls.specs.declared.subscriber.SubscriberCall.{SubscriberCall}
+use Rattle.iox_lanes_calls.specs.declared.subscriber.SubscriberCall.TheVariants as subscribing
+use Rattle.iox_lanes_calls.specs.declared.publisher.Delivery.{Delivery}
+use Rattle.iox_lanes_calls.specs.declared.subscriber.Receipt.{Receipt}
+use Rattle.iox_lanes_calls.specs.declared.subscriber.Receipt.TheVariants as receipt
+use Rattle.iox_lanes_publisher.specs.declared.slot_book.LoanAnswer.{LoanAnswer}
+use Rattle.iox_lanes_parties.specs.Parties.{PublisherLaneState, SubscriberLaneState, publisher_fits, publisher_begun, subscriber_fits, subscriber_begun, subscriber_after}
+use Rattle.iox_lanes_parties.specs.declared.call.Answer.{Answer}
+use Rattle.iox_lanes_parties.specs.declared.call.Answer.TheVariants as answer
+use Rattle.iox_lanes_parties.specs.declared.call.Call.TheVariants as call
+use Rattle.iox_lanes_parties.specs.declared.call.Move.{Move}
+use Rattle.iox_lanes_parties.specs.declared.call.Move.TheVariants.{Begin, GoOn}
+use Rattle.iox_lanes_threads_rule.specs.Acts.{single, port_of}
+use Rattle.iox_lanes_threads_rule.specs.declared.view.Port.{Port}
+use Rattle.iox_lanes_threads_rule.specs.declared.view.View.{View}
+use Rattle.iox_lanes_threads_ports.specs.Courses.{PublisherRuns, SubscriberGoes, SubscriberEnds}
+
+-- a publisher: the words that it steps on, what it knows, and its lane
+pub record PublisherPort : Type 0 where
+  pub table : TableId
+  pub port : Port
+  pub lane : PublisherLaneState
+
+-- a subscriber likewise, with the words that its last call read, if that was a read
+pub record SubscriberPort : Type 0 where
+  pub table : TableId
+  pub port : Port
+  pub lane : SubscriberLaneState
+  pub words : List ℕ
+
+-- the seat has one port, of a service with these sizes, all of whose words the table has
+pub record IsSeated (table : TableId) (me : Me ℕ View) (sizes : TableSizes) : Type 0 where
+  pub alone : me ≡ single (port_of me)
+  pub sizes_are : (port_of me).service.sizes ≡ sizes
+  pub small : IsSmall sizes
+  pub words : table.words ≡ words_of sizes
+
+-- a write with room for the words of a payload and of a user header
+abbrev pub HasRoom : TableSizes → Move → Type 0
+HasRoom sizes GoOn = ⊥
+HasRoom sizes (Begin call.LoanUninit) = ⊥
+HasRoom sizes (Begin (call.Write loan payload user_header)) = (length payload.items ≡ sizes.payload_words) × (length user_header.items ≡ sizes.user_header_words)
+HasRoom sizes (Begin (call.Send loan)) = ⊥
+HasRoom sizes (Begin (call.DropLoan loan)) = ⊥
+HasRoom sizes (Begin call.Receive) = ⊥
+HasRoom sizes (Begin (call.Read sample)) = ⊥
+HasRoom sizes (Begin (call.Release sample)) = ⊥
+
+-- the write of these words
+abbrev pub Asks : ℕ → List ℕ → List ℕ → Move → Type 0
+Asks loan payload user_header GoOn = ⊥
+Asks loan payload user_header (Begin call.LoanUninit) = ⊥
+Asks loan payload user_header (Begin (call.Write slot words header)) = (slot ≡ loan) × (words.items ≡ payload) × (header.items ≡ user_header)
+Asks loan payload user_header (Begin (call.Send slot)) = ⊥
+Asks loan payload user_header (Begin (call.DropLoan slot)) = ⊥
+Asks loan payload user_header (Begin call.Receive) = ⊥
+Asks loan payload user_header (Begin (call.Read sample)) = ⊥
+Asks loan payload user_header (Begin (call.Release sample)) = ⊥
+
+-- a publisher that begins what it is asked for
+abbrev pub publisher_begins : Move → PublisherLaneState → PublisherLaneState
+publisher_begins GoOn lane = lane
+publisher_begins (Begin c) lane = publisher_begun 0 c lane
+
+-- a subscriber that begins what it is asked for
+abbrev pub subscriber_begins : Move → SubscriberLaneState → SubscriberLaneState
+subscriber_begins GoOn lane = lane
+subscriber_begins (Begin c) lane = subscriber_begun 0 c lane
+
+-- What a publisher does that is asked for something, and answers: nothing where it doesn't fit, and else the steps of its call.
+abbrev pub PublisherDoes : Port → PublisherLaneState → Move → Port → PublisherLaneState → Option Answer → Type 0
+PublisherDoes p lane step q now given =
+    ((publisher_fits lane step ≡ false) × (given ≡ None) × (q ≡ p) × (now ≡ lane))
+    ⊎ ((publisher_fits lane step ≡ true) × PublisherRuns p (publisher_begins step lane) q now given)
+
+-- the port is the one that it was, on the same words
+abbrev pub SamePublisher : PublisherPort → PublisherPort → Type 0
+SamePublisher old new = (new.table ≡ old.table) × (new.port.name ≡ old.port.name) × (new.port.service ≡ old.port.service)
+
+-- the subscriber likewise
+abbrev pub SameSubscriber : SubscriberPort → SubscriberPort → Type 0
+SameSubscriber old new = (new.table ≡ old.table) × (new.port.name ≡ old.port.name) × (new.port.service ≡ old.port.service)
+
+-- what a loan answers
+abbrev pub lent_of : Option Answer → Option LoanAnswer
+lent_of None = None
+lent_of (Some (answer.Lent given)) = Some given
+lent_of (Some answer.Written) = None
+lent_of (Some (answer.Sent delivery)) = None
+lent_of (Some answer.Dropped) = None
+lent_of (Some (answer.Received receipt)) = None
+lent_of (Some (answer.Read from)) = None
+lent_of (Some (answer.Released done)) = None
+
+-- what a send answers
+abbrev pub sent_of : Option Answer → Option Delivery
+sent_of None = None
+sent_of (Some (answer.Lent given)) = None
+sent_of (Some answer.Written) = None
+sent_of (Some (answer.Sent delivery)) = Some delivery
+sent_of (Some answer.Dropped) = None
+sent_of (Some (answer.Received receipt)) = None
+sent_of (Some (answer.Read from)) = None
+sent_of (Some (answer.Released done)) = None
+
+-- a publisher that is asked for something: what it answers, by its steps
+abbrev pub Publishes : PublisherPort → Move → PublisherPort → Option Answer → Type 0
+Publishes old step new given = PublisherDoes old.port old.lane step new.port new.lane given
+
+-- a write is refused where the words are not as many as a payload and a user header have; else it does what its steps do
+abbrev pub Writes : PublisherPort → ℕ → List ℕ → List ℕ → PublisherPort → Option Answer → Type 0
+Writes old loan payload user_header new given =
+    (((length payload ≡ old.port.service.sizes.payload_words) → (length user_header ≡ old.port.service.sizes.user_header_words) → ⊥) × (given ≡ None) × (new ≡ old))
+    ⊎ ((step : Move) × Asks loan payload user_header step × Publishes old step new given)
+
+-- a subscriber whose call only lacks its last step, which touches no shared word, stands as if it were made
+abbrev pub settled : SubscriberLaneState → SubscriberLaneState
+settled lane = if subscriber_is_over lane.port.call then subscriber_after 0 lane else lane
+
+-- no call is under way, but for such a step
+abbrev pub IsBetween : SubscriberCall → Type 0
+IsBetween c = (subscriber_is_idle c || subscriber_is_over c) ≡ true
+
+-- a call that ends after a number of steps that is known: a read, or a release
+abbrev pub IsShort : SubscriberCall → Type 0
+IsShort subscribing.Idle = ⊥
+IsShort (subscribing.Receiving place route pop waits) = ⊥
+IsShort (subscribing.Received receipt) = ⊥
+IsShort (subscribing.Reading slot word extent) = word < 3 + extent.user_header_words + extent.payload_words
+IsShort (subscribing.WasRead slot) = Unit {0}
+IsShort (subscribing.Releasing place route push.Idle) = ⊥
+IsShort (subscribing.Releasing place route (push.Begun limit value)) = Unit {0}
+IsShort (subscribing.Releasing place route (push.SawWrite limit value write next)) = Unit {0}
+IsShort (subscribing.Releasing place route (push.SawRoom value write next)) = Unit {0}
+IsShort (subscribing.Releasing place route (push.Filled value next)) = Unit {0}
+IsShort (subscribing.Releasing place route (push.Pushed value given)) = ⊥
+IsShort (subscribing.Released done) = Unit {0}
+
+-- how many steps it has to make before its last one
+abbrev pub steps_left : SubscriberCall → ℕ
+steps_left subscribing.Idle = 0
+steps_left (subscribing.Receiving place route pop waits) = 0
+steps_left (subscribing.Received receipt) = 0
+steps_left (subscribing.Reading slot word extent) = 3 + extent.user_header_words + extent.payload_words - word
+steps_left (subscribing.WasRead slot) = 0
+steps_left (subscribing.Releasing place route push.Idle) = 0
+steps_left (subscribing.Releasing place route (push.Begun limit value)) = 4
+steps_left (subscribing.Releasing place route (push.SawWrite limit value write next)) = 3
+steps_left (subscribing.Releasing place route (push.SawRoom value write next)) = 2
+steps_left (subscribing.Releasing place route (push.Filled value next)) = 1
+steps_left (subscribing.Releasing place route (push.Pushed value given)) = 0
+steps_left (subscribing.Released done) = 0
+
+-- nothing was done
+abbrev pub Unmoved : SubscriberPort → SubscriberPort → Type 0
+Unmoved old new = (new.table ≡ old.table) × (new.port ≡ old.port) × (new.lane ≡ old.lane)
+
+-- the receipt that a receive answers
+abbrev pub received_of : Option Answer → Receipt
+received_of None = receipt.Nothing
+received_of (Some (answer.Lent given)) = receipt.Nothing
+received_of (Some answer.Written) = receipt.Nothing
+received_of (Some (answer.Sent delivery)) = receipt.Nothing
+received_of (Some answer.Dropped) = receipt.Nothing
+received_of (Some (answer.Received got)) = got
+received_of (Some (answer.Read from)) = receipt.Nothing
+received_of (Some (answer.Released done)) = receipt.Nothing
+
+-- what a release answers
+abbrev pub released_of : Option Answer → Option Bool
+released_of None = None
+released_of (Some (answer.Lent given)) = None
+released_of (Some answer.Written) = None
+released_of (Some (answer.Sent delivery)) = None
+released_of (Some answer.Dropped) = None
+released_of (Some (answer.Received got)) = None
+released_of (Some (answer.Read from)) = None
+released_of (Some (answer.Released done)) = Some done
+
+-- a release that fits does what its steps do, and answers whether the sample went back; one that does not fit does nothing
+abbrev pub Releases : SubscriberPort → ℕ → SubscriberPort → Option Bool → Type 0
+Releases old sample new None = (subscriber_fits old.lane (Begin (call.Release sample)) ≡ false) × Unmoved old new
+Releases old sample new (Some done) =
+    (subscriber_fits old.lane (Begin (call.Release sample)) ≡ true) × SubscriberEnds old.port (subscriber_begun 0 (call.Release sample) old.lane) new.port new.lane (answer.Released done)
+
+-- a read that fits makes its steps, and keeps the words that they loaded
+pub record ReadsWords (old new : SubscriberPort) (sample : ℕ) : Type 0 where
+  pub last : SubscriberLaneState
+  pub fits : subscriber_fits old.lane (Begin (call.Read sample)) ≡ true
+  pub goes : SubscriberGoes old.port (subscriber_begun 0 (call.Read sample) old.lane) new.port last
+  pub ends : last.port.call ≡ subscribing.WasRead sample
+  pub after : new.lane ≡ subscriber_after 0 last
+  pub words : new.words ≡ last.port.words
+
+-- one that does not fit does nothing
+abbrev pub Reads : SubscriberPort → ℕ → SubscriberPort → Bool → Type 0
+Reads old sample new false = (subscriber_fits old.lane (Begin (call.Read sample)) ≡ false) × Unmoved old new
+Reads old sample new true = ReadsWords old new sample

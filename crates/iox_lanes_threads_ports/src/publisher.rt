@@ -1,0 +1,246 @@
+//! A publisher that steps in threads.
+ghost use Rattle.std.specs.Prelude.{◌≡◌, ◌≢◌, Option, true, false, length, is_some, IfOk};
+ghost use Rattle.iox_lanes_words.specs.Numbers.{words_of, IsSmall};
+ghost use Rattle.std.specs.List.{All};
+ghost use Rattle.iox_lanes_parties.specs.Parties.{head_of, publisher_fits};
+ghost use Rattle.iox_lanes_threads_rule.specs.Acts.{single, port_of};
+ghost use Rattle.iox_lanes_threads_ports.specs.Known.{KeepsPayload, KnowsHead, KnowsPayload};
+ghost use Rattle.iox_lanes_threads_ports.specs.Ports.{PublisherStands};
+ghost use Rattle.iox_lanes_threads_ports.specs.Values.{IsSeated, HasRoom, Asks, PublisherDoes, publisher_begins, SamePublisher, lent_of, sent_of, Publishes, Writes};
+
+use crate::publishing::run;
+use iox_lanes_calls::Delivery;
+use iox_lanes_parties::{Answer, Call, Move, PublisherLane};
+use iox_lanes_publisher::LoanAnswer;
+use iox_lanes_threads_rule::{Opening, WordSeat, Words};
+use iox_lanes_words::TableSizes;
+use std::alloc::{AllocError, Global};
+use std::marker::Model;
+
+/// A publisher that steps in threads.
+#[derive(Drop)]
+pub struct ThreadedPublisher {
+    seat: WordSeat,
+    sizes: TableSizes,
+    lane: PublisherLane,
+    // The write that it is asked for next: its room was taken when the port was made.
+    asked: Move,
+}
+
+impl Model for ThreadedPublisher {
+    ghost use Rattle.iox_lanes_threads_rule.specs.Acts.{port_of};
+    ghost use Rattle.iox_lanes_threads_ports.specs.Ports.{PublisherStands};
+    ghost use Rattle.iox_lanes_threads_ports.specs.Values.{PublisherPort, IsSeated, HasRoom};
+
+    ghost Value = { PublisherPort };
+
+    ghost view = { λ t. record { table = t.seat.table_id; port = port_of t.seat.me; lane = t.lane } };
+
+    ghost invariant = { λ t. IsSeated t.seat.table_id t.seat.me t.sizes × PublisherStands (port_of t.seat.me) t.lane × HasRoom t.sizes t.asked };
+}
+
+/// Room for a write. It fails only where memory is wanting.
+pub fn write_room(alloc: Global, sizes: &TableSizes) -> Result<Move, AllocError>
+    ensures { IfOk result (λ room. HasRoom sizes.now room) }
+{
+    Ok(Move::Begin(Call::Write {
+        loan: 0,
+        payload: vec![in alloc; 0; sizes.payload_words as usize]?,
+        user_header: vec![in alloc; 0; sizes.user_header_words as usize]?,
+    }))
+}
+
+// Puts what is to be written into the write that a publisher is asked for, if it has as many words as there is room for.
+fn fill(asked: &mut Move, loan: u64, words: &[u64], header: &[u64]) -> bool
+    ensures fills { result ≡ true → Asks loan words.now header.now asked.new }
+    ensures refuses { (sizes : TableSizes) → HasRoom sizes asked.old → HasRoom sizes asked.new × (result ≡ false → length words.now ≡ sizes.payload_words → length header.now ≡ sizes.user_header_words → ⊥) }
+{
+    match asked {
+        Move::Begin(call) => fill_call(call, loan, words, header),
+        Move::GoOn => false,
+    }
+}
+
+fn fill_call(asked: &mut Call, loan: u64, words: &[u64], header: &[u64]) -> bool
+    ensures fills { result ≡ true → Asks loan words.now header.now (Move.Begin asked.new) }
+    ensures refuses { (sizes : TableSizes) → HasRoom sizes (Move.Begin asked.old) → HasRoom sizes (Move.Begin asked.new) × (result ≡ false → length words.now ≡ sizes.payload_words → length header.now ≡ sizes.user_header_words → ⊥) }
+{
+    match asked {
+        Call::Write {
+            loan: slot,
+            payload,
+            user_header,
+        } => {
+            if payload.len() != words.len() || user_header.len() != header.len() {
+                return false;
+            }
+            *slot = loan;
+            payload.copy_from_slice(words);
+            user_header.copy_from_slice(header);
+            true
+        }
+        _ => false,
+    }
+}
+
+fn lent(answer: Option<Answer>) -> Option<LoanAnswer>
+    ensures { result ≡ lent_of answer }
+{
+    match answer {
+        Some(Answer::Lent(given)) => Some(given),
+        _ => None,
+    }
+}
+
+fn sent(answer: Option<Answer>) -> Option<Delivery>
+    ensures { result ≡ sent_of answer }
+{
+    match answer {
+        Some(Answer::Sent(delivery)) => Some(delivery),
+        _ => None,
+    }
+}
+
+// How many steps a publisher makes at most to take back what came back.
+fn most_reclaiming(sizes: &TableSizes) -> u64 {
+    let one = sizes.completion_cells.saturating_mul(4).saturating_add(2);
+    sizes.connections.saturating_mul(one)
+}
+
+// Begins what a publisher is asked for.
+fn begin(lane: &mut PublisherLane, step: &Move)
+    requires fits { publisher_fits lane.old step.now ≡ true }
+    requires heads { length lane.old.heads ≡ length lane.old.port.book.loans }
+    requires widths { All (λ head. length head ≡ length lane.old.port.head) lane.old.heads }
+    ensures { lane.new ≡ publisher_begins step.now lane.old }
+{
+    if let Move::Begin(call) = step {
+        lane.begin(0, call);
+    }
+}
+
+// Does what a publisher is asked for, in at most so many steps.
+fn does<K: Opening>(
+    words: &Words<K>,
+    seat: &mut WordSeat,
+    sizes: &TableSizes,
+    lane: &mut PublisherLane,
+    step: &Move,
+    most: u64,
+) -> Option<Answer>
+    requires table { seat.old.table_id ≡ words.now.table_id }
+    requires seat { IsSeated seat.old.table_id seat.old.me sizes.now }
+    requires stands { PublisherStands (port_of seat.old.me) lane.old }
+    ensures table { seat.new.table_id ≡ seat.old.table_id }
+    ensures seat { IsSeated seat.new.table_id seat.new.me sizes.now }
+    ensures stands { PublisherStands (port_of seat.new.me) lane.new }
+    ensures same { ((port_of seat.new.me).name ≡ (port_of seat.old.me).name) × ((port_of seat.new.me).service ≡ (port_of seat.old.me).service) }
+    ensures does { PublisherDoes (port_of seat.old.me) lane.old step.now (port_of seat.new.me) lane.new result }
+{
+    if !lane.fits(step) {
+        return None;
+    }
+    begin(lane, step);
+    run(words, seat, sizes, lane, most)
+}
+
+impl ThreadedPublisher {
+    /// A publisher with a seat of its own.
+    pub fn new(
+        seat: WordSeat,
+        sizes: TableSizes,
+        lane: PublisherLane,
+        asked: Move,
+    ) -> ThreadedPublisher
+        requires seat { IsSeated seat.table_id seat.me sizes }
+        requires stands { PublisherStands (port_of seat.me) lane }
+        requires room { HasRoom sizes asked }
+        ensures { result ≡ record { table = seat.table_id; port = port_of seat.me; lane = lane } }
+    {
+        ThreadedPublisher {
+            seat,
+            sizes,
+            lane,
+            asked,
+        }
+    }
+
+    /// Asks for a slot to be written. None where the port stands inside a call, or took back more samples than its connections have room for, which no lanes
+    /// come to: then it stays inside this one.
+    pub fn loan_uninit<K: Opening>(&mut self, words: &Words<K>) -> Option<LoanAnswer>
+        requires { self.old.table ≡ words.now.table_id }
+        ensures same { SamePublisher self.old self.new }
+        ensures call { (given : Option Answer) × Publishes self.old (Move.Begin Call.LoanUninit) self.new given × (result ≡ lent_of given) }
+    {
+        let most = most_reclaiming(&self.sizes).saturating_add(1);
+        let step = Move::Begin(Call::LoanUninit);
+        let answer = does(
+            words,
+            &mut self.seat,
+            &self.sizes,
+            &mut self.lane,
+            &step,
+            most,
+        );
+        lent(answer)
+    }
+
+    /// Writes the words of a payload into the slot of a loan, and keeps those of a user header for its send. False where the slot is no loan of this port, or the
+    /// words are not as many as a payload and a user header have.
+    pub fn write<K: Opening>(
+        &mut self,
+        words: &Words<K>,
+        loan: u64,
+        payload: &[u64],
+        user_header: &[u64],
+    ) -> bool
+        requires { self.old.table ≡ words.now.table_id }
+        ensures same { SamePublisher self.old self.new }
+        ensures call { (given : Option Answer) × Writes self.old loan payload.now user_header.now self.new given × (result ≡ is_some given) }
+        ensures payload { result ≡ true → KnowsPayload self.new.port loan payload.now }
+    {
+        if !fill(&mut self.asked, loan, payload, user_header) {
+            return false;
+        }
+        let most = self.sizes.payload_words.saturating_add(1);
+        let answer = does(
+            words,
+            &mut self.seat,
+            &self.sizes,
+            &mut self.lane,
+            &self.asked,
+            most,
+        );
+        answer.is_some()
+    }
+
+    /// Sends a loan that is written, and tells how many connections took it. None where the slot is no such loan of this port, or as of a loan.
+    pub fn send<K: Opening>(&mut self, words: &Words<K>, loan: u64) -> Option<Delivery>
+        requires { self.old.table ≡ words.now.table_id }
+        ensures same { SamePublisher self.old self.new }
+        ensures call { (given : Option Answer) × Publishes self.old (Move.Begin (Call.Send loan)) self.new given × (result ≡ sent_of given) }
+        ensures slot { is_some result ≡ true → KnowsHead self.new.port loan (head_of loan self.old.lane) × KeepsPayload self.old.port self.new.port loan }
+    {
+        let most = most_reclaiming(&self.sizes)
+            .saturating_add(self.sizes.connections.saturating_mul(6))
+            .saturating_add(self.sizes.user_header_words)
+            .saturating_add(5);
+        let step = Move::Begin(Call::Send { loan });
+        let answer = does(
+            words,
+            &mut self.seat,
+            &self.sizes,
+            &mut self.lane,
+            &step,
+            most,
+        );
+        sent(answer)
+    }
+
+    /// The seat and the lane.
+    pub fn into_parts(self) -> (WordSeat, PublisherLane)
+        ensures { (result.0.table_id ≡ self.table) × (result.0.me ≡ single self.port) × (result.1 ≡ self.lane) }
+    {
+        (self.seat, self.lane)
+    }
+}

@@ -1,0 +1,75 @@
+//! The steps of a publisher's call.
+ghost use Rattle.std.specs.Prelude.{◌≡◌, Some, is_some};
+ghost use Rattle.iox_lanes_words.specs.Numbers.{words_of, IsSmall};
+ghost use Rattle.iox_lanes_calls.specs.Publishing.{publisher_is_over};
+ghost use Rattle.iox_lanes_parties.specs.Parties.{publisher_answer};
+ghost use Rattle.iox_lanes_threads_rule.specs.Acts.{single, port_of};
+ghost use Rattle.iox_lanes_threads_ports.specs.Courses.{publisher_party, PublisherSteps, PublisherRuns};
+ghost use Rattle.iox_lanes_threads_ports.specs.Ports.{PublisherStands};
+
+use iox_lanes_parties::{Answer, PublisherLane};
+use iox_lanes_threads_rule::{Doing, Opening, WordSeat, Words, act};
+use iox_lanes_words::TableSizes;
+use std::marker::Brand;
+
+fn step_as<K: Opening, M: Doing>(
+    words: &Words<K>,
+    seat: &mut WordSeat,
+    sizes: &TableSizes,
+    lane: &mut PublisherLane,
+) -> Option<Answer>
+    requires table { (seat.old.table_id ≡ words.now.table_id) × (words.now.table_id.words ≡ words_of sizes.now) × IsSmall sizes.now }
+    requires seat { (seat.old.me ≡ single M.port) × (M.port.service.sizes ≡ sizes.now) }
+    requires stands { PublisherStands M.port lane.old }
+    requires after { M.after ≡ publisher_party lane.old }
+    ensures table { (seat.new.table_id ≡ seat.old.table_id) × (seat.new.id ≡ seat.old.id) }
+    ensures steps { PublisherSteps M.port lane.old seat.new.me lane.new }
+    ensures answer { result ≡ publisher_answer lane.old.port.call lane.new.port.book.answer }
+    ensures ends { is_some result ≡ publisher_is_over lane.old.port.call }
+{
+    let given = act::<K, M>(words, seat, sizes, lane.next());
+    lane.go_on(given)
+}
+
+/// Makes the next step of a publisher's call.
+pub(crate) fn step<K: Opening>(
+    words: &Words<K>,
+    seat: &mut WordSeat,
+    sizes: &TableSizes,
+    lane: &mut PublisherLane,
+) -> Option<Answer>
+    requires table { (seat.old.table_id ≡ words.now.table_id) × (words.now.table_id.words ≡ words_of sizes.now) × IsSmall sizes.now }
+    requires seat { (seat.old.me ≡ single (port_of seat.old.me)) × ((port_of seat.old.me).service.sizes ≡ sizes.now) }
+    requires stands { PublisherStands (port_of seat.old.me) lane.old }
+    ensures table { (seat.new.table_id ≡ seat.old.table_id) × (seat.new.id ≡ seat.old.id) }
+    ensures steps { PublisherSteps (port_of seat.old.me) lane.old seat.new.me lane.new }
+    ensures answer { result ≡ publisher_answer lane.old.port.call lane.new.port.book.answer }
+    ensures ends { is_some result ≡ publisher_is_over lane.old.port.call }
+{
+    step_as::<K, Brand>(words, seat, sizes, lane)
+}
+
+/// Makes at most so many steps of a publisher's call, up to its last one.
+pub(crate) fn run<K: Opening>(
+    words: &Words<K>,
+    seat: &mut WordSeat,
+    sizes: &TableSizes,
+    lane: &mut PublisherLane,
+    most: u64,
+) -> Option<Answer>
+    requires table { (seat.old.table_id ≡ words.now.table_id) × (words.now.table_id.words ≡ words_of sizes.now) × IsSmall sizes.now }
+    requires seat { (seat.old.me ≡ single (port_of seat.old.me)) × ((port_of seat.old.me).service.sizes ≡ sizes.now) }
+    requires stands { PublisherStands (port_of seat.old.me) lane.old }
+    ensures table { (seat.new.table_id ≡ seat.old.table_id) × (seat.new.id ≡ seat.old.id) }
+    ensures seat { (seat.new.me ≡ single (port_of seat.new.me)) × ((port_of seat.new.me).service ≡ (port_of seat.old.me).service) × ((port_of seat.new.me).name ≡ (port_of seat.old.me).name) }
+    ensures stands { PublisherStands (port_of seat.new.me) lane.new }
+    ensures runs { PublisherRuns (port_of seat.old.me) lane.old (port_of seat.new.me) lane.new result }
+{
+    for _ in 0..most {
+        let answer = step(words, seat, sizes, lane);
+        if answer.is_some() {
+            return answer;
+        }
+    }
+    None
+}

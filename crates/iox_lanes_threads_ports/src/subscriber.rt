@@ -1,0 +1,144 @@
+//! A subscriber that steps in threads.
+ghost use Rattle.std.specs.Prelude.{◌≡◌, ◌||◌, true, None, Some};
+ghost use Rattle.iox_lanes_calls.specs.Subscribing.{subscriber_is_idle, subscriber_is_over};
+ghost use Rattle.iox_lanes_parties.specs.Parties.{subscriber_begun, words_read};
+ghost use Rattle.iox_lanes_threads_rule.specs.Acts.{single, port_of};
+ghost use Rattle.iox_lanes_threads_ports.specs.Courses.{SubscriberEnds};
+ghost use Rattle.iox_lanes_threads_ports.specs.Known.{KnowsRead, KnowsGivenBack};
+ghost use Rattle.iox_lanes_threads_ports.specs.Ports.{SubscriberStands};
+ghost use Rattle.iox_lanes_threads_ports.specs.Values.{IsSeated, IsBetween, SameSubscriber, received_of, released_of, settled, Releases, Reads};
+
+use crate::subscribing::{finish, run_on};
+use iox_lanes_calls::Receipt;
+use iox_lanes_parties::{Answer, Call, Move, SubscriberLane};
+use iox_lanes_threads_rule::{Opening, WordSeat, Words};
+use iox_lanes_words::TableSizes;
+use std::marker::Model;
+use std::sync::Wait;
+
+/// A subscriber that steps in threads.
+#[derive(Drop)]
+pub struct ThreadedSubscriber {
+    seat: WordSeat,
+    sizes: TableSizes,
+    // After a read it lacks its last step, which touches no shared word: until then it lends the words read.
+    lane: SubscriberLane,
+}
+
+impl Model for ThreadedSubscriber {
+    ghost use Rattle.iox_lanes_threads_rule.specs.Acts.{port_of};
+    ghost use Rattle.iox_lanes_threads_ports.specs.Ports.{SubscriberStands};
+    ghost use Rattle.iox_lanes_parties.specs.Parties.{words_read};
+    ghost use Rattle.iox_lanes_threads_ports.specs.Values.{SubscriberPort, IsSeated, IsBetween, settled};
+
+    ghost Value = { SubscriberPort };
+
+    ghost view = { λ t. record { table = t.seat.table_id; port = port_of t.seat.me; lane = settled t.lane; words = words_read t.lane.port.call t.lane.port.words } };
+
+    ghost invariant = { λ t. IsSeated t.seat.table_id t.seat.me t.sizes × SubscriberStands (port_of t.seat.me) t.lane × IsBetween t.lane.port.call };
+}
+
+// Makes the last step of a call, if only that is left.
+fn settle(lane: &mut SubscriberLane)
+    requires { IsBetween lane.old.port.call }
+    ensures lane { lane.new ≡ settled lane.old }
+    ensures idle { subscriber_is_idle lane.new.port.call ≡ true }
+{
+    if lane.is_over() {
+        lane.go_on(0, 0);
+    }
+}
+
+fn received(answer: Option<Answer>) -> Receipt
+    ensures { result ≡ received_of answer }
+{
+    match answer {
+        Some(Answer::Received(receipt)) => receipt,
+        _ => Receipt::Nothing,
+    }
+}
+
+fn released(answer: Option<Answer>) -> Option<bool>
+    ensures { result ≡ released_of answer }
+{
+    match answer {
+        Some(Answer::Released(done)) => Some(done),
+        _ => None,
+    }
+}
+
+impl ThreadedSubscriber {
+    /// A subscriber with a seat of its own.
+    pub fn new(seat: WordSeat, sizes: TableSizes, lane: SubscriberLane) -> ThreadedSubscriber
+        requires seat { IsSeated seat.table_id seat.me sizes }
+        requires stands { SubscriberStands (port_of seat.me) lane }
+        requires idle { subscriber_is_idle lane.port.call ≡ true }
+        ensures { result ≡ record { table = seat.table_id; port = port_of seat.me; lane = settled lane; words = words_read lane.port.call lane.port.words } }
+    {
+        ThreadedSubscriber { seat, sizes, lane }
+    }
+
+    /// Asks for a message. It may go on forever where its publishers move a ring on again and again.
+    pub fn receive<R: Wait, K: Opening>(&mut self, rt: &R, words: &Words<K>) -> Receipt
+        requires { self.old.table ≡ words.now.table_id }
+        ensures same { SameSubscriber self.old self.new }
+        ensures call { SubscriberEnds self.old.port (subscriber_begun 0 Call.Receive self.old.lane) self.new.port self.new.lane (Answer.Received result) }
+    {
+        settle(&mut self.lane);
+        self.lane.begin(0, &Call::Receive);
+        run_on(rt, words, &mut self.seat, &self.sizes, &mut self.lane);
+        received(self.lane.go_on(0, 0))
+    }
+
+    /// Reads the words of header, user header and payload of a sample. False where the slot is no sample of this port.
+    pub fn read<K: Opening>(&mut self, words: &Words<K>, sample: u64) -> bool
+        requires { self.old.table ≡ words.now.table_id }
+        ensures same { SameSubscriber self.old self.new }
+        ensures call { Reads self.old sample self.new result }
+        ensures words { result ≡ true → KnowsRead self.new.port self.old.lane.port.extent sample self.new.words }
+    {
+        settle(&mut self.lane);
+        if !self.lane.fits(&Move::Begin(Call::Read { sample })) {
+            return false;
+        }
+        self.lane.begin(0, &Call::Read { sample });
+        finish(words, &mut self.seat, &self.sizes, &mut self.lane);
+        true
+    }
+
+    /// The words that were read, one behind the other, if the last call was a read.
+    pub fn words(&self) -> &[u64]
+        ensures { result.now ≡ self.now.words }
+    {
+        self.lane.words_read()
+    }
+
+    /// Gives a sample back, and answers whether it went back, which it does. None where the slot is no sample of this port.
+    pub fn release<K: Opening>(&mut self, words: &Words<K>, sample: u64) -> Option<bool>
+        requires { self.old.table ≡ words.now.table_id }
+        ensures same { SameSubscriber self.old self.new }
+        ensures call { Releases self.old sample self.new result }
+        ensures put { result ≡ Some true → KnowsGivenBack self.old.port self.new.port self.old.lane sample }
+    {
+        settle(&mut self.lane);
+        if !self.lane.fits(&Move::Begin(Call::Release { sample })) {
+            return None;
+        }
+        self.lane.begin(0, &Call::Release { sample });
+        finish(words, &mut self.seat, &self.sizes, &mut self.lane);
+        released(self.lane.go_on(0, 0))
+    }
+
+    /// The seat and the lane.
+    pub fn into_parts(self) -> (WordSeat, SubscriberLane)
+        ensures { (result.0.table_id ≡ self.table) × (result.0.me ≡ single self.port) × (result.1 ≡ self.lane) }
+    {
+        let ThreadedSubscriber {
+            seat,
+            sizes: _,
+            mut lane,
+        } = self;
+        settle(&mut lane);
+        (seat, lane)
+    }
+}

@@ -1,0 +1,96 @@
+//! The steps of a subscriber's call.
+ghost use Rattle.std.specs.Prelude.{◌≡◌, true};
+ghost use Rattle.iox_lanes_words.specs.Numbers.{words_of, IsSmall};
+ghost use Rattle.iox_lanes_calls.specs.Subscribing.{subscriber_is_over};
+ghost use Rattle.iox_lanes_threads_rule.specs.Acts.{single, port_of};
+ghost use Rattle.iox_lanes_threads_ports.specs.Courses.{subscriber_party, SubscriberSteps, SubscriberGoes};
+ghost use Rattle.iox_lanes_threads_ports.specs.Ports.{SubscriberStands};
+ghost use Rattle.iox_lanes_threads_ports.specs.Values.{IsShort};
+
+use iox_lanes_parties::SubscriberLane;
+use iox_lanes_threads_rule::{Doing, Opening, WordSeat, Words, act};
+use iox_lanes_words::TableSizes;
+use std::marker::Brand;
+use std::sync::Wait;
+
+fn step_as<K: Opening, M: Doing>(
+    words: &Words<K>,
+    seat: &mut WordSeat,
+    sizes: &TableSizes,
+    lane: &mut SubscriberLane,
+)
+    requires table { (seat.old.table_id ≡ words.now.table_id) × (words.now.table_id.words ≡ words_of sizes.now) × IsSmall sizes.now }
+    requires seat { (seat.old.me ≡ single M.port) × (M.port.service.sizes ≡ sizes.now) }
+    requires stands { SubscriberStands M.port lane.old }
+    requires after { M.after ≡ subscriber_party lane.old }
+    ensures table { (seat.new.table_id ≡ seat.old.table_id) × (seat.new.id ≡ seat.old.id) }
+    ensures steps { SubscriberSteps M.port lane.old seat.new.me lane.new }
+{
+    let given = act::<K, M>(words, seat, sizes, lane.next());
+    lane.go_on(given, 0);
+}
+
+/// Makes the next step of a subscriber's call.
+pub(crate) fn step<K: Opening>(
+    words: &Words<K>,
+    seat: &mut WordSeat,
+    sizes: &TableSizes,
+    lane: &mut SubscriberLane,
+)
+    requires table { (seat.old.table_id ≡ words.now.table_id) × (words.now.table_id.words ≡ words_of sizes.now) × IsSmall sizes.now }
+    requires seat { (seat.old.me ≡ single (port_of seat.old.me)) × ((port_of seat.old.me).service.sizes ≡ sizes.now) }
+    requires stands { SubscriberStands (port_of seat.old.me) lane.old }
+    ensures table { (seat.new.table_id ≡ seat.old.table_id) × (seat.new.id ≡ seat.old.id) }
+    ensures steps { SubscriberSteps (port_of seat.old.me) lane.old seat.new.me lane.new }
+{
+    step_as::<K, Brand>(words, seat, sizes, lane);
+}
+
+/// Makes steps of a read or a release, up to where only its last one is left.
+pub(crate) fn finish<K: Opening>(
+    words: &Words<K>,
+    seat: &mut WordSeat,
+    sizes: &TableSizes,
+    lane: &mut SubscriberLane,
+)
+    requires table { (seat.old.table_id ≡ words.now.table_id) × (words.now.table_id.words ≡ words_of sizes.now) × IsSmall sizes.now }
+    requires seat { (seat.old.me ≡ single (port_of seat.old.me)) × ((port_of seat.old.me).service.sizes ≡ sizes.now) }
+    requires stands { SubscriberStands (port_of seat.old.me) lane.old }
+    requires short { IsShort lane.old.port.call }
+    ensures table { (seat.new.table_id ≡ seat.old.table_id) × (seat.new.id ≡ seat.old.id) }
+    ensures seat { (seat.new.me ≡ single (port_of seat.new.me)) × ((port_of seat.new.me).service ≡ (port_of seat.old.me).service) × ((port_of seat.new.me).name ≡ (port_of seat.old.me).name) }
+    ensures stands { SubscriberStands (port_of seat.new.me) lane.new }
+    ensures goes { SubscriberGoes (port_of seat.old.me) lane.old (port_of seat.new.me) lane.new }
+    ensures short { IsShort lane.new.port.call }
+    ensures over { subscriber_is_over lane.new.port.call ≡ true }
+{
+    while !lane.is_over() {
+        step(words, seat, sizes, lane);
+    }
+}
+
+/// Makes steps of a subscriber's call up to where only its last one is left.
+pub(crate) fn run_on<R: Wait, K: Opening>(
+    rt: &R,
+    words: &Words<K>,
+    seat: &mut WordSeat,
+    sizes: &TableSizes,
+    lane: &mut SubscriberLane,
+)
+    requires table { (seat.old.table_id ≡ words.now.table_id) × (words.now.table_id.words ≡ words_of sizes.now) × IsSmall sizes.now }
+    requires seat { (seat.old.me ≡ single (port_of seat.old.me)) × ((port_of seat.old.me).service.sizes ≡ sizes.now) }
+    requires stands { SubscriberStands (port_of seat.old.me) lane.old }
+    ensures table { (seat.new.table_id ≡ seat.old.table_id) × (seat.new.id ≡ seat.old.id) }
+    ensures seat { (seat.new.me ≡ single (port_of seat.new.me)) × ((port_of seat.new.me).service ≡ (port_of seat.old.me).service) × ((port_of seat.new.me).name ≡ (port_of seat.old.me).name) }
+    ensures stands { SubscriberStands (port_of seat.new.me) lane.new }
+    ensures goes { SubscriberGoes (port_of seat.old.me) lane.old (port_of seat.new.me) lane.new }
+    ensures over { subscriber_is_over lane.new.port.call ≡ true }
+{
+    for _ in rt.forever() {
+        if lane.is_over() {
+            return;
+        }
+        step(words, seat, sizes, lane);
+    }
+    unreachable!()
+}

@@ -1,0 +1,5 @@
+use Rattle.iox_lanes_threads_rule.proofs.Keeping as lemmas
+use Rattle.iox_lanes_threads_rule.proofs.laws.loads_keep_the_rule.Goals as goal
+
+pub returns : goal.returns
+returns c = lemmas.loads

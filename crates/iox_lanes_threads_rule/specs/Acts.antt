@@ -1,0 +1,94 @@
+-- One access of a port to the words that threads share: when it may be made, what it tells, and what the port knows then.
+use Rattle.std.specs.Prelude.{ℕ, ◌≡◌, ◌<◌, ◌≤◌, ◌^◌, List, [], ◌∷◌, set}
+use Rattle.atomic_table.specs.Table.{State, Me, Step}
+use Rattle.iox_lanes_words.specs.Numbers.{number_of, IsWord}
+use Rattle.iox_lanes_words.specs.declared.access.SharedAccess.{SharedAccess}
+use Rattle.iox_lanes_words.specs.declared.access.SharedAccess.TheVariants.{Load, Store, Exchange, Local}
+use Rattle.iox_lanes_words.specs.declared.word.SharedWord.{SharedWord}
+use Rattle.iox_lanes_subscriber.specs.Keeping.{new_subscriber}
+use Rattle.iox_lanes_parties.specs.declared.call.CallName.TheVariants as name
+use Rattle.iox_lanes_parties.specs.declared.call.Party.TheVariants.{Publisher}
+use Rattle.iox_lanes_threads_rule.specs.Rule.{held, Fits, Ruled, one}
+use Rattle.iox_lanes_threads_rule.specs.Steps.{learned, known_exchanged, Told, MayStore, MayExchange}
+use Rattle.iox_lanes_threads_rule.specs.declared.service.Service.{Service}
+use Rattle.iox_lanes_threads_rule.specs.declared.view.Port.{Port}
+use Rattle.iox_lanes_threads_rule.specs.declared.view.PortParty.{PortParty}
+use Rattle.iox_lanes_threads_rule.specs.declared.view.PortParty.TheVariants as party
+use Rattle.iox_lanes_threads_rule.specs.declared.view.View.{View}
+
+-- words and ports fit, of some service
+abbrev pub FitSome : List ℕ → List Port → Type 0
+FitSome words ports = (s : Service) × Fits s words ports
+
+-- the rule of the words, as threads keep it
+abbrev pub Holds : State ℕ View → Type 0
+Holds state = Ruled FitSome state
+
+-- no service
+abbrev pub no_service : Service
+no_service = record {
+  sizes = record { connections = 0; submission_cells = 0; completion_cells = 0; slots = 0; user_header_words = 0; payload_words = 0 };
+  lines = [];
+  ranges = [];
+}
+
+-- nobody
+abbrev pub no_party : PortParty
+no_party = party.Subscriber (record {
+  port = new_subscriber [] 0 (record { user_header_words = 0; payload_words = 0 }) 0 0;
+  call = name.Receive;
+  first = 0;
+})
+
+-- no port
+abbrev pub no_port : Port
+no_port = record { number = 0; name = Publisher 0; service = no_service; known = []; party = no_party }
+
+-- the first of some ports
+abbrev pub first_port : List Port → Port
+first_port [] = no_port
+first_port (p ∷ ps) = p
+
+-- the port of a seat that has one
+abbrev pub port_of : Me ℕ View → Port
+port_of me = first_port me.0.ports
+
+-- a seat with one port
+abbrev pub single : Port → Me ℕ View
+single p = (one p, [])
+
+-- an access that a port may make
+abbrev pub MayAct : Port → SharedAccess → Type 0
+MayAct p (Load w) = IsWord p.service.sizes w
+MayAct p (Store w new) = MayStore p.service p w new
+MayAct p (Exchange w old new) = MayExchange p.service p w old new
+MayAct p Local = Unit {0}
+
+-- what the answer of an access tells; stores and local steps are answered 0
+abbrev pub ToldBy : Port → SharedAccess → ℕ → Type 0
+ToldBy p (Load w) answer = Told p.service p w answer
+ToldBy p (Store w new) answer = answer ≡ 0
+ToldBy p (Exchange w old new) answer = (answer < 2 ^ 64) × (held p.service p.known w ≤ answer)
+ToldBy p Local answer = answer ≡ 0
+
+-- the port after an access; what a local step changes it knows with its next access
+abbrev pub stepped : Port → SharedAccess → ℕ → (ℕ → PortParty) → Port
+stepped p (Load w) answer after = learned p (set p.known (number_of p.service.sizes w) answer) (after answer)
+stepped p (Store w new) answer after = learned p (set p.known (number_of p.service.sizes w) new) (after answer)
+stepped p (Exchange w old new) answer after = learned p (known_exchanged p.name p.known (number_of p.service.sizes w) old new answer) (after answer)
+stepped p Local answer after = p
+
+-- what a load of the word of a number tells the seat of a port
+abbrev pub loaded : Port → (ℕ → PortParty) → Step ℕ → Me ℕ View → ℕ → Me ℕ View → Type 0
+loaded p after step before found me = (me ≡ single (learned p (set p.known step.word found) (after found)))
+    × ((w : SharedWord) → IsWord p.service.sizes w → number_of p.service.sizes w ≡ step.word → Told p.service p w found)
+
+-- what a store tells
+abbrev pub stored : Port → (ℕ → PortParty) → Step ℕ → Me ℕ View → ℕ → Me ℕ View → Type 0
+stored p after step before found me = me ≡ single (learned p (set p.known step.word step.first) (after 0))
+
+-- what an exchange tells
+abbrev pub exchanged : Port → (ℕ → PortParty) → Step ℕ → Me ℕ View → ℕ → Me ℕ View → Type 0
+exchanged p after step before found me = (me ≡ single (learned p (known_exchanged p.name p.known step.word step.first step.second found) (after found)))
+    × (found < 2 ^ 64)
+    × ((w : SharedWord) → IsWord p.service.sizes w → number_of p.service.sizes w ≡ step.word → held p.service p.known w ≤ found)

@@ -1,0 +1,165 @@
+//! The words that threads share, and one step on one of them.
+ghost use Rattle.std.specs.Prelude.{◌≡◌};
+ghost use Rattle.iox_lanes_words.specs.Numbers.{words_of, IsSmall};
+ghost use Rattle.iox_lanes_words.specs.declared.access.SharedAccess.TheVariants as access;
+ghost use Rattle.iox_lanes_threads_rule.specs.Acts.{single, stepped, MayAct, ToldBy};
+
+use crate::view::{Port, PortParty, View};
+use atomic_table::{Play, Seat, Shared, TableRule};
+use iox_lanes_words::{SharedAccess, SharedWord, TableSizes};
+use std::marker::{Brand, PhantomData};
+
+/// What the words start from.
+pub trait Opening {
+    ghost use Rattle.iox_lanes_threads_rule.specs.declared.view.View.{View};
+
+    // The view of the first seat.
+    ghost first: { Self → View };
+}
+
+/// The rule of the words.
+pub struct WordRule;
+
+impl<K: Opening> TableRule<u8, View, K> for WordRule {
+    ghost use Rattle.iox_lanes_threads_rule.specs.Acts.{Holds};
+
+    ghost holds = { λ _. Holds };
+
+    ghost first = { K.first };
+}
+
+/// The words of a service, as threads share them.
+pub type Words<K> = Shared<u8, View, K, WordRule>;
+
+/// A token with which a port steps on the words.
+pub type WordSeat = Seat<u8, View>;
+
+/// Whose step it is: the port before it, and the port itself after the answer.
+pub trait Doing {
+    ghost use Rattle.std.specs.Prelude.{ℕ};
+    ghost use Rattle.iox_lanes_threads_rule.specs.declared.view.Port.{Port};
+    ghost use Rattle.iox_lanes_threads_rule.specs.declared.view.PortParty.{PortParty};
+
+    ghost port: { Port };
+
+    ghost after: { ℕ → PortParty };
+}
+
+impl Doing for Brand {
+    ghost use Rattle.iox_lanes_threads_rule.specs.Acts.{no_port, no_party};
+
+    ghost port = { no_port };
+
+    ghost after = { λ _. no_party };
+}
+
+/// A load.
+pub struct Loads<M> {
+    doing: PhantomData<M>,
+}
+
+impl<M: Doing> Play<u8, View> for Loads<M> {
+    ghost use Rattle.iox_lanes_threads_rule.specs.Acts.{loaded};
+
+    ghost then = { loaded M.port M.after };
+}
+
+/// A store.
+pub struct Stores<M> {
+    doing: PhantomData<M>,
+}
+
+impl<M: Doing> Play<u8, View> for Stores<M> {
+    ghost use Rattle.iox_lanes_threads_rule.specs.Acts.{stored};
+
+    ghost then = { stored M.port M.after };
+}
+
+/// An exchange.
+pub struct Exchanges<M> {
+    doing: PhantomData<M>,
+}
+
+impl<M: Doing> Play<u8, View> for Exchanges<M> {
+    ghost use Rattle.iox_lanes_threads_rule.specs.Acts.{exchanged};
+
+    ghost then = { exchanged M.port M.after };
+}
+
+// Each of the three takes the access of its kind.
+fn load<K: Opening, M: Doing>(
+    words: &Words<K>,
+    seat: &mut WordSeat,
+    sizes: &TableSizes,
+    word: SharedWord,
+) -> u64
+    requires table { (seat.old.table_id ≡ words.now.table_id) × (words.now.table_id.words ≡ words_of sizes.now) × IsSmall sizes.now }
+    requires seat { (seat.old.me ≡ single M.port) × (M.port.service.sizes ≡ sizes.now) }
+    requires may { MayAct M.port (access.Load word) }
+    ensures table { (seat.new.table_id ≡ seat.old.table_id) × (seat.new.id ≡ seat.old.id) }
+    ensures port { seat.new.me ≡ single (stepped M.port (access.Load word) result M.after) }
+    ensures told { ToldBy M.port (access.Load word) result }
+{
+    words.load::<Loads<M>>(seat, sizes.number(word) as usize)
+}
+
+fn store<K: Opening, M: Doing>(
+    words: &Words<K>,
+    seat: &mut WordSeat,
+    sizes: &TableSizes,
+    word: SharedWord,
+    new: u64,
+)
+    requires table { (seat.old.table_id ≡ words.now.table_id) × (words.now.table_id.words ≡ words_of sizes.now) × IsSmall sizes.now }
+    requires seat { (seat.old.me ≡ single M.port) × (M.port.service.sizes ≡ sizes.now) }
+    requires may { MayAct M.port (access.Store word new) }
+    ensures table { (seat.new.table_id ≡ seat.old.table_id) × (seat.new.id ≡ seat.old.id) }
+    ensures port { seat.new.me ≡ single (stepped M.port (access.Store word new) 0 M.after) }
+{
+    words.store::<Stores<M>>(seat, sizes.number(word) as usize, new);
+}
+
+fn exchange<K: Opening, M: Doing>(
+    words: &Words<K>,
+    seat: &mut WordSeat,
+    sizes: &TableSizes,
+    word: SharedWord,
+    old: u64,
+    new: u64,
+) -> u64
+    requires table { (seat.old.table_id ≡ words.now.table_id) × (words.now.table_id.words ≡ words_of sizes.now) × IsSmall sizes.now }
+    requires seat { (seat.old.me ≡ single M.port) × (M.port.service.sizes ≡ sizes.now) }
+    requires may { MayAct M.port (access.Exchange word old new) }
+    ensures table { (seat.new.table_id ≡ seat.old.table_id) × (seat.new.id ≡ seat.old.id) }
+    ensures port { seat.new.me ≡ single (stepped M.port (access.Exchange word old new) result M.after) }
+    ensures told { ToldBy M.port (access.Exchange word old new) result }
+{
+    words.compare_exchange::<Exchanges<M>>(seat, sizes.number(word) as usize, old, new)
+}
+
+/// Makes the access of a port that may make it, and gives its answer; stores and local steps are answered 0.
+pub fn act<K: Opening, M: Doing>(
+    words: &Words<K>,
+    seat: &mut WordSeat,
+    sizes: &TableSizes,
+    access: SharedAccess,
+) -> u64
+    requires table { (seat.old.table_id ≡ words.now.table_id) × (words.now.table_id.words ≡ words_of sizes.now) × IsSmall sizes.now }
+    requires seat { (seat.old.me ≡ single M.port) × (M.port.service.sizes ≡ sizes.now) }
+    requires may { MayAct M.port access }
+    ensures table { (seat.new.table_id ≡ seat.old.table_id) × (seat.new.id ≡ seat.old.id) }
+    ensures port { seat.new.me ≡ single (stepped M.port access result M.after) }
+    ensures told { ToldBy M.port access result }
+{
+    match access {
+        SharedAccess::Load(word) => load::<K, M>(words, seat, sizes, word),
+        SharedAccess::Store(word, new) => {
+            store::<K, M>(words, seat, sizes, word, new);
+            0
+        }
+        SharedAccess::Exchange(word, old, new) => {
+            exchange::<K, M>(words, seat, sizes, word, old, new)
+        }
+        SharedAccess::Local => 0,
+    }
+}

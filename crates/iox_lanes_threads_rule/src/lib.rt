@@ -1,0 +1,16 @@
+//! The rule of the words that threads share: what holds of them between any two steps, whatever the threads do.
+//!
+//! - [`service`]: which ports and connections there are.
+//! - [`view`]: what a port knows.
+//! - [`laws`]: each step that a port may make keeps the rule.
+//! - [`board`]: one step on one of the words.
+#![tactic(auto)]
+
+pub mod board;
+pub mod laws;
+pub mod service;
+pub mod view;
+
+pub use board::{Doing, Opening, WordRule, WordSeat, Words, act};
+pub use service::{Line, Service, SlotRange};
+pub use view::{Port, PortParty, View};

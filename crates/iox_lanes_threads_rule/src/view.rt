@@ -1,0 +1,37 @@
+//! What a port knows of the words that threads share.
+use crate::service::Service;
+use iox_lanes_parties::{Party, PublisherLane, SubscriberLane};
+use std::collections::LinkedList;
+
+/// A publisher or a subscriber with the call that it is in.
+pub enum PortParty {
+    /// A publisher.
+    Publisher(PublisherLane),
+    /// A subscriber.
+    Subscriber(SubscriberLane),
+}
+
+/// What a port knows. No value is ever made: the rule of the words and contracts speak of it.
+pub struct Port {
+    /// Its number among all ports.
+    pub number: u64,
+    /// Which publisher or subscriber it is.
+    pub name: Party,
+    /// Its service.
+    pub service: Service,
+    /// What it knows of each word, by the words' numbers: of one that it alone stores what it holds, of any other position how far it has come at least, of
+    /// all else what it saw last.
+    pub known: LinkedList<u64>,
+    /// The port itself, as its last step on a shared word left it.
+    pub party: PortParty,
+}
+
+/// What a seat at the words knows: the ports that it has. No value is ever made.
+pub struct View {
+    /// How many ports were given out before the waiting ones.
+    pub from: u64,
+    /// Those that are still to be given out.
+    pub waiting: LinkedList<Port>,
+    /// Those that step with this seat, or came back.
+    pub ports: LinkedList<Port>,
+}
