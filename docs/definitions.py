@@ -47,7 +47,7 @@ class Uses:
     def __init__(self, text):
         self.names, self.modules = {}, {}
         for path, names, alias in USE.findall(text):
-            module = re.fullmatch(r"Rattle\.(iox\w*)\.specs\.(\w+)", path)
+            module = re.fullmatch(r"Rattle\.((?:iox|example)\w*)\.specs\.(\w+)", path)
             if not module or module[2] == "declared":
                 continue
             if alias or not names:

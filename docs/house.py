@@ -42,7 +42,7 @@ def floors(below):
         cells = [it.strip() for it in line.split("|")]
         if len(cells) < 4 or cells[1] not in FLOORS:
             continue
-        for name in re.findall(r"`(iox\w*)`", cells[2]):
+        for name in re.findall(r"`((?:iox|example)\w*)`", cells[2]):
             if name in found or name not in below:
                 sys.exit(f"docs/ARCHITECTURE.md: {name} stands there twice, or not in crates.txt")
             found[name] = cells[1]

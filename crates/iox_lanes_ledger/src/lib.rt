@@ -1,6 +1,12 @@
 //! What the slots of a publisher are used for, counted.
 //!
 //! The law is the contract of a function that does nothing: it is proved of the definitions that the contracts of a publisher's lane name.
+//!
+//! A proof cites the law by a call of its function, which does nothing; what it states is then among the facts of the caller:
+//!
+//! ```
+//! changes_keep_count();
+//! ```
 #![tactic(auto)]
 
 ghost use Rattle.iox_lanes_ledger.specs.Uses.{ChangesKeepCount};

@@ -5,6 +5,14 @@
 //! - [`publisher`]: a publisher.
 //! - [`subscriber`]: a subscriber.
 //! - [`laws`]: the stages of their calls know what each step needs.
+//!
+//! First calls, of a publisher and of a subscriber over one table `words`. Nothing opens such a table from lanes yet, so no program makes them so far.
+//!
+//! ```
+//! let loan = publisher.loan_uninit(&words);
+//! let sent = publisher.send(&words, slot);
+//! let given = subscriber.receive(&rt, &words);
+//! ```
 #![tactic(auto)]
 
 pub mod laws;

@@ -4,6 +4,12 @@
 //! - [`view`]: what a port knows.
 //! - [`laws`]: each step that a port may make keeps the rule.
 //! - [`board`]: one step on one of the words.
+//!
+//! A first call: one access of a port, by its own seat of the table that all threads share. `iox_lanes_threads_ports` makes it.
+//!
+//! ```
+//! let answer = act::<K, Brand>(words, &mut seat, &sizes, access);
+//! ```
 #![tactic(auto)]
 
 pub mod board;

@@ -1,0 +1,133 @@
+//! A line of a script with its reply, and what the two tell of a message.
+#![tactic(auto)]
+
+ghost use Rattle.std.specs.Prelude.{◌≡◌, ◌≤◌, IfOk, length};
+ghost use Rattle.std.specs.List.{before_first, after_first, position_or_len};
+ghost use Rattle.std.specs.Option.{option_map};
+ghost use Rattle.example_exchange.specs.Exchange.{is_byte, first_word, behind, is_text, is_sent, sent_by, received_by, seen};
+ghost use Rattle.example_exchange.specs.Conversation.{IsConversation};
+
+use std::alloc::{AllocError, Global};
+
+/// A line of a script, and what it was replied.
+#[derive(Clone, Copy)]
+pub struct Exchange<'a> {
+    pub line: &'a [u8],
+    pub reply: &'a [u8],
+}
+
+/// What a line sent or received: by which port or loan, and the values, where the two tell them.
+#[derive(Clone, Copy)]
+pub struct Message<'a> {
+    pub port: &'a [u8],
+    pub values: Option<&'a [u8]>,
+}
+
+/// The place of the first such byte, or the length of the text.
+fn place(byte: u8, text: &[u8]) -> usize
+    ensures place { result ≡ position_or_len (is_byte byte) text.now }
+    ensures within { result ≤ length text.now }
+{
+    for at in 0..text.len() {
+        if text[at] == byte {
+            return at;
+        }
+    }
+    text.len()
+}
+
+/// What stands before the first such byte, and what stands behind it.
+fn cut(byte: u8, text: &[u8]) -> (&[u8], &[u8])
+    ensures before { result.0.now ≡ before_first (is_byte byte) text.now }
+    ensures after { result.1.now ≡ after_first (is_byte byte) text.now }
+{
+    let at = place(byte, text);
+    if at < text.len() {
+        (&text[..at], &text[at + 1..])
+    } else {
+        (text, &[])
+    }
+}
+
+/// The first word of a text, and what is behind the space behind it.
+pub fn word(text: &[u8]) -> (&[u8], &[u8])
+    ensures word { result.0.now ≡ first_word text.now }
+    ensures rest { result.1.now ≡ behind text.now }
+{
+    cut(b' ', text)
+}
+
+/// Cuts a row as `paste` writes it: a line, a tab, and its reply.
+pub fn paired(row: &[u8]) -> Exchange<'_>
+    ensures line { result.line.now ≡ before_first (is_byte 9) row.now }
+    ensures reply { result.reply.now ≡ after_first (is_byte 9) row.now }
+{
+    let (line, reply) = cut(b'\t', row);
+    Exchange { line, reply }
+}
+
+/// Whether a text is this one.
+pub fn is(text: &[u8], wanted: &[u8]) -> bool
+    ensures { result ≡ is_text text.now wanted.now }
+{
+    text == wanted
+}
+
+/// The message that a line sent: a `put`, of its values, or a `send` of a loan, which doesn't tell them.
+pub fn sent<'a>(exchange: &Exchange<'a>) -> Option<Message<'a>>
+    ensures { option_map seen result ≡ sent_by exchange.now.line.now exchange.now.reply.now }
+{
+    let (verb, rest) = word(exchange.line);
+    let (port, values) = word(rest);
+    if !is_sent(exchange.reply) {
+        None
+    } else if is(verb, b"put") {
+        Some(Message {
+            port,
+            values: Some(values),
+        })
+    } else if is(verb, b"send") {
+        Some(Message { port, values: None })
+    } else {
+        None
+    }
+}
+
+/// Whether a reply to a `put` or a `send` tells that the message is on its way to somebody.
+fn is_sent(reply: &[u8]) -> bool
+    ensures { result ≡ is_sent reply.now }
+{
+    is(word(reply).0, b"ok")
+        || is(reply, b"blocked")
+        || is(reply, b"err SendError::UnableToDeliver")
+}
+
+/// The message that a line received.
+pub fn received<'a>(exchange: &Exchange<'a>) -> Option<Message<'a>>
+    ensures { option_map seen result ≡ received_by exchange.now.line.now exchange.now.reply.now }
+{
+    let (verb, port) = word(exchange.line);
+    let (ok, rest) = word(exchange.reply);
+    if is(verb, b"receive") && is(ok, b"ok") {
+        Some(Message {
+            port,
+            values: Some(word(rest).1),
+        })
+    } else {
+        None
+    }
+}
+
+/// The rows of a text, one behind the other, each as a line and its reply. A last row without a newline counts if it isn't empty.
+pub fn conversation(alloc: Global, text: &[u8]) -> Result<Vec<Exchange<'_>>, AllocError>
+    ensures { IfOk result (λ rows. IsConversation text.now rows.items) }
+{
+    let mut rows = Vec::new(alloc);
+    let mut rest = text;
+    while !rest.is_empty() {
+        let (row, others) = cut(b'\n', rest);
+        rows.push(paired(row))?;
+        rest = others;
+    }
+    Ok(rows)
+}
