@@ -2,7 +2,7 @@
 //!
 //! The law is the contract of a function that does nothing: it is proved of the definitions that the contracts of a publisher's lane name.
 //!
-//! A proof cites the law by a call of its function, which does nothing; what it states is then among the facts of the caller:
+//! A proof cites a law by a call of its function, which does nothing; what it states is then among the facts of the caller:
 //!
 //! ```
 //! changes_keep_count();
