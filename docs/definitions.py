@@ -23,6 +23,8 @@ DEFINITION = re.compile(rf"^ *(?:abbrev pub|unfoldable pub|pub record|pub data|@
 # Definitions that name each other are indented below this line.
 MUTUAL = re.compile(r"^abbrev mutual\n((?:(?:  .*)?\n)*)", re.M)
 VISIBLE = r"(?:pub(?:\(crate\))? )?"
+# In place of a comment: the page lists such a name where it is defined, and needn't where it is handed on.
+HANDED_ON = "handed on"
 # What ties a type to its model: no caller's clause names it.
 OF_MODELS = {"view", "invariant"}
 
@@ -88,7 +90,7 @@ def definitions():
     for file in CRATES.glob("*/specs/*.antt"):
         for path, names, _ in re.findall(rf"^pub use (Rattle(?:\.{NAME})+?)\.\{{([^}}]*)\}}()$", file.read_text(), re.M):
             for here, target in Uses(f"use {path}.{{{names}}}").names.items():
-                found.setdefault((file.parent.parent.name, file.stem, here), ("", {target}))
+                found.setdefault((file.parent.parent.name, file.stem, here), (HANDED_ON, {target}))
     return found
 
 
@@ -227,7 +229,7 @@ def main(words):
     wanted = reached(known)
     allowed = wanted | reached(known, all_of_them=True)
     on_page, strange = listed(known)
-    missing = [it for it in known if it in wanted - on_page]
+    missing = [it for it in known if it in wanted - on_page and known[it][0] != HANDED_ON]
     extra = [it for it in known if it in on_page - allowed]
     if words:
         for it in missing:

@@ -21,10 +21,9 @@ use Rattle.iox_domain_ports.specs.declared.making.PublisherConfig.{PublisherConf
 use Rattle.iox_domain_ports.specs.declared.making.SubscriberConfig.{SubscriberConfig}
 use Rattle.iox_domain_ports.specs.declared.service_ports.ServicePorts.{ServicePorts}
 use Rattle.iox_domain_home.specs.declared.domain_id.DomainId.{DomainId}
-use Rattle.iox_delivery.specs.declared.publisher.Publisher.{Publisher}
+use Rattle.iox_delivery_slices.specs.Delivery.{Publisher, Subscriber}
 use Rattle.iox_delivery_slices.specs.declared.publisher.Publisher.{Publisher as SlicePublisher}
 use Rattle.iox_delivery_slices.specs.declared.subscriber.Subscriber.{Subscriber as SliceSubscriber}
-use Rattle.iox_delivery.specs.declared.subscriber.Subscriber.{Subscriber}
 use Rattle.iox_delivery_factories.specs.Elements.{room_of}
 use Rattle.iox_delivery_factories.specs.declared.publisher.PortFactoryPublisher.{PortFactoryPublisher}
 use Rattle.iox_delivery_factories.specs.declared.subscriber.PortFactorySubscriber.{PortFactorySubscriber}

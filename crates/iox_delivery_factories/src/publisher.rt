@@ -7,8 +7,8 @@ ghost use Rattle.iox_domain_values.specs.declared.create_error.PublisherCreateEr
 ghost use Rattle.iox_delivery_factories.specs.Elements.{room_of};
 ghost use Rattle.iox_delivery_factories.specs.Factories.{single_config, slice_config, publisher_of, slice_publisher_of, with_strategy, with_degradation, with_backpressure, cloned};
 
-use iox_delivery::{PortId, Publisher};
 use iox_delivery_slices as slice;
+use iox_delivery_slices::iox_delivery::{PortId, Publisher};
 use iox_domain_home::{DomainId, MakesPorts};
 use iox_domain_ports::PublisherConfig;
 use iox_domain_publisher::lengths::span;

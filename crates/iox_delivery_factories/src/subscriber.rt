@@ -6,8 +6,8 @@ ghost use Rattle.iox_domain_home.specs.Homes.{MakesAt};
 ghost use Rattle.iox_domain_home.specs.Steps.{SubscriberComes, why_no_subscriber};
 ghost use Rattle.iox_delivery_factories.specs.Factories.{subscriber_config, buffer_at, subscriber_of, slice_subscriber_of, subscriber_cloned};
 
-use iox_delivery::{PortId, Subscriber};
 use iox_delivery_slices as slice;
+use iox_delivery_slices::iox_delivery::{PortId, Subscriber};
 use iox_domain_home::{DomainId, MakesPorts};
 use iox_domain_ports::SubscriberConfig;
 use iox_domain_settings::SubscriberSettings;

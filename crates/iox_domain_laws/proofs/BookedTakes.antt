@@ -270,7 +270,7 @@ sole_taken publisher number step None ports sole = sole
 sole_taken publisher number step (Some port) ports sole = sole_set publisher (at_number number) ports (step port) sole
 
 sole_takes : {T U : Type 0} (publisher : ℕ) → WalksTaking (λ (old : List (ℕ × PublisherPort T U)) (new : List (ℕ × PublisherPort T U)). IsSole publisher old → IsSole publisher new)
-sole_takes publisher attached ports sole = sole_taken publisher attached.publisher (taken_at attached.index) (port_of attached.publisher ports) ports sole
+sole_takes publisher attached ports below sole = sole_taken publisher attached.publisher (taken_at attached.index) (port_of attached.publisher ports) ports sole
 
 -- a receive after its update
 received_step : {T U : Type 0} (publisher index subscriber reading : ℕ) (updated : Result (Unit {0}) ConnectionFailure) (port new : SubscriberPort) (old between ports : List (ℕ × PublisherPort T U)) (outcome : Result (Option Taken) ReceiveError) → ListBooks publisher index subscriber old between

@@ -1,5 +1,5 @@
 -- What each step of a publisher that follows no list does to it, put together to what a call does.
-use Rattle.std.proofs.Common.{◌≡◌, ◌-◌, ℕ, zero, suc, Bool, true, false, List, get_or, length, nat_lt, nat_le, slice_get, is_some, Option, None, Some, Result, Ok, Err, refl, ap, ◌∙◌, if◌then◌else◌, inl, inr}
+use Rattle.std.proofs.Common.{arith, ◌≡◌, ◌-◌, ◌<◌, ◌≤◌, ◌∷◌, ◌++◌, [], cond, drop, length-append, ℕ, zero, suc, Bool, true, false, List, get_or, length, nat_lt, nat_le, slice_get, is_some, Option, None, Some, Result, Ok, Err, refl, ap, ◌∙◌, if◌then◌else◌, inl, inr}
 use Rattle.iox_index_base.specs.declared.container.Member.{Member}
 use Rattle.iox_domain_values.specs.declared.backpressure.BackpressureDecision.{BackpressureDecision}
 use Rattle.iox_domain_values.specs.declared.backpressure.BackpressureDecision.TheVariants as decided
@@ -10,7 +10,7 @@ use Rattle.iox_domain_values.specs.declared.degradation.DegradationAction.{Degra
 use Rattle.iox_domain_values.specs.declared.degradation.DegradationInfo.{DegradationInfo}
 use Rattle.iox_domain_values.specs.declared.port_error.LoanError.{LoanError}
 use Rattle.iox_domain_values.specs.declared.port_error.SendError.{SendError}
-use Rattle.iox_domain_slots.specs.Uses.{offered}
+use Rattle.iox_domain_slots.specs.Uses.{offered, Connection}
 use Rattle.iox_domain_sender.specs.Messages.{Message, Loan}
 use Rattle.iox_domain_publisher.specs.Lengths.{extent}
 use Rattle.iox_domain_publisher.specs.Loaning.{with_sender, LendsHere, LendsInNew, LendsBeyond, LendsWhere, LendsUnless, LoansIf, first_refusal}
@@ -28,15 +28,18 @@ use Rattle.iox_domain_publisher.specs.declared.subscriber_entry.SubscriberEntry.
 use Rattle.iox_domain_ports.specs.Lending.{LoansOne}
 use Rattle.iox_domain_ports.specs.Lending as lending
 use Rattle.iox_domain_ports.specs.Publishing.{is_blocked, is_free, UpdatesOne, SendsOne, RetriesOne, GivesUpOne}
+use Rattle.iox_domain_laws.specs.SizeLaws.{made_for}
 use Rattle.iox_domain_ports.specs.Publishing as publishing
+use Rattle.std.proofs.lemmas.List.{length-drop}
 
--- What holds from a publisher before each such step to it after the step, and from step to step: where no connection, tie or reader changes,
--- and where other messages wait at a connection that goes on.
+-- What holds from a publisher before each such step to it after the step, and from step to step: where no connection, tie, reader or size changes,
+-- and where other messages wait at a connection that goes on, no more than may.
 pub record Carries {T U : Type 0} (R : PublisherPort T U → PublisherPort T U → Type 0) : Type 0 where
   pub is : (old new : PublisherPort T U) → new ≡ old → R old new
   pub on : (old between new : PublisherPort T U) → R old between → R between new → R old new
-  pub still : (old new : PublisherPort T U) → new.sender.uses.connections ≡ old.sender.uses.connections → new.ties ≡ old.ties → new.readers ≡ old.readers → new.stands ≡ old.stands → R old new
-  pub waiting : (index : ℕ) (waiting : List (Message T U)) (port : PublisherPort T U) → is_live index port ≡ true → R port (with_connection_of index (record (connection_of index port) { waiting = waiting }) port)
+  pub still : (old new : PublisherPort T U) → new.sender.uses.connections ≡ old.sender.uses.connections → new.ties ≡ old.ties → new.readers ≡ old.readers → new.stands ≡ old.stands → made_for new ≡ made_for old → R old new
+  pub waiting : (index : ℕ) (waiting : List (Message T U)) (port : PublisherPort T U) → is_live index port ≡ true
+      → (length (connection_of index port).waiting ≤ (connection_of index port).limit → length waiting ≤ (connection_of index port).limit) → R port (with_connection_of index (record (connection_of index port) { waiting = waiting }) port)
 
 carry_to : {T U : Type 0} {R : PublisherPort T U → PublisherPort T U → Type 0} (w : Carries R) (old new other : PublisherPort T U) → other ≡ new → R old new → R old other
 carry_to w old new other is carried = w.on old new other carried (w.is new other is)
@@ -45,11 +48,22 @@ carry_if : {T U : Type 0} {R : PublisherPort T U → PublisherPort T U → Type 
 carry_if w true old one other carried_one carried_other = carried_one refl
 carry_if w false old one other carried_one carried_other = carried_other refl
 
+-- a mailbox holds no more than it may after a message came
+offered_few_by : {X : Type 0} (overflows room : Bool) (limit : ℕ) (waiting : List X) (message : X) → nat_lt (length waiting) limit ≡ room → length waiting ≤ limit
+    → length (cond overflows (cond room (waiting ++ message ∷ []) (drop 1 (waiting ++ message ∷ []))) (cond room (waiting ++ message ∷ []) waiting)) ≤ limit
+offered_few_by true true limit waiting message is few = let below : length waiting < limit = grind (arith, is) in omega (arith, below, length-append waiting (message ∷ []))
+offered_few_by false true limit waiting message is few = let below : length waiting < limit = grind (arith, is) in omega (arith, below, length-append waiting (message ∷ []))
+offered_few_by true false limit waiting message is few = omega (arith, few, length-append waiting (message ∷ []), length-drop 1 (waiting ++ message ∷ []))
+offered_few_by false false limit waiting message is few = few
+
+offered_few : {X : Type 0} (overflows : Bool) (message : X) (connection : Connection X) → length connection.waiting ≤ connection.limit → length (offered overflows message connection).waiting ≤ connection.limit
+offered_few overflows message connection few = offered_few_by overflows (nat_lt (length connection.waiting) connection.limit) connection.limit connection.waiting message refl few
+
 -- a message comes to a mailbox
 carry_message : {T U : Type 0} {R : PublisherPort T U → PublisherPort T U → Type 0} (w : Carries R) (index : ℕ) (message : Option (Message T U)) (port : PublisherPort T U) → is_live index port ≡ true → R port (with_message index message port)
 carry_message w index None port live = w.is port port refl
 carry_message w index (Some message) port live =
-    w.waiting index (offered port.sender.uses.overflows message (connection_of index port)).waiting port live
+    w.waiting index (offered port.sender.uses.overflows message (connection_of index port)).waiting port live (offered_few port.sender.uses.overflows message (connection_of index port))
 
 carry_met : {T U : Type 0} {R : PublisherPort T U → PublisherPort T U → Type 0} (w : Carries R) (tie : Option ℕ) (port : PublisherPort T U) → R port (met_by tie port)
 carry_met w None port = w.is port port refl
@@ -59,13 +73,13 @@ carry_met w (Some index) port =
 -- a place is gone over
 carry_decided : {T U : Type 0} {R : PublisherPort T U → PublisherPort T U → Type 0} (w : Carries R) (decision : BackpressureDecision) (port : PublisherPort T U) → R port (decided_by decision port)
 carry_decided w decided.Retry port = w.is port port refl
-carry_decided w decided.DiscardData port = w.still port _ refl refl refl refl
-carry_decided w decided.DiscardDataAndFail port = w.still port _ refl refl refl refl
+carry_decided w decided.DiscardData port = w.still port _ refl refl refl refl refl
+carry_decided w decided.DiscardDataAndFail port = w.still port _ refl refl refl refl refl
 
 carry_steps : {T U : Type 0} {R : PublisherPort T U → PublisherPort T U → Type 0} (w : Carries R) (may : BackpressureInfo → BackpressureDecision → Type 0) (came : Meeting) (old new : PublisherPort T U) (went : Bool) → Steps may came old went new → R old new
 carry_steps w may meeting.Over old new went steps = w.is old new steps.1
-carry_steps w may meeting.Passed old new went steps = carry_to w old _ new steps.1 (w.still old _ refl refl refl refl)
-carry_steps w may meeting.Delivered old new went steps = carry_to w old _ new steps.1 (w.still old _ refl refl refl refl)
+carry_steps w may meeting.Passed old new went steps = carry_to w old _ new steps.1 (w.still old _ refl refl refl refl refl)
+carry_steps w may meeting.Delivered old new went steps = carry_to w old _ new steps.1 (w.still old _ refl refl refl refl refl)
 carry_steps w may (meeting.Full subscriber) old new went steps = carry_to w old _ new steps.3 (carry_decided w steps.0 old)
 
 carry_goes_on : {T U : Type 0} {R : PublisherPort T U → PublisherPort T U → Type 0} (w : Carries R) (went arrived : Bool) (next new : PublisherPort T U) (further : Type 0) → (further → R next new) → GoesOn went arrived next new further → R next new
@@ -81,7 +95,7 @@ carry_delivers {T} {U} w may (suc places) old new arrived delivers =
     (carry_goes_on w went arrived next new (Delivers may places next arrived new) (λ further. carry_delivers w may places next new arrived further) goes)
 
 pub carry_concluded : {T U : Type 0} {R : PublisherPort T U → PublisherPort T U → Type 0} (w : Carries R) (arrived : Bool) (port : PublisherPort T U) → R port (concluded arrived port)
-carry_concluded w true port = w.still port _ refl refl refl refl
+carry_concluded w true port = w.still port _ refl refl refl refl refl
 carry_concluded w false port = w.is port port refl
 
 carry_finishes : {T U : Type 0} {R : PublisherPort T U → PublisherPort T U → Type 0} (w : Carries R) (may : BackpressureInfo → BackpressureDecision → Type 0) (old new : PublisherPort T U) (answer : Result Sent SendError) → Finishes may old answer new → R old new
@@ -91,12 +105,12 @@ carry_finishes {T} {U} w may old new answer finishes =
 
 carry_begun : {T U : Type 0} {R : PublisherPort T U → PublisherPort T U → Type 0} (w : Carries R) (at : ℕ) (loan : Option (Loan T U)) (port : PublisherPort T U) → R port (begun_by at loan port)
 carry_begun w at None port = w.is port port refl
-carry_begun w at (Some loan) port = w.still port _ refl refl refl refl
+carry_begun w at (Some loan) port = w.still port _ refl refl refl refl refl
 
 -- a send
 carry_sends_after : {T U : Type 0} {R : PublisherPort T U → PublisherPort T U → Type 0} (w : Carries R) (may : BackpressureInfo → BackpressureDecision → Type 0) (at : ℕ) (outcome : Result (Unit {0}) ConnectionFailure) (updated new : PublisherPort T U) (answer : Option (Result Sent SendError))
     → SendsAfter may at outcome updated answer new → R updated new
-carry_sends_after w may at (Err failure) updated new answer sends = carry_to w updated (dropped_at at updated) new sends.1 (w.still updated _ refl refl refl refl)
+carry_sends_after w may at (Err failure) updated new answer sends = carry_to w updated (dropped_at at updated) new sends.1 (w.still updated _ refl refl refl refl refl)
 carry_sends_after w may at (Ok done) updated new answer sends =
     w.on updated (begun_at at updated) new (carry_begun w at (slice_get updated.sender.uses.loans at) updated) (carry_finishes w may (begun_at at updated) new sends.0 sends.1)
 
@@ -104,7 +118,7 @@ carry_sends_if : {T U : Type 0} {R : PublisherPort T U → PublisherPort T U →
     (old new : PublisherPort T U) (answer : Option (Result Sent SendError)) → old.stands ≡ stands
     → (old.stands ≡ true → (outcome : Result (Unit {0}) ConnectionFailure) (updated : PublisherPort T U) → Updates may_degrade listed changes old outcome updated → R old updated)
     → SendsIf stands may_degrade may listed changes at old answer new → R old new
-carry_sends_if w false may_degrade may listed changes at old new answer is follows sends = carry_to w old (dropped_at at old) new sends.1 (w.still old _ refl refl refl refl)
+carry_sends_if w false may_degrade may listed changes at old new answer is follows sends = carry_to w old (dropped_at at old) new sends.1 (w.still old _ refl refl refl refl refl)
 carry_sends_if {T} {U} w true may_degrade may listed changes at old new answer is follows sends =
     let (outcome, updated, updates, after) = sends in
     w.on old updated new (follows is outcome updated updates) (carry_sends_after w may at outcome updated new answer after)
@@ -122,14 +136,16 @@ carry_lends_here : {T U : Type 0} {R : PublisherPort T U → PublisherPort T U �
 carry_lends_here w values elements old new (Ok slot) lends = w.still old new
     (ap (λ port. port.sender.uses.connections) lends.1 ∙ ap (λ sender. sender.uses.connections) lends.0.3)
     (ap (λ port. port.ties) lends.1) (ap (λ port. port.readers) lends.1) (ap (λ port. port.stands) lends.1)
+    (ap (λ port. made_for port) lends.1 ∙ ap (λ sender. record { overflows = sender.uses.overflows; history = sender.uses.kept; most_waiting = sender.uses.most_waiting; most_borrowed = sender.uses.most_borrowed }) lends.0.3)
 carry_lends_here w values elements old new (Err error) lends = w.still old new
     (ap (λ port. port.sender.uses.connections) lends.2 ∙ ap (λ sender. sender.uses.connections) lends.1.1)
     (ap (λ port. port.ties) lends.2) (ap (λ port. port.readers) lends.2) (ap (λ port. port.stands) lends.2)
+    (ap (λ port. made_for port) lends.2 ∙ ap (λ sender. record { overflows = sender.uses.overflows; history = sender.uses.kept; most_waiting = sender.uses.most_waiting; most_borrowed = sender.uses.most_borrowed }) lends.1.1)
 
 carry_lends_new : {T U : Type 0} {R : PublisherPort T U → PublisherPort T U → Type 0} (w : Carries R) (room values elements : ℕ) (old new : PublisherPort T U) (answer : Result ℕ LoanError) → LendsInNew room values elements old answer new → R old new
 carry_lends_new {T} {U} w room values elements old new answer (inl lends) =
     let opened : PublisherPort T U = with_sender (opened_for room old.sender) old in
-    w.on old opened new (w.still old opened refl refl refl refl) (carry_lends_here w values elements opened new answer lends)
+    w.on old opened new (w.still old opened refl refl refl refl refl) (carry_lends_here w values elements opened new answer lends)
 carry_lends_new w room values elements old new answer (inr lacks) = w.is old new lacks.1
 
 carry_lends_beyond : {T U : Type 0} {R : PublisherPort T U → PublisherPort T U → Type 0} (w : Carries R) (room : Option ℕ) (more : Bool) (values elements : ℕ) (old new : PublisherPort T U) (answer : Result ℕ LoanError) → LendsBeyond room more values elements old answer new → R old new
@@ -159,12 +175,12 @@ carry_loans w values elements old new answer loans = carry_loans_one w old.stand
 
 -- what lies in a loan is written, or it is given up
 pub carry_changed : {T U : Type 0} {R : PublisherPort T U → PublisherPort T U → Type 0} (w : Carries R) (allowed : Bool) (slot : ℕ) (change : Loan T U → Loan T U) (port : PublisherPort T U) → R port (changed_if allowed slot change port)
-carry_changed w true slot change port = w.still port _ refl refl refl refl
+carry_changed w true slot change port = w.still port _ refl refl refl refl refl
 carry_changed w false slot change port = w.is port port refl
 
 carry_given_up_at : {T U : Type 0} {R : PublisherPort T U → PublisherPort T U → Type 0} (w : Carries R) (at : Option ℕ) (port : PublisherPort T U) → R port (given_up_at at port)
 carry_given_up_at w None port = w.is port port refl
-carry_given_up_at w (Some at) port = w.still port _ refl refl refl refl
+carry_given_up_at w (Some at) port = w.still port _ refl refl refl refl refl
 
 pub carry_given_up : {T U : Type 0} {R : PublisherPort T U → PublisherPort T U → Type 0} (w : Carries R) (slot : ℕ) (port : PublisherPort T U) → R port (given_up slot port)
 carry_given_up w slot port = carry_given_up_at w (place_of slot port) port
@@ -174,7 +190,7 @@ retries_one : {T U : Type 0} {R : PublisherPort T U → PublisherPort T U → Ty
 retries_one w false may elapsed old new answer retries = w.is old new retries.1
 retries_one {T} {U} w true may elapsed old new answer retries =
     let again : PublisherPort T U = with_progress (tried_again elapsed old.progress) old in
-    w.on old again new (w.still old again refl refl refl refl) (carry_finishes w may again new retries.0 retries.1)
+    w.on old again new (w.still old again refl refl refl refl refl) (carry_finishes w may again new retries.0 retries.1)
 
 pub carry_retries : {T U : Type 0} {R : PublisherPort T U → PublisherPort T U → Type 0} (w : Carries R) (may : BackpressureInfo → BackpressureDecision → Type 0) (elapsed : ℕ) (old new : PublisherPort T U) (answer : Option (Result Sent SendError)) → RetriesOne may elapsed old answer new → R old new
 carry_retries w may elapsed old new answer retries = retries_one w (is_blocked old) may elapsed old new answer retries

@@ -22,6 +22,8 @@ use Rattle.iox_domain_subscriber.specs.Publishers.{port_of, with_port, changed, 
 use Rattle.iox_domain_subscriber.specs.Reading.{place_of}
 use Rattle.iox_domain_subscriber.specs.declared.attached.Taken.{Taken}
 use Rattle.iox_domain_subscriber.specs.declared.subscriber_port.SubscriberPort.{SubscriberPort}
+use Rattle.iox_domain_laws.specs.SizeLaws.{IsWithin, IsMadeFor, made_for, allowed_by}
+use Rattle.iox_domain_laws.proofs.ListKeeps.{made_still}
 use Rattle.iox_domain_laws.specs.Calls.{PortCall, PublisherComes, SubscriberComes, Lends, Writes, GivesLoanUp, PublisherUpdates, Sends, Retries, GivesSendUp, PublisherLeaves, SubscriberUpdates, AsksForSamples, Receives, Releases, SubscriberLeaves, Happens}
 use Rattle.iox_domain_laws.specs.Laws.{IsTidy, IsSoundEntry, IsSound, gives_back, HeldStays}
 use Rattle.iox_domain_values.specs.Sizes.{buffer_of}
@@ -36,26 +38,29 @@ use Rattle.iox_domain_ports.specs.Subscribing as subscribing
 use Rattle.iox_domain_ports.specs.declared.making.PublisherConfig.{PublisherConfig}
 use Rattle.iox_domain_ports.specs.declared.service_ports.ServicePorts.{ServicePorts}
 use Rattle.iox_domain_subscriber.specs.declared.publisher_entry.PublisherEntry.{PublisherEntry}
-use Rattle.iox_domain_laws.proofs.Keeping.{PortKeeps}
+use Rattle.iox_domain_laws.proofs.Keeping.{PortKeeps, nobody_within}
 use Rattle.iox_domain_laws.proofs.ListKeeps.{ListKeeps, list_stays, list_on, list_with, list_changed, list_settled, tidy_after, number_found, held_walks, held_takes}
 use Rattle.iox_domain_laws.proofs.Numbered.{other_came, all_came, all_then}
 use Rattle.iox_domain_laws.proofs.PublisherKeeps.{port_updates, port_loans, port_changed, port_given_up, port_departed, port_updates_one, port_sends_one, port_retries, port_gives_up}
 use Rattle.iox_domain_laws.proofs.Releasing.{back_keeps}
 use Rattle.iox_domain_laws.proofs.Walks.{walked_updates, walked_receives, left_all_walk}
+use Rattle.iox_domain_publisher.specs.Ports.{connection_of}
 
 -- a call leaves a service sound, and what is held stays, of all samples or of all but one
 record CallKeeps {T U : Type 0} (spared : Taken → Type 0) (old new : ServicePorts T U) : Type 0 where
   sound : IsSound old → IsSound new
   held : IsSound old → (sample : Taken) (message : Message T U) → spared sample → sample_in sample old ≡ Some message → sample_in sample new ≡ Some message
+  sized : All (IsMadeFor (allowed_by old.sizes)) old.publishers → All (IsMadeFor (allowed_by old.sizes)) new.publishers
 
 call_same : {T U : Type 0} (spared : Taken → Type 0) (old new : ServicePorts T U) → new ≡ old → CallKeeps spared old new
-call_same spared old new is = rw is (record { sound = λ sound. sound; held = λ sound sample message apart held. held })
+call_same spared old new is = rw is (record { sound = λ sound. sound; held = λ sound sample message apart held. held; sized = λ all. all })
 
 -- the publishers changed, and no number was given out
 call_list : {T U : Type 0} (spared : Taken → Type 0) (old new : ServicePorts T U) → new.next_port ≡ old.next_port → ListKeeps old.publishers new.publishers → CallKeeps spared old new
 call_list spared old new next keeps = record {
   sound = λ sound. subst (λ n. All (IsSoundEntry n) new.publishers) (sym next) (keeps.sound old.next_port sound);
   held = λ sound sample message apart held. keeps.held old.next_port sound sample message held;
+  sized = keeps.sized (allowed_by old.sizes);
 }
 
 call_to : {T U : Type 0} (spared : Taken → Type 0) (old new other : ServicePorts T U) → new ≡ other → CallKeeps spared old other → CallKeeps spared old new
@@ -118,12 +123,15 @@ added_keeps spared may config user_header place slots old new (Err error) adds =
 added_keeps {T} {U} spared may config user_header place slots old new (Ok number) adds =
     let (listed, is_list, outcome, port, updates, is_number, is_new) = adds in
     let first : PublisherPort T U = new_port (identity_of config.owner place old) old.sizes.max_subscribers config.allocation config.unit (sender_config config slots old) user_header in
-    let tidy : IsTidy port = new_tidy first port refl (port_updates may listed old.subscriber_list.changes first port outcome updates) in
+    let kept : PortKeeps first port = port_updates may listed old.subscriber_list.changes first port outcome updates in
+    let tidy : IsTidy port = new_tidy first port refl kept in
+    let made : (made_for port ≡ allowed_by old.sizes) × ((index : ℕ) → IsWithin old.sizes.subscriber_max_borrowed_samples (connection_of index port)) = made_still (allowed_by old.sizes) first port kept.sizes kept.within (refl, λ index. nobody_within (Message T U) old.sizes.subscriber_max_borrowed_samples) in
     call_to spared old new _ is_new (record {
       sound = λ sound. all_came (IsSoundEntry (old.next_port + 1)) old.next_port old.publishers port (omega arith, tidy) (λ one is. (is.0, tidy))
           (all_then (IsSoundEntry old.next_port) (IsSoundEntry (old.next_port + 1)) old.publishers (λ one is. (omega (arith, is.0), is.1)) sound);
       held = λ sound sample message apart held.
           ap (λ found. sample_at_port sample found) (other_came old.next_port sample.publisher old.publishers port (not_new old sample message sound held)) ∙ held;
+      sized = λ all. all_came (IsMadeFor (allowed_by old.sizes)) old.next_port old.publishers port made (λ one is. made) all;
     })
   where
     not_new : {T U : Type 0} (old : ServicePorts T U) (sample : Taken) (message : Message T U) → IsSound old → sample_in sample old ≡ Some message → sample.publisher ≢ old.next_port
@@ -152,6 +160,7 @@ subscribes {T} {U} spared may owner place buffer_size old new (Ok number) adds =
     call_to spared old new _ is_new (record {
       sound = λ sound. all_then (IsSoundEntry old.next_port) (IsSoundEntry (old.next_port + 1)) between.publishers (λ one is. (omega (arith, is.0), is.1)) (walked.sound old.next_port sound);
       held = λ sound sample message apart held. walked.held old.next_port sound sample message held;
+      sized = walked.sized (allowed_by old.sizes);
     })
 
 creates_subscriber : {T U : Type 0} (spared : Taken → Type 0) (may : DegradationInfo → DegradationAction → Type 0) (owner : PortOwner) (buffer_size : Result ℕ SubscriberCreateError) (place : Option ℕ) (old new : ServicePorts T U) (answer : Result ℕ SubscriberCreateError)
@@ -192,6 +201,7 @@ released_at number given (Some at) old new answer there releases =
     call_to _ old new _ releases.1 (record {
       sound = λ sound. keeps.sound old.next_port sound;
       held = λ sound sample message apart held. keeps.held old.next_port sound sample message apart held;
+      sized = keeps.sized (allowed_by old.sizes);
     })
 
 released_of : {T U : Type 0} (found : Option SubscriberPort) (number : ℕ) (given : Taken) (old new : ServicePorts T U) (answer : Bool) → subscribing.ReleasesOf found number given old answer new → CallKeeps (λ sample. Apart given sample) old new
@@ -212,6 +222,7 @@ fewer : {T U : Type 0} (one other : Taken → Type 0) (old new : ServicePorts T 
 fewer one other old new follows keeps = record {
   sound = keeps.sound;
   held = λ sound sample message spared held. keeps.held sound sample message (follows sample spared) held;
+  sized = keeps.sized;
 }
 
 calls_keep : {T U : Type 0} (overrides : ℕ → ℕ → Type 0) (may : DegradationInfo → DegradationAction → Type 0) (decide : BackpressureInfo → BackpressureDecision → Type 0) (call : PortCall T U) (old new : ServicePorts T U)
@@ -250,3 +261,8 @@ held_stays overrides may decide = record {
   goes_on = λ call old new happens. (calls_keep overrides may decide call old new happens).sound;
   held = λ call old new sample message happens sound spared held. (calls_keep overrides may decide call old new happens).held sound sample message spared held;
 }
+
+-- what a call leaves the publishers made for
+pub sized_stays : {T U : Type 0} (overrides : ℕ → ℕ → Type 0) (may : DegradationInfo → DegradationAction → Type 0) (decide : BackpressureInfo → BackpressureDecision → Type 0) (call : PortCall T U) (old new : ServicePorts T U)
+    → Happens overrides may decide call old new → All (IsMadeFor (allowed_by old.sizes)) old.publishers → All (IsMadeFor (allowed_by old.sizes)) new.publishers
+sized_stays overrides may decide call old new happens = (calls_keep overrides may decide call old new happens).sized

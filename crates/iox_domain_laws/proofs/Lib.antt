@@ -36,3 +36,4 @@ pub mod Attaching
 pub mod Waiting
 pub mod Keyed
 pub mod Serviced
+pub mod Sized

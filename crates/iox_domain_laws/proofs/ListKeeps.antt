@@ -1,5 +1,5 @@
 -- What a change of the publishers of a service leaves held.
-use Rattle.std.proofs.Common.{arith, ◌≡◌, ◌<◌, ◌&&◌, ◌||◌, ◌==◌, ◌∷◌, [], ℕ, zero, suc, Bool, true, false, not, List, get_or, length, is_some, Option, None, Some, Result, Ok, Err, refl, sym, ap, ◌∙◌, if◌then◌else◌, inl, inr}
+use Rattle.std.proofs.Common.{arith, ◌≡◌, ◌<◌, ◌&&◌, ◌||◌, ◌==◌, ◌∷◌, [], ℕ, zero, suc, Bool, true, false, not, List, get_or, length, is_some, Option, None, Some, Result, Ok, Err, refl, sym, ap, ◌∙◌, if◌then◌else◌, inl, inr, subst, nat_lt}
 use Rattle.std.proofs.lemmas.Bool.{cases_eq}
 use Rattle.std.specs.List.{All, list_any}
 use Rattle.std.specs.declared.alloc.AllocError.{AllocError}
@@ -9,9 +9,10 @@ use Rattle.iox_domain_slots.specs.declared.stage.Stage.TheVariants as stage
 use Rattle.iox_domain_sender.specs.Messages.{Message}
 use Rattle.iox_domain_publisher.specs.Ports.{connection_of, detached_at, ended_at}
 use Rattle.iox_domain_publisher.specs.declared.publisher_port.PublisherPort.{PublisherPort}
-use Rattle.iox_domain_subscriber.specs.Publishers.{port_of, with_port, changed, changed_at_port, is_over_port, is_over_in, removed, settled, ended_if_left, AttachesAtPort}
-use Rattle.iox_domain_subscriber.specs.Reading.{borrowed_in, is_over}
+use Rattle.iox_domain_subscriber.specs.Publishers.{port_of, with_port, changed, changed_at_port, is_over_port, is_over_in, removed, settled, ended_if_left, AttachesAtPort, connection_at_port, most_borrowed_at_port}
+use Rattle.iox_domain_subscriber.specs.Reading.{borrowed_in, is_over, taken_at}
 use Rattle.iox_domain_subscriber.specs.declared.attached.Taken.{Taken}
+use Rattle.iox_domain_laws.specs.SizeLaws.{MadeFor, IsWithin, IsMadeFor, made_for}
 use Rattle.iox_domain_laws.specs.Laws.{IsTidy, IsSoundEntry}
 use Rattle.iox_domain_ports.specs.Reading.{sample_at_port}
 use Rattle.iox_domain_laws.proofs.Keeping.{PortKeeps, port_stays, port_if, port_ended}
@@ -19,19 +20,21 @@ use Rattle.iox_domain_laws.proofs.Numbered.{at_number, number_is, other_fails, o
 use Rattle.iox_domain_laws.proofs.PublisherKeeps.{port_attaches, port_detached, port_taken}
 use Rattle.iox_domain_laws.proofs.Walks.{Walks, WalksTaking}
 
--- publishers stay sound, and what is held of them stays so
+-- publishers stay sound, what is held of them stays so, and they are made for what they were made for
 pub record ListKeeps {T U : Type 0} (old new : List (ℕ × PublisherPort T U)) : Type 0 where
   pub sound : (next : ℕ) → All (IsSoundEntry next) old → All (IsSoundEntry next) new
   pub held : (next : ℕ) → All (IsSoundEntry next) old → (sample : Taken) (message : Message T U) → sample_at_port sample (port_of sample.publisher old) ≡ Some message
       → sample_at_port sample (port_of sample.publisher new) ≡ Some message
+  pub sized : (sizes : MadeFor) → All (IsMadeFor sizes) old → All (IsMadeFor sizes) new
 
 pub list_stays : {T U : Type 0} (ports : List (ℕ × PublisherPort T U)) → ListKeeps ports ports
-list_stays ports = record { sound = λ next all. all; held = λ next all sample message held. held }
+list_stays ports = record { sound = λ next all. all; held = λ next all sample message held. held; sized = λ sizes all. all }
 
 pub list_on : {T U : Type 0} (old between new : List (ℕ × PublisherPort T U)) → ListKeeps old between → ListKeeps between new → ListKeeps old new
 list_on old between new one two = record {
   sound = λ next all. two.sound next (one.sound next all);
   held = λ next all sample message held. two.held next (one.sound next all) sample message (one.held next all sample message held);
+  sized = λ sizes all. two.sized sizes (one.sized sizes all);
 }
 
 -- a tidy publisher is tidy after a step
@@ -51,6 +54,23 @@ number_found next number ports port all there =
 held_after : {T U : Type 0} (old new : PublisherPort T U) (sample : Taken) (message : Message T U) → PortKeeps old new → sample_at_port sample (Some old) ≡ Some message → sample_at_port sample (Some new) ≡ Some message
 held_after old new sample message keeps held = (keeps.each sample.index).held sample.slot message held
 
+-- what a publisher is made for stays, and what keeps within it
+pub made_still : {T U : Type 0} (sizes : MadeFor) (port after : PublisherPort T U) → made_for after ≡ made_for port
+    → (((index : ℕ) → IsWithin port.sender.uses.most_borrowed (connection_of index port)) → (index : ℕ) → IsWithin after.sender.uses.most_borrowed (connection_of index after))
+    → (made_for port ≡ sizes) × ((index : ℕ) → IsWithin sizes.most_borrowed (connection_of index port)) → (made_for after ≡ sizes) × ((index : ℕ) → IsWithin sizes.most_borrowed (connection_of index after))
+made_still sizes port after same within (made, all) =
+    let most : port.sender.uses.most_borrowed ≡ sizes.most_borrowed = ap (λ one. one.most_borrowed) made in
+    let later : after.sender.uses.most_borrowed ≡ sizes.most_borrowed = ap (λ one. one.most_borrowed) (same ∙ made) in
+    (same ∙ made, λ index. subst (λ n. IsWithin n (connection_of index after)) later (within (λ k. subst (λ n. IsWithin n (connection_of k port)) (sym most) (all k)) index))
+
+-- what the publisher of a number is made for stays
+pub sized_with : {T U : Type 0} (sizes : MadeFor) (number : ℕ) (ports : List (ℕ × PublisherPort T U)) (port after : PublisherPort T U) → port_of number ports ≡ Some port → made_for after ≡ made_for port
+    → (((index : ℕ) → IsWithin port.sender.uses.most_borrowed (connection_of index port)) → (index : ℕ) → IsWithin after.sender.uses.most_borrowed (connection_of index after))
+    → All (IsMadeFor sizes) ports → All (IsMadeFor sizes) (with_port number ports after)
+sized_with sizes number ports port after there same within all =
+    let found : FoundEntry (IsMadeFor sizes) (at_number number) port = found_of_all (IsMadeFor sizes) (at_number number) ports port all there in
+    all_set (IsMadeFor sizes) (at_number number) ports after (λ one is. made_still sizes port after same within found.holds) all
+
 -- the publisher of a number took a step
 pub list_with : {T U : Type 0} (number : ℕ) (ports : List (ℕ × PublisherPort T U)) (port after : PublisherPort T U) → port_of number ports ≡ Some port → PortKeeps port after → ListKeeps ports (with_port number ports after)
 list_with number ports port after there keeps = record {
@@ -63,15 +83,16 @@ list_with number ports port after there keeps = record {
     | inr other ↦
         ap (λ found. sample_at_port sample found) (other_set (at_number number) (at_number sample.publisher) ports after (other_fails sample.publisher number other)) ∙ held
   ];
+  sized = λ sizes all. sized_with sizes number ports port after there keeps.sizes keeps.within all;
 }
 
-changed_found : {T U : Type 0} (number : ℕ) (step : PublisherPort T U → PublisherPort T U) (found : Option (PublisherPort T U)) (ports : List (ℕ × PublisherPort T U)) → ((port : PublisherPort T U) → PortKeeps port (step port))
+changed_found : {T U : Type 0} (number : ℕ) (step : PublisherPort T U → PublisherPort T U) (found : Option (PublisherPort T U)) (ports : List (ℕ × PublisherPort T U)) → ((port : PublisherPort T U) → found ≡ Some port → PortKeeps port (step port))
     → port_of number ports ≡ found → ListKeeps ports (changed_at_port number step found ports)
 changed_found number step None ports keeps there = list_stays ports
-changed_found number step (Some port) ports keeps there = list_with number ports port (step port) there (keeps port)
+changed_found number step (Some port) ports keeps there = list_with number ports port (step port) there (keeps port refl)
 
 pub list_changed : {T U : Type 0} (number : ℕ) (step : PublisherPort T U → PublisherPort T U) (ports : List (ℕ × PublisherPort T U)) → ((port : PublisherPort T U) → PortKeeps port (step port)) → ListKeeps ports (changed number step ports)
-list_changed number step ports keeps = changed_found number step (port_of number ports) ports keeps refl
+list_changed number step ports keeps = changed_found number step (port_of number ports) ports (λ port is. keeps port) refl
 
 -- of a publisher that is over nothing is held
 vacant_of : (now : Stage) → is_open now ≡ false → now ≡ stage.Vacant
@@ -116,6 +137,7 @@ gone_keeps number ports over = record {
     | inr other ↦
         ap (λ found. sample_at_port sample found) (other_gone (at_number number) (at_number sample.publisher) ports (other_fails sample.publisher number other)) ∙ held
   ];
+  sized = λ sizes all. all_gone (IsMadeFor sizes) (at_number number) ports all;
 }
 
 list_if : {T U : Type 0} (test : Bool) (ports one other : List (ℕ × PublisherPort T U)) → (test ≡ true → ListKeeps ports one) → ListKeeps ports other → ListKeeps ports (if test then one else other)
@@ -151,4 +173,11 @@ held_walks subscriber = record {
 }
 
 pub held_takes : {T U : Type 0} → WalksTaking (λ (old : List (ℕ × PublisherPort T U)) (new : List (ℕ × PublisherPort T U)). ListKeeps old new)
-held_takes attached ports = list_changed attached.publisher _ ports (port_taken attached.index)
+held_takes attached ports below =
+    changed_found attached.publisher (taken_at attached.index) (port_of attached.publisher ports) ports (λ port there. port_taken attached.index port (below_there attached.index port (port_of attached.publisher ports) there below)) refl
+  where
+    below_there : {T U : Type 0} (index : ℕ) (port : PublisherPort T U) (found : Option (PublisherPort T U)) → found ≡ Some port
+        → nat_lt (length (connection_at_port index found).borrowed) (most_borrowed_at_port found) ≡ true → length (connection_of index port).borrowed < port.sender.uses.most_borrowed
+    below_there index port found there is =
+        let own : nat_lt (length (connection_of index port).borrowed) port.sender.uses.most_borrowed ≡ true = ap (λ one. nat_lt (length (connection_at_port index one).borrowed) (most_borrowed_at_port one)) (sym there) ∙ is in
+        grind (arith, own)

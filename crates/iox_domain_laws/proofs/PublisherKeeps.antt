@@ -1,5 +1,5 @@
 -- What each call of a publisher leaves held.
-use Rattle.std.proofs.Common.{◌≡◌, ◌+◌, ◌-◌, ◌==◌, ◌∷◌, [], ℕ, zero, suc, Bool, true, false, List, get_or, length, Option, None, Some, Result, Ok, Err, refl, ap}
+use Rattle.std.proofs.Common.{arith, ◌≡◌, ◌+◌, ◌-◌, ◌<◌, ◌≤◌, ◌==◌, ◌∷◌, [], ℕ, length-append, take, zero, suc, Bool, true, false, List, get_or, length, Option, None, Some, Result, Ok, Err, refl, ap}
 use Rattle.std.specs.declared.alloc.AllocError.{AllocError}
 use Rattle.iox_index_base.specs.declared.container.Member.{Member}
 use Rattle.iox_domain_values.specs.declared.backpressure.BackpressureDecision.{BackpressureDecision}
@@ -9,7 +9,7 @@ use Rattle.iox_domain_values.specs.declared.degradation.DegradationAction.{Degra
 use Rattle.iox_domain_values.specs.declared.degradation.DegradationInfo.{DegradationInfo}
 use Rattle.iox_domain_values.specs.declared.port_error.LoanError.{LoanError}
 use Rattle.iox_domain_values.specs.declared.port_error.SendError.{SendError}
-use Rattle.iox_domain_slots.specs.Uses.{welcomed}
+use Rattle.iox_domain_slots.specs.Uses.{Connection, welcomed, newest, taken}
 use Rattle.iox_domain_sender.specs.Messages.{Message, Loan}
 use Rattle.iox_domain_publisher.specs.Leaving.{parted_at, parted_from, departed}
 use Rattle.iox_domain_publisher.specs.Places.{is_attached}
@@ -26,6 +26,8 @@ use Rattle.iox_domain_ports.specs.Lending.{LoansOne}
 use Rattle.iox_domain_ports.specs.Publishing.{is_blocked, is_free, UpdatesOne, SendsOne, RetriesOne, GivesUpOne}
 use Rattle.iox_domain_ports.specs.Publishing as publishing
 use Rattle.iox_domain_ports.specs.Rolls.{RollState}
+use Rattle.std.proofs.lemmas.List.{length-drop}
+use Rattle.iox_domain_laws.specs.SizeLaws.{made_for, IsWithin}
 use Rattle.iox_domain_laws.proofs.Carrying.{Carries, carry_loans, carry_changed, carry_given_up, carry_retries, carry_gives_up, carry_sends}
 use Rattle.iox_domain_laws.proofs.Keeping.{PortKeeps, port_stays, port_same, port_is, port_on, port_to, port_set, port_placed, port_if, port_ended, keeps_taken, keeps_waiting}
 
@@ -34,7 +36,7 @@ port_let_go : {T U : Type 0} (place : ℕ) (tie : Option ℕ) (port : PublisherP
 port_let_go place None port = port_stays port
 port_let_go {T} {U} place (Some index) port =
     let gone : PublisherPort T U = record port { ties = tie_put place None port.ties } in
-    port_on port gone _ (port_same port gone refl) (port_ended index gone)
+    port_on port gone _ (port_same port gone refl refl) (port_ended index gone)
 
 port_untied : {T U : Type 0} (place : ℕ) (port : PublisherPort T U) → PortKeeps port (untied place port)
 port_untied place port = port_let_go place (get_or port.ties.items place None) port
@@ -43,10 +45,14 @@ port_untied_from : {T U : Type 0} (count place : ℕ) (port : PublisherPort T U)
 port_untied_from zero place port = port_stays port
 port_untied_from (suc count) place port = port_on port (untied place port) _ (port_untied place port) (port_untied_from count (place + 1) (untied place port))
 
+-- the last of a list are no more than were asked for
+newest_few : {X : Type 0} (n : ℕ) (xs : List X) → length (newest n xs) ≤ n
+newest_few n xs = omega (arith, length-drop (length xs - n) xs)
+
 -- a connection is greeted
 port_greeted : {T U : Type 0} (index : ℕ) (waiting : List (Message T U)) (port : PublisherPort T U) → is_live index port ≡ true → PortKeeps port (greeted_at index waiting port)
 port_greeted index [] port live =
-    port_set port _ index (welcomed port.sender.uses.history (connection_of index port)) refl (keeps_waiting (connection_of index port) _ live)
+    port_set port _ index (welcomed port.sender.uses.history (connection_of index port)) refl refl (λ within. (newest_few (connection_of index port).limit port.sender.uses.history, within.1)) (keeps_waiting (connection_of index port) _ live)
 port_greeted index (message ∷ waiting) port live = port_stays port
 
 port_welcomed : {T U : Type 0} (index : ℕ) (port : PublisherPort T U) → PortKeeps port (welcomed_at index port)
@@ -57,13 +63,13 @@ port_welcomed index port =
 port_connects : {T U : Type 0} (subscriber limit : ℕ) (found : Option ℕ) (old new : PublisherPort T U) (answer : Result ℕ AllocError) → Joins subscriber limit found old answer new → PortKeeps old new
 port_connects subscriber limit (Some index) old new answer joins = port_is old new joins.1
 port_connects subscriber limit None old new (Err error) joins = port_is old new joins
-port_connects subscriber limit None old new (Ok index) joins = port_placed old new index limit joins.0 (ap (λ port. port.sender.uses.connections) joins.2)
+port_connects subscriber limit None old new (Ok index) joins = port_placed old new index limit joins.0 (ap (λ port. port.sender.uses.connections) joins.2) (ap (λ port. made_for port) joins.2)
 
 pub port_attaches : {T U : Type 0} (subscriber limit : ℕ) (old new : PublisherPort T U) (answer : Result ℕ AllocError) → Attaches subscriber limit old answer new → PortKeeps old new
 port_attaches subscriber limit old new (Err error) attaches = port_is old new attaches.1
 port_attaches {T} {U} subscriber limit old new (Ok index) attaches =
     let joined : PublisherPort T U = attaches.0 in
-    port_on old joined new (port_connects subscriber limit (connection_to subscriber old) old joined (Ok index) attaches.1) (port_same joined new (ap (λ port. port.sender.uses.connections) attaches.2))
+    port_on old joined new (port_connects subscriber limit (connection_to subscriber old) old joined (Ok index) attaches.1) (port_same joined new (ap (λ port. port.sender.uses.connections) attaches.2) (ap (λ port. made_for port) attaches.2))
 
 -- a place is tied, or followed
 port_ties : {T U : Type 0} (place : ℕ) (entry : SubscriberEntry) (old new : PublisherPort T U) (outcome : Result (Unit {0}) AllocError) → Ties place entry old outcome new → PortKeeps old new
@@ -72,8 +78,8 @@ port_ties {T} {U} place entry old new (Ok done) ties =
     let (index, joined, joins, is) = ties in
     let given : PublisherPort T U = record joined { ties = tie_put place (Some index) joined.ties } in
     port_on old joined new
-    (port_on old (within_reach place old) joined (port_same old (within_reach place old) refl) (port_connects entry.subscriber _ (connection_to entry.subscriber old) (within_reach place old) joined (Ok index) joins))
-    (port_to joined (tied place index joined) new is (port_on joined given _ (port_same joined given refl) (port_welcomed index given)))
+    (port_on old (within_reach place old) joined (port_same old (within_reach place old) refl refl) (port_connects entry.subscriber _ (connection_to entry.subscriber old) (within_reach place old) joined (Ok index) joins))
+    (port_to joined (tied place index joined) new is (port_on joined given _ (port_same joined given refl refl) (port_welcomed index given)))
 
 port_follows_to : {T U : Type 0} (place : ℕ) (entry : SubscriberEntry) (is_tie : Bool) (old new : PublisherPort T U) (outcome : Result (Unit {0}) AllocError) → FollowsTo place entry is_tie old outcome new → PortKeeps old new
 port_follows_to place entry true old new outcome follows = port_is old new follows.1
@@ -96,7 +102,7 @@ port_updates_if : {T U : Type 0} (is_seen : Bool) (may : DegradationInfo → Deg
 port_updates_if true may listed changes old new answer updates = port_is old new updates.1
 port_updates_if {T} {U} false may listed changes old new answer updates =
     let begun : PublisherPort T U = record old { seen = changes } in
-    port_on old begun new (port_same old begun refl) (port_follows_all may 0 listed None begun new answer updates)
+    port_on old begun new (port_same old begun refl refl) (port_follows_all may 0 listed None begun new answer updates)
 
 pub port_updates : {T U : Type 0} (may : DegradationInfo → DegradationAction → Type 0) (listed : List (Option (Member SubscriberEntry))) (changes : ℕ) (old new : PublisherPort T U) (answer : Result (Unit {0}) ConnectionFailure)
     → Updates may listed changes old answer new → PortKeeps old new
@@ -107,8 +113,8 @@ port_carries : {T U : Type 0} → Carries (λ (old : PublisherPort T U) (new : P
 port_carries = record {
   is = port_is;
   on = port_on;
-  still = λ old new connections ties readers stands. port_same old new connections;
-  waiting = λ index waiting port live. port_set port _ index (record (connection_of index port) { waiting = waiting }) refl (keeps_waiting (connection_of index port) waiting live);
+  still = λ old new connections ties readers stands sizes. port_same old new connections sizes;
+  waiting = λ index waiting port live few. port_set port _ index (record (connection_of index port) { waiting = waiting }) refl refl (λ within. (few within.0, within.1)) (keeps_waiting (connection_of index port) waiting live);
 }
 
 pub port_loans : {T U : Type 0} (values elements : ℕ) (old new : PublisherPort T U) (answer : Option (Result ℕ LoanError)) → LoansOne values elements old answer new → PortKeeps old new
@@ -137,14 +143,22 @@ port_parted_from (suc count) index port = port_on port (parted_at index port) _ 
 pub port_departed : {T U : Type 0} (port : PublisherPort T U) → PortKeeps port (departed port)
 port_departed {T} {U} port =
     let left : PublisherPort T U = record port { stands = false } in
-    port_on port left _ (port_same port left refl) (port_parted_from (length port.sender.uses.connections) 0 left)
+    port_on port left _ (port_same port left refl refl) (port_parted_from (length port.sender.uses.connections) 0 left)
 
 -- a subscriber reads there, or no longer
 pub port_detached : {T U : Type 0} (index : ℕ) (port : PublisherPort T U) → PortKeeps port (detached_at index port)
-port_detached index port = port_same port _ refl
+port_detached index port = port_same port _ refl refl
 
-pub port_taken : {T U : Type 0} (index : ℕ) (port : PublisherPort T U) → PortKeeps port (taken_at index port)
-port_taken index port = port_set port _ index _ refl (keeps_taken (connection_of index port))
+taken_within : {X : Type 0} (most : ℕ) (connection : Connection X) → length connection.borrowed < most → IsWithin most connection → IsWithin most (taken connection)
+taken_within most connection below within =
+    (omega (arith, within.0, length-drop 1 connection.waiting), omega (arith, below, length-append connection.borrowed (take 1 connection.waiting), one_taken connection.waiting))
+  where
+    one_taken : {X : Type 0} (xs : List X) → length (take 1 xs) ≤ 1
+    one_taken [] = omega arith
+    one_taken (x ∷ xs) = omega arith
+
+pub port_taken : {T U : Type 0} (index : ℕ) (port : PublisherPort T U) → length (connection_of index port).borrowed < port.sender.uses.most_borrowed → PortKeeps port (taken_at index port)
+port_taken index port below = port_set port _ index _ refl refl (taken_within port.sender.uses.most_borrowed (connection_of index port) below) (keeps_taken (connection_of index port))
 
 -- the calls by number
 updates_one : {T U : Type 0} (free : Bool) (may : DegradationInfo → DegradationAction → Type 0) (list : RollState SubscriberEntry) (old new : PublisherPort T U) (answer : Option (Result (Unit {0}) ConnectionFailure))

@@ -1,5 +1,5 @@
 -- What a release leaves held.
-use Rattle.std.proofs.Common.{arith, ◌≡◌, ◌≢◌, ◌<◌, ◌==◌, ◌∷◌, [], ℕ, zero, suc, Bool, false, cond, List, get_or, set, length, Option, None, Some, refl, sym, ap, ◌∙◌, inl, inr}
+use Rattle.std.proofs.Common.{arith, ◌≡◌, ◌≢◌, ◌<◌, ◌==◌, ◌∷◌, [], ℕ, zero, suc, Bool, false, cond, List, get_or, set, length, Option, None, Some, refl, sym, ap, ◌∙◌, inl, inr, ◌≤◌, remove}
 use Rattle.std.proofs.lemmas.Bool.{cases_eq, cases_lt, eqb-true}
 use Rattle.std.proofs.lemmas.List.{get_or-set_other, get_or-set_same, get_or_past}
 use Rattle.std.proofs.lemmas.List.Quantifiers.{position-Some}
@@ -14,9 +14,11 @@ use Rattle.iox_domain_subscriber.specs.Publishers.{port_of, connection_in, conne
 use Rattle.iox_domain_subscriber.specs.Publishers as publishers
 use Rattle.iox_domain_subscriber.specs.Reading.{borrowed_in, place_of, given_back_at}
 use Rattle.iox_domain_subscriber.specs.declared.attached.Taken.{Taken}
+use Rattle.iox_domain_laws.specs.SizeLaws.{MadeFor, IsWithin, IsMadeFor}
+use Rattle.iox_domain_laws.proofs.Keeping.{set_within, nobody_within}
 use Rattle.iox_domain_laws.specs.Laws.{IsTidy, IsSoundEntry}
 use Rattle.iox_domain_ports.specs.Reading.{sample_at_port}
-use Rattle.iox_domain_laws.proofs.ListKeeps.{ListKeeps, list_settled, tidy_found}
+use Rattle.iox_domain_laws.proofs.ListKeeps.{ListKeeps, list_settled, tidy_found, sized_with}
 use Rattle.iox_domain_laws.proofs.Numbered.{at_number, bool_false, other_fails, other_set, same_set, all_set}
 
 -- another is found as before where one that isn't looked for is removed
@@ -90,14 +92,35 @@ back_held {T} {U} index at slot other_index other_slot message port there apart 
 ]
 
 -- a publisher is given a message back
+settled_within : {X : Type 0} (now : Stage) (most limit : ℕ) (waiting borrowed : List X) → length waiting ≤ limit → length borrowed ≤ most → IsWithin most (settled now limit waiting borrowed)
+settled_within {X} stage.Ended most limit waiting [] short few = nobody_within X most
+settled_within stage.Ended most limit waiting (x ∷ xs) short few = (short, few)
+settled_within stage.Live most limit waiting borrowed short few = (short, few)
+settled_within stage.Vacant most limit waiting borrowed short few = (short, few)
+
+fewer_left : {X : Type 0} (xs : List X) (at : ℕ) → length (remove xs at) ≤ length xs
+fewer_left [] zero = omega arith
+fewer_left [] (suc at) = omega arith
+fewer_left (x ∷ xs) zero = omega arith
+fewer_left (x ∷ xs) (suc at) = let rest = fewer_left xs at in omega (arith, rest)
+
+-- who gives back keeps within what may be borrowed
+back_within : {T U : Type 0} (index at : ℕ) (port : PublisherPort T U) → ((other : ℕ) → IsWithin port.sender.uses.most_borrowed (connection_of other port)) → (other : ℕ)
+    → IsWithin port.sender.uses.most_borrowed (connection_of other (given_back_at index (Some at) port))
+back_within index at port all other =
+    let old = connection_of index port in
+    set_within port.sender.uses.most_borrowed port.sender.uses.connections index (given_back at old)
+    (settled_within old.stage port.sender.uses.most_borrowed old.limit old.waiting (remove old.borrowed at) (all index).0 (let few = (all index).1 in omega (arith, few, fewer_left old.borrowed at))) all other
+
 pub record BackKeeps {T U : Type 0} (given : Taken) (old new : List (ℕ × PublisherPort T U)) : Type 0 where
   pub sound : (next : ℕ) → All (IsSoundEntry next) old → All (IsSoundEntry next) new
   pub held : (next : ℕ) → All (IsSoundEntry next) old → (sample : Taken) (message : Message T U) → (sample.publisher ≡ given.publisher → sample.index ≡ given.index → sample.slot ≢ given.slot)
       → sample_at_port sample (port_of sample.publisher old) ≡ Some message → sample_at_port sample (port_of sample.publisher new) ≡ Some message
+  pub sized : (sizes : MadeFor) → All (IsMadeFor sizes) old → All (IsMadeFor sizes) new
 
 back_found : {T U : Type 0} (given : Taken) (at : ℕ) (found : Option (PublisherPort T U)) (ports : List (ℕ × PublisherPort T U)) → port_of given.publisher ports ≡ found → place_of given.slot (connection_at_port given.index found) ≡ Some at
     → BackKeeps given ports (changed_at_port given.publisher (given_back_at given.index (Some at)) found ports)
-back_found given at None ports found there = record { sound = λ next all. all; held = λ next all sample message apart held. held }
+back_found given at None ports found there = record { sound = λ next all. all; held = λ next all sample message apart held. held; sized = λ sizes all. all }
 back_found {T} {U} given at (Some port) ports found there =
     let after : PublisherPort T U = given_back_at given.index (Some at) port in
     record {
@@ -110,6 +133,7 @@ back_found {T} {U} given at (Some port) ports found there =
         | inr other ↦
             ap (λ one. sample_at_port sample one) (other_set (at_number given.publisher) (at_number sample.publisher) ports after (other_fails sample.publisher given.publisher other)) ∙ held
       ];
+      sized = λ sizes all. sized_with sizes given.publisher ports port after found refl (back_within given.index at port) all;
     }
 
 pub back_keeps : {T U : Type 0} (given : Taken) (at : ℕ) (ports : List (ℕ × PublisherPort T U)) → place_of given.slot (connection_in given.publisher given.index ports) ≡ Some at
@@ -121,4 +145,5 @@ back_keeps {T} {U} given at ports there =
     record {
       sound = λ next all. two.sound next (one.sound next all);
       held = λ next all sample message apart held. two.held next (one.sound next all) sample message (one.held next all sample message apart held);
+      sized = λ sizes all. two.sized sizes (one.sized sizes all);
     }

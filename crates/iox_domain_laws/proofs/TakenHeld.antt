@@ -1,15 +1,12 @@
 -- What a subscriber receives is held.
-use Rattle.std.proofs.Common.{arith, ◌≡◌, ◌&&◌, ◌==◌, ◌∷◌, [], ◌++◌, ℕ, zero, suc, ◌+◌, ◌<◌, Bool, true, false, List, get_or, set, map, length, take, nat_lt, slice_get, Option, None, Some, Result, Ok, Err, refl, sym, ap, ◌∙◌, subst, if◌then◌else◌, inl, inr}
+use Rattle.std.proofs.Common.{arith, ◌≡◌, ◌==◌, ◌∷◌, [], ℕ, zero, suc, ◌+◌, ◌<◌, Bool, true, false, List, get_or, set, map, length, take, slice_get, Option, None, Some, Result, Ok, Err, refl, sym, ap, ◌∙◌, subst, if◌then◌else◌, inl, inr}
 use Rattle.std.proofs.lemmas.Bool.{cases_eq, eq-eqb}
 use Rattle.std.proofs.lemmas.List.Folds.{find-append}
 use Rattle.std.specs.List.{find, list_any}
 use Rattle.std.specs.Option.{option_or}
-use Rattle.iox_domain_values.specs.declared.backpressure.BackpressureDecision.{BackpressureDecision}
-use Rattle.iox_domain_values.specs.declared.backpressure.BackpressureInfo.{BackpressureInfo}
 use Rattle.iox_domain_values.specs.declared.connection_failure.ConnectionFailure.{ConnectionFailure}
 use Rattle.iox_domain_values.specs.declared.degradation.DegradationAction.{DegradationAction}
 use Rattle.iox_domain_values.specs.declared.degradation.DegradationInfo.{DegradationInfo}
-use Rattle.iox_domain_values.specs.declared.port_error.ReceiveError.{ReceiveError}
 use Rattle.iox_domain_slots.specs.Uses.{Connection, nobody, is_there, ended, settled as settled_connection, taken}
 use Rattle.iox_domain_slots.specs.declared.stage.Stage.TheVariants as stage
 use Rattle.iox_domain_sender.specs.Messages.{Message}
@@ -17,8 +14,8 @@ use Rattle.iox_domain_publisher.specs.Ports.{connection_of, is_live, ended_at}
 use Rattle.iox_domain_publisher.specs.declared.publisher_port.PublisherPort.{PublisherPort}
 use Rattle.iox_domain_subscriber.specs.Publishers.{port_of, with_port, changed, changed_at_port, connection_at_port, is_over_port, is_over_in, removed, settled, ended_if_left}
 use Rattle.iox_domain_subscriber.specs.Reading.{borrowed_in, is_over, taken_at}
-use Rattle.iox_domain_subscriber.specs.Receiving.{IsMet, IsGiver, IsGiverThere, IsReceiveAnswer, dropped_port, dropped_ports, is_idle_at, swept, given, given_ports}
-use Rattle.iox_domain_subscriber.specs.Subscribing.{attached_at, connection_by, most_by, ended_ports, gives, has_data, taken_of, taken_ports}
+use Rattle.iox_domain_subscriber.specs.Receiving.{IsGiverThere, IsReceiveAnswer, dropped_port, dropped_ports, is_idle_at, swept, given, given_ports}
+use Rattle.iox_domain_subscriber.specs.Subscribing.{attached_at, connection_by, ended_ports, gives, has_data, taken_of, taken_ports}
 use Rattle.iox_domain_subscriber.specs.Updating.{ReceivesAfter}
 use Rattle.iox_domain_subscriber.specs.declared.attached.Attached.{Attached}
 use Rattle.iox_domain_subscriber.specs.declared.attached.Taken.{Taken}

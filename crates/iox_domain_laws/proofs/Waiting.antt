@@ -141,7 +141,7 @@ waits_walks publisher subscriber = record {
 }
 
 waits_takes : {T U : Type 0} (publisher : ℕ) → WalksTaking (λ (old : List (ℕ × PublisherPort T U)) (new : List (ℕ × PublisherPort T U)). Waits publisher old new)
-waits_takes publisher attached ports = waits_changed publisher attached.publisher (taken_at attached.index) (port_of attached.publisher ports) ports refl (λ port. record { place = refl; delivered = refl; sending = refl; ties = refl })
+waits_takes publisher attached ports below = waits_changed publisher attached.publisher (taken_at attached.index) (port_of attached.publisher ports) ports refl (λ port. record { place = refl; delivered = refl; sending = refl; ties = refl })
 
 -- a call of a publisher
 by_publisher : {T U A : Type 0} (publisher number : ℕ) (step : PublisherPort T U → Option A → PublisherPort T U → Type 0) (found : Option (PublisherPort T U)) (old new : ServicePorts T U) (answer : Option A) → port_of number old.publishers ≡ found

@@ -1,5 +1,5 @@
 -- What each step of a subscriber does to the publishers, put together to what a call does to them.
-use Rattle.std.proofs.Common.{◌≡◌, ◌+◌, ◌&&◌, ◌==◌, ◌∷◌, [], ℕ, zero, suc, Bool, true, false, not, List, get_or, length, slice_get, nat_le, Option, None, Some, Result, Ok, Err, refl, ap, ◌∙◌, if◌then◌else◌}
+use Rattle.std.proofs.Common.{◌≡◌, ◌+◌, ◌&&◌, ◌==◌, ◌∷◌, [], ℕ, zero, suc, Bool, true, false, not, List, get_or, length, slice_get, nat_le, nat_lt, inl, inr, sym, Option, None, Some, Result, Ok, Err, refl, ap, ◌∙◌, if◌then◌else◌}
 use Rattle.std.specs.declared.alloc.AllocError.{AllocError}
 use Rattle.iox_index_base.specs.declared.container.Member.{Member}
 use Rattle.iox_domain_values.specs.declared.connection_failure.ConnectionFailure.{ConnectionFailure}
@@ -11,13 +11,17 @@ use Rattle.iox_domain_publisher.specs.Ports.{detached_at}
 use Rattle.iox_domain_publisher.specs.declared.publisher_port.PublisherPort.{PublisherPort}
 use Rattle.iox_domain_subscriber.specs.Following.{is_of, is_unborrowed, replaced_port, replaced_ports, PartsFor, PartsBorrowed, PartsOver, PartsIf, Parts, ConnectsBy, Connects, unplaced, FollowsFreed, FollowsKey, FollowsAt, freed_if, FollowsNoneAt}
 use Rattle.iox_domain_subscriber.specs.Publishers.{changed, stands_in, AttachesTo}
-use Rattle.iox_domain_subscriber.specs.Receiving.{dropped_port, dropped_ports, is_idle_at, swept, given_ports, left_at, left_all, Serves}
-use Rattle.iox_domain_subscriber.specs.Subscribing.{attached_at, is_idle, without_key, ended_key, ended_ports, taken_ports}
+use Rattle.iox_domain_subscriber.specs.Receiving.{dropped_port, dropped_ports, is_idle_at, swept, given_ports, left_at, left_all, IsMet, IsGiver, Serves}
+use Rattle.iox_domain_subscriber.specs.Subscribing.{attached_at, connection_by, most_by, has_data, is_below, gives, is_idle, without_key, ended_key, ended_ports, taken_ports}
 use Rattle.iox_domain_subscriber.specs.Updating.{FollowsOne, FollowsFrom, FollowsNoneIf, FollowsNones, UpdatesIf, Updates, is_listed, ReceivesAfter, ReceivesNext}
 use Rattle.iox_domain_subscriber.specs.declared.attached.Attached.{Attached}
 use Rattle.iox_domain_subscriber.specs.declared.attached.Taken.{Taken}
 use Rattle.iox_domain_subscriber.specs.declared.publisher_entry.PublisherEntry.{PublisherEntry}
 use Rattle.iox_domain_subscriber.specs.declared.subscriber_port.SubscriberPort.{SubscriberPort}
+
+-- whether fewer messages of a connection are borrowed than may be
+abbrev pub may_borrow : {T U : Type 0} → Option Attached → List (ℕ × PublisherPort T U) → Bool
+may_borrow attached ports = nat_lt (length (connection_by attached ports).borrowed) (most_by attached ports)
 
 -- What holds from the publishers before each step of a subscriber to those after it, and from step to step.
 pub record Walks {T U : Type 0} (subscriber : ℕ) (R : List (ℕ × PublisherPort T U) → List (ℕ × PublisherPort T U) → Type 0) : Type 0 where
@@ -27,9 +31,13 @@ pub record Walks {T U : Type 0} (subscriber : ℕ) (R : List (ℕ × PublisherPo
   pub end : (attached : Attached) (ports : List (ℕ × PublisherPort T U)) → R ports (ended_ports (Some attached) ports)
   pub detach : (attached : Attached) (ports : List (ℕ × PublisherPort T U)) → R ports (changed attached.publisher (detached_at attached.index) ports)
 
--- So it is also where the oldest message that waits at a connection is received.
+-- So it is also where the oldest message that waits at a connection is received, of which fewer are borrowed than may be.
 abbrev pub WalksTaking : {T U : Type 0} → (List (ℕ × PublisherPort T U) → List (ℕ × PublisherPort T U) → Type 0) → Type 0
-WalksTaking {T} {U} R = (attached : Attached) (ports : List (ℕ × PublisherPort T U)) → R ports (taken_ports (Some attached) ports)
+WalksTaking {T} {U} R = (attached : Attached) (ports : List (ℕ × PublisherPort T U)) → may_borrow (Some attached) ports ≡ true → R ports (taken_ports (Some attached) ports)
+
+both_true : (a b : Bool) → a && b ≡ true → a ≡ true
+both_true true b is = refl
+both_true false b is = cc
 
 -- What is known after a step: it is the same subscriber, and so it is with the publishers.
 pub record Walked {T U : Type 0} (R : List (ℕ × PublisherPort T U) → List (ℕ × PublisherPort T U) → Type 0) (port new : SubscriberPort) (ports new_ports : List (ℕ × PublisherPort T U)) : Type 0 where
@@ -197,13 +205,33 @@ walked_updates w may listed changes port new ports new_ports answer named update
     walked_updates_if w ((port.seen == changes) && not port.again) may listed changes port new ports new_ports answer named updates
 
 -- a message is received
-taken_walk : {T U : Type 0} {subscriber : ℕ} {R : List (ℕ × PublisherPort T U) → List (ℕ × PublisherPort T U) → Type 0} (w : Walks subscriber R) (takes : WalksTaking R) (attached : Option Attached) (ports : List (ℕ × PublisherPort T U)) → R ports (taken_ports attached ports)
-taken_walk w takes None ports = w.stays ports
-taken_walk w takes (Some attached) ports = takes attached ports
+taken_walk : {T U : Type 0} {subscriber : ℕ} {R : List (ℕ × PublisherPort T U) → List (ℕ × PublisherPort T U) → Type 0} (w : Walks subscriber R) (takes : WalksTaking R) (attached : Option Attached) (ports : List (ℕ × PublisherPort T U)) → may_borrow attached ports ≡ true → R ports (taken_ports attached ports)
+taken_walk w takes None ports below = w.stays ports
+taken_walk w takes (Some attached) ports below = takes attached ports below
 
-given_walk : {T U : Type 0} {subscriber : ℕ} {R : List (ℕ × PublisherPort T U) → List (ℕ × PublisherPort T U) → Type 0} (w : Walks subscriber R) (takes : WalksTaking R) (giver : Option ℕ) (port : SubscriberPort) (ports : List (ℕ × PublisherPort T U)) → R ports (given_ports giver port ports)
-given_walk w takes None port ports = w.stays ports
-given_walk w takes (Some key) port ports = taken_walk w takes (attached_at key port) ports
+given_walk : {T U : Type 0} {subscriber : ℕ} {R : List (ℕ × PublisherPort T U) → List (ℕ × PublisherPort T U) → Type 0} (w : Walks subscriber R) (takes : WalksTaking R) (giver : Option ℕ) (port : SubscriberPort) (ports : List (ℕ × PublisherPort T U))
+    → ((key : ℕ) → giver ≡ Some key → gives port ports key ≡ true) → R ports (given_ports giver port ports)
+given_walk w takes None port ports giving = w.stays ports
+given_walk w takes (Some key) port ports giving = taken_walk w takes (attached_at key port) ports (both_true (is_below port ports key) (has_data port ports key) (giving key refl))
+
+-- who gives is one of whom the test is true
+past_end : (xs : List ℕ) → slice_get xs (length xs) ≡ None
+past_end [] = refl
+past_end (x ∷ xs) = past_end xs
+
+got_there : (xs : List ℕ) (place x : ℕ) → slice_get xs place ≡ Some x → get_or xs place 0 ≡ x
+got_there [] place x is = cc
+got_there (y ∷ ys) zero x is = cc
+got_there (y ∷ ys) (suc place) x is = got_there ys place x is
+
+giver_gives : (test : ℕ → Bool) (keys : List ℕ) (met : ℕ) (found giver : Option ℕ) → slice_get keys met ≡ found → IsMet test keys met → IsGiver found test giver → (key : ℕ) → giver ≡ Some key → test key ≡ true
+giver_gives test keys met None None is is_met is_giver key same = cc
+giver_gives test keys met None (Some first) is is_met is_giver key same = let own : first ≡ key = cc in ap test (sym own) ∙ is_giver.0
+giver_gives test keys met (Some first) giver is (before, inl all) is_giver key same = let no : None ≡ Some first = sym (past_end keys) ∙ ap (λ place. slice_get keys place) (sym all) ∙ is in cc
+giver_gives test keys met (Some first) giver is (before, inr (within, gives_it)) is_giver key same =
+    let own : Some first ≡ Some key = sym is_giver ∙ same in
+    let named : first ≡ key = cc in
+    ap test (sym (got_there keys met first is ∙ named)) ∙ gives_it
 
 walked_either : {T U : Type 0} (R : List (ℕ × PublisherPort T U) → List (ℕ × PublisherPort T U) → Type 0) (test : Bool) (port : SubscriberPort) (ports : List (ℕ × PublisherPort T U)) (one other : SubscriberPort × List (ℕ × PublisherPort T U))
     → Walked R port one.0 ports one.1 → Walked R port other.0 ports other.1 → Walked R port (if test then one else other).0 ports (if test then one else other).1
@@ -225,7 +253,7 @@ walked_serves : {T U : Type 0} {subscriber : ℕ} {R : List (ℕ × PublisherPor
 walked_serves w takes port new ports new_ports answer serves =
     let (met, is_met, giver, is_giver, is_answer, is, are, is_there) = serves in
     let one = walked_swept w 0 met port (given_ports giver port ports) in
-    record { same = ap (λ one. one.number) is ∙ one.same; walked = rw are (w.on ports (given_ports giver port ports) _ (given_walk w takes giver port ports) one.walked) }
+    record { same = ap (λ one. one.number) is ∙ one.same; walked = rw are (w.on ports (given_ports giver port ports) _ (given_walk w takes giver port ports (giver_gives (gives port ports) port.expired.items met (slice_get port.expired.items met) giver refl is_met is_giver)) one.walked) }
 
 walked_receives_after : {T U : Type 0} {subscriber : ℕ} {R : List (ℕ × PublisherPort T U) → List (ℕ × PublisherPort T U) → Type 0} (w : Walks subscriber R) (takes : WalksTaking R) (updated : Result (Unit {0}) ConnectionFailure) (port new : SubscriberPort) (ports new_ports : List (ℕ × PublisherPort T U))
     (answer : Result (Option Taken) ReceiveError) → ReceivesAfter updated port ports answer new new_ports → Walked R port new ports new_ports

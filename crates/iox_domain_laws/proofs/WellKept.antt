@@ -45,8 +45,8 @@ pub goes_carries : {T U : Type 0} (next : ℕ) (places : List (Option (Member Su
 goes_carries next places = record {
   is = λ old new is. goes_alike next places old new (alike_is old new is);
   on = λ old between new one two well. two (one well);
-  still = λ old new connections ties readers stands. goes_alike next places old new (alike_still old new connections ties readers stands);
-  waiting = λ index waiting port live. goes_alike next places port _ (alike_waiting index (record (connection_of index port) { waiting = waiting }) port refl);
+  still = λ old new connections ties readers stands sizes. goes_alike next places old new (alike_still old new connections ties readers stands);
+  waiting = λ index waiting port live few. goes_alike next places port _ (alike_waiting index (record (connection_of index port) { waiting = waiting }) port refl);
 }
 
 -- a list that is lent tells the same of each place
@@ -210,7 +210,7 @@ well_walks next places subscriber = record {
 }
 
 pub well_takes : {T U : Type 0} (next : ℕ) (places : List (Option (Member SubscriberEntry))) → WalksTaking (λ (old : List (ℕ × PublisherPort T U)) (new : List (ℕ × PublisherPort T U)). ListWell next places old new)
-well_takes next places attached ports = wells_changed next places attached.publisher _ ports (goes_taken next places attached.index)
+well_takes next places attached ports below = wells_changed next places attached.publisher _ ports (goes_taken next places attached.index)
 
 -- a message is given back
 pub wells_released : {T U : Type 0} (next : ℕ) (places : List (Option (Member SubscriberEntry))) (number index at : ℕ) (ports : List (ℕ × PublisherPort T U)) → ListWell next places ports (released number index (Some at) ports)

@@ -5,5 +5,6 @@ pub mod LivingSteps
 pub mod NumberLaws
 pub mod Order
 pub mod ServiceLaws
+pub mod SizeLaws
 pub mod Tries
 pub mod Attaching

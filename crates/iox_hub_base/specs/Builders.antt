@@ -4,7 +4,7 @@ use Rattle.iox_delivery_factories.specs.Elements.{values_each}
 use Rattle.iox_delivery_factories.specs.Factories.{new_publisher_builder, new_subscriber_builder}
 use Rattle.iox_delivery_factories.specs.declared.publisher.PortFactoryPublisher.{PortFactoryPublisher}
 use Rattle.iox_delivery_factories.specs.declared.subscriber.PortFactorySubscriber.{PortFactorySubscriber}
-use Rattle.iox_domain.specs.declared.domain.Domain.{Domain}
+use Rattle.iox_hub_services.specs.Domain.{Domain}
 use Rattle.iox_domain_values.specs.declared.degradation_handler.DegradationHandler.{DegradationHandler}
 use Rattle.iox_domain_values.specs.declared.handlers.Handlers.{Handlers}
 use Rattle.iox_domain_values.specs.declared.samples_override.PreallocatedSamplesOverride.{PreallocatedSamplesOverride}

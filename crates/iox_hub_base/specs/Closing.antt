@@ -1,6 +1,6 @@
 -- A factory of a hub is closed.
 use Rattle.std.specs.Prelude.{ℕ, ◌≡◌, ◌-◌, Bool, true, false, List, Option, None, Some, Result, Ok, Err, nat_lt, nat_le, if◌then◌else◌}
-use Rattle.iox_domain.specs.Kept.{kept, forgotten}
+use Rattle.iox_hub_services.specs.Domain.{kept, forgotten}
 use Rattle.iox_domain_ports.specs.Living.{living}
 use Rattle.iox_hub_services.specs.Open.{presence_of}
 use Rattle.iox_hub_services.specs.Opening.{without_service}

@@ -5,3 +5,5 @@ pub mod Closing
 pub mod Foreign
 pub mod AsHome
 pub mod Builders
+pub mod Domain
+pub mod Services

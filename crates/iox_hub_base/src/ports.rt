@@ -10,12 +10,12 @@ use crate::hub::Hub;
 use iox_delivery_factories::{PortFactoryPublisher, PortFactorySubscriber};
 use iox_describe::pattern::PublishSubscribe;
 use iox_describe::{TypeVariant, ZeroCopySend};
-use iox_domain::Domain;
 use iox_domain_settings::{PublisherSettings, SubscriberSettings};
 use iox_domain_values::{
     BackpressureStrategy, DegradationAction, DegradationHandler, Handlers, PortOwner,
     PreallocatedSamplesOverride,
 };
+use iox_hub_services::iox_domain::Domain;
 use iox_hub_services::{DomainIsForeign, TakeError};
 use std::marker::PhantomData;
 

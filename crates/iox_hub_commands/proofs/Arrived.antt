@@ -2,8 +2,7 @@
 use Rattle.std.proofs.Common.{◌≡◌, ◌∙◌, ℕ, List, Option, None, Some, IsSome, Result, Ok, Err, option_map, refl, sym, ap}
 use Rattle.std.specs.declared.alloc.AllocError.{AllocError}
 use Rattle.iox_command.specs.declared.reply.Reply.{Reply}
-use Rattle.iox_delivery.specs.Holding.{message_found}
-use Rattle.iox_delivery.specs.declared.port_id.PortId.{PortId}
+use Rattle.iox_hub_ports.specs.Delivery.{message_found, PortId}
 use Rattle.iox_domain_home.specs.Homes.{AtDomain}
 use Rattle.iox_domain_home.specs.Steps.{ReceivesBy}
 use Rattle.iox_domain_home.specs.declared.domain_id.DomainId.{DomainId}

@@ -6,3 +6,6 @@ pub mod Lending
 pub mod Messages
 pub mod Receiving
 pub mod Following
+pub mod Delivery
+pub mod Slices
+pub mod Ports

@@ -12,7 +12,7 @@ use Rattle.iox_domain_ports.specs.declared.service_ports.ServicePorts.{ServicePo
 use Rattle.iox_domain_home.specs.Homes.{AtDomain}
 use Rattle.iox_domain_home.specs.Steps.{LoansBy}
 use Rattle.iox_domain_home.specs.declared.domain_id.DomainId.{DomainId}
-use Rattle.iox_delivery.specs.Holding.{publisher_stands, publisher_blocked}
+use Rattle.iox_delivery_slices.specs.Delivery.{publisher_stands, publisher_blocked}
 use Rattle.iox_hub_ports.specs.Calls.{may_lend}
 use Rattle.iox_hub_ports.specs.Laws.{AnswersWhereReady}
 

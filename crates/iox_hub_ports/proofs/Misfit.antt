@@ -11,7 +11,7 @@ use Rattle.iox_domain_subscriber.specs.Publishers.{port_of, changed_at_port}
 use Rattle.iox_domain_ports.specs.Lending.{passes_port}
 use Rattle.iox_domain_ports.specs.declared.service_ports.ServicePorts.{ServicePorts}
 use Rattle.iox_domain_home.specs.declared.domain_id.DomainId.{DomainId}
-use Rattle.iox_delivery.specs.Publishing.{changed_at}
+use Rattle.iox_delivery_slices.specs.Delivery.{changed_at}
 use Rattle.iox_hub_ports.specs.Laws.{MisfitChangesNothing}
 use Rattle.iox_hub_ports.specs.Loans.{fits_in, filled_in}
 

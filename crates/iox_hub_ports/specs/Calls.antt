@@ -15,9 +15,7 @@ use Rattle.iox_domain_ports.specs.declared.service_ports.ServicePorts.{ServicePo
 use Rattle.iox_domain_home.specs.Homes.{AtDomain, LeavesDomain}
 use Rattle.iox_domain_home.specs.Steps as steps
 use Rattle.iox_domain_home.specs.declared.domain_id.DomainId.{DomainId}
-use Rattle.iox_delivery.specs.Holding.{publisher_stands, publisher_blocked}
-use Rattle.iox_delivery.specs.Lent.{IsReady}
-use Rattle.iox_delivery.specs.declared.port_id.PortId.{PortId}
+use Rattle.iox_delivery_slices.specs.Delivery.{publisher_stands, publisher_blocked, IsReady, PortId}
 use Rattle.iox_delivery_slices.specs.Slices.{LendsFilled, SendsValues}
 
 -- A call at the port that goes by a number: nothing happens where none does.

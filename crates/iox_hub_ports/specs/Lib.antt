@@ -7,3 +7,5 @@ pub mod Reading
 pub mod Making
 pub mod Growing
 pub mod Laws
+pub mod Delivery
+pub mod Slices

@@ -12,8 +12,7 @@ use Rattle.iox_domain_publisher.specs.declared.meeting.Sent.{Sent}
 use Rattle.iox_domain_ports.specs.Lending.{passes, written_in}
 use Rattle.iox_domain_ports.specs.declared.service_ports.ServicePorts.{ServicePorts}
 use Rattle.iox_domain_home.specs.declared.domain_id.DomainId.{DomainId}
-use Rattle.iox_delivery.specs.Holding.{loan_found}
-use Rattle.iox_delivery.specs.Publishing.{changed_at}
+use Rattle.iox_delivery_slices.specs.Delivery.{loan_found, changed_at}
 use Rattle.iox_hub_ports.specs.Calls.{Sends}
 use Rattle.iox_hub_ports.specs.declared.made.MadeLoan.{MadeLoan}
 

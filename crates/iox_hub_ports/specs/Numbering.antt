@@ -8,7 +8,7 @@ use Rattle.iox_domain_values.specs.declared.port_error.ReceiveError.{ReceiveErro
 use Rattle.iox_domain_subscriber.specs.declared.attached.Taken.{Taken}
 use Rattle.iox_domain_ports.specs.declared.service_ports.ServicePorts.{ServicePorts}
 use Rattle.iox_domain_home.specs.declared.domain_id.DomainId.{DomainId}
-use Rattle.iox_delivery.specs.declared.port_id.PortId.{PortId}
+use Rattle.iox_delivery_slices.specs.Delivery.{PortId}
 use Rattle.iox_hub_ports.specs.Calls.{AtPort, Lends, LendsWritten, Receives}
 use Rattle.iox_hub_ports.specs.declared.made.Made.{Made}
 

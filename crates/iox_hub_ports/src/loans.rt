@@ -7,7 +7,7 @@ ghost use Rattle.iox_hub_ports.specs.Numbering.{removed_if};
 ghost use Rattle.iox_hub_ports.specs.Tables.{without_loan};
 
 use crate::made::Made;
-use iox_delivery::lending;
+use iox_delivery_slices::iox_delivery::lending;
 use iox_domain_home::Home;
 use iox_domain_publisher::Sent;
 use iox_domain_values::SendError;

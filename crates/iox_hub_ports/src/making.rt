@@ -7,7 +7,7 @@ ghost use Rattle.iox_hub_ports.specs.Making.{MakesNumbered, MakesRoomFirst, with
 
 use crate::growing::room_for_one;
 use crate::made::{Made, MadePublisher};
-use iox_delivery::PortId;
+use iox_delivery_slices::iox_delivery::PortId;
 use iox_domain_home::{DomainId, MakesPorts};
 use iox_domain_ports::{PublisherConfig, SubscriberConfig};
 use iox_domain_values::{Degrades, Overrides, PublisherCreateError, SubscriberCreateError};

@@ -5,10 +5,9 @@ use Rattle.std.specs.Map.{lookup, set_value, remove_entry}
 use Rattle.std.specs.Ordering.{nat_cmp, is_eq, match_ordering}
 use Rattle.std.specs.declared.cmp.Ordering.{Ordering}
 use Rattle.std.specs.declared.cmp.Ordering.TheVariants.{Less, Equal, Greater}
-use Rattle.iox_delivery.specs.Publishing.{changed_at}
-use Rattle.iox_delivery_slices.specs.Slices.{each_written}
-use Rattle.iox_domain.specs.Domains.{with_ports}
-use Rattle.iox_domain.specs.declared.domain.Domain.{Domain}
+use Rattle.iox_hub_commands.specs.Delivery.{changed_at}
+use Rattle.iox_hub_commands.specs.Slices.{each_written}
+use Rattle.iox_hub_base.specs.Domain.{with_ports, Domain}
 use Rattle.iox_domain_home.specs.Homes.{AtDomain, LeavesDomain, MakesAt}
 use Rattle.iox_domain_home.specs.declared.domain_id.DomainId.{DomainId}
 use Rattle.iox_domain_laws.specs.Calls.{PortCall, Writes, Happens}
@@ -25,12 +24,7 @@ use Rattle.iox_domain_values.specs.declared.degradation.DegradationAction.{Degra
 use Rattle.iox_domain_values.specs.declared.degradation.DegradationInfo.{DegradationInfo}
 use Rattle.iox_hub_base.specs.AsHome.{hub_ports, with_hub_ports, with_services}
 use Rattle.iox_hub_base.specs.declared.hub.Hub.{Hub}
-use Rattle.iox_hub_services.specs.AsHome.{domain_at, stepped_if, stepped}
-use Rattle.iox_hub_services.specs.HomeLaws.{here_stands, stands_at, stepped_elsewhere}
-use Rattle.iox_hub_services.specs.Numbered.{one_value, is_number, changed_found, changed_twice, same_unchanged}
-use Rattle.iox_hub_services.specs.Open.{OpenServices, presence_of}
-use Rattle.iox_hub_services.specs.declared.presence.Presence.{Presence}
-use Rattle.iox_hub_services.specs.declared.presence.Presence.TheVariants.{Here}
+use Rattle.iox_hub_base.specs.Services.{domain_at, stepped_if, stepped, here_stands, stands_at, stepped_elsewhere, one_value, is_number, changed_found, changed_twice, same_unchanged, OpenServices, presence_of, Presence, Here}
 use Rattle.iox_hub_run.specs.Grown.{AnySlots, AnyAction, AnyDecision, LeadsTo, HasGrown, HaveGrown, GrowsOn, OthersStay}
 use Rattle.iox_hub_run.proofs.Loosening.{loosened}
 

@@ -9,3 +9,4 @@ pub mod PortsMove
 pub mod ServicesMove
 pub mod StepMoves
 pub mod RunLemmas
+pub mod AsAgreed

@@ -6,10 +6,8 @@ use Rattle.std.specs.declared.alloc.AllocError.{AllocError}
 use Rattle.iox_command.specs.declared.port.PortNumber.{PortNumber}
 use Rattle.iox_command.specs.declared.port.PortNumber.TheVariants as port_number
 use Rattle.iox_command.specs.declared.reply.Reply.{Reply}
-use Rattle.iox_delivery.specs.Publishing.{AfterLoan}
-use Rattle.iox_delivery.specs.Subscribing.{ReleasesOne}
-use Rattle.iox_delivery.specs.declared.port_id.PortId.{PortId}
-use Rattle.iox_delivery_slices.specs.Slices.{each_written_in, FillsLent, WritesAndSends}
+use Rattle.iox_hub_commands.specs.Delivery.{AfterLoan, ReleasesOne, PortId}
+use Rattle.iox_hub_commands.specs.Slices.{each_written_in, FillsLent, WritesAndSends}
 use Rattle.iox_domain_home.specs.Homes.{AtDomain}
 use Rattle.iox_domain_home.specs.Steps as steps
 use Rattle.iox_domain_home.specs.declared.domain_id.DomainId.{DomainId}
@@ -39,16 +37,8 @@ use Rattle.iox_hub_commands.specs.Following.{UpdateStep, HasStep, LeaveStep}
 use Rattle.iox_hub_commands.specs.Lending.{LoanStep, LoanUninitStep, PutStep}
 use Rattle.iox_hub_commands.specs.Messages.{SetStep, FillStep, DropStep, SendStep, RetryStep, GiveUpStep, ReleaseStep}
 use Rattle.iox_hub_commands.specs.Receiving.{ReceiveStep}
-use Rattle.iox_hub_ports.specs.Calls.{AtPort, AtPortIf, Lends, LendsWritten, Puts, Follows, Sends, Retries, GivesUp, PublisherGoes, FollowsPublishers, Tells, Receives, SubscriberGoes, ready}
-use Rattle.iox_hub_ports.specs.Growing.{GrowsFirst}
-use Rattle.iox_hub_ports.specs.Loans.{changed_under, set_in, filled_in, SendsUnder}
-use Rattle.iox_hub_ports.specs.Numbering.{LendsNumbered, LendsWrittenNumbered, ReceivesNumbered}
-use Rattle.iox_hub_ports.specs.Reading.{ReleasesUnder}
-use Rattle.iox_hub_ports.specs.Tables.{IsFull, lender, port_under}
-use Rattle.iox_hub_ports.specs.declared.made.Made.{Made}
-use Rattle.iox_hub_ports.specs.declared.made.MadeLoan.{MadeLoan}
-use Rattle.iox_hub_ports.specs.declared.made.MadeSample.{MadeSample}
-use Rattle.iox_hub_services.specs.AsHome.{publisher_kept, subscriber_kept, publisher_forgotten, subscriber_forgotten}
+use Rattle.iox_hub_commands.specs.Ports.{AtPort, AtPortIf, Lends, LendsWritten, Puts, Follows, Sends, Retries, GivesUp, PublisherGoes, FollowsPublishers, Tells, Receives, SubscriberGoes, ready, GrowsFirst, changed_under, set_in, filled_in, SendsUnder, LendsNumbered, LendsWrittenNumbered, ReceivesNumbered, ReleasesUnder, IsFull, lender, port_under, Made, MadeLoan, MadeSample}
+use Rattle.iox_hub_base.specs.Services.{publisher_kept, subscriber_kept, publisher_forgotten, subscriber_forgotten}
 use Rattle.iox_numbered.specs.NumberTable.{value_at}
 use Rattle.iox_hub_run.specs.Grown.{AnySlots, AnyAction, AnyDecision, LeadsTo}
 use Rattle.iox_hub_run.proofs.Grown.{Moves, MovesOne, by_call, by_handlers, each_leads, is_moves, none_moves, moves_on, keep_moves, at_domain_moves, leaves_moves, makes_moves, changed_moves}

@@ -29,12 +29,7 @@ use Rattle.iox_hub_factories.specs.Opening.{OpensAs, OpensPrepared, OpensNumbere
 use Rattle.iox_hub_factories.specs.Tables.{FactoryTable, parts_of}
 use Rattle.iox_hub_factories.specs.declared.asked.ServiceAsked.{ServiceAsked}
 use Rattle.iox_hub_factories.specs.declared.made.MadeFactory.{MadeFactory}
-use Rattle.iox_hub_services.specs.AsHome.{domain_at}
-use Rattle.iox_hub_services.specs.Numbered.{is_number, not_number, others_beside}
-use Rattle.iox_hub_services.specs.Open.{OpenServices, here_if, presence_of, domain_of}
-use Rattle.iox_hub_services.specs.Opening.{Opens}
-use Rattle.iox_hub_services.specs.declared.presence.Presence.{Presence}
-use Rattle.iox_hub_services.specs.declared.presence.Presence.TheVariants.{Here}
+use Rattle.iox_hub_base.specs.Services.{domain_at, is_number, not_number, others_beside, OpenServices, here_if, presence_of, domain_of, Opens, Presence, Here}
 use Rattle.iox_negotiate.specs.declared.factory.Membership.{Membership}
 use Rattle.iox_negotiate_errors.specs.declared.close.CloseError.{CloseError}
 use Rattle.iox_negotiate_table.specs.Stepped.{Steps}

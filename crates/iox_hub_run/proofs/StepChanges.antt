@@ -23,10 +23,7 @@ use Rattle.iox_hub_base.specs.Opening.{Made as Opened}
 use Rattle.iox_hub_commands.specs.Following.{LeaveStep}
 use Rattle.iox_hub_commands.specs.Lending.{LoanStep, LoanUninitStep}
 use Rattle.iox_hub_commands.specs.Receiving.{ReceiveStep}
-use Rattle.iox_hub_ports.specs.Calls.{ready}
-use Rattle.iox_hub_ports.specs.Numbering.{LendsNumbered, LendsWrittenNumbered, ReceivesNumbered}
-use Rattle.iox_hub_ports.specs.Tables.{IsFull, lender}
-use Rattle.iox_hub_ports.specs.declared.made.Made.{Made}
+use Rattle.iox_hub_commands.specs.Ports.{ready, LendsNumbered, LendsWrittenNumbered, ReceivesNumbered, IsFull, lender, Made}
 use Rattle.iox_numbered.specs.NumberTable.{value_at}
 use Rattle.iox_hub_run.specs.Lives.{ChangesOne, OneChanges, ChangesOneThing, NumbersGoOn}
 use Rattle.iox_hub_run.specs.Numbers.{numbers_used}

@@ -1,8 +1,11 @@
 -- How the domains of a hub became what they are: by calls of ports, one after another.
 use Rattle.std.specs.Prelude.{ℕ, ◌≡◌, List, [], ◌∷◌}
+use Rattle.std.specs.List.{All}
+use Rattle.iox_describe_settings.specs.declared.static_config.publish_subscribe.StaticConfig.{StaticConfig}
 use Rattle.iox_domain_home.specs.declared.domain_id.DomainId.{DomainId}
 use Rattle.iox_domain_laws.specs.Calls.{PortCall}
 use Rattle.iox_domain_laws.specs.Order.{Happen}
+use Rattle.iox_domain_laws.specs.SizeLaws.{MadeFor, IsMadeFor}
 use Rattle.iox_domain_ports.specs.Ports.{no_ports}
 use Rattle.iox_domain_ports.specs.declared.service_ports.ServicePorts.{ServicePorts}
 use Rattle.iox_domain_settings.specs.Sizes.{sizes}
@@ -11,9 +14,7 @@ use Rattle.iox_domain_values.specs.declared.backpressure.BackpressureInfo.{Backp
 use Rattle.iox_domain_values.specs.declared.degradation.DegradationAction.{DegradationAction}
 use Rattle.iox_domain_values.specs.declared.degradation.DegradationInfo.{DegradationInfo}
 use Rattle.iox_hub_base.specs.declared.hub.Hub.{Hub}
-use Rattle.iox_hub_services.specs.AsHome.{domain_at}
-use Rattle.iox_hub_services.specs.declared.presence.Presence.{Presence}
-use Rattle.iox_hub_services.specs.declared.presence.Presence.TheVariants.{Here, Out}
+use Rattle.iox_hub_base.specs.Services.{domain_at, Presence, Here, Out}
 
 -- a publisher may be given any number of slots
 abbrev pub AnySlots : ℕ → ℕ → Type 0
@@ -52,3 +53,22 @@ OthersStay id old new = (other : DomainId) → (id ≡ other → ⊥) → domain
 -- of the domains that are here one changes at most, or comes or goes; all others are as they were
 abbrev pub OneDomainMoves : {T U B D : Type 0} → Hub T U B D → Hub T U B D → Type 0
 OneDomainMoves old new = (id : DomainId) × OthersStay id old new
+
+-- what a service agreed on of its publishers and their connections
+abbrev pub agreed_on : StaticConfig → MadeFor
+agreed_on agreed = record {
+  overflows = agreed.enable_safe_overflow;
+  history = agreed.history_size;
+  most_waiting = agreed.subscriber_max_buffer_size;
+  most_borrowed = agreed.subscriber_max_borrowed_samples;
+}
+
+-- each publisher of a domain that is here is made for just what its service agreed on
+abbrev pub IsAsAgreed : {T U B D : Type 0} → Presence T U B D → Type 0
+IsAsAgreed (Here domain) = All (IsMadeFor (agreed_on domain.agreed)) domain.ports.publishers
+IsAsAgreed (Out agreed) = Unit {0}
+
+-- so it is with each service that is open
+abbrev pub AreAsAgreed : {T U B D : Type 0} → List (ℕ × Presence T U B D) → Type 0
+AreAsAgreed [] = Unit {0}
+AreAsAgreed (service ∷ services) = IsAsAgreed service.1 × AreAsAgreed services

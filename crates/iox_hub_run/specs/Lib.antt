@@ -5,3 +5,4 @@ pub mod Steps
 pub mod Runs
 pub mod Lives
 pub mod Grown
+pub mod Passed

@@ -1,7 +1,7 @@
 -- What becomes of numbers: what goes by them, from one moment of a hub to a later one.
 use Rattle.std.specs.Prelude.{ℕ, ◌≡◌, ◌+◌, ◌<◌, ◌≤◌, ◌++◌, [], ◌∷◌, ◌⊎◌, None, nat_eq}
 use Rattle.std.specs.Map.{remove_entry}
-use Rattle.iox_hub_ports.specs.declared.made.Made.{Made}
+use Rattle.iox_hub_commands.specs.Ports.{Made}
 use Rattle.iox_numbered.specs.NumberTable.{NumberTable, Rises, value_at}
 use Rattle.iox_hub_run.specs.declared.numbered_hub.NumberedHub.{NumberedHub}
 
@@ -41,6 +41,13 @@ OneChanges old new =
     ⊎ (Stays old.publishers new.publishers × Stays old.subscribers new.subscribers × Stays old.loans new.loans × ChangesOne old.samples new.samples)))
 
 module _ {T U B D : Type 0} where
+  -- Of each kind but nodes, numbers rise from 1 on, and stay below the one that comes next.
+  abbrev pub NumbersRise : NumberedHub T U B D → Type 0
+  NumbersRise hub =
+      Rises 1 hub.factories.made.entries hub.factories.made.next
+      × Rises 1 hub.made.publishers.entries hub.made.publishers.next × Rises 1 hub.made.subscribers.entries hub.made.subscribers.next
+      × Rises 1 hub.made.loans.entries hub.made.loans.next × Rises 1 hub.made.samples.entries hub.made.samples.next
+
   -- Of all that goes by numbers there is one more at most, or one less, and all else stays.
   abbrev pub ChangesOneThing : NumberedHub T U B D → NumberedHub T U B D → Type 0
   ChangesOneThing old new =

@@ -3,7 +3,7 @@ use Rattle.std.specs.Prelude.{ℕ, ◌≡◌, ◌+◌}
 use Rattle.iox_hub_base.specs.Hubs.{IsNewHub}
 use Rattle.iox_hub_base.specs.declared.hub.HubConfig.{HubConfig}
 use Rattle.iox_hub_factories.specs.Tables.{no_factories}
-use Rattle.iox_hub_ports.specs.Tables.{IsEmpty}
+use Rattle.iox_hub_commands.specs.Ports.{IsEmpty}
 use Rattle.iox_hub_run.specs.declared.numbered_hub.NumberedHub.{NumberedHub}
 
 -- A hub in which nothing was made.

@@ -21,5 +21,7 @@ pub mod run;
 mod services;
 mod step;
 
+pub use iox_hub_base;
+pub use iox_hub_commands::{FixedDegradation, FixedHandlers};
 pub use numbered_hub::NumberedHub;
 pub use run::RunReport;

@@ -1,11 +1,13 @@
 //! A hub with what commands made in it.
 ghost use Rattle.std.specs.Prelude.{◌≡◌};
+ghost use Rattle.iox_hub_run.specs.Grown.{HaveGrown};
+ghost use Rattle.iox_hub_run.specs.Lives.{NumbersRise};
 ghost use Rattle.iox_hub_run.specs.Numbers.{IsNew, numbers_used};
 
 use iox_hub_base::{Hub, HubConfig};
+use iox_hub_commands::iox_hub_ports::Made;
 use iox_hub_commands::{FixedDegradation, FixedHandlers};
 use iox_hub_factories::Factories;
-use iox_hub_ports::Made;
 use std::alloc::Global;
 
 /// A hub, and what commands made in it, under numbers that are counted from 1 for each kind. A number is spent when what it stands for
@@ -27,6 +29,8 @@ impl<T: Copy, U: Copy, B: Drop, D: Drop> NumberedHub<T, U, B, D> {
     pub fn new(alloc: Global, config: HubConfig) -> Self
         ensures is_new { IsNew config result }
         ensures numbers { numbers_used result ≡ 5 }
+        ensures rise { NumbersRise result }
+        ensures grown { HaveGrown result.hub.services.domains }
     {
         NumberedHub {
             hub: Hub::new(alloc, config),

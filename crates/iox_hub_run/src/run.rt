@@ -3,7 +3,7 @@ ghost use Rattle.std.specs.Prelude.{◌+◌, ◌<◌, ◌≤◌, ◌^◌, length
 ghost use Rattle.iox_describe_base.specs.Detail.{detail};
 ghost use Rattle.iox_describe_base.specs.declared.type_detail.TypeVariant.TheVariants.{FixedSize};
 ghost use Rattle.iox_hub_requests.specs.Asked.{types_of};
-ghost use Rattle.iox_hub_run.specs.Grown.{GrowsOn};
+ghost use Rattle.iox_hub_run.specs.Grown.{GrowsOn, HaveGrown, AreAsAgreed};
 ghost use Rattle.iox_hub_run.specs.Lives.{NumbersGoOn};
 ghost use Rattle.iox_hub_run.specs.Numbers.{numbers_used};
 ghost use Rattle.iox_hub_run.specs.Runs.{IsRun};
@@ -44,6 +44,7 @@ impl<
         ensures counts { numbers_used self.new ≤ numbers_used self.old + length commands.entry.items }
         ensures goes_on { NumbersGoOn self.old self.new }
         ensures grows { GrowsOn self.old.hub self.new.hub }
+        ensures agreed { HaveGrown self.old.hub.services.domains → AreAsAgreed self.new.hub.services.domains }
     {
         self.carry_out_all(alloc, commands)
     }

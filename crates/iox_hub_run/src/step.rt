@@ -3,7 +3,7 @@ ghost use Rattle.std.specs.Prelude.{◌+◌, ◌<◌, ◌≤◌, ◌^◌};
 ghost use Rattle.iox_describe_base.specs.Detail.{detail};
 ghost use Rattle.iox_describe_base.specs.declared.type_detail.TypeVariant.TheVariants.{FixedSize};
 ghost use Rattle.iox_hub_requests.specs.Asked.{types_of};
-ghost use Rattle.iox_hub_run.specs.Grown.{GrowsOn, OneDomainMoves};
+ghost use Rattle.iox_hub_run.specs.Grown.{GrowsOn, HaveGrown, AreAsAgreed, OneDomainMoves};
 ghost use Rattle.iox_hub_run.specs.Lives.{ChangesOneThing};
 ghost use Rattle.iox_hub_run.specs.Numbers.{numbers_used};
 ghost use Rattle.iox_hub_run.specs.Steps.{Step};
@@ -38,6 +38,7 @@ impl<
         ensures counts { numbers_used self.new ≤ numbers_used self.old + 1 }
         ensures one { ChangesOneThing self.old self.new }
         ensures grows { GrowsOn self.old.hub self.new.hub }
+        ensures agreed { HaveGrown self.old.hub.services.domains → AreAsAgreed self.new.hub.services.domains }
         ensures apart { OneDomainMoves self.old.hub self.new.hub }
     {
         self.carry_out(alloc, command)

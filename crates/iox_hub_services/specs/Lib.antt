@@ -9,3 +9,4 @@ pub mod AsHome
 pub mod HomeLaws
 pub mod Within
 pub mod Laws
+pub mod Domain

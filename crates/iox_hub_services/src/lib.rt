@@ -26,6 +26,7 @@ pub mod presences;
 pub mod services;
 pub mod taking;
 
+pub use iox_domain;
 pub use presence::Presence;
 pub use services::Services;
 pub use taking::{DomainIsForeign, TakeError};

@@ -8,10 +8,7 @@ use Rattle.iox_conversation.specs.declared.error.ServeError.{ServeError}
 use Rattle.iox_describe_base.specs.Detail.{Detail, detail}
 use Rattle.iox_describe_base.specs.declared.type_detail.TypeVariant.TheVariants.{FixedSize}
 use Rattle.iox_domain_values.specs.Actions.{decision_of}
-use Rattle.iox_hub_base.specs.declared.hub.HubConfig.{HubConfig}
-use Rattle.iox_hub_commands.specs.declared.handlers.FixedDegradation.{FixedDegradation}
-use Rattle.iox_hub_commands.specs.declared.handlers.FixedHandlers.{FixedHandlers}
-use Rattle.iox_hub_requests.specs.Asked.{types_of}
+use Rattle.iox_hub_run.specs.Passed.{HubConfig, FixedDegradation, FixedHandlers, types_of}
 use Rattle.iox_hub_run.specs.Numbers.{IsNew, numbers_used}
 use Rattle.iox_hub_run.specs.Steps.{Step}
 use Rattle.iox_hub_run.specs.declared.numbered_hub.NumberedHub.{NumberedHub}

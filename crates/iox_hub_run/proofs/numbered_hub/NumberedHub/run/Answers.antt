@@ -1,6 +1,7 @@
 use Rattle.iox_describe_base.specs.Detail.{detail}
 use Rattle.iox_describe_base.specs.declared.type_detail.TypeVariant.TheVariants.{FixedSize}
 use Rattle.iox_hub_requests.specs.Asked.{types_of}
+use Rattle.iox_hub_run.proofs.AsAgreed.{are_as_agreed}
 use Rattle.iox_hub_run.proofs.RunLemmas.{run_goes}
 use Rattle.iox_hub_run.proofs.StepChanges.{step_changes, numbers_still, numbers_go_on, numbers_on_and_on}
 use Rattle.iox_hub_run.proofs.StepMoves.{step_moves}
@@ -20,3 +21,6 @@ returns-clause-grows g c =
     run_goes (Step (detail FixedSize g.T.ZeroCopySend.name g.T.ZeroCopySend.size g.T.ZeroCopySend.alignment) (detail FixedSize g.U.ZeroCopySend.name g.U.ZeroCopySend.size g.U.ZeroCopySend.alignment) (types_of g.T.ZeroCopySend.name g.T.ZeroCopySend.size g.T.ZeroCopySend.alignment g.U.ZeroCopySend.name g.U.ZeroCopySend.size g.U.ZeroCopySend.alignment) (λ value. g.T.Default.is_default value) (λ value. g.U.Default.is_default value) g.B.PublisherHandlers.fixed (λ handlers. g.B.Degrades.degrades handlers) (λ handlers. g.B.Decides.decides handlers) g.D.SubscriberHandler.fixed (λ handler. g.D.Degrades.degrades handler)) (λ old new. GrowsOn old.hub new.hub) (λ one grown. grown) (λ old mid new first second grown. second (first grown))
     (λ command old new answer does. let (id, moves) = step_moves (detail FixedSize g.T.ZeroCopySend.name g.T.ZeroCopySend.size g.T.ZeroCopySend.alignment) (detail FixedSize g.U.ZeroCopySend.name g.U.ZeroCopySend.size g.U.ZeroCopySend.alignment) (types_of g.T.ZeroCopySend.name g.T.ZeroCopySend.size g.T.ZeroCopySend.alignment g.U.ZeroCopySend.name g.U.ZeroCopySend.size g.U.ZeroCopySend.alignment) (λ value. g.T.Default.is_default value) (λ value. g.U.Default.is_default value) g.B.PublisherHandlers.fixed (λ handlers. g.B.Degrades.degrades handlers) (λ handlers. g.B.Decides.decides handlers) g.D.SubscriberHandler.fixed (λ handler. g.D.Degrades.degrades handler) command old new answer does in moves.1)
     _ c.args.self.now c.carry_out_all.new.self _ _ c.carry_out_all.ensures.ran
+
+pub returns-clause-agreed : goal.returns-clause-agreed
+returns-clause-agreed g c = λ grown. are_as_agreed c.carry_out_all.new.self.hub.services.domains (returns-clause-grows g c grown)

@@ -1,6 +1,7 @@
 use Rattle.iox_describe_base.specs.Detail.{detail}
 use Rattle.iox_describe_base.specs.declared.type_detail.TypeVariant.TheVariants.{FixedSize}
 use Rattle.iox_hub_requests.specs.Asked.{types_of}
+use Rattle.iox_hub_run.proofs.AsAgreed.{are_as_agreed}
 use Rattle.iox_hub_run.proofs.StepChanges.{step_changes, changes_count}
 use Rattle.iox_hub_run.proofs.StepMoves.{step_moves}
 use Rattle.iox_hub_run.proofs.numbered_hub.NumberedHub.step.Goals as goal
@@ -16,3 +17,6 @@ returns-clause-grows g c = let (id, moves) = step_moves (detail FixedSize g.T.Ze
 
 pub returns-clause-apart : goal.returns-clause-apart
 returns-clause-apart g c = let (id, moves) = step_moves (detail FixedSize g.T.ZeroCopySend.name g.T.ZeroCopySend.size g.T.ZeroCopySend.alignment) (detail FixedSize g.U.ZeroCopySend.name g.U.ZeroCopySend.size g.U.ZeroCopySend.alignment) (types_of g.T.ZeroCopySend.name g.T.ZeroCopySend.size g.T.ZeroCopySend.alignment g.U.ZeroCopySend.name g.U.ZeroCopySend.size g.U.ZeroCopySend.alignment) (λ value. g.T.Default.is_default value) (λ value. g.U.Default.is_default value) g.B.PublisherHandlers.fixed (λ handlers. g.B.Degrades.degrades handlers) (λ handlers. g.B.Decides.decides handlers) g.D.SubscriberHandler.fixed (λ handler. g.D.Degrades.degrades handler) _ c.args.self.now c.carry_out.new.self c.carry_out.result c.carry_out.ensures in (id, moves.0)
+
+pub returns-clause-agreed : goal.returns-clause-agreed
+returns-clause-agreed g c = λ grown. are_as_agreed c.carry_out.new.self.hub.services.domains (returns-clause-grows g c grown)
