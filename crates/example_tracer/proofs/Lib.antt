@@ -1,2 +1,3 @@
 pub mod OnlyLemmas
+pub mod PictureLemmas
 pub mod TraceLemmas

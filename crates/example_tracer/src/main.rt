@@ -6,6 +6,7 @@ mod picture;
 mod trace;
 
 use example_exchange::conversation;
+use picture::Picture;
 use std::io::{self, Read};
 
 fn main(rt: HostRuntime) -> io::Result<()> {
@@ -14,6 +15,6 @@ fn main(rt: HostRuntime) -> io::Result<()> {
     let conversation = conversation(rt.alloc(), &text)?;
     let arrows = trace::trace(rt.alloc(), &conversation)?;
     let mut out = String::new(rt.alloc());
-    picture::Picture::new(rt.alloc(), &conversation, &arrows)?.draw(&mut out)?;
+    Picture::new(rt.alloc(), &conversation)?.draw(&mut out, rt.alloc(), &arrows)?;
     rt.print(&out)
 }

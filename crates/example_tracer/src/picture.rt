@@ -1,4 +1,7 @@
 //! The picture of a conversation, as SVG: a row a line, a lifeline for each thing that was made, and the ways of the messages.
+ghost use Rattle.std.specs.Prelude.{◌≡◌, ◌∷◌, IfOk, map};
+ghost use Rattle.example_tracer.specs.Picture.{rows_of, rows_of_way, lost_rows};
+
 use crate::trace::{Arrow, is_lost};
 use example_exchange::{Exchange, is, word};
 use std::alloc::{AllocError, Global};
@@ -7,7 +10,7 @@ use std::fmt::Write;
 /// How each kind of stroke looks.
 const STYLE: &str =
     "<style>text{font:13px monospace}.reply,.untold{fill:#777}.name{font-weight:bold}.nobody{fill:#c30;font-weight:bold}
-.life,.made{stroke:#bbb}.made{stroke-dasharray:2 3}.message{stroke:#06c;stroke-width:2;marker-end:url(#tip)}.held{stroke:#06c;stroke-opacity:.3;stroke-width:10}
+.life{stroke:#bbb}.message{stroke:#06c;stroke-width:2;marker-end:url(#tip)}.held{stroke:#06c;stroke-opacity:.3;stroke-width:10}
 .lost{stroke:#c30;stroke-width:2;stroke-dasharray:6 4;marker-end:url(#cross)}</style>
 <marker id=\"tip\" viewBox=\"0 0 8 8\" refX=\"7\" refY=\"4\" markerWidth=\"5\" markerHeight=\"5\" orient=\"auto\"><path d=\"M0 0L8 4L0 8z\" fill=\"#06c\"/></marker>
 <marker id=\"cross\" viewBox=\"0 0 8 8\" refX=\"4\" refY=\"4\" markerWidth=\"6\" markerHeight=\"6\"><path d=\"M0 0L8 8M8 0L0 8\" stroke=\"#c30\" stroke-width=\"2\"/></marker>
@@ -15,17 +18,74 @@ const STYLE: &str =
 ";
 
 /// A place in the picture: how far to the right, and in which row.
-type Place = (usize, usize);
+pub type Place = (usize, usize);
+
+/// What is drawn, each with how it looks: a stroke from a place to another, or a text at a place.
+#[derive(Clone, Copy)]
+pub enum Shape<'a> {
+    Stroke(&'static str, Place, Place),
+    Text(&'static str, Place, &'a [u8]),
+}
+
+/// What is drawn for an arrow behind those before it, whose publisher's lifeline is so far to the right, and whose subscriber's begins at this place:
+/// one stroke, from the row of its origin to that of its receipt, or a sign at its receipt where no origin is told; and one stroke in the row of each
+/// line that it shows as lost.
+fn shapes(
+    alloc: Global,
+    conversation: &[Exchange<'_>],
+    before: &[Arrow<'_>],
+    arrow: &Arrow<'_>,
+    from: usize,
+    to: Place,
+) -> Result<Vec<Shape<'static>>, AllocError>
+    ensures { IfOk result (λ shapes. map rows_of shapes.items ≡ rows_of_way arrow.now ∷ lost_rows conversation.now before.now arrow.now to.1) }
+{
+    let (x, since) = to;
+    let mut shapes = Vec::new(alloc);
+    shapes.push(match arrow.origin {
+        Some(origin) => Shape::Stroke("message", (from, origin), (x, arrow.receipt)),
+        None => Shape::Text("untold", (x.saturating_sub(16), arrow.receipt), b"?"),
+    })?;
+    for line in 0..conversation.len() {
+        if is_lost(conversation, before, arrow, line, since) {
+            shapes.push(Shape::Stroke("lost", (from, line), (from / 2 + x / 2, line)))?;
+        }
+    }
+    Ok(shapes)
+}
 
 fn y(row: usize) -> usize {
     row.saturating_mul(24).saturating_add(28)
 }
 
+/// Writes a shape.
+fn draw(out: &mut String, shape: Shape<'_>) -> Result<(), AllocError> {
+    match shape {
+        Shape::Stroke(class, (x, row), (to_x, to_row)) => {
+            let (y, to_y) = (y(row), y(to_row));
+            out.push_str("<path")?;
+            writeln!(out, " class=\"{class}\" d=\"M{x} {y}L{to_x} {to_y}\"/>")
+        }
+        Shape::Text(class, (x, row), text) => {
+            let y = y(row).saturating_add(4);
+            write!(out, "<text class=\"{class}\" x=\"{x}\" y=\"{y}\">")?;
+            for byte in text {
+                match *byte {
+                    b'<' => out.push_str("&lt;")?,
+                    b'&' => out.push_str("&amp;")?,
+                    32..=126 => out.push(char::from(*byte))?,
+                    _ => out.push_str("?")?,
+                }
+            }
+            out.push_str("</text>\n")
+        }
+    }
+}
+
 /// The name of the node, factory, port or loan that a reply says was made.
-fn made<'a>(reply: &'a [u8]) -> Option<&'a [u8]> {
-    let (ok, name) = word(reply);
-    match name {
-        [b'n' | b'f' | b'p' | b's' | b'l', b'0'..=b'9', ..] if is(ok, b"ok") => Some(name),
+fn made(reply: &[u8]) -> Option<&[u8]> {
+    match word(reply) {
+        (b"ok", name @ [b'n' | b'f' | b'p' | b's' | b'l', b'0'..=b'9', ..]) => Some(name),
         _ => None,
     }
 }
@@ -33,102 +93,58 @@ fn made<'a>(reply: &'a [u8]) -> Option<&'a [u8]> {
 /// Whether a line ended what has this name: it was closed, left, was dropped or sent, or was given back.
 fn ends(it: &Exchange<'_>, name: &[u8]) -> bool {
     let (verb, ended) = word(it.line);
-    let may_end = is(verb, b"close")
-        || is(verb, b"leave")
-        || is(verb, b"drop")
-        || is(verb, b"release");
     is(ended, name)
-        && (may_end && is(it.reply, b"ok") || is(verb, b"send") && !is(it.reply, b"skip"))
-}
-
-fn escape(out: &mut String, text: &[u8]) -> Result<(), AllocError> {
-    for byte in text {
-        match *byte {
-            b'<' => out.push_str("&lt;")?,
-            b'&' => out.push_str("&amp;")?,
-            32..=126 => out.push(char::from(*byte))?,
-            _ => out.push_str("?")?,
+        && match verb {
+            b"close" | b"leave" | b"drop" | b"release" => is(it.reply, b"ok"),
+            b"send" => !is(it.reply, b"skip"),
+            _ => false,
         }
-    }
-    Ok(())
 }
 
-fn label(out: &mut String, class: &str, at: Place, text: &[u8]) -> Result<(), AllocError> {
-    let (x, row) = at;
-    let y = y(row).saturating_add(4);
-    write!(out, "<text class=\"{class}\" x=\"{x}\" y=\"{y}\">")?;
-    escape(out, text)?;
-    out.push_str("</text>\n")
-}
-
-fn stroke(out: &mut String, class: &str, from: Place, to: Place) -> Result<(), AllocError> {
-    let (x, row) = from;
-    let (to_x, to_row) = to;
-    let y = y(row);
-    let to_y = self::y(to_row);
-    writeln!(
-        out,
-        "<path class=\"{class}\" d=\"M{x} {y}L{to_x} {to_y}\"/>"
-    )
-}
-
-/// What a picture is drawn of, and where the replies and the lifelines stand.
+/// What a picture is drawn of, and how far to the right its replies and its lifelines are.
 #[derive(Drop)]
 pub struct Picture<'a> {
     conversation: &'a [Exchange<'a>],
-    arrows: &'a [Arrow<'a>],
-    /// What was made, each with the row that made it.
-    made: Vec<(&'a [u8], usize)>,
+    /// What was made, each with the place where its lifeline begins.
+    made: Vec<(&'a [u8], Place)>,
     replies: usize,
-    lifelines: usize,
+    width: usize,
 }
 
 impl<'a> Picture<'a> {
-    pub fn new(
-        alloc: Global,
-        conversation: &'a [Exchange<'a>],
-        arrows: &'a [Arrow<'a>],
-    ) -> Result<Self, AllocError> {
-        let mut names = Vec::new(alloc);
-        let mut line: usize = 0;
-        let mut reply: usize = 0;
+    pub fn new(alloc: Global, conversation: &'a [Exchange<'a>]) -> Result<Self, AllocError> {
+        let line = conversation.iter().map(|it| it.line.len()).max();
+        let reply = conversation.iter().map(|it| it.reply.len()).max();
+        let replies = line.unwrap_or(0).saturating_mul(8).saturating_add(32);
+        let widest = reply.unwrap_or(0).saturating_mul(8).saturating_add(48);
+        let mut width = widest.saturating_add(replies);
+        let mut lifelines = Vec::new(alloc);
         for (row, it) in conversation.iter().enumerate() {
-            line = line.max(it.line.len());
-            reply = reply.max(it.reply.len());
             if let Some(name) = made(it.reply) {
-                names.push((name, row))?;
+                lifelines.push((name, (width, row)))?;
+                width = width.saturating_add(64);
             }
         }
-        let replies = line.saturating_mul(8).saturating_add(32);
-        let lifelines = reply
-            .saturating_mul(8)
-            .saturating_add(replies)
-            .saturating_add(48);
         Ok(Picture {
             conversation,
-            arrows,
-            made: names,
+            made: lifelines,
             replies,
-            lifelines,
+            width,
         })
     }
 
-    fn column(&self, at: usize) -> usize {
-        at.saturating_mul(64).saturating_add(self.lifelines)
-    }
-
-    /// Where the lifeline of this name begins.
-    fn find(&self, name: &[u8]) -> Option<Place> {
-        for (at, it) in self.made.iter().enumerate() {
+    /// Where the lifeline of this name begins; the left edge, where nothing of this name was made.
+    fn find(&self, name: &[u8]) -> Place {
+        for it in &self.made {
             if is(it.0, name) {
-                return Some((self.column(at), it.1));
+                return it.1;
             }
         }
-        None
+        (0, 0)
     }
 
     /// The first row from this one on that ended what has this name, or the row behind the last.
-    fn end_of(&self, name: &[u8], from: usize) -> usize {
+    fn end(&self, name: &[u8], from: usize) -> usize {
         for (row, it) in self.conversation.iter().enumerate() {
             if from <= row && ends(it, name) {
                 return row;
@@ -137,73 +153,67 @@ impl<'a> Picture<'a> {
         self.conversation.len()
     }
 
-    /// A line and its reply; from what a thing was made; and a sign where no mailbox took a message.
+    /// A line and its reply, and a sign where no mailbox took its message.
     fn row(&self, out: &mut String, row: usize, it: &Exchange<'_>) -> Result<(), AllocError> {
-        label(out, "line", (8, row), it.line)?;
-        label(out, "reply", (self.replies, row), it.reply)?;
-        let Some((x, _)) = self.find(word(word(it.line).1).0) else {
-            return Ok(());
-        };
+        draw(out, Shape::Text("line", (8, row), it.line))?;
+        draw(out, Shape::Text("reply", (self.replies, row), it.reply))?;
         if is(it.reply, b"ok 0") {
-            label(out, "nobody", (x.saturating_add(8), row), b"x")?;
+            let (x, _) = self.find(word(word(it.line).1).0);
+            draw(out, Shape::Text("nobody", (x.saturating_add(8), row), b"x"))?;
         }
-        match made(it.reply) {
-            Some(name) => match self.find(name) {
-                Some((to, _)) => stroke(out, "made", (x, row), (to, row)),
-                None => Ok(()),
-            },
-            None => Ok(()),
-        }
+        Ok(())
     }
 
     /// How long a message was held, its way, and what its subscriber never gets.
     fn way(
         &self,
         out: &mut String,
+        alloc: Global,
         before: &[Arrow<'_>],
         arrow: &Arrow<'_>,
     ) -> Result<(), AllocError> {
-        let Some((x, since)) = self.find(arrow.subscriber) else {
-            return Ok(());
-        };
+        let (from, _) = self.find(arrow.publisher);
+        let to = self.find(arrow.subscriber);
         if let Some(it) = self.conversation.get(arrow.receipt) {
-            let end = self.end_of(word(word(it.reply).1).0, arrow.receipt);
-            stroke(out, "held", (x, arrow.receipt), (x, end))?;
+            let end = self.end(word(word(it.reply).1).0, arrow.receipt);
+            draw(
+                out,
+                Shape::Stroke("held", (to.0, arrow.receipt), (to.0, end)),
+            )?;
         }
-        let (Some(origin), Some((from, _))) = (arrow.origin, self.find(arrow.publisher)) else {
-            return label(out, "untold", (x.saturating_sub(16), arrow.receipt), b"?");
-        };
-        stroke(out, "message", (from, origin), (x, arrow.receipt))?;
-        let halfway = from / 2 + x / 2;
-        for line in 0..self.conversation.len() {
-            if is_lost(self.conversation, before, arrow, line, since) {
-                stroke(out, "lost", (from, line), (halfway, line))?;
-            }
+        for shape in &shapes(alloc, self.conversation, before, arrow, from, to)? {
+            draw(out, *shape)?;
         }
         Ok(())
     }
 
-    /// Appends the picture.
-    pub fn draw(&self, out: &mut String) -> Result<(), AllocError> {
-        let width = self.column(self.made.len());
-        let height = y(self.conversation.len());
-        writeln!(
-            out,
-            "<svg xmlns=\"http://www.w3.org/2000/svg\" width=\"{width}\" height=\"{height}\">"
-        )?;
+    /// Appends the picture, with these arrows.
+    pub fn draw(
+        &self,
+        out: &mut String,
+        alloc: Global,
+        arrows: &[Arrow<'_>],
+    ) -> Result<(), AllocError> {
+        let (width, height) = (self.width, y(self.conversation.len()));
+        out.push_str("<svg xmlns=\"http://www.w3.org/2000/svg\"")?;
+        writeln!(out, " width=\"{width}\" height=\"{height}\">")?;
         out.push_str(STYLE)?;
-        for (at, it) in self.made.iter().enumerate() {
-            let x = self.column(at);
-            stroke(out, "life", (x, it.1), (x, self.end_of(it.0, it.1)))?;
+        for it in &self.made {
+            let (x, row) = it.1;
+            draw(
+                out,
+                Shape::Stroke("life", (x, row), (x, self.end(it.0, row))),
+            )?;
         }
         for (row, it) in self.conversation.iter().enumerate() {
             self.row(out, row, it)?;
         }
-        for (at, arrow) in self.arrows.iter().enumerate() {
-            self.way(out, &self.arrows[..at], arrow)?;
+        for (at, arrow) in arrows.iter().enumerate() {
+            self.way(out, alloc, &arrows[..at], arrow)?;
         }
-        for (at, it) in self.made.iter().enumerate() {
-            label(out, "name", (self.column(at).saturating_sub(8), it.1), it.0)?;
+        for it in &self.made {
+            let (x, row) = it.1;
+            draw(out, Shape::Text("name", (x.saturating_sub(8), row), it.0))?;
         }
         out.push_str("</svg>\n")
     }

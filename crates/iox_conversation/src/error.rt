@@ -28,7 +28,7 @@ impl ServeError {
         }
     }
 
-    /// The status with which a program ends that met it: 1 after a read or write fault, 2 where memory was wanting.
+    /// The status with which a program ends that met it: 1 after a read or write fault, 2 where an allocation failed.
     pub fn status(&self) -> u8
         ensures { result ≡ status_of_error self.now }
     {

@@ -15,7 +15,7 @@ pub trait AnswersLines: Drop {
 
     /// Answers a line, of which at most its first 1,025 bytes are given, and appends the answer without a newline.
     ///
-    /// Refused only for want of memory.
+    /// Fails only where no memory is found.
     fn answer_line(
         &mut self,
         alloc: Global,

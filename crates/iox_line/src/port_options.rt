@@ -9,7 +9,7 @@ use iox_command_text::value::{
     named_allocation, named_degradation, named_handler, named_number, named_strategy,
 };
 
-/// The options of a publisher; `None` if a word is none of them, or one stands twice.
+/// The options of a publisher; `None` if a word is none of them, or one comes twice.
 pub(crate) fn publisher_options(words: &Words) -> Option<PublisherOptions>
     ensures { result ≡ publisher_of words.now }
 {
@@ -41,7 +41,7 @@ pub(crate) fn publisher_options(words: &Words) -> Option<PublisherOptions>
     })
 }
 
-/// The options of a subscriber; `None` if a word is none of them, or one stands twice.
+/// The options of a subscriber; `None` if a word is none of them, or one comes twice.
 pub(crate) fn subscriber_options(words: &Words) -> Option<SubscriberOptions>
     ensures { result ≡ subscriber_of words.now }
 {

@@ -18,8 +18,8 @@ use std::alloc::{AllocError, Global};
 /// The command that a line spells, without its newline. The values of a message are put into the scratch.
 ///
 /// The answer is `LineError::TooLong` if the line has more than 1,024 bytes, else `LineError::Faulty` if it spells no command.
-/// Refused for want of memory only where the line spells a command with attributes or with foreign steps: all others take
-/// none, and that a line is no command is told without any.
+/// Fails for memory only where the line spells a command with attributes or with foreign steps: all others take
+/// none, and a line that is no command is found so without any.
 pub fn read_command<'a>(
     alloc: Global,
     line: &[u8],

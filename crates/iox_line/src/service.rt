@@ -143,7 +143,7 @@ fn foreign_line<'a>(alloc: Global, words: Words) -> Result<Option<Command<'a, u6
     }
 }
 
-/// Both, if both are there; that one is none comes before want of memory.
+/// Both, if both are there; that one is none comes before an allocation failure.
 fn together<A: Drop, B: Drop>(
     first: Result<Option<A>, AllocError>,
     second: Result<Option<B>, AllocError>,

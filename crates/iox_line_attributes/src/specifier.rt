@@ -11,8 +11,8 @@ use std::alloc::{AllocError, Global};
 
 /// The attributes that these words define; `None` if a word is no pair, or there are more than 8.
 ///
-/// Refused for want of memory, but only where the words define something: no words take no memory, and where they define
-/// nothing, this is told without memory.
+/// Fails for memory, but only where the words define something: no words take no memory, and where they define
+/// nothing, this is found without memory.
 pub fn defined_attributes(
     alloc: Global,
     words: Words,
@@ -39,7 +39,7 @@ pub fn defined_attributes(
     Ok(Some(attributes))
 }
 
-/// Appends a pair, unless memory is lacking; whether it is lacking now. The reading goes on then, so that a fault is told.
+/// Appends a pair, unless an allocation failed; returns whether one failed so far. The reading goes on then, so that a fault is found.
 fn define(
     alloc: Global,
     pair: &WrittenPair,

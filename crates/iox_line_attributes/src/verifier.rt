@@ -12,8 +12,8 @@ use std::alloc::{AllocError, Global};
 
 /// What these words require; `None` if a word is neither a pair nor a key, or there are more than 8 of either.
 ///
-/// Refused for want of memory, but only where the words require something: no words take no memory, and where they require
-/// nothing, this is told without memory.
+/// Fails for memory, but only where the words require something: no words take no memory, and where they require
+/// nothing, this is found without memory.
 pub fn required_attributes(
     alloc: Global,
     words: Words,
@@ -49,7 +49,7 @@ pub fn required_attributes(
     Ok(Some(verifier))
 }
 
-/// Requires a pair, unless memory is lacking; whether it is lacking now. The reading goes on then, so that a fault is told.
+/// Requires a pair, unless an allocation failed; returns whether one failed so far. The reading goes on then, so that a fault is found.
 fn require(
     alloc: Global,
     pair: &WrittenPair,

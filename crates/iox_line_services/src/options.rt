@@ -9,7 +9,7 @@ use iox_command_text::Words;
 use iox_command_text::options::one;
 use iox_command_text::value::named_number;
 
-/// The options of a publish-subscribe service; `None` if a word is none of them, or one stands twice.
+/// The options of a publish-subscribe service; `None` if a word is none of them, or one comes twice.
 pub fn publish_subscribe(words: &Words) -> Option<PublishSubscribeOptions>
     ensures { result ≡ publish_subscribe_of words.now }
 {
@@ -49,7 +49,7 @@ fn named_publish_subscribe(words: &Words) -> Option<PublishSubscribeOptions>
     })
 }
 
-/// The options of an event service; `None` if a word is none of them, or one stands twice.
+/// The options of an event service; `None` if a word is none of them, or one comes twice.
 pub fn event(words: &Words) -> Option<EventOptions>
     ensures { result ≡ event_of words.now }
 {
@@ -92,7 +92,7 @@ fn named_event(words: &Words) -> Option<EventOptions>
     })
 }
 
-/// The options of a request-response service; `None` if a word is none of them, or one stands twice.
+/// The options of a request-response service; `None` if a word is none of them, or one comes twice.
 pub fn request_response(words: &Words) -> Option<RequestResponseOptions>
     ensures { result ≡ request_response_of words.now }
 {

@@ -55,7 +55,7 @@ pub fn named_service<'a>(words: Words<'a>) -> Option<NamedService<'a>>
     })
 }
 
-/// The options of a pattern; `None` if a word is none of them, or one stands twice.
+/// The options of a pattern; `None` if a word is none of them, or one comes twice.
 pub fn service_options(pattern: MessagingPattern, words: &Words) -> Option<ServiceOptions>
     ensures { result ≡ options_of pattern words.now }
 {

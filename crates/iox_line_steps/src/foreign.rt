@@ -11,7 +11,7 @@ use std::alloc::{AllocError, Global};
 
 /// The steps that these words are; `None` if a word is none, or there is no word.
 ///
-/// Refused for want of memory, but only where the words are steps: where they aren't, this is told without memory.
+/// Fails for memory, but only where the words are steps: where they aren't, this is found without memory.
 pub fn foreign_steps(
     alloc: Global,
     pattern: MessagingPattern,
@@ -37,7 +37,7 @@ pub fn foreign_steps(
     Ok(Some(steps))
 }
 
-/// Appends a step, unless memory is lacking; whether it is lacking now. The reading goes on then, so that a fault is told.
+/// Appends a step, unless an allocation failed; returns whether one failed so far. The reading goes on then, so that a fault is found.
 pub(crate) fn append<T: Copy>(alloc: Global, step: T, steps: &mut Steps<T>, lacking: bool) -> bool
     ensures { result ≡ false → (lacking ≡ false) × (steps.new ≡ steps.old ++ step ∷ []) }
 {

@@ -15,8 +15,8 @@ use std::alloc::{AllocError, Global};
 /// The lists of steps that these words are, each with `|` and the number of its access before its steps; `None` if a word
 /// is neither, a list has no number or no step, or its number isn't above the one before it.
 ///
-/// Refused for want of memory, but only where the words are lists with a step: no words take no memory, and where they are
-/// no lists, this is told without memory.
+/// Fails for memory, but only where the words are lists with a step: no words take no memory, and where they are
+/// no lists, this is found without memory.
 pub fn listed_steps(
     alloc: Global,
     pattern: MessagingPattern,
