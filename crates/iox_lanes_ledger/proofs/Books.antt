@@ -253,7 +253,7 @@ widen : (connections first slots : ℕ) (loans : List LoanMark) (history : List 
 widen connections first slots loans history referred uses k = subst (λ (w : ℕ). AreCounted connections first w loans history referred uses) (sym k.uses_each) k
 
 -- the first place without a use has none
-first_free_is : (counts : List ℕ) (at index : ℕ) → first_free counts at ≡ Some index → (k : ℕ) × (index ≡ at + k) × (k < length counts) × (get_or counts k 0 ≡ 0)
+pub first_free_is : (counts : List ℕ) (at index : ℕ) → first_free counts at ≡ Some index → (k : ℕ) × (index ≡ at + k) × (k < length counts) × (get_or counts k 0 ≡ 0)
 first_free_is [] at index e = absurd (cc e)
 first_free_is (x ∷ counts) at index e = elim (eqb_tells x 0) [
   | inl none ↦

@@ -3,3 +3,5 @@ pub mod Uses
 pub mod Stored
 pub mod Sending
 pub mod Borrowing
+pub mod Rooms
+pub mod Pace

@@ -64,7 +64,7 @@ order_after m to acts connection link found w =
     slice_get-get_or (added m.orders to m.moments acts) connection [] below
 
 -- what the record says of each connection
-abbrev Balanced : World → List Route → BookState → PublisherCall → Type 0
+abbrev pub Balanced : World → List Route → BookState → PublisherCall → Type 0
 Balanced m routes book call = (place : ℕ) (route : Route) (link : Link) (order : List Placed) → slice_get routes place ≡ Some route → slice_get m.links route.connection ≡ Some link → slice_get m.orders route.connection ≡ Some order
     → (slot : ℕ) → stands_at m.table route.connection link order call (slice_get m.subscribers link.subscriber) slot ≡ one_if (refers_to book place slot)
 
@@ -82,7 +82,7 @@ spot_of m who routes stored c place route k here =
     }
 
 -- the next change of a publisher fits
-change_fits : (m : World) (who : ℕ) (routes : List Route) (stored : List ℕ) (book : BookState) (c : PublisherCall) → Setting m who routes stored c → StandsAtLoan book c → SendsLacking (length routes) book c → Balanced m routes book c
+pub change_fits : (m : World) (who : ℕ) (routes : List Route) (stored : List ℕ) (book : BookState) (c : PublisherCall) → Setting m who routes stored c → StandsAtLoan book c → SendsLacking (length routes) book c → Balanced m routes book c
     → ChangeFits (length routes) book (publisher_change c (told m c))
 change_fits m who routes stored book publishing.Idle k stands lacking b = tt
 change_fits m who routes stored book (publishing.LoanReclaims place route p) k stands lacking b =
@@ -112,7 +112,7 @@ change_fits m who routes stored book (publishing.Sent slot delivery) k stands la
 change_fits m who routes stored book (publishing.Dropping slot) k stands lacking b = stands
 
 -- a call that stands at a connection stands at one of the list
-is_there : (sizes : TableSizes) (routes : List Route) (stored : List ℕ) (c : PublisherCall) → IsPublishing sizes routes stored c → IsThere routes c
+pub is_there : (sizes : TableSizes) (routes : List Route) (stored : List ℕ) (c : PublisherCall) → IsPublishing sizes routes stored c → IsThere routes c
 is_there sizes routes stored publishing.Idle h = tt
 is_there sizes routes stored (publishing.LoanReclaims place route p) h = h
 is_there sizes routes stored publishing.Lending h = tt
@@ -133,7 +133,7 @@ follows connections place book c before after (inr (inl other, same)) fits k was
 follows connections place book c before after (inr (inr away, same)) fits k was s = omega (arith, same s, ap one_if (refers_elsewhere connections away.0 book c away.2 fits place s away.1), was s)
 
 -- the setting of a publisher
-setting_of : (m : World) (place : ℕ) (lane : PublisherLaneState) → slice_get m.publishers place ≡ Some lane → m.moments < 2 ^ 63 → IsWithin m → AreKept m → ReturnsKept m → AreReturning m → AllSendsPut m → Setting m place lane.port.routes (words_of lane.port) lane.port.call
+pub setting_of : (m : World) (place : ℕ) (lane : PublisherLaneState) → slice_get m.publishers place ≡ Some lane → m.moments < 2 ^ 63 → IsWithin m → AreKept m → ReturnsKept m → AreReturning m → AllSendsPut m → Setting m place lane.port.routes (words_of lane.port) lane.port.call
 setting_of m place lane e bound w k r b s =
     let is : IsPublisher m.table.sizes lane = all_at (IsPublisher m.table.sizes) m.publishers place lane e w.publishers in
     record {

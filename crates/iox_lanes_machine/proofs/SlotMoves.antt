@@ -78,13 +78,13 @@ pub record Spot (m : World) (who : ℕ) (routes : List Route) (call : PublisherC
 abbrev pub told : World → PublisherCall → ℕ
 told m call = shared_answer m.table (publisher_next call)
 
-kept_here : (m : World) (who : ℕ) (routes : List Route) (stored : List ℕ) (call : PublisherCall) (place : ℕ) (route : Route) (link : Link) (order order' : List Placed) → Setting m who routes stored call → Spot m who routes call place route link order order'
+pub kept_here : (m : World) (who : ℕ) (routes : List Route) (stored : List ℕ) (call : PublisherCall) (place : ℕ) (route : Route) (link : Link) (order order' : List Placed) → Setting m who routes stored call → Spot m who routes call place route link order order'
     → IsKeptAt m.table m.moments route.connection link order call (subscriber_stage (slice_get m.subscribers link.subscriber))
 kept_here m who routes stored call place route link order order' k p =
     subst (λ (c : PublisherCall). IsKeptAt m.table m.moments route.connection link order c (subscriber_stage (slice_get m.subscribers link.subscriber)))
     (ap (λ (i : ℕ). publisher_stage (slice_get m.publishers i)) p.sender_is ∙ k.stage) (k.kept route.connection link order p.found p.got)
 
-returning_here : (m : World) (who : ℕ) (routes : List Route) (stored : List ℕ) (call : PublisherCall) (place : ℕ) (route : Route) (link : Link) (order order' : List Placed) → Setting m who routes stored call → Spot m who routes call place route link order order'
+pub returning_here : (m : World) (who : ℕ) (routes : List Route) (stored : List ℕ) (call : PublisherCall) (place : ℕ) (route : Route) (link : Link) (order order' : List Placed) → Setting m who routes stored call → Spot m who routes call place route link order order'
     → IsReturning m.table.sizes.completion_cells m.table m.moments route.connection call (subscriber_stage (slice_get m.subscribers link.subscriber))
 returning_here m who routes stored call place route link order order' k p =
     subst (λ (c : PublisherCall). IsReturning m.table.sizes.completion_cells m.table m.moments route.connection c (subscriber_stage (slice_get m.subscribers link.subscriber)))
@@ -105,7 +105,7 @@ sent_same m who routes stored call place route link order order' k p off s =
     )
 
 -- a step that takes back elsewhere leaves what was given back there
-returned_same : (m : World) (who : ℕ) (routes : List Route) (stored : List ℕ) (call : PublisherCall) (place : ℕ) (route : Route) (link : Link) (order order' : List Placed) → Setting m who routes stored call → Spot m who routes call place route link order order'
+pub returned_same : (m : World) (who : ℕ) (routes : List Route) (stored : List ℕ) (call : PublisherCall) (place : ℕ) (route : Route) (link : Link) (order order' : List Placed) → Setting m who routes stored call → Spot m who routes call place route link order order'
     → (reclaims_at call ≡ Some route.connection → ⊥) → (s : ℕ) → count s (given_back (after_shared m.table (publisher_next call)) route.connection) ≡ count s (given_back m.table route.connection)
 returned_same m who routes stored call place route link order order' k p off s =
     back_same m.table (publisher_next call) route.connection

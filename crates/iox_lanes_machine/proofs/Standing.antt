@@ -131,7 +131,7 @@ pop_moves table moments place route c waits_there link order sends push cells si
         )
 
 -- the samples given back, by a number of cells
-back_is : (table : TableWords) (access : SharedAccess) (connection : ℕ) → given_back (after_shared table access) connection ≡ between (back_ring (after_shared table access) connection table.sizes.completion_cells)
+pub back_is : (table : TableWords) (access : SharedAccess) (connection : ℕ) → given_back (after_shared table access) connection ≡ between (back_ring (after_shared table access) connection table.sizes.completion_cells)
 back_is table access connection = ap (λ (sizes : TableSizes). between (back_ring (after_shared table access) connection sizes.completion_cells)) ((sizes_stay table access).0)
 
 -- a step of a publisher that takes back

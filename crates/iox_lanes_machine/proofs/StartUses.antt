@@ -22,6 +22,8 @@ use Rattle.iox_lanes_machine.specs.Made.{link_at, route_to, sending_routes, publ
 use Rattle.iox_lanes_machine.specs.Uses.{stands_at, PublisherUses, SubscriberUses, UsesKept}
 use Rattle.iox_lanes_machine.specs.declared.link.Link.{Link}
 use Rattle.iox_lanes_machine.specs.declared.sizes.LaneSizes.{LaneSizes}
+use Rattle.iox_lanes_machine.proofs.StartRooms.{start_rooms}
+use Rattle.iox_lanes_machine.proofs.Opening.{start_named}
 use Rattle.iox_lanes_machine.proofs.Start.{listed_is, listed_length, start_within, start_rings, start_receipts, start_calls, start_sends, start_loans, start_back, start_returns, start_reads}
 
 -- a subscriber borrows nothing yet
@@ -106,7 +108,9 @@ start_kept sizes some few small = record {
   loans = start_loans sizes;
   returns = start_returns sizes small;
   reads = start_reads sizes;
+  named = start_named sizes some;
   uses = λ now. start_uses sizes few;
+  rooms = λ now. start_rooms sizes;
   left = λ now place lane e. subst (λ (x : PublisherLaneState). StoresHeld (start sizes).table x.port.sends x.port.payload x.port.head x.port.call) (sym ((listed_is (publisher_at sizes) sizes.publishers place lane e).1)) tt;
   held = λ now place lane e. subst (λ (x : SubscriberLaneState). LoadsHeld (start sizes).table x.port.words x.port.call) (sym ((listed_is (subscriber_at sizes) sizes.subscribers place lane e).1)) tt;
 }

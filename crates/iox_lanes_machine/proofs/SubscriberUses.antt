@@ -67,7 +67,7 @@ pub record IsRecorded (m : World) (connection : ℕ) (link : Link) (order : List
   pub same : route.connection ≡ connection
   pub is : Standing m connection link order s ≡ one_if (refers_to lane.port.book place s)
 
-lane_there : (lanes : List PublisherLaneState) (place : ℕ) (at : Option PublisherLaneState) → slice_get lanes place ≡ at → place < length lanes → (lane : PublisherLaneState) × (slice_get lanes place ≡ Some lane)
+pub lane_there : (lanes : List PublisherLaneState) (place : ℕ) (at : Option PublisherLaneState) → slice_get lanes place ≡ at → place < length lanes → (lane : PublisherLaneState) × (slice_get lanes place ≡ Some lane)
 lane_there lanes place None e below = absurd (none_below lanes place below e)
   where
     none_below : (xs : List PublisherLaneState) (i : ℕ) → i < length xs → slice_get xs i ≡ None → ⊥
@@ -138,39 +138,39 @@ unborrowed m who one other link behind order order' lane e found got found' got'
     absurd (omega (arith, r.is, one_if_le (refers_to (r.lane).port.book r.place s), some, ap one_if here))
 
 -- what all of it wants to know of a subscriber
-record Setting (m : World) (who : ℕ) (lane : SubscriberLaneState) (c : SubscriberCall) : Type 0 where
-  bound : m.moments < 2 ^ 63
-  within : IsWithin m
-  kept : AreKept m
-  some : 0 < m.table.sizes.completion_cells
-  returning : AreReturning m
-  sends : AllSendsPut m
-  loans : LoansStand m
-  uses : UsesKept m
-  found : slice_get m.subscribers who ≡ Some lane
-  round : GoesRound m.table.sizes.completion_cells lane.port.routes
-  links : All (IsLinkOf m.links receiver who) lane.port.routes
-  call_is : IsSubscribing m.table.sizes lane.port.routes c
-  access : IsOfTable m.table.sizes (subscriber_next c)
-  stage : lane.port.call ≡ c
-  own : SubscriberUses m lane
+pub record Setting (m : World) (who : ℕ) (lane : SubscriberLaneState) (c : SubscriberCall) : Type 0 where
+  pub bound : m.moments < 2 ^ 63
+  pub within : IsWithin m
+  pub kept : AreKept m
+  pub some : 0 < m.table.sizes.completion_cells
+  pub returning : AreReturning m
+  pub sends : AllSendsPut m
+  pub loans : LoansStand m
+  pub uses : UsesKept m
+  pub found : slice_get m.subscribers who ≡ Some lane
+  pub round : GoesRound m.table.sizes.completion_cells lane.port.routes
+  pub links : All (IsLinkOf m.links receiver who) lane.port.routes
+  pub call_is : IsSubscribing m.table.sizes lane.port.routes c
+  pub access : IsOfTable m.table.sizes (subscriber_next c)
+  pub stage : lane.port.call ≡ c
+  pub own : SubscriberUses m lane
 
 -- what a step answers
-abbrev told : World → SubscriberCall → ℕ
+abbrev pub told : World → SubscriberCall → ℕ
 told m c = shared_answer m.table (subscriber_next c)
 
 -- the connection of a subscriber, and its order before and after
-record Spot (m : World) (who : ℕ) (c : SubscriberCall) (connection : ℕ) (link : Link) (order order' : List Placed) : Type 0 where
-  found : slice_get m.links connection ≡ Some link
-  receiver_is : link.subscriber ≡ who
-  got : slice_get m.orders connection ≡ Some order
-  after : slice_get (added m.orders (pops_from c) m.moments (pop_acts m c)) connection ≡ Some order'
+pub record Spot (m : World) (who : ℕ) (c : SubscriberCall) (connection : ℕ) (link : Link) (order order' : List Placed) : Type 0 where
+  pub found : slice_get m.links connection ≡ Some link
+  pub receiver_is : link.subscriber ≡ who
+  pub got : slice_get m.orders connection ≡ Some order
+  pub after : slice_get (added m.orders (pops_from c) m.moments (pop_acts m c)) connection ≡ Some order'
 
-stage_here : (m : World) (who : ℕ) (lane : SubscriberLaneState) (c : SubscriberCall) (link : Link) → Setting m who lane c → link.subscriber ≡ who → subscriber_stage (slice_get m.subscribers link.subscriber) ≡ c
+pub stage_here : (m : World) (who : ℕ) (lane : SubscriberLaneState) (c : SubscriberCall) (link : Link) → Setting m who lane c → link.subscriber ≡ who → subscriber_stage (slice_get m.subscribers link.subscriber) ≡ c
 stage_here m who lane c link k is = ap (λ (i : ℕ). subscriber_stage (slice_get m.subscribers i)) is ∙ ap subscriber_stage k.found ∙ k.stage
 
 -- what a publisher's call is at a connection
-abbrev sends_at : World → Link → PublisherCall
+abbrev pub sends_at : World → Link → PublisherCall
 sends_at m link = publisher_stage (slice_get m.publishers link.publisher)
 
 -- a step that receives elsewhere leaves what was sent there
@@ -186,7 +186,7 @@ sent_same m who lane c connection link order order' k p off s =
     )
 
 -- a step that gives back elsewhere leaves what was given back there
-returned_same : (m : World) (who : ℕ) (lane : SubscriberLaneState) (c : SubscriberCall) (connection : ℕ) (link : Link) (order order' : List Placed) → Setting m who lane c → Spot m who c connection link order order' → (releases_at c ≡ Some connection → ⊥) → (s : ℕ)
+pub returned_same : (m : World) (who : ℕ) (lane : SubscriberLaneState) (c : SubscriberCall) (connection : ℕ) (link : Link) (order order' : List Placed) → Setting m who lane c → Spot m who c connection link order order' → (releases_at c ≡ Some connection → ⊥) → (s : ℕ)
     → count s (given_back (after_shared m.table (subscriber_next c)) connection) ≡ count s (given_back m.table connection)
 returned_same m who lane c connection link order order' k p off s =
     back_same m.table (subscriber_next c) connection
@@ -222,7 +222,7 @@ taken_there m who lane place route p waits link order order' k spot s =
     )
 
 -- what it takes is a slot of the service that the subscriber borrows of none of its connections
-takes_unborrowed : (m : World) (who : ℕ) (lane : SubscriberLaneState) (place : ℕ) (route : Route) (p : Pop) (waits : Bool) (connection : ℕ) (link : Link) (order order' : List Placed)
+pub takes_unborrowed : (m : World) (who : ℕ) (lane : SubscriberLaneState) (place : ℕ) (route : Route) (p : Pop) (waits : Bool) (connection : ℕ) (link : Link) (order order' : List Placed)
     → Setting m who lane (subscribing.Receiving place route p waits) → Spot m who (subscribing.Receiving place route p waits) connection link order order'
     → OwnFits lane connection place (subscriber_change (subscribing.Receiving place route p waits) (told m (subscribing.Receiving place route p waits)))
 takes_unborrowed m who lane place route p waits connection link order order' k spot =
@@ -255,7 +255,7 @@ takes_unborrowed m who lane place route p waits connection link order order' k s
         )
 
 -- a receive borrows at its place, and gives nothing back
-borrow_at : (place : ℕ) (a : Option PopAnswer) → IsOwnChangeAt place (borrowed_by place a)
+pub borrow_at : (place : ℕ) (a : Option PopAnswer) → IsOwnChangeAt place (borrowed_by place a)
 borrow_at place None = tt
 borrow_at place (Some (Got (Some slot))) = refl
 borrow_at place (Some (Got None)) = tt
@@ -268,7 +268,7 @@ none_returned place (Some (Got None)) = refl
 none_returned place (Some (Saw some)) = refl
 
 -- a release gives back at its own connection
-given_there : (m : World) (who : ℕ) (lane : SubscriberLaneState) (place : ℕ) (route : Route) (p : refusing_push_type.Push) (link : Link) (order order' : List Placed) → Setting m who lane (subscribing.Releasing place route p) → Spot m who (subscribing.Releasing place route p) route.connection link order order'
+pub given_there : (m : World) (who : ℕ) (lane : SubscriberLaneState) (place : ℕ) (route : Route) (p : refusing_push_type.Push) (link : Link) (order order' : List Placed) → Setting m who lane (subscribing.Releasing place route p) → Spot m who (subscribing.Releasing place route p) route.connection link order order'
     → (s : ℕ) → count s (given_back (after_shared m.table (subscriber_next (subscribing.Releasing place route p))) route.connection) ≡ count s (given_back m.table route.connection) + count s (returned_in (given_back_by place p))
 given_there m who lane place route p link order order' k spot s =
     let size : route.completion_cells ≡ m.table.sizes.completion_cells = all_at (λ (r : Route). r.completion_cells ≡ m.table.sizes.completion_cells) lane.port.routes place route k.call_is k.round in
@@ -373,7 +373,7 @@ publisher_keeps m who lane after place z ch k e at route link order' here found 
     ]
 
 -- a subscriber's next step changes its samples as its call says
-changes_of : (m : World) (lane : SubscriberLaneState) → Changes lane (subscriber_after (subscriber_given m.table lane) lane) (subscriber_change lane.port.call (told m lane.port.call))
+pub changes_of : (m : World) (lane : SubscriberLaneState) → Changes lane (subscriber_after (subscriber_given m.table lane) lane) (subscriber_change lane.port.call (told m lane.port.call))
 changes_of m lane = record {
   routes = (changed_routes (subscriber_change lane.port.call (subscriber_given m.table lane)) _).0;
   samples = samples_are (subscriber_change lane.port.call (subscriber_given m.table lane)) _;
@@ -406,12 +406,11 @@ own_after m n lane e is u =
 other_after : (m n : World) (lane : SubscriberLaneState) → n.table.sizes ≡ m.table.sizes → SubscriberUses m lane → SubscriberUses n lane
 other_after m n lane e u = record { all = u.all ∙ ap (λ (sizes : TableSizes). sizes.slots) (sym e); borrowed = u.borrowed; placed = u.placed }
 
-pub gone_subscriber : (m : World) (place : ℕ) (at : Option SubscriberLaneState) → slice_get m.subscribers place ≡ at → subscriber_fits_at at GoOn ≡ true → m.moments < 2 ^ 63 → IsWithin m → AreKept m → ReturnsKept m → AreReturning m → AllSendsPut m → LoansStand m → UsesKept m
-    → UsesKept (subscriber_goes_on (record m { orders = added m.orders (pops_from (subscriber_stage at)) m.moments (pop_acts m (subscriber_stage at)) }) place at)
-gone_subscriber m place None e fit bound w k r b s l u = absurd (cc)
-gone_subscriber m place (Some lane) e fit bound w k r b s l u =
+-- the setting of a subscriber
+pub setting_of : (m : World) (place : ℕ) (lane : SubscriberLaneState) → slice_get m.subscribers place ≡ Some lane → m.moments < 2 ^ 63 → IsWithin m → AreKept m → ReturnsKept m → AreReturning m → AllSendsPut m → LoansStand m → UsesKept m → Setting m place lane lane.port.call
+setting_of m place lane e bound w k r b s l u =
     let is : IsSubscriber m.table.sizes lane = all_at (IsSubscriber m.table.sizes) m.subscribers place lane e w.subscribers in
-    let setting : Setting m place lane lane.port.call = record {
+    record {
       bound = bound;
       within = w;
       kept = k;
@@ -427,7 +426,14 @@ gone_subscriber m place (Some lane) e fit bound w k r b s l u =
       access = (subscribers_stay_within m.table.sizes lane is).2;
       stage = refl;
       own = u.subscribers place lane e;
-    } in
+    }
+
+pub gone_subscriber : (m : World) (place : ℕ) (at : Option SubscriberLaneState) → slice_get m.subscribers place ≡ at → subscriber_fits_at at GoOn ≡ true → m.moments < 2 ^ 63 → IsWithin m → AreKept m → ReturnsKept m → AreReturning m → AllSendsPut m → LoansStand m → UsesKept m
+    → UsesKept (subscriber_goes_on (record m { orders = added m.orders (pops_from (subscriber_stage at)) m.moments (pop_acts m (subscriber_stage at)) }) place at)
+gone_subscriber m place None e fit bound w k r b s l u = absurd (cc)
+gone_subscriber m place (Some lane) e fit bound w k r b s l u =
+    let is : IsSubscriber m.table.sizes lane = all_at (IsSubscriber m.table.sizes) m.subscribers place lane e w.subscribers in
+    let setting : Setting m place lane lane.port.call = setting_of m place lane e bound w k r b s l u in
     record {
       publishers = λ who z got. let was = u.publishers who z got in record {
         counted = was.counted;

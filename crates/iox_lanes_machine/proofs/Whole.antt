@@ -13,9 +13,11 @@ use Rattle.iox_lanes_machine.proofs.Held.{happens_held}
 use Rattle.iox_lanes_machine.proofs.Left.{happens_left}
 use Rattle.iox_lanes_machine.proofs.UsesSteps.{happens_uses}
 use Rattle.iox_lanes_machine.proofs.Calls.{happens_calls}
+use Rattle.iox_lanes_machine.proofs.Opening.{happens_named}
 use Rattle.iox_lanes_machine.proofs.ReadWords.{happens_reads}
 use Rattle.iox_lanes_machine.proofs.Receipts.{happens_gives}
 use Rattle.iox_lanes_machine.proofs.ReturnSteps.{happens_returns}
+use Rattle.iox_lanes_machine.proofs.RoomKept.{happens_rooms}
 use Rattle.iox_lanes_machine.proofs.SendSteps.{happens_sends}
 use Rattle.iox_lanes_machine.proofs.Slots.{happens_loans, slots_stay}
 use Rattle.iox_lanes_machine.proofs.Steps.{happens_rings, happens_moments}
@@ -50,10 +52,13 @@ happens_keeps m party step fit k = record {
       happens_uses m party step fit bound k.within (k.rings (omega (arith, bound))) k.returns (k.returns.rings (omega (arith, bound))) (k.sends (omega (arith, bound))) k.loans (k.uses (omega (arith, bound)));
   held = λ few. let bound : m.moments < 2 ^ 63 = omega (arith, happens_moments m party step fit, few) in
       happens_held m party step k.within (k.uses (omega (arith, bound))) k.reads (step_uses m party step fit k) (omega (arith, bound)) (k.held (omega (arith, bound)));
+  rooms = λ few. let bound : m.moments < 2 ^ 63 = omega (arith, happens_moments m party step fit, few) in
+      happens_rooms m party step fit bound k.within (k.rings (omega (arith, bound))) k.returns (k.returns.rings (omega (arith, bound))) (k.sends (omega (arith, bound))) k.loans (k.uses (omega (arith, bound))) (k.rooms (omega (arith, bound)));
   left = λ few. let bound : m.moments < 2 ^ 63 = omega (arith, happens_moments m party step fit, few) in
       let made = step_made m party step fit (ends m party step) refl in
       let apart = steps_apart m party step made.0 (happens m party step) made.1 k.within in
       happens_left m party step fit k.within k.loans (k.uses (omega (arith, bound))) (slots_stay m party step made.0 (happens m party step) k.loans apart) (k.left (omega (arith, bound)));
+  named = happens_named m party step fit k.within k.named;
 }
 
 pub steps_keep : (m : World) (party : Party) (step : Move) (r : Stepped) (n : World) → StepsTo m party step r n → IsKept m → IsKept n

@@ -30,7 +30,7 @@ use Rattle.iox_lanes_machine.proofs.Told.{steps_told}
 use Rattle.iox_lanes_machine.proofs.Whole.{step_made, step_uses, happens_keeps}
 
 -- a run keeps all that lanes keep
-run_keeps : (m : World) (entries : List Entry) (made : ℕ) (n : World) → RunsTo m entries made n → IsKept m → IsKept n
+pub run_keeps : (m : World) (entries : List Entry) (made : ℕ) (n : World) → RunsTo m entries made n → IsKept m → IsKept n
 run_keeps m [] made n h k = subst IsKept (sym h.1) k
 run_keeps m (entry ∷ entries) made n (inl h) k = run_keeps m entries made n h.1 k
 run_keeps m (entry ∷ entries) made n (inr (inl h)) k = run_keeps (happens m entry.party entry.step) entries (h.1).0 n (h.1).2 (happens_keeps m entry.party entry.step h.0 k)

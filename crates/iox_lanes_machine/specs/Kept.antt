@@ -16,9 +16,11 @@ use Rattle.iox_lanes_machine.specs.Rings.{ring_in, waiting, push_on, pop_on}
 use Rattle.iox_lanes_machine.specs.Calls.{CallsKeepTime}
 use Rattle.iox_lanes_machine.specs.Held.{ReadsFollow}
 use Rattle.iox_lanes_machine.specs.Left.{StoresFollow}
+use Rattle.iox_lanes_machine.specs.Opening.{SlotsNamed}
 use Rattle.iox_lanes_machine.specs.Reads.{ReadsLie}
 use Rattle.iox_lanes_machine.specs.Receipts.{ReceiptsFollow}
 use Rattle.iox_lanes_machine.specs.Returns.{ReturnsKept}
+use Rattle.iox_lanes_machine.specs.Rooms.{RoomsFollow}
 use Rattle.iox_lanes_machine.specs.Sends.{SendsFollow}
 use Rattle.iox_lanes_machine.specs.Slots.{LoansStand}
 use Rattle.iox_lanes_machine.specs.Uses.{UsesFollow}
@@ -91,3 +93,5 @@ pub record IsKept (m : World) : Type 0 where
   pub uses : UsesFollow m
   pub held : ReadsFollow m
   pub left : StoresFollow m
+  pub rooms : RoomsFollow m
+  pub named : SlotsNamed m

@@ -19,3 +19,10 @@ pub mod Left
 pub mod WholeReads
 pub mod Reads
 pub mod Arrivals
+pub mod Rooms
+pub mod Loans
+pub mod Paces
+pub mod FullLoans
+pub mod Opening
+pub mod PermittedLoans
+pub mod Queues

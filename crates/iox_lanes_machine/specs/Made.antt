@@ -18,13 +18,16 @@ abbrev pub listed : {X : Type 0} → (ℕ → X) → ℕ → List X
 listed f zero = []
 listed f (suc count) = listed f count ++ f count ∷ []
 
--- the sizes of the table: a ring of messages has the cells that its kind needs, a ring of samples given back one for each that may wait or be borrowed, and
--- one more
+-- the cells of a ring of samples given back: one for each that may wait or be borrowed, and one more
+abbrev pub cells_back : LaneSizes → ℕ
+cells_back sizes = sizes.buffer + sizes.most_borrowed + 1
+
+-- the sizes of the table: a ring of messages has the cells that its kind needs
 abbrev pub table_sizes : LaneSizes → TableSizes
 table_sizes sizes = record {
   connections = sizes.publishers * sizes.subscribers;
   submission_cells = cells_of sizes.kind sizes.buffer;
-  completion_cells = sizes.buffer + sizes.most_borrowed + 1;
+  completion_cells = cells_back sizes;
   slots = sizes.publishers * sizes.slots;
   user_header_words = sizes.user_header_words;
   payload_words = sizes.payload_words;
@@ -46,7 +49,7 @@ route_to sizes connection = record {
   kind = sizes.kind;
   limit = sizes.buffer;
   submission_cells = cells_of sizes.kind sizes.buffer;
-  completion_cells = sizes.buffer + sizes.most_borrowed + 1;
+  completion_cells = cells_back sizes;
 }
 
 -- the connections of a publisher, in the order of the subscribers

@@ -15,7 +15,7 @@ use std::marker::Model;
 /// A port's own data stand still but at its own steps, and each step touches at most one shared word. This port's own.
 #[derive(Drop)]
 pub struct Lanes {
-    state: State,
+    pub(crate) state: State,
 }
 
 impl Model for Lanes {
@@ -40,9 +40,12 @@ impl Lanes {
     ghost use Rattle.iox_lanes_machine.specs.Calls.{CallsKeepTime};
     ghost use Rattle.iox_lanes_machine.specs.Held.{ReadsWhole};
     ghost use Rattle.iox_lanes_machine.specs.Left.{StoresLeft};
+    ghost use Rattle.iox_lanes_machine.specs.Loans.{LoansLent};
+    ghost use Rattle.iox_lanes_machine.specs.Queues.{GivenBackInTurn};
     ghost use Rattle.iox_lanes_machine.specs.Reads.{ReadsLie};
     ghost use Rattle.iox_lanes_machine.specs.Receipts.{ReceiptsFollow};
     ghost use Rattle.iox_lanes_machine.specs.Returns.{ReturnsNear};
+    ghost use Rattle.iox_lanes_machine.specs.Rooms.{ReleasesFollow};
     ghost use Rattle.iox_lanes_machine.specs.Sends.{SendsFollow};
     ghost use Rattle.iox_lanes_machine.specs.Slots.{LoansApart, SlotsStay};
     ghost use Rattle.iox_lanes_machine.specs.Told.{Told};
@@ -75,7 +78,9 @@ impl Lanes {
     /// loan or sample that it names is its own and out; a send needs a finished write of its loan. A go on fits inside a call.
     ///
     /// As long as at most 2^63 steps were made: a loan stands in no history and at no connection; no step changes a word of a slot that does; a write and a
-    /// send leave in their slot what they were given; and a read gives just what its slot holds.
+    /// send leave in their slot what they were given; and a read gives just what its slot holds. A loan is refused just where as many loans are out as may be,
+    /// and finds no slot only where each has a use; with fewer out, and as many slots as the worst case wants, it gives one. A release gives its sample back, behind
+    /// those given back before it at its connection, and a loan or a send takes them back from the first on.
     pub fn step(&mut self, party: Party, step: &Move) -> Stepped
         ensures steps { StepsTo self.old party step.now result self.new }
         ensures apart { StaysApart self.old party step.now result self.new }
@@ -83,6 +88,8 @@ impl Lanes {
         ensures slots { SlotsStay self.old party self.new }
         ensures uses { UsedSlotsStay self.old self.new }
         ensures left { StoresLeft self.old self.new }
+        ensures lent { LoansLent self.old self.new }
+        ensures turns { GivenBackInTurn self.old party self.new }
         ensures whole { ReadsWhole self.old self.new }
         ensures orders { OrdersFollow self.new }
         ensures receipts { ReceiptsFollow self.new }
@@ -91,6 +98,7 @@ impl Lanes {
         ensures loans { LoansApart self.new }
         ensures alone { LoansStandAlone self.new }
         ensures reads { ReadsLie self.new }
+        ensures releases { ReleasesFollow self.new }
     {
         self.state.step(party, step)
     }
@@ -105,6 +113,7 @@ impl Lanes {
         ensures loans { LoansApart self.new }
         ensures alone { LoansStandAlone self.new }
         ensures reads { ReadsLie self.new }
+        ensures releases { ReleasesFollow self.new }
     {
         self.follow();
         let mut made = 0;
@@ -129,6 +138,7 @@ impl Lanes {
         ensures loans { LoansApart self.now }
         ensures alone { LoansStandAlone self.now }
         ensures reads { ReadsLie self.now }
+        ensures releases { ReleasesFollow self.now }
     {
         let _ = &self.state;
     }
@@ -166,13 +176,15 @@ impl Lanes {
     /// The calls that ended, in their order. As long as at most 2^63 steps were made: each was answered in its own kind, and those of one party don't overlap;
     /// the receives gave just the slots that were taken at each connection, in that order, but for the one that a receive has in hand; and each send has one
     /// put at each connection of its publisher, of its slot and inside it, one connection after the other, and counts how many were taken in and how many
-    /// refused. At each connection these puts stand in the order of the sends; what stands behind them is of the send that the publisher is in.
+    /// refused. At each connection these puts stand in the order of the sends; what stands behind them is of the send that the publisher is in. Each release gave
+    /// its sample back.
     pub fn finished(&self) -> &[FinishedCall]
         ensures value { result.now ≡ self.now.finished }
         ensures receipts { ReceiptsFollow self.now }
         ensures sends { SendsFollow self.now }
         ensures calls { CallsKeepTime self.now }
         ensures reads { ReadsLie self.now }
+        ensures releases { ReleasesFollow self.now }
     {
         self.state.finished.as_slice()
     }

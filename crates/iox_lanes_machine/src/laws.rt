@@ -1,4 +1,7 @@
 //! What lanes do over many steps, in other words than those of a step.
+ghost use Rattle.iox_lanes_machine.specs.FullLoans.{LoansFindAllUsed};
+ghost use Rattle.iox_lanes_machine.specs.Paces.{LoansEndSoon, SendsEndSoon};
+ghost use Rattle.iox_lanes_machine.specs.PermittedLoans.{LoansEndAsBegun};
 ghost use Rattle.iox_lanes_machine.specs.WholeReads.{ReadsGiveWhatStood, ReadsGiveWhatWasStored};
 
 /// A read of a sample gives just the words that its slot held when something began to use it, header, user header and payload, however many steps lie
@@ -11,4 +14,27 @@ pub fn reads_give_what_stood()
 /// the user header or the payload, to the end of the read; as long as at most 2^63 steps were made. What a write and a send leave there, `Lanes::step` says.
 pub fn reads_give_what_was_stored()
     ensures { ReadsGiveWhatWasStored }
+{}
+
+/// A loan takes at most 4 · S · (B + R + 2) + 2 steps of its publisher, its begin and its last step among them, for S subscribers that buffer B messages and borrow R,
+/// whatever the others do between these steps; as long as at most 2^63 steps were made.
+pub fn loans_end_soon()
+    ensures { LoansEndSoon }
+{}
+
+/// A send takes at most 4 · S · (B + R + 3) + U + 8 steps of its publisher, where a user header has U words; as long as at most 2^63 steps were made.
+pub fn sends_end_soon()
+    ensures { SendsEndSoon }
+{}
+
+/// If a loan ends without a slot, then each slot of its publisher was in use when it began: as a loan, in the history, or waiting, aside or borrowed at a connection,
+/// whatever was done in between; as long as at most 2^63 steps were made.
+pub fn loans_find_all_used()
+    ensures { LoansFindAllUsed }
+{}
+
+/// A loan ends as its publisher's record says when it begins, whatever was done in between: it is refused just where as many loans were out as may be, and with fewer
+/// out, and as many slots as the worst case wants, it gives one; as long as at most 2^63 steps were made, and for slots with numbers below 2^64.
+pub fn loans_end_as_begun()
+    ensures { LoansEndAsBegun }
 {}

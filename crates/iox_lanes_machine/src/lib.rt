@@ -8,6 +8,7 @@
 //! - `state`: all ports with their words, and one step.
 //! - [`lanes`]: the lanes as one value.
 //! - [`laws`]: what they do over many steps.
+//! - [`parts`]: the lanes taken apart.
 //!
 //! First calls. Tests in `iox_lanes_rows` make them.
 //!
@@ -24,6 +25,7 @@ pub mod laws;
 pub mod link;
 mod made;
 mod order;
+pub mod parts;
 mod placing;
 pub mod sizes;
 mod state;

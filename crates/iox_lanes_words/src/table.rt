@@ -1,6 +1,6 @@
 //! The table of all shared words of a service.
 ghost use Rattle.std.specs.Prelude.{◌≡◌, replicate, IfOk};
-ghost use Rattle.iox_lanes_words.specs.Numbers.{words_of, IsWord};
+ghost use Rattle.iox_lanes_words.specs.Numbers.{words_of, IsSmall, IsWord};
 ghost use Rattle.iox_lanes_words.specs.Table.{held_by, stored_in, shared_answer, after_shared, IsOfTable};
 
 use crate::access::SharedAccess;
@@ -38,6 +38,21 @@ impl WordTable {
         };
         let words = vec![in alloc; 0; count as usize]?;
         Ok(WordTable { sizes, words })
+    }
+
+    /// How many words it has of each kind.
+    pub fn sizes(&self) -> TableSizes
+        ensures value { result ≡ self.now.sizes }
+        ensures small { IsSmall result }
+    {
+        self.sizes
+    }
+
+    /// All words, by their numbers.
+    pub fn words(&self) -> &[u64]
+        ensures { result.now ≡ self.now.words }
+    {
+        &self.words
     }
 
     /// What the word holds.

@@ -2,6 +2,7 @@ use Rattle.std.proofs.Common.{◌≡◌, subst, sym}
 use Rattle.iox_lanes_machine.specs.Calls.{CallsKeepTime}
 use Rattle.iox_lanes_machine.specs.Reads.{ReadsLie}
 use Rattle.iox_lanes_machine.specs.Receipts.{ReceiptsFollow}
+use Rattle.iox_lanes_machine.specs.Rooms.{ReleasesFollow}
 use Rattle.iox_lanes_machine.specs.Sends.{SendsFollow}
 use Rattle.iox_lanes_machine.specs.State.{world_of}
 use Rattle.iox_lanes_machine.proofs.lanes.Lanes.finished.Goals as goal
@@ -25,3 +26,8 @@ pub returns-clause-reads : goal.returns-clause-reads
 returns-clause-reads c =
     let is : c.args.self.now ≡ world_of c.self.inside.state = cc c.self.view_is in
     subst ReadsLie (sym is) c.self.invariant.reads
+
+pub returns-clause-releases : goal.returns-clause-releases
+returns-clause-releases c =
+    let is : c.args.self.now ≡ world_of c.self.inside.state = cc c.self.view_is in
+    subst ReleasesFollow (sym is) (λ few. (c.self.invariant.rooms few).releases)

@@ -4,6 +4,7 @@ use Rattle.iox_lanes_machine.specs.Calls.{CallsKeepTime}
 use Rattle.iox_lanes_machine.specs.Mailboxes.{OrdersFollow}
 use Rattle.iox_lanes_machine.specs.Reads.{ReadsLie}
 use Rattle.iox_lanes_machine.specs.Receipts.{ReceiptsFollow}
+use Rattle.iox_lanes_machine.specs.Rooms.{ReleasesFollow}
 use Rattle.iox_lanes_machine.specs.Sends.{SendsFollow}
 use Rattle.iox_lanes_machine.specs.Slots.{LoansApart}
 use Rattle.iox_lanes_machine.specs.State.{world_of}
@@ -46,3 +47,8 @@ pub returns-clause-alone : goal.returns-clause-alone
 returns-clause-alone c =
     let is : c.args.self.now ≡ world_of c.self.inside.state = cc c.self.view_is in
     subst LoansStandAlone (sym is) (loans_alone (world_of c.self.inside.state) c.self.invariant)
+
+pub returns-clause-releases : goal.returns-clause-releases
+returns-clause-releases c =
+    let is : c.args.self.now ≡ world_of c.self.inside.state = cc c.self.view_is in
+    subst ReleasesFollow (sym is) (λ few. (c.self.invariant.rooms few).releases)

@@ -30,6 +30,7 @@ loop-entry-preserved c =
       c.step-stepped.ensures.loans,
       c.step-stepped.ensures.alone,
       c.step-stepped.ensures.reads,
+      c.step-stepped.ensures.releases,
     )
 
 pub returns-clause-runs : goal.returns-clause-runs

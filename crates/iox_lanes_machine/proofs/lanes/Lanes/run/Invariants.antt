@@ -5,6 +5,7 @@ use Rattle.iox_lanes_machine.specs.Calls.{CallsKeepTime}
 use Rattle.iox_lanes_machine.specs.Mailboxes.{OrdersFollow}
 use Rattle.iox_lanes_machine.specs.Reads.{ReadsLie}
 use Rattle.iox_lanes_machine.specs.Receipts.{ReceiptsFollow}
+use Rattle.iox_lanes_machine.specs.Rooms.{ReleasesFollow}
 use Rattle.iox_lanes_machine.specs.Sends.{SendsFollow}
 use Rattle.iox_lanes_machine.specs.Slots.{LoansApart}
 use Rattle.iox_lanes_machine.proofs.lanes.Lanes.run.Given as goal
@@ -20,6 +21,7 @@ invariant-loop-entry l =
     × LoansApart l.self
     × LoansStandAlone l.self
     × ReadsLie l.self
+    × ReleasesFollow l.self
 
 abbrev pub decreases-loop-entry : goal.decreases-loop-entry
 decreases-loop-entry l = length l.rest

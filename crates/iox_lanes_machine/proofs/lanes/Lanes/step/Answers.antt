@@ -2,6 +2,8 @@ use Rattle.std.proofs.Common.{◌≡◌, subst, sym}
 use Rattle.iox_lanes_machine.specs.Apart.{StaysApart}
 use Rattle.iox_lanes_machine.specs.Held.{ReadsWhole}
 use Rattle.iox_lanes_machine.specs.Left.{StoresLeft}
+use Rattle.iox_lanes_machine.specs.Loans.{LoansLent}
+use Rattle.iox_lanes_machine.specs.Queues.{GivenBackInTurn}
 use Rattle.iox_lanes_machine.specs.Told.{Told}
 use Rattle.iox_lanes_machine.specs.World.{World}
 use Rattle.iox_lanes_machine.specs.Slots.{SlotsStay}
@@ -11,7 +13,9 @@ use Rattle.iox_lanes_machine.proofs.Alone.{loans_alone, used_stay}
 use Rattle.iox_lanes_machine.proofs.Apart.{steps_apart}
 use Rattle.iox_lanes_machine.proofs.Held.{reads_whole}
 use Rattle.iox_lanes_machine.proofs.Left.{stores_left}
+use Rattle.iox_lanes_machine.proofs.Loans.{loans_lent}
 use Rattle.iox_lanes_machine.proofs.Mailboxes.{orders_follow}
+use Rattle.iox_lanes_machine.proofs.Queues.{steps_in_turn}
 use Rattle.iox_lanes_machine.proofs.Slots.{loans_apart, slots_stay}
 use Rattle.iox_lanes_machine.proofs.Told.{steps_told}
 use Rattle.iox_lanes_machine.proofs.Whole.{steps_keep}
@@ -93,3 +97,22 @@ returns-clause-left c =
     (stores_left (world_of c.self.inside.state) c.args.party c.args.step.now c.step.result (world_of c.step.new.self) c.step.ensures
     (steps_told (world_of c.self.inside.state) c.args.party c.args.step.now c.step.result (world_of c.step.new.self) c.step.ensures)
     c.self.invariant.calls c.self.invariant.left)
+
+pub returns-clause-releases : goal.returns-clause-releases
+returns-clause-releases c =
+    let kept = steps_keep (world_of c.self.inside.state) c.args.party c.args.step.now c.step.result (world_of c.step.new.self) c.step.ensures c.self.invariant in
+    λ few. (kept.rooms few).releases
+
+pub returns-clause-lent : goal.returns-clause-lent
+returns-clause-lent c =
+    let is : c.args.self.now ≡ world_of c.self.inside.state = cc c.self.view_is in
+    subst (λ (m : World). LoansLent m (world_of c.step.new.self)) (sym is)
+    (loans_lent (world_of c.self.inside.state) c.args.party c.args.step.now c.step.result (world_of c.step.new.self) c.step.ensures
+    (steps_told (world_of c.self.inside.state) c.args.party c.args.step.now c.step.result (world_of c.step.new.self) c.step.ensures)
+    c.self.invariant.within c.self.invariant.uses c.self.invariant.rooms)
+
+pub returns-clause-turns : goal.returns-clause-turns
+returns-clause-turns c =
+    let is : c.args.self.now ≡ world_of c.self.inside.state = cc c.self.view_is in
+    subst (λ (m : World). GivenBackInTurn m c.args.party (world_of c.step.new.self)) (sym is)
+    (steps_in_turn (world_of c.self.inside.state) c.args.party c.args.step.now c.step.result (world_of c.step.new.self) c.step.ensures c.self.invariant)

@@ -1,0 +1,41 @@
+-- A loan finds no slot only where all slots of its publisher were in use when it began.
+use Rattle.std.specs.Prelude.{ℕ, ◌≡◌, ◌+◌, ◌<◌, ◌≤◌, ◌^◌, ◌⊎◌, true, List, [], ◌∷◌, ◌++◌, slice_get, Some}
+use Rattle.iox_queues_steps.specs.declared.order.Placed.{Placed}
+use Rattle.iox_lanes_publisher.specs.Keeping.{loan_of}
+use Rattle.iox_lanes_publisher.specs.declared.slot_book.LoanAnswer.TheVariants as loan
+use Rattle.iox_lanes_parties.specs.Parties.{PublisherLaneState, is_out}
+use Rattle.iox_lanes_parties.specs.declared.call.Answer.TheVariants as answer
+use Rattle.iox_lanes_parties.specs.declared.call.Call.TheVariants as call
+use Rattle.iox_lanes_parties.specs.declared.call.Entry.{Entry}
+use Rattle.iox_lanes_parties.specs.declared.call.FinishedCall.{FinishedCall}
+use Rattle.iox_lanes_parties.specs.declared.call.Move.TheVariants.{Begin, GoOn}
+use Rattle.iox_lanes_parties.specs.declared.call.Party.TheVariants.{Publisher}
+use Rattle.iox_lanes_ledger.specs.Borrowing.{borrows}
+use Rattle.iox_lanes_ledger.specs.Uses.{one_if, count, IsOwn}
+use Rattle.iox_lanes_machine.specs.Paces.{led, IsInCall}
+use Rattle.iox_lanes_machine.specs.Rings.{waiting}
+use Rattle.iox_lanes_machine.specs.Uses.{aside_at}
+use Rattle.iox_lanes_machine.specs.WholeReads.{CameTo}
+use Rattle.iox_lanes_machine.specs.World.{World, fits, happens, publisher_stage}
+use Rattle.iox_lanes_machine.specs.declared.link.Link.{Link}
+
+-- a slot waits at a connection, lies aside there, or is borrowed of it
+pub record IsHeld (m : World) (slot : ℕ) : Type 0 where
+  pub connection : ℕ
+  pub link : Link
+  pub order : List Placed
+  pub found : slice_get m.links connection ≡ Some link
+  pub got : slice_get m.orders connection ≡ Some order
+  pub has : 0 < count slot (waiting link order) + count slot (aside_at m.table connection link (publisher_stage (slice_get m.publishers link.publisher))) + one_if (borrows connection slot (slice_get m.subscribers link.subscriber))
+
+-- a slot of a publisher is in use: it is a loan, stands in the history, or waits, lies aside or is borrowed somewhere; one that was given back no longer is
+abbrev pub IsInUse : World → PublisherLaneState → ℕ → Type 0
+IsInUse m lane slot = (is_out (loan_of slot lane.port.book) ≡ true) ⊎ ((0 < count slot lane.port.book.history) ⊎ IsHeld m slot)
+
+-- If a loan ends without a slot, then each slot of its publisher was in use when it began, whatever was done in between; as long as at most 2^63 steps were made.
+abbrev pub LoansFindAllUsed : Type 0
+LoansFindAllUsed = (m : World) → CameTo m → (place : ℕ) (entries : List Entry) → fits m (Publisher place) (Begin call.LoanUninit) ≡ true
+    → (led (happens m (Publisher place) (Begin call.LoanUninit)) entries).moments ≤ 2 ^ 63 → IsInCall (led (happens m (Publisher place) (Begin call.LoanUninit)) entries) place m.moments
+    → (ended : FinishedCall) → (happens (led (happens m (Publisher place) (Begin call.LoanUninit)) entries) (Publisher place) GoOn).finished ≡ (led (happens m (Publisher place) (Begin call.LoanUninit)) entries).finished ++ ended ∷ []
+    → ended.answer ≡ answer.Lent loan.OutOfMemory
+    → (lane : PublisherLaneState) → slice_get m.publishers place ≡ Some lane → (slot : ℕ) → IsOwn lane.port.book slot → IsInUse m lane slot

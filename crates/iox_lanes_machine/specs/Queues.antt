@@ -1,0 +1,36 @@
+-- The samples given back at a connection are a queue: its subscriber's releases put what they borrowed behind the others, and its publisher's calls take the first.
+use Rattle.std.specs.Prelude.{ℕ, ◌≡◌, ◌≤◌, ◌^◌, ◌⊎◌, true, false, [], ◌∷◌, ◌++◌, slice_get, Some}
+use Rattle.iox_lanes_calls.specs.declared.route.Route.{Route}
+use Rattle.iox_lanes_parties.specs.Parties.{PublisherLaneState}
+use Rattle.iox_lanes_parties.specs.declared.call.Party.{Party}
+use Rattle.iox_lanes_parties.specs.declared.call.Party.TheVariants.{Publisher, Subscriber}
+use Rattle.iox_lanes_ledger.specs.Borrowing.{borrows}
+use Rattle.iox_lanes_ledger.specs.Uses.{refers_to}
+use Rattle.iox_lanes_machine.specs.Uses.{given_back}
+use Rattle.iox_lanes_machine.specs.World.{World}
+use Rattle.iox_lanes_machine.specs.declared.link.Link.{Link}
+
+-- a publisher's record says before a step that a connection has a slot, and behind it no longer
+pub record IsTakenBack (m n : World) (who connection slot : ℕ) : Type 0 where
+  pub before : PublisherLaneState
+  pub after : PublisherLaneState
+  pub found : slice_get m.publishers who ≡ Some before
+  pub now : slice_get n.publishers who ≡ Some after
+  pub place : ℕ
+  pub route : Route
+  pub at : slice_get before.port.routes place ≡ Some route
+  pub same : route.connection ≡ connection
+  pub had : refers_to before.port.book place slot ≡ true
+  pub lacks : refers_to after.port.book place slot ≡ false
+
+-- a step leaves the samples given back at a connection; or its subscriber puts one behind them, which it borrowed until then; or its publisher takes the first
+abbrev pub QueueMoves : World → Party → World → ℕ → Link → Type 0
+QueueMoves m party n connection link =
+    (given_back n.table connection ≡ given_back m.table connection)
+    ⊎ (((sample : ℕ) × (party ≡ Subscriber link.subscriber) × (borrows connection sample (slice_get m.subscribers link.subscriber) ≡ true)
+    × (borrows connection sample (slice_get n.subscribers link.subscriber) ≡ false) × (given_back n.table connection ≡ given_back m.table connection ++ sample ∷ []))
+    ⊎ ((sample : ℕ) × (party ≡ Publisher link.publisher) × (given_back m.table connection ≡ sample ∷ given_back n.table connection) × IsTakenBack m n link.publisher connection sample))
+
+-- so it is at each connection, as long as at most 2^63 steps were made
+abbrev pub GivenBackInTurn : World → Party → World → Type 0
+GivenBackInTurn m party n = n.moments ≤ 2 ^ 63 → (connection : ℕ) (link : Link) → slice_get m.links connection ≡ Some link → QueueMoves m party n connection link

@@ -1,0 +1,58 @@
+//! Lanes taken apart: their words and their ports.
+ghost use Rattle.std.specs.Prelude.{◌≡◌, ℕ};
+ghost use Rattle.iox_lanes_machine.specs.Kept.{IsWithin};
+ghost use Rattle.iox_lanes_machine.specs.Mailboxes.{PositionsNear, positions_of};
+ghost use Rattle.iox_lanes_machine.specs.Opening.{SlotsNamed};
+ghost use Rattle.iox_lanes_machine.specs.Slots.{SlotsInRows};
+
+use crate::lanes::Lanes;
+use crate::state::State;
+use iox_lanes_parties::{PublisherLane, SubscriberLane};
+use iox_lanes_words::WordTable;
+
+impl Lanes {
+    /// The shared words.
+    pub fn table(&self) -> &WordTable
+        ensures { result.now ≡ self.now.table }
+    {
+        &self.state.table
+    }
+
+    /// The publishers, by their numbers.
+    pub fn publishers(&self) -> &[PublisherLane]
+        ensures { result.now ≡ self.now.publishers }
+    {
+        self.state.publishers.as_slice()
+    }
+
+    /// The subscribers, by their numbers.
+    pub fn subscribers(&self) -> &[SubscriberLane]
+        ensures { result.now ≡ self.now.subscribers }
+    {
+        self.state.subscribers.as_slice()
+    }
+
+    /// What all lanes are: ports, connections and words are those of one service, and the slots of each publisher lie before those of the publishers behind
+    /// it; each cell of a ring names a slot. As long as at most 2^63 steps were made, no read position is beyond its write position.
+    pub fn are_of_one_service(&self)
+        ensures within { IsWithin self.now }
+        ensures rows { SlotsInRows self.now }
+        ensures named { SlotsNamed self.now }
+        ensures near { (connection : ℕ) → PositionsNear self.now connection (positions_of self.now.table connection) }
+    {
+        let _ = &self.state;
+    }
+
+    /// The publishers and the subscribers; the words and what was told of the lanes are gone.
+    pub fn into_ports(self) -> (Vec<PublisherLane>, Vec<SubscriberLane>)
+        ensures { (result.0.items ≡ self.publishers) × (result.1.items ≡ self.subscribers) }
+    {
+        let Lanes { state } = self;
+        let State {
+            publishers,
+            subscribers,
+            ..
+        } = state;
+        (publishers, subscribers)
+    }
+}
