@@ -1,0 +1,63 @@
+//! A message bus of a robot: three nodes agree on three services, and each hears what the others publish there.
+#![tactic(auto)]
+
+mod bus;
+
+use anyhow::{Context, Result};
+use bus::{Bus, Port, advertise, hear, listen, publish};
+use iox_domain_home::Home;
+use iox_hub_base::{Hub, HubConfig};
+use std::alloc::Global;
+use std::fmt::Write;
+
+/// Writes down all that waits at a port.
+fn note(out: &mut String, alloc: Global, bus: &mut Bus, who: &str, port: Port) -> Result<()> {
+    for _ in 0..8 {
+        let Some(heard) = hear(alloc, bus, port)? else {
+            return Ok(());
+        };
+        writeln!(out, "{who}, at {}: {:?}", heard.stamp, heard.values)?;
+    }
+    Ok(())
+}
+
+fn converse(out: &mut String, alloc: Global, bus: &mut Bus) -> Result<()> {
+    let (wheels, scanner, pilot) = (bus.new_node()?, bus.new_node()?, bus.new_node()?);
+
+    // Where the robot is: two numbers and a heading.
+    let odometry = advertise(alloc, bus, &wheels, b"odometry", 3)?;
+    let position = listen(alloc, bus, &pilot, b"odometry")?;
+    publish(alloc, bus, odometry, 100, &[0, 0, 90])?;
+    publish(alloc, bus, odometry, 200, &[0, 5, 90])?;
+
+    // Distances, as many as there were echoes.
+    let lidar = advertise(alloc, bus, &scanner, b"lidar", 8)?;
+    let echoes = listen(alloc, bus, &pilot, b"lidar")?;
+    publish(alloc, bus, lidar, 150, &[71, 68, 66, 70, 90])?;
+    publish(alloc, bus, lidar, 250, &[])?;
+
+    // Who comes late gets the last two.
+    let commands = advertise(alloc, bus, &pilot, b"commands", 2)?;
+    publish(alloc, bus, commands, 10, &[1, 0])?;
+    publish(alloc, bus, commands, 20, &[2, 45])?;
+    publish(alloc, bus, commands, 30, &[1, 5])?;
+    let orders = listen(alloc, bus, &wheels, b"commands")?;
+    bus.update_publisher(alloc, commands.service, commands.number)
+        .context("no publisher")??;
+
+    note(out, alloc, bus, "pilot, odometry", position)?;
+    note(out, alloc, bus, "pilot, lidar", echoes)?;
+    note(out, alloc, bus, "wheels, commands", orders)
+}
+
+fn main(rt: HostRuntime) -> Result<()> {
+    let config = HubConfig {
+        expired_connection_buffer: 8,
+        id: 1,
+    };
+    let mut bus = Hub::new(rt.alloc(), config);
+    let mut out = String::new(rt.alloc());
+    let ending = converse(&mut out, rt.alloc(), &mut bus);
+    rt.print(&out)?;
+    ending
+}

@@ -1,0 +1,162 @@
+//! Two sensors and two displays of one service, each in a thread of its own, with no lock between them.
+//!
+//! A sensor counts, and sends each number at the head of a message of eight words. A display has room for four messages of each sensor: what comes while it's
+//! full takes the place of the oldest. So a display may miss numbers, but it sees those of a sensor rise, and it ends with the last number of both. What is
+//! printed is the same whatever the threads do.
+#![tactic(auto)]
+
+ghost use Rattle.std.specs.Prelude.{◌≡◌, ◌≤◌, IfSome};
+
+use iox_lanes_calls::Receipt;
+use iox_lanes_machine::{LaneSizes, Lanes};
+use iox_lanes_publisher::LoanAnswer;
+use iox_lanes_threads::{LanePublisher, LaneSubscriber, LaneThreads, end, open_threads};
+use iox_queues_rings::RingKind;
+use std::alloc::{AllocError, Global};
+use std::sync::Wait;
+use std::thread::Threads;
+use std::{io, thread};
+
+// The last number of a sensor, and the most that a display looks for it.
+const LAST: u64 = 1000;
+
+const LOOKS: u64 = 1 << 24;
+
+fn sizes() -> LaneSizes
+    ensures { result.buffer ≡ 4 }
+{
+    LaneSizes {
+        publishers: 2,
+        subscribers: 2,
+        kind: RingKind::Overflowing,
+        buffer: 4,
+        most_borrowed: 1,
+        history: 0,
+        most_loans: 1,
+        slots: 12,
+        user_header_words: 0,
+        payload_words: 8,
+    }
+}
+
+// Sends the numbers up to the last one; how many were sent.
+fn measure(port: &mut LanePublisher, sensor: u64) -> u64 {
+    let mut sent = 0u64;
+    for number in 0..=LAST {
+        let Some(LoanAnswer::Slot(loan)) = port.loan_uninit() else {
+            return sent;
+        };
+        let written = port.write(loan, &[number, sensor, 0, 0, 0, 0, 0, number], &[]);
+        if !written || port.send(loan).is_none() {
+            return sent;
+        }
+        sent = sent.saturating_add(1);
+    }
+    sent
+}
+
+// The last number of each sensor.
+#[derive(Clone, Copy)]
+struct Shown {
+    of_first: u64,
+    of_second: u64,
+}
+
+// What a display shows after the words of a message; None where its two numbers differ, or are below the one before.
+fn after(before: &Shown, words: &[u64]) -> Option<Shown>
+    ensures { IfSome result (λ next. (before.now.of_first ≤ next.of_first) × (before.now.of_second ≤ next.of_second)) }
+{
+    let number = *words.get(3)?;
+    let sensor = *words.get(4)?;
+    if *words.get(10)? != number {
+        return None;
+    }
+    if sensor == 0 && number >= before.of_first {
+        return Some(Shown {
+            of_first: number,
+            of_second: before.of_second,
+        });
+    }
+    if sensor != 0 && number >= before.of_second {
+        return Some(Shown {
+            of_first: before.of_first,
+            of_second: number,
+        });
+    }
+    None
+}
+
+// Shows what comes until the last number of both sensors did.
+fn display(rt: &impl Wait, port: &mut LaneSubscriber) -> Shown {
+    let mut now = Shown {
+        of_first: 0,
+        of_second: 0,
+    };
+    for _ in 0..LOOKS {
+        if now.of_first == LAST && now.of_second == LAST {
+            return now;
+        }
+        let Receipt::Taken { slot, .. } = port.receive(rt) else {
+            thread::yield_now();
+            continue;
+        };
+        if port.read(slot) {
+            if let Some(next) = after(&now, port.words()) {
+                now = next;
+            }
+        }
+        port.release(slot);
+    }
+    now
+}
+
+// Whether a display ended with the last number of both sensors.
+fn is_last(display: &Shown) -> bool {
+    display.of_first == LAST && display.of_second == LAST
+}
+
+// All four at once: how many numbers each sensor sent, and whether each display ended with the last one of both.
+fn run<R: Threads + Wait + Sync>(
+    rt: &R,
+    publishers: &mut [LanePublisher],
+    subscribers: &mut [LaneSubscriber],
+) -> Option<((u64, u64), (Shown, Shown))> {
+    let (first, others) = publishers.split_first_mut()?;
+    let second = others.first_mut()?;
+    let (here, elsewhere) = subscribers.split_first_mut()?;
+    let there = elsewhere.first_mut()?;
+    Some(thread::join(
+        rt,
+        || thread::join(rt, || measure(first, 0), || measure(second, 1)),
+        || thread::join(rt, || display(rt, here), || display(rt, there)),
+    ))
+}
+
+// The lines that are printed.
+fn report<R: Threads + Wait + Sync>(rt: &R, alloc: Global) -> Result<String, AllocError> {
+    let lanes = Lanes::new(alloc, sizes())?;
+    let Ok(threads) = open_threads(alloc, 1, lanes) else {
+        return Err(AllocError);
+    };
+    let LaneThreads {
+        board,
+        mut publishers,
+        mut subscribers,
+    } = threads;
+    let Some((sent, seen)) = run(rt, &mut publishers, &mut subscribers) else {
+        return Err(AllocError);
+    };
+    let ended = end(board, publishers, subscribers).is_ok();
+    format!(in alloc;
+        "sensors sent {} and {}\ndisplays ended with both last numbers: {} and {}\nall ports ended: {ended}\n",
+        sent.0,
+        sent.1,
+        is_last(&seen.0),
+        is_last(&seen.1),
+    )
+}
+
+fn main(rt: HostRuntime) -> io::Result<()> {
+    let text = report(&rt, rt.alloc())?;
+    rt.print(&text)
+}

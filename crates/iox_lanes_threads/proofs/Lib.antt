@@ -1,0 +1,7 @@
+-- The lemmas on opening and ending.
+pub mod Lists
+pub mod Standing
+pub mod Giving
+pub mod Refusing
+pub mod Seating
+pub mod Leaving

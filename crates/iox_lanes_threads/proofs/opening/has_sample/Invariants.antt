@@ -1,0 +1,6 @@
+use Rattle.std.proofs.Common.{ℕ, ◌≡◌, ◌<◌, false}
+use Rattle.iox_lanes_parties.specs.Parties.{is_borrowed, place_of}
+use Rattle.iox_lanes_threads.proofs.opening.has_sample.Given as goal
+
+abbrev pub invariant-loop-slot : goal.invariant-loop-slot
+invariant-loop-slot l = (slot : ℕ) → slot < l.slot → is_borrowed (place_of slot l.lane) ≡ false

@@ -1,0 +1,7 @@
+-- The definitions that contracts about opening and ending cite.
+pub mod Opening
+pub mod Ports
+pub mod Threads
+pub mod Standing
+pub mod Room
+pub mod Ending

@@ -1,0 +1,82 @@
+-- What lanes are as a service that threads share: its connections and slots, and what each port knows at first.
+use Rattle.std.specs.Prelude.{ℕ, ◌≡◌, ◌+◌, List, [], ◌∷◌, ◌++◌, map, length}
+use Rattle.atomic_table.specs.Seated.{TableId}
+use Rattle.atomic_table.specs.Table.{Me}
+use Rattle.iox_lanes_parties.specs.Parties.{PublisherLaneState, SubscriberLaneState}
+use Rattle.iox_lanes_parties.specs.declared.call.Party.{Party}
+use Rattle.iox_lanes_parties.specs.declared.call.Party.TheVariants.{Publisher, Subscriber}
+use Rattle.iox_lanes_machine.specs.World.{World}
+use Rattle.iox_lanes_machine.specs.declared.link.Link.{Link}
+use Rattle.iox_lanes_threads_rule.specs.Rule.{Fits, one}
+use Rattle.iox_lanes_threads_rule.specs.Acts.{first_port}
+use Rattle.iox_lanes_threads_rule.specs.declared.service.Line.{Line}
+use Rattle.iox_lanes_threads_rule.specs.declared.service.Service.{Service}
+use Rattle.iox_lanes_threads_rule.specs.declared.service.SlotRange.{SlotRange}
+use Rattle.iox_lanes_threads_rule.specs.declared.view.Port.{Port}
+use Rattle.iox_lanes_threads_rule.specs.declared.view.PortParty.{PortParty}
+use Rattle.iox_lanes_threads_rule.specs.declared.view.PortParty.TheVariants as party
+use Rattle.iox_lanes_threads_rule.specs.declared.view.View.{View}
+
+-- a link as a connection of the service
+abbrev pub line_of : Link → Line
+line_of link = record { publisher = link.publisher; subscriber = link.subscriber; kind = link.kind; limit = link.limit }
+
+-- the slots of a publisher
+abbrev pub range_of : PublisherLaneState → SlotRange
+range_of lane = record { first = lane.port.book.first; count = length lane.port.book.loans }
+
+-- the service that the lanes are
+abbrev pub service_of : World → Service
+service_of m = record { sizes = m.table.sizes; lines = map line_of m.links; ranges = map range_of m.publishers }
+
+-- a port that knows what each word of the lanes holds
+abbrev pub opened : World → ℕ → Party → PortParty → Port
+opened m number name own = record { number = number; name = name; service = service_of m; known = m.table.words; party = own }
+
+-- publishers as ports, from a place on
+abbrev pub publishers_from : World → ℕ → List PublisherLaneState → List Port
+publishers_from m place [] = []
+publishers_from m place (lane ∷ lanes) = opened m place (Publisher place) (party.Publisher lane) ∷ publishers_from m (place + 1) lanes
+
+-- subscribers as ports, from a place on: they are numbered behind all publishers
+abbrev pub subscribers_from : World → ℕ → List SubscriberLaneState → List Port
+subscribers_from m place [] = []
+subscribers_from m place (lane ∷ lanes) = opened m (length m.publishers + place) (Subscriber place) (party.Subscriber lane) ∷ subscribers_from m (place + 1) lanes
+
+-- all ports of lanes
+abbrev pub ports_of : World → List Port
+ports_of m = publishers_from m 0 m.publishers ++ subscribers_from m 0 m.subscribers
+
+-- so many ports have a seat of their own, and these wait for one
+abbrev pub waits : ℕ → List Port → View
+waits from ports = record { from = from; waiting = ports; ports = [] }
+
+-- at first all wait
+abbrev pub first_view : World → View
+first_view m = waits 0 (ports_of m)
+
+-- those behind the first
+abbrev pub behind_first : List Port → List Port
+behind_first [] = []
+behind_first (p ∷ ps) = ps
+
+-- the first that waits is given out
+abbrev pub others_wait : View → View
+others_wait v = waits (v.from + 1) (behind_first v.waiting)
+
+-- it has a seat of its own
+abbrev pub first_waits : View → View
+first_waits v = one (first_port v.waiting)
+
+-- the words of the lanes and their ports fit
+abbrev pub Fitting : World → Type 0
+Fitting m = Fits (service_of m) m.table.words (ports_of m)
+
+-- the seat at which ports wait, of a table with as many words as the lanes have
+pub record WaitsFor (m : World) (table : TableId) (me : Me ℕ View) (from : ℕ) (ports : List Port) : Type 0 where
+  pub words : table.words ≡ length m.table.words
+  pub me_is : me ≡ (waits from ports, [])
+
+-- a seat at which at least one port waits, and which has none
+abbrev pub IsWaiting : Me ℕ View → Type 0
+IsWaiting me = me ≡ (waits me.0.from (first_port me.0.waiting ∷ behind_first me.0.waiting), [])

@@ -1,0 +1,20 @@
+-- Ports of lanes that stand where they know what the next step needs.
+use Rattle.std.specs.Prelude.{ℕ, ◌≡◌, ◌+◌, List, [], ◌∷◌, length}
+use Rattle.iox_lanes_calls.specs.declared.subscriber.SubscriberCall.TheVariants as subscribing
+use Rattle.iox_lanes_parties.specs.Parties.{PublisherLaneState, SubscriberLaneState}
+use Rattle.iox_lanes_parties.specs.declared.call.Party.TheVariants.{Publisher, Subscriber}
+use Rattle.iox_lanes_machine.specs.World.{World}
+use Rattle.iox_lanes_threads_rule.specs.declared.view.PortParty.TheVariants as party
+use Rattle.iox_lanes_threads_ports.specs.Ports.{PublisherStands, SubscriberStands}
+use Rattle.iox_lanes_threads.specs.Opening.{opened}
+
+-- each publisher of a list, from a place on, stands so and is between calls
+abbrev pub PublishersStand : World → ℕ → List PublisherLaneState → Type 0
+PublishersStand m place [] = Unit {0}
+PublishersStand m place (lane ∷ lanes) = PublisherStands (opened m place (Publisher place) (party.Publisher lane)) lane × PublishersStand m (place + 1) lanes
+
+-- each subscriber likewise
+abbrev pub SubscribersStand : World → ℕ → List SubscriberLaneState → Type 0
+SubscribersStand m place [] = Unit {0}
+SubscribersStand m place (lane ∷ lanes) =
+    (SubscriberStands (opened m (length m.publishers + place) (Subscriber place) (party.Subscriber lane)) lane × (lane.port.call ≡ subscribing.Idle)) × SubscribersStand m (place + 1) lanes

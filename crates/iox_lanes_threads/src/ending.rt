@@ -1,0 +1,131 @@
+//! From threads to ports that stand still.
+ghost use Rattle.std.specs.Prelude.{◌≡◌, ◌<◌, ◌≤◌, ℕ, true, false, [], map, length, IfOk, IfErr, vec_capacity};
+ghost use Rattle.iox_lanes_threads.specs.Ending.{has_publisher, has_subscriber, AreAll};
+
+use crate::errors::EndError;
+use crate::publisher::LanePublisher;
+use crate::subscriber::LaneSubscriber;
+use crate::threads::{Board, LaneThreads};
+use iox_lanes_parties::{PublisherLane, SubscriberLane};
+
+/// The ports of a service that stand still again. Loans and samples that were still out are void: the words are gone.
+#[derive(Drop)]
+pub struct EndedThreads {
+    /// The publishers, in the order in which they were handed in.
+    pub publishers: Vec<PublisherLane>,
+    /// The subscribers likewise.
+    pub subscribers: Vec<SubscriberLane>,
+}
+
+// Whether one of the publishers is the board's at a place.
+fn has_publisher(board: &Board, place: usize, ports: &[LanePublisher]) -> bool
+    ensures { result ≡ has_publisher board.now place ports.now }
+{
+    ports
+        .iter()
+        .any(|port| board.knows(port) && port.place() == place)
+}
+
+// Whether one of the subscribers is.
+fn has_subscriber(board: &Board, place: usize, ports: &[LaneSubscriber]) -> bool
+    ensures { result ≡ has_subscriber board.now place ports.now }
+{
+    ports
+        .iter()
+        .any(|port| board.knows(port) && port.place() == place)
+}
+
+// Whether the board's publishers have one at each place.
+fn at_each_publisher(board: &Board, ports: &[LanePublisher]) -> bool
+    ensures all { result ≡ true → (place : ℕ) → place < board.now.publishers → has_publisher board.now place ports.now ≡ true }
+    ensures lacks { result ≡ false → (place : ℕ) × (place < board.now.publishers) × (has_publisher board.now place ports.now ≡ false) }
+{
+    for place in 0..board.publishers {
+        if !has_publisher(board, place, ports) {
+            return false;
+        }
+    }
+    true
+}
+
+// Whether its subscribers do.
+fn at_each_subscriber(board: &Board, ports: &[LaneSubscriber]) -> bool
+    ensures all { result ≡ true → (place : ℕ) → place < board.now.subscribers → has_subscriber board.now place ports.now ≡ true }
+    ensures lacks { result ≡ false → (place : ℕ) × (place < board.now.subscribers) × (has_subscriber board.now place ports.now ≡ false) }
+{
+    for place in 0..board.subscribers {
+        if !has_subscriber(board, place, ports) {
+            return false;
+        }
+    }
+    true
+}
+
+// Whether these are all ports of the board.
+fn are_all(board: &Board, publishers: &[LanePublisher], subscribers: &[LaneSubscriber]) -> bool
+    ensures all { result ≡ true → AreAll board.now publishers.now subscribers.now }
+    ensures lacks { result ≡ false → AreAll board.now publishers.now subscribers.now → ⊥ }
+{
+    if publishers.len() != board.publishers || subscribers.len() != board.subscribers {
+        return false;
+    }
+    at_each_publisher(board, publishers) && at_each_subscriber(board, subscribers)
+}
+
+// The lanes of publishers, in the room for them.
+fn publisher_lanes(ports: Vec<LanePublisher>, room: Vec<PublisherLane>) -> Vec<PublisherLane>
+    requires { (room.items ≡ []) × (length ports.items ≤ vec_capacity room) }
+    ensures { result.items ≡ map (λ p. p.own.lane) ports.items }
+{
+    let mut lanes = room;
+    let mut rest = ports.into_iter();
+    while let Some(port) = rest.next() {
+        lanes.push_reserved(port.into_lane());
+    }
+    lanes
+}
+
+// The lanes of subscribers likewise.
+fn subscriber_lanes(ports: Vec<LaneSubscriber>, room: Vec<SubscriberLane>) -> Vec<SubscriberLane>
+    requires { (room.items ≡ []) × (length ports.items ≤ vec_capacity room) }
+    ensures { result.items ≡ map (λ p. p.own.lane) ports.items }
+{
+    let mut lanes = room;
+    let mut rest = ports.into_iter();
+    while let Some(port) = rest.next() {
+        lanes.push_reserved(port.into_lane());
+    }
+    lanes
+}
+
+/// Ends all ports of a board: they stand still again, each with what its lane knows, and the words are gone. It takes no memory. All come back where a port
+/// is missing or is another board's (`NotAllPorts`).
+pub fn end(
+    board: Board,
+    publishers: Vec<LanePublisher>,
+    subscribers: Vec<LaneSubscriber>,
+) -> Result<EndedThreads, (EndError, LaneThreads)>
+    ensures ended { IfOk result (λ ended. AreAll board publishers.items subscribers.items × (ended.publishers.items ≡ map (λ p. p.own.lane) publishers.items) × (ended.subscribers.items ≡ map (λ s. s.own.lane) subscribers.items)) }
+    ensures refused { IfErr result (λ refused. (AreAll board publishers.items subscribers.items → ⊥) × (refused.1 ≡ record { board = board; publishers = publishers; subscribers = subscribers })) }
+{
+    if !are_all(&board, &publishers, &subscribers) {
+        let threads = LaneThreads {
+            board,
+            publishers,
+            subscribers,
+        };
+        return Err((EndError::NotAllPorts, threads));
+    }
+    let Board {
+        number: _,
+        publishers: _,
+        subscribers: _,
+        words: _,
+        publisher_room,
+        subscriber_room,
+    } = board;
+    Ok(EndedThreads {
+        publishers: publisher_lanes(publishers, publisher_room),
+        subscribers: subscriber_lanes(subscribers, subscriber_room),
+    })
+}

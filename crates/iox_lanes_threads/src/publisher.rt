@@ -1,0 +1,104 @@
+//! A publisher with its share of the words.
+ghost use Rattle.std.specs.Prelude.{◌≡◌, Option, true, is_some};
+ghost use Rattle.iox_lanes_parties.specs.Parties.{head_of};
+ghost use Rattle.iox_lanes_threads_ports.specs.Known.{KeepsPayload, KnowsHead, KnowsPayload};
+ghost use Rattle.iox_lanes_threads_ports.specs.Values.{lent_of, sent_of, Publishes, Writes};
+ghost use Rattle.iox_lanes_threads.specs.Ports.{StaysPublisher};
+
+use crate::table::Share;
+use crate::threads::OnBoard;
+use iox_lanes_calls::Delivery;
+use iox_lanes_parties::{Answer, Call, Move, PublisherLane};
+use iox_lanes_publisher::LoanAnswer;
+use iox_lanes_threads_ports::ThreadedPublisher;
+use std::marker::Model;
+
+/// A publisher that steps on the words that it shares with the other ports of its board. It may go to any thread; no call takes a lock, memory or leave to wait.
+#[derive(Drop)]
+pub struct LanePublisher {
+    words: Share,
+    board: u64,
+    place: usize,
+    port: ThreadedPublisher,
+}
+
+impl Model for LanePublisher {
+    ghost use Rattle.std.specs.Prelude.{◌≡◌};
+    ghost use Rattle.iox_lanes_threads.specs.Ports.{BoardPublisher};
+
+    ghost Value = { BoardPublisher };
+
+    ghost view = { λ l. record { board = l.board; place = l.place; own = l.port } };
+
+    ghost invariant = { λ l. l.port.table ≡ l.words };
+}
+
+impl LanePublisher {
+    pub(crate) fn new(
+        words: Share,
+        board: u64,
+        place: usize,
+        port: ThreadedPublisher,
+    ) -> LanePublisher
+        requires { port.table ≡ words }
+        ensures { result ≡ record { board = board; place = place; own = port } }
+    {
+        LanePublisher {
+            words,
+            board,
+            place,
+            port,
+        }
+    }
+
+    /// Which of the publishers it is.
+    pub fn place(&self) -> usize
+        ensures { result ≡ self.now.place }
+    {
+        self.place
+    }
+
+    /// Asks for a slot to be written. None where the port stands inside a call, or took back more samples than its connections have room for, which no lanes
+    /// come to: then it stays inside this one.
+    pub fn loan_uninit(&mut self) -> Option<LoanAnswer>
+        ensures same { StaysPublisher self.old self.new }
+        ensures call { (given : Option Answer) × Publishes self.old.own (Move.Begin Call.LoanUninit) self.new.own given × (result ≡ lent_of given) }
+    {
+        self.port.loan_uninit(self.words.words())
+    }
+
+    /// Writes the words of a payload into the slot of a loan, and keeps those of a user header for its send. False where the slot is no loan of this port, or the
+    /// words are not as many as a payload and a user header have.
+    pub fn write(&mut self, loan: u64, payload: &[u64], user_header: &[u64]) -> bool
+        ensures same { StaysPublisher self.old self.new }
+        ensures call { (given : Option Answer) × Writes self.old.own loan payload.now user_header.now self.new.own given × (result ≡ is_some given) }
+        ensures payload { result ≡ true → KnowsPayload self.new.own.port loan payload.now }
+    {
+        self.port
+            .write(self.words.words(), loan, payload, user_header)
+    }
+
+    /// Sends a loan that is written, and tells how many connections took it. None where the slot is no such loan of this port, or as of a loan.
+    pub fn send(&mut self, loan: u64) -> Option<Delivery>
+        ensures same { StaysPublisher self.old self.new }
+        ensures call { (given : Option Answer) × Publishes self.old.own (Move.Begin (Call.Send loan)) self.new.own given × (result ≡ sent_of given) }
+        ensures slot { is_some result ≡ true → KnowsHead self.new.own.port loan (head_of loan self.old.own.lane) × KeepsPayload self.old.own.port self.new.own.port loan }
+    {
+        self.port.send(self.words.words(), loan)
+    }
+
+    /// The lane, which stands still from now on.
+    pub(crate) fn into_lane(self) -> PublisherLane
+        ensures { result ≡ self.own.lane }
+    {
+        self.port.into_parts().1
+    }
+}
+
+impl OnBoard for LanePublisher {
+    ghost board_of = { λ l. l.board };
+
+    fn board(&self) -> u64 {
+        self.board
+    }
+}

@@ -1,0 +1,110 @@
+//! A subscriber with its share of the words.
+ghost use Rattle.std.specs.Prelude.{◌≡◌, true, Some};
+ghost use Rattle.iox_lanes_parties.specs.Parties.{subscriber_begun};
+ghost use Rattle.iox_lanes_threads_ports.specs.Courses.{SubscriberEnds};
+ghost use Rattle.iox_lanes_threads_ports.specs.Known.{KnowsRead, KnowsGivenBack};
+ghost use Rattle.iox_lanes_threads_ports.specs.Values.{Releases, Reads};
+ghost use Rattle.iox_lanes_threads.specs.Ports.{StaysSubscriber};
+
+use crate::table::Share;
+use crate::threads::OnBoard;
+use iox_lanes_calls::Receipt;
+use iox_lanes_parties::{Answer, Call, SubscriberLane};
+use iox_lanes_threads_ports::ThreadedSubscriber;
+use std::marker::Model;
+use std::sync::Wait;
+
+/// A subscriber that steps on the words that it shares with the other ports of its board. It may go to any thread; no call takes a lock or memory, and `receive`
+/// alone leave to wait.
+#[derive(Drop)]
+pub struct LaneSubscriber {
+    words: Share,
+    board: u64,
+    place: usize,
+    port: ThreadedSubscriber,
+}
+
+impl Model for LaneSubscriber {
+    ghost use Rattle.std.specs.Prelude.{◌≡◌};
+    ghost use Rattle.iox_lanes_threads.specs.Ports.{BoardSubscriber};
+
+    ghost Value = { BoardSubscriber };
+
+    ghost view = { λ l. record { board = l.board; place = l.place; own = l.port } };
+
+    ghost invariant = { λ l. l.port.table ≡ l.words };
+}
+
+impl LaneSubscriber {
+    pub(crate) fn new(
+        words: Share,
+        board: u64,
+        place: usize,
+        port: ThreadedSubscriber,
+    ) -> LaneSubscriber
+        requires { port.table ≡ words }
+        ensures { result ≡ record { board = board; place = place; own = port } }
+    {
+        LaneSubscriber {
+            words,
+            board,
+            place,
+            port,
+        }
+    }
+
+    /// Which of the subscribers it is.
+    pub fn place(&self) -> usize
+        ensures { result ≡ self.now.place }
+    {
+        self.place
+    }
+
+    /// Asks for a message. It may go on forever where its publishers move a ring on again and again.
+    pub fn receive<R: Wait>(&mut self, rt: &R) -> Receipt
+        ensures same { StaysSubscriber self.old self.new }
+        ensures call { SubscriberEnds self.old.own.port (subscriber_begun 0 Call.Receive self.old.own.lane) self.new.own.port self.new.own.lane (Answer.Received result) }
+    {
+        self.port.receive(rt, self.words.words())
+    }
+
+    /// Reads the words of header, user header and payload of a sample. False where the slot is no sample of this port.
+    pub fn read(&mut self, sample: u64) -> bool
+        ensures same { StaysSubscriber self.old self.new }
+        ensures call { Reads self.old.own sample self.new.own result }
+        ensures words { result ≡ true → KnowsRead self.new.own.port self.old.own.lane.port.extent sample self.new.own.words }
+    {
+        self.port.read(self.words.words(), sample)
+    }
+
+    /// The words that were read, one behind the other, if the last call was a read.
+    pub fn words(&self) -> &[u64]
+        ensures { result.now ≡ self.now.own.words }
+    {
+        self.port.words()
+    }
+
+    /// Gives a sample back, and answers whether it went back, which it does. None where the slot is no sample of this port.
+    pub fn release(&mut self, sample: u64) -> Option<bool>
+        ensures same { StaysSubscriber self.old self.new }
+        ensures call { Releases self.old.own sample self.new.own result }
+        ensures put { result ≡ Some true → KnowsGivenBack self.old.own.port self.new.own.port self.old.own.lane sample }
+    {
+        self.port.release(self.words.words(), sample)
+    }
+
+    /// The lane, which stands still from now on.
+    pub(crate) fn into_lane(self) -> SubscriberLane
+        ensures { result ≡ self.own.lane }
+    {
+        self.port.into_parts().1
+    }
+}
+
+impl OnBoard for LaneSubscriber {
+    ghost board_of = { λ l. l.board };
+
+    fn board(&self) -> u64 {
+        self.board
+    }
+}

@@ -1,0 +1,103 @@
+//! The table of words that the ports of a service share, and the seats that they step with.
+ghost use Rattle.std.specs.Prelude.{◌≡◌, ◌<◌, [], IfOk};
+ghost use Rattle.iox_lanes_threads_rule.specs.Acts.{first_port, single};
+ghost use Rattle.iox_lanes_threads.specs.Opening.{ports_of, others_wait, Fitting, IsWaiting, WaitsFor};
+
+use atomic_table::{Split, Table};
+use iox_lanes_machine::Lanes;
+use iox_lanes_threads_rule::{Opening, View, WordRule, WordSeat, Words};
+use std::alloc::{AllocError, Global};
+use std::marker::Model;
+use std::snapshot::Snapshot;
+use std::sync::Arc;
+
+/// The lanes whose words a table started from. It has no bytes.
+#[derive(Drop)]
+pub struct OpenedFrom {
+    lanes: Snapshot<Lanes>,
+}
+
+impl Opening for OpenedFrom {
+    ghost use Rattle.iox_lanes_threads.specs.Opening.{first_view};
+
+    ghost first = { λ from. first_view from.lanes.value };
+}
+
+/// The words of a service, with their memory.
+pub type LaneTable = Table<u8, View, OpenedFrom, WordRule, Global>;
+
+/// A share of the words: the table lives as long as one of them does.
+#[derive(Drop)]
+pub(crate) struct Share {
+    table: Arc<LaneTable, Global>,
+}
+
+impl Model for Share {
+    ghost use Rattle.std.specs.Arc.{arc_value};
+    ghost use Rattle.atomic_table.specs.Seated.{TableId};
+
+    ghost Value = { TableId };
+
+    ghost view = { λ s. (arc_value s.table).shared.table_id };
+}
+
+impl Share {
+    /// The first share of a table. It fails only where memory is wanting.
+    pub(crate) fn new(alloc: Global, table: LaneTable) -> Result<Share, AllocError>
+        ensures { IfOk result (λ share. share ≡ table.shared.table_id) }
+    {
+        match Arc::new(alloc, table) {
+            Ok(table) => Ok(Share { table }),
+            Err(_) => Err(AllocError),
+        }
+    }
+
+    /// One more share. It fails only where there are as many as can be counted.
+    pub(crate) fn another(&self) -> Result<Share, AllocError>
+        ensures { IfOk result (λ share. share ≡ self.now) }
+    {
+        Ok(Share {
+            table: Arc::try_clone(&self.table)?,
+        })
+    }
+
+    /// The words.
+    pub(crate) fn words(&self) -> &Words<OpenedFrom>
+        ensures { result.now.table_id ≡ self.now }
+    {
+        &self.table.shared
+    }
+}
+
+// The first port that waits gets a seat of its own.
+struct GiveOut;
+
+impl Split<View> for GiveOut {
+    ghost use Rattle.iox_lanes_threads.specs.Opening.{others_wait, first_waits};
+
+    ghost left = { others_wait };
+
+    ghost right = { first_waits };
+}
+
+/// A table that starts from the words of lanes, with a seat at which all their ports wait. It fails only where memory is wanting.
+pub(crate) fn open_table(alloc: Global, lanes: &Lanes) -> Result<(LaneTable, WordSeat), AllocError>
+    requires { Fitting lanes.now }
+    ensures { IfOk result (λ made. (made.1.table_id ≡ made.0.shared.table_id) × WaitsFor lanes.now made.0.shared.table_id made.1.me 0 (ports_of lanes.now)) }
+{
+    let from = OpenedFrom {
+        lanes: Snapshot::of(lanes),
+    };
+    Table::of_words(alloc, lanes.table().words(), &from)
+}
+
+/// The first port that waits, with a seat of its own.
+pub(crate) fn next_seat(share: &Share, home: &mut WordSeat) -> WordSeat
+    requires table { (home.old.table_id ≡ share.now) × (0 < share.now.words) }
+    requires waits { IsWaiting home.old.me }
+    ensures table { (home.new.table_id ≡ home.old.table_id) × (result.table_id ≡ home.old.table_id) }
+    ensures seat { result.me ≡ single (first_port home.old.me.0.waiting) }
+    ensures rest { home.new.me ≡ (others_wait home.old.me.0, []) }
+{
+    share.words().split_seat::<GiveOut>(home)
+}

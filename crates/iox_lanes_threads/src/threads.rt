@@ -1,0 +1,63 @@
+//! All ports of a service in threads.
+ghost use Rattle.std.specs.Prelude.{◌≡◌, ◌==◌};
+
+use crate::publisher::LanePublisher;
+use crate::subscriber::LaneSubscriber;
+use crate::table::Share;
+use iox_lanes_parties::{PublisherLane, SubscriberLane};
+use std::marker::Model;
+
+/// The words that the ports of a service share, as who opened them keeps them. It knows its ports by the number that it was opened with.
+#[derive(Drop)]
+pub struct Board {
+    pub(crate) number: u64,
+    pub(crate) publishers: usize,
+    pub(crate) subscribers: usize,
+    pub(crate) words: Share,
+    // Room for the ports when they end.
+    pub(crate) publisher_room: Vec<PublisherLane>,
+    pub(crate) subscriber_room: Vec<SubscriberLane>,
+}
+
+impl Model for Board {
+    ghost use Rattle.std.specs.Prelude.{◌≡◌, ◌≤◌, [], vec_capacity};
+    ghost use Rattle.iox_lanes_threads.specs.Ports.{BoardState};
+
+    ghost Value = { BoardState };
+
+    ghost view = { λ b. record { number = b.number; table = b.words; publishers = b.publishers; subscribers = b.subscribers } };
+
+    ghost invariant = { λ b. (b.publisher_room.items ≡ []) × (b.publishers ≤ vec_capacity b.publisher_room) × (b.subscriber_room.items ≡ []) × (b.subscribers ≤ vec_capacity b.subscriber_room) };
+}
+
+/// A port of some board.
+pub trait OnBoard {
+    ghost use Rattle.std.specs.Prelude.{ℕ};
+
+    // The number of its board.
+    ghost board_of: { Self → ℕ };
+
+    /// The number of its board.
+    fn board(&self) -> u64
+        ensures { result ≡ Self.board_of self.now };
+}
+
+impl Board {
+    /// Whether the port is one of this board's: whether both were opened with one number.
+    pub fn knows<P: OnBoard>(&self, port: &P) -> bool
+        ensures { result ≡ (P.board_of port.now == self.now.number) }
+    {
+        port.board() == self.number
+    }
+}
+
+/// All ports of a service, each with its share of the words.
+#[derive(Drop)]
+pub struct LaneThreads {
+    /// The board that they were opened on.
+    pub board: Board,
+    /// The publishers, by their places.
+    pub publishers: Vec<LanePublisher>,
+    /// The subscribers, by their places.
+    pub subscribers: Vec<LaneSubscriber>,
+}

@@ -1,0 +1,213 @@
+//! Numbers through four threads: two publishers and two subscribers.
+use crate::service::lanes;
+use iox_lanes_calls::{Delivery, Receipt};
+use iox_lanes_publisher::LoanAnswer;
+use iox_lanes_threads::{LanePublisher, LaneSubscriber, LaneThreads, end, open_threads};
+use iox_queues_rings::RingKind;
+use std::alloc::{AllocError, Global};
+use std::sync::Wait;
+use std::sync::atomic::{AtomicU64, Ordering};
+use std::test::Fail;
+use std::thread;
+use std::thread::Threads;
+
+const COUNT: u64 = 100_000;
+
+const TRIES: u64 = 1 << 24;
+
+// The word at a place of the payload that a publisher sends with a number.
+fn word(publisher: u64, number: u64, place: u64) -> u64 {
+    number
+        .saturating_mul(16)
+        .saturating_add(publisher.saturating_mul(8))
+        .saturating_add(place)
+}
+
+// How many took the number, and how many refused it.
+fn send(port: &mut LanePublisher, publisher: u64, number: u64) -> Option<Delivery> {
+    let Some(LoanAnswer::Slot(loan)) = port.loan_uninit() else {
+        return None;
+    };
+    let payload = [
+        word(publisher, number, 0),
+        word(publisher, number, 1),
+        word(publisher, number, 2),
+        word(publisher, number, 3),
+        word(publisher, number, 4),
+        word(publisher, number, 5),
+        word(publisher, number, 6),
+        word(publisher, number, 7),
+    ];
+    if !port.write(loan, &payload, &[]) {
+        return None;
+    }
+    port.send(loan)
+}
+
+// Sends 0 up to COUNT, and the last one again until both took it at once; then one publisher more is done.
+fn send_all(port: &mut LanePublisher, publisher: u64, done: &AtomicU64) -> bool {
+    let well = send_numbers(port, publisher);
+    done.fetch_add(1, Ordering::SeqCst);
+    well
+}
+
+fn send_numbers(port: &mut LanePublisher, publisher: u64) -> bool {
+    for number in 0..COUNT {
+        if send(port, publisher, number).is_none() {
+            return false;
+        }
+    }
+    for _ in 0..TRIES {
+        match send(port, publisher, COUNT) {
+            Some(delivery) if delivery.taken == 2 => return true,
+            Some(_) => thread::yield_now(),
+            None => return false,
+        }
+    }
+    false
+}
+
+// What a subscriber saw last of each publisher, and whether all was well.
+#[derive(Drop)]
+struct Seen {
+    first: u64,
+    second: u64,
+}
+
+impl Seen {
+    fn is_last(&self) -> bool {
+        self.first == COUNT && self.second == COUNT
+    }
+
+    // Notes a payload: whether it is whole, and its number not below the last of its publisher.
+    fn note(&mut self, payload: &[u64]) -> bool {
+        let Some(base) = payload.first() else {
+            return false;
+        };
+        let publisher = *base / 8 % 2;
+        let number = *base / 16;
+        let before = if publisher == 0 {
+            &mut self.first
+        } else {
+            &mut self.second
+        };
+        let rises = *before <= number;
+        *before = number;
+        rises && is_whole(payload, publisher, number)
+    }
+}
+
+fn is_whole(payload: &[u64], publisher: u64, number: u64) -> bool {
+    let mut place = 0u64;
+    for held in payload {
+        if *held != word(publisher, number, place) {
+            return false;
+        }
+        place = place.saturating_add(1);
+    }
+    place == 8
+}
+
+// Reads a sample, notes it, and gives it back.
+fn take(port: &mut LaneSubscriber, seen: &mut Seen, slot: u64) -> bool {
+    let Some(payload) = read(port, slot) else {
+        return false;
+    };
+    seen.note(payload) && port.release(slot) == Some(true)
+}
+
+// The payload of a sample, behind the three words of its header.
+fn read(port: &mut LaneSubscriber, slot: u64) -> Option<&[u64]> {
+    if port.read(slot) {
+        port.words().get(3..)
+    } else {
+        None
+    }
+}
+
+// Receives until both publishers are done and nothing waits; whether all that came was well, and the last number of each came.
+fn receive_all(rt: &impl Wait, port: &mut LaneSubscriber, done: &AtomicU64) -> bool {
+    let mut seen = Seen {
+        first: 0,
+        second: 0,
+    };
+    for _ in 0..TRIES {
+        let ended = done.load(Ordering::SeqCst) == 2;
+        match port.receive(rt) {
+            Receipt::Taken { slot, .. } => {
+                if !take(port, &mut seen, slot) {
+                    return false;
+                }
+            }
+            Receipt::Nothing if ended => return seen.is_last(),
+            Receipt::Nothing => thread::yield_now(),
+            Receipt::ExceedsMaxBorrows => return false,
+        }
+    }
+    false
+}
+
+// All four in threads of their own.
+fn all_run<R: Threads + Wait + Sync>(
+    rt: &R,
+    publishers: &mut [LanePublisher],
+    subscribers: &mut [LaneSubscriber],
+) -> bool {
+    let Some((first, others)) = publishers.split_first_mut() else {
+        return false;
+    };
+    let Some(second) = others.first_mut() else {
+        return false;
+    };
+    let Some((here, elsewhere)) = subscribers.split_first_mut() else {
+        return false;
+    };
+    let Some(there) = elsewhere.first_mut() else {
+        return false;
+    };
+    let done = AtomicU64::new(0);
+    let (sent, got) = thread::join(
+        rt,
+        || thread::join(
+            rt,
+            || send_all(first, 0, &done),
+            || send_all(second, 1, &done),
+        ),
+        || thread::join(
+            rt,
+            || receive_all(rt, here, &done),
+            || receive_all(rt, there, &done),
+        ),
+    );
+    sent.0 && sent.1 && got.0 && got.1
+}
+
+// Opens, runs and ends; whether all went well.
+fn goes<R: Threads + Wait + Sync>(
+    rt: &R,
+    alloc: Global,
+    kind: RingKind,
+) -> Result<bool, AllocError> {
+    let Ok(threads) = open_threads(alloc, 1, lanes(alloc, kind)?) else {
+        return Err(AllocError);
+    };
+    let LaneThreads {
+        board,
+        mut publishers,
+        mut subscribers,
+    } = threads;
+    let well = all_run(rt, &mut publishers, &mut subscribers);
+    Ok(well && end(board, publishers, subscribers).is_ok())
+}
+
+#[test]
+fn numbers_rise_where_the_oldest_are_dropped(rt: HostRuntime) -> Result<(), Fail> {
+    assert!(&rt; goes(&rt, rt.alloc(), RingKind::Overflowing)?);
+    Ok(())
+}
+
+#[test]
+fn numbers_rise_where_the_newest_are_refused(rt: HostRuntime) -> Result<(), Fail> {
+    assert!(&rt; goes(&rt, rt.alloc(), RingKind::Refusing)?);
+    Ok(())
+}
