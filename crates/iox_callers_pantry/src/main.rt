@@ -26,7 +26,7 @@ fn hash_of(name: &[u8]) -> Option<ServiceHash>
     Some(service_hash(MessagingPattern::Event, &name))
 }
 
-/// `iox_describe`: a description that was written as one line, and read back; None where no memory is found.
+/// `iox_describe`: a description that was written as one line, and read back; None where memory is wanting.
 fn read_back(alloc: Global, description: &Description) -> Option<Description>
     requires { IsWithinLimits description.now }
     ensures { IfSome result (λ back. back ≡ description.now) }
