@@ -29,7 +29,7 @@ use Rattle.iox_hub_run.specs.Lives.{Stays, ChangesOne}
 use Rattle.iox_hub_run.proofs.GoingOn.{same_changes, stays_and_changes}
 
 numbers_change : {E : Type 0} (pattern : MessagingPattern) (refusal : E → Refusal) (opened : Result Made E) (table after : FactoryTable) (answer : Result ℕ Refusal) → Numbers pattern refusal opened table answer after → ChangesOne table after
-numbers_change pattern refusal (Ok parts) table after answer (factory, is_pattern, is_parts, is_new, is_answer) = rw is_new (inr (inl (factory, refl, refl)))
+numbers_change pattern refusal (Ok parts) table after answer (factory, is_pattern, is_parts, is_new, is_answer, form) = rw is_new (inr (inl (factory, refl, refl)))
 numbers_change pattern refusal (Err error) table after answer (is_answer, is_new) = same_changes table after is_new
 
 prepared_same : (name : List ℕ) (types : MessageTypeDetails) (steps : List StepBefore) (old new : FactoryTable) (prepared : Result (List (List ForeignStep)) AllocError) → Prepares name types steps old prepared new → Stays old new

@@ -26,6 +26,7 @@ use Rattle.iox_hub_base.specs.AsHome.{hub_ports, with_hub_ports, with_services}
 use Rattle.iox_hub_base.specs.declared.hub.Hub.{Hub}
 use Rattle.iox_hub_base.specs.Services.{domain_at, stepped_if, stepped, here_stands, stands_at, stepped_elsewhere, one_value, is_number, changed_found, changed_twice, same_unchanged, OpenServices, presence_of, Presence, Here}
 use Rattle.iox_hub_run.specs.Grown.{AnySlots, AnyAction, AnyDecision, LeadsTo, HasGrown, HaveGrown, GrowsOn, OthersStay}
+use Rattle.iox_hub_run.proofs.Agreeing.{KeepsAgreed, same_agreed, agreed_on, set_agreed}
 use Rattle.iox_hub_run.proofs.Loosening.{loosened}
 
 -- calls, and then more calls
@@ -133,33 +134,52 @@ module _ {T U B D : Type 0} where
       let stands = here_stands (presence_of id.service services.domains) domain (stands_at id services domain is).found in
       grown_set id.service services.domains (Here (step domain)) grown (grows_more id.service domain (step domain) (goes domain refl) (grown_found id.service services.domains (Here domain) grown stands))
 
+  step_keeps_at : (id : DomainId) (step : Domain T U B D → Domain T U B D) (services : OpenServices T U B D) (found : Option (Domain T U B D)) → domain_at id services ≡ found
+      → ((domain : Domain T U B D) → found ≡ Some domain → Goes domain (step domain)) → KeepsAgreed services.domains (stepped_if found id.service step services).domains
+  step_keeps_at id step services None is goes = same_agreed services.domains services.domains refl
+  step_keeps_at id step services (Some domain) is goes =
+      let stands = here_stands (presence_of id.service services.domains) domain (stands_at id services domain is).found in
+      let (agreed, leads) = goes domain refl in
+      set_agreed (is_at (nat_cmp id.service)) services.domains (Here (step domain)) (Here domain) stands agreed
+
+  -- the table stays, and each domain is for what it was for
+  abbrev pub KeepsAll : Hub T U B D → Hub T U B D → Type 0
+  KeepsAll old new = (new.table ≡ old.table) × KeepsAgreed old.services.domains new.services.domains
+
   -- the domain of an id moves, and no other
   abbrev pub Moves : DomainId → Hub T U B D → Hub T U B D → Type 0
-  Moves id old new = OthersStay id old new × GrowsOn old new
+  Moves id old new = OthersStay id old new × GrowsOn old new × KeepsAll old new
 
   -- some domain moves, and no other
   abbrev pub MovesOne : Hub T U B D → Hub T U B D → Type 0
   MovesOne old new = (id : DomainId) × Moves id old new
 
+  -- one domain at most moves, comes or goes
+  abbrev pub Serves : Hub T U B D → Hub T U B D → Type 0
+  Serves old new = (id : DomainId) × (OthersStay id old new × GrowsOn old new)
+
   -- a step of one domain
   step_moves : (id : DomainId) (step : Domain T U B D → Domain T U B D) (hub : Hub T U B D) → ((domain : Domain T U B D) → domain_at id hub.services ≡ Some domain → Goes domain (step domain)) → Moves id hub (with_services hub (stepped id step hub.services))
-  step_moves id step hub goes = (λ other apart. stepped_elsewhere id other step hub.services apart, step_grows_at id step hub.services (domain_at id hub.services) refl goes)
-
-  pub same_moves : (id : DomainId) (old new : Hub T U B D) → new.services ≡ old.services → Moves id old new
-  same_moves id old new same = (λ other apart. ap (domain_at other) same, λ grown. rw same grown)
+  step_moves id step hub goes = (λ other apart. stepped_elsewhere id other step hub.services apart, step_grows_at id step hub.services (domain_at id hub.services) refl goes, (refl, step_keeps_at id step hub.services (domain_at id hub.services) refl goes))
 
   pub is_moves : (id : DomainId) (old new : Hub T U B D) → new ≡ old → Moves id old new
-  is_moves id old new is = same_moves id old new (ap (λ hub. hub.services) is)
+  is_moves id old new is =
+      (λ other apart. ap (λ hub. domain_at other hub.services) is, λ grown. rw is grown, (ap (λ hub. hub.table) is, same_agreed old.services.domains new.services.domains (ap (λ hub. hub.services.domains) is)))
 
   -- nothing moves
   pub none_moves : (old new : Hub T U B D) → new ≡ old → MovesOne old new
   none_moves old new is = (record { hub = 0; service = 0 }, is_moves (record { hub = 0; service = 0 }) old new is)
 
-  pub no_service_moves : (old new : Hub T U B D) → new.services ≡ old.services → MovesOne old new
-  no_service_moves old new same = (record { hub = 0; service = 0 }, same_moves (record { hub = 0; service = 0 }) old new same)
+  -- no domain moves, comes or goes
+  pub no_service_serves : (old new : Hub T U B D) → new.services ≡ old.services → Serves old new
+  no_service_serves old new same = (record { hub = 0; service = 0 }, (λ other apart. ap (domain_at other) same, λ grown. rw same grown))
+
+  pub none_serves : (old new : Hub T U B D) → new ≡ old → Serves old new
+  none_serves old new is = no_service_serves old new (ap (λ hub. hub.services) is)
 
   pub moves_on : (id : DomainId) (old mid new : Hub T U B D) → Moves id old mid → Moves id mid new → Moves id old new
-  moves_on id old mid new (stay, grow) (stay_later, grow_later) = (λ other apart. stay_later other apart ∙ stay other apart, λ grown. grow_later (grow grown))
+  moves_on id old mid new (stay, grow, (table, keep)) (stay_later, grow_later, (table_later, keep_later)) =
+      (λ other apart. stay_later other apart ∙ stay other apart, λ grown. grow_later (grow grown), (table_later ∙ table, agreed_on old.services.domains mid.services.domains new.services.domains keep keep_later))
 
   ports_go : (ports after : ServicePorts T U) (domain : Domain T U B D) (found : Option (Domain T U B D)) → LeadsTo ports after → option_map (λ one. one.ports) found ≡ Some ports → found ≡ Some domain → Goes domain (with_ports after domain)
   ports_go ports after domain found leads are is =

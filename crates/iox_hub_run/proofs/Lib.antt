@@ -4,9 +4,11 @@ pub mod FactoryChanges
 pub mod MadeChanges
 pub mod StepChanges
 pub mod Loosening
+pub mod Agreeing
 pub mod Grown
 pub mod PortsMove
 pub mod ServicesMove
+pub mod ServicesAgree
 pub mod StepMoves
 pub mod RunLemmas
 pub mod AsAgreed

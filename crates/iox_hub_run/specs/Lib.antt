@@ -5,4 +5,5 @@ pub mod Steps
 pub mod Runs
 pub mod Lives
 pub mod Grown
+pub mod Agreements
 pub mod Passed

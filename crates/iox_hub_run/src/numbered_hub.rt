@@ -1,5 +1,6 @@
 //! A hub with what commands made in it.
 ghost use Rattle.std.specs.Prelude.{◌≡◌};
+ghost use Rattle.iox_hub_run.specs.Agreements.{AreOfOneAgreement};
 ghost use Rattle.iox_hub_run.specs.Grown.{HaveGrown};
 ghost use Rattle.iox_hub_run.specs.Lives.{NumbersRise};
 ghost use Rattle.iox_hub_run.specs.Numbers.{IsNew, numbers_used};
@@ -31,6 +32,7 @@ impl<T: Copy, U: Copy, B: Drop, D: Drop> NumberedHub<T, U, B, D> {
         ensures numbers { numbers_used result ≡ 5 }
         ensures rise { NumbersRise result }
         ensures grown { HaveGrown result.hub.services.domains }
+        ensures one_agreement { AreOfOneAgreement result.factories.made result.hub }
     {
         NumberedHub {
             hub: Hub::new(alloc, config),

@@ -3,6 +3,7 @@ ghost use Rattle.std.specs.Prelude.{◌+◌, ◌<◌, ◌≤◌, ◌^◌};
 ghost use Rattle.iox_describe_base.specs.Detail.{detail};
 ghost use Rattle.iox_describe_base.specs.declared.type_detail.TypeVariant.TheVariants.{FixedSize};
 ghost use Rattle.iox_hub_requests.specs.Asked.{types_of};
+ghost use Rattle.iox_hub_run.specs.Agreements.{AreOfOneAgreement};
 ghost use Rattle.iox_hub_run.specs.Grown.{GrowsOn, HaveGrown, AreAsAgreed, OneDomainMoves};
 ghost use Rattle.iox_hub_run.specs.Lives.{ChangesOneThing};
 ghost use Rattle.iox_hub_run.specs.Numbers.{numbers_used};
@@ -39,6 +40,7 @@ impl<
         ensures one { ChangesOneThing self.old self.new }
         ensures grows { GrowsOn self.old.hub self.new.hub }
         ensures agreed { HaveGrown self.old.hub.services.domains → AreAsAgreed self.new.hub.services.domains }
+        ensures one_agreement { AreOfOneAgreement self.old.factories.made self.old.hub → AreOfOneAgreement self.new.factories.made self.new.hub }
         ensures apart { OneDomainMoves self.old.hub self.new.hub }
     {
         self.carry_out(alloc, command)
