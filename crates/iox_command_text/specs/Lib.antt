@@ -1,4 +1,5 @@
 -- The definitions that contracts about words cite.
+pub mod Letters
 pub mod Words
 pub mod Numbers
 pub mod Options

@@ -2,6 +2,7 @@
 use Rattle.std.specs.Prelude.{ℕ, ◌+◌, ◌==◌, ◌&&◌, Bool, true, false, not, List, [], ◌∷◌, ◌++◌, Option, None, Some, nat_eq, if◌then◌else◌, ◌≡◌}
 use Rattle.std.specs.List.{list_all}
 use Rattle.std.specs.Cmp.Lexicographic.{pointwise}
+use Rattle.iox_command_text.specs.Letters.{space}
 
 -- each of these keeps to it
 abbrev pub AllOf : {A : Type 0} → (A → Type 0) → List A → Type 0
@@ -14,7 +15,7 @@ lacks byte text = list_all (λ b. not (b == byte)) text
 
 -- whether no byte is a space
 abbrev pub has_no_space : List ℕ → Bool
-has_no_space word = lacks 32 word
+has_no_space word = lacks space word
 
 -- none of the texts has this byte
 abbrev pub AllLack : ℕ → List (List ℕ) → Type 0
@@ -22,7 +23,7 @@ AllLack byte texts = AllOf (λ text. lacks byte text ≡ true) texts
 
 -- no byte of any of the words is a space
 abbrev pub AreWords : List (List ℕ) → Type 0
-AreWords words = AllLack 32 words
+AreWords words = AllLack space words
 
 -- pieces with one such byte between each two
 abbrev pub joined : ℕ → List (List ℕ) → List ℕ
@@ -32,7 +33,7 @@ joined separator (w ∷ v ∷ ws) = w ++ separator ∷ joined separator (v ∷ w
 
 -- words with one space between each two
 abbrev pub spaced : List (List ℕ) → List ℕ
-spaced words = joined 32 words
+spaced words = joined space words
 
 -- a byte stands before the first of the pieces
 abbrev pub onto_first : ℕ → List (List ℕ) → List (List ℕ)
@@ -46,7 +47,7 @@ pieces_of separator (b ∷ bs) = if b == separator then [] ∷ pieces_of separat
 
 -- the pieces of a line between its spaces
 abbrev pub words_of : List ℕ → List (List ℕ)
-words_of line = pieces_of 32 line
+words_of line = pieces_of space line
 
 -- the pieces of what is left of a text, if something is left
 abbrev pub pieces_left : ℕ → Option (List ℕ) → List (List ℕ)

@@ -1,4 +1,4 @@
-//! A hub that commands drive: what they make stands under numbers, and later commands name it by them.
+//! A hub that commands drive: what they make goes by numbers, and later commands name it by them.
 //!
 //! | Module | What it has |
 //! |---|---|

@@ -1,4 +1,4 @@
--- Which bytes spell a command: how a command is written, word for word. A letter is its code: f is 102, l 108, m 109, p 112 and s 115.
+-- Which bytes spell a command: how a command is written, word for word.
 use Rattle.std.specs.Prelude.{ℕ, ◌<◌, ◌≡◌, List, [], ◌∷◌, length, codes, decimal, map}
 use Rattle.iox_command.specs.declared.command.Command.{Command}
 use Rattle.iox_command.specs.declared.command.Command.TheVariants as command
@@ -8,6 +8,7 @@ use Rattle.iox_command.specs.Patterns.{pattern_of}
 use Rattle.iox_command_text.specs.Words.{AllOf, AreWords, spaced}
 use Rattle.iox_command_text.specs.Numbers.{IsNumber, IfNumber, tag}
 use Rattle.iox_command_text.specs.Options.{AnyOrder}
+use Rattle.iox_command_text.specs.Letters.{factory_letter, loan_letter, publisher_letter, sample_letter, subscriber_letter}
 use Rattle.iox_line_services.specs.Services.{pattern_word, IsName, ServiceFits, Names}
 use Rattle.iox_line_attributes.specs.Attributes.{SpecifierFits, VerifierFits, Defines, Requires}
 use Rattle.iox_line_steps.specs.Steps.{StepFits, WritesSteps, WritesLists, ListsFit}
@@ -20,8 +21,8 @@ AreNumbers (n ∷ ns) = IsNumber n × AreNumbers ns
 
 -- how the number of a port is written
 abbrev pub port_word : PortNumber → List ℕ
-port_word (port.Publisher n) = tag 112 n
-port_word (port.Subscriber n) = tag 115 n
+port_word (port.Publisher n) = tag publisher_letter n
+port_word (port.Subscriber n) = tag subscriber_letter n
 
 -- the number of a port has 64 bits
 abbrev pub IsPort : PortNumber → Type 0
@@ -68,26 +69,26 @@ Writes (command.OpenOrCreate node name options requirements steps) words = (attr
     × Requires requirements attributed × WritesLists 0 steps listed × Names node name options attributed listed named × (words ≡ codes "open_or_create" ∷ named)
 Writes (command.Foreign pattern name steps) words = (stepped : List (List ℕ)) × WritesSteps steps stepped
     × (words ≡ codes "foreign" ∷ pattern_word pattern ∷ name ∷ stepped)
-Writes (command.Close factory) words = words ≡ codes "close" ∷ tag 102 factory ∷ []
-Writes (command.Loan publisher long) words = words ≡ codes "loan" ∷ tag 112 publisher ∷ decimal long ∷ []
-Writes (command.LoanUninit publisher long) words = words ≡ codes "loan_uninit" ∷ tag 112 publisher ∷ decimal long ∷ []
-Writes (command.Set loan place value) words = words ≡ codes "set" ∷ tag 108 loan ∷ decimal place ∷ decimal value ∷ []
-Writes (command.Fill loan values) words = words ≡ codes "fill" ∷ tag 108 loan ∷ map decimal values
-Writes (command.Drop loan) words = words ≡ codes "drop" ∷ tag 108 loan ∷ []
-Writes (command.Send loan) words = words ≡ codes "send" ∷ tag 108 loan ∷ []
-Writes (command.Put publisher values) words = words ≡ codes "put" ∷ tag 112 publisher ∷ map decimal values
-Writes (command.Retry publisher nanoseconds) words = words ≡ codes "retry" ∷ tag 112 publisher ∷ decimal nanoseconds ∷ []
-Writes (command.GiveUp publisher) words = words ≡ codes "giveup" ∷ tag 112 publisher ∷ []
-Writes (command.Receive subscriber) words = words ≡ codes "receive" ∷ tag 115 subscriber ∷ []
-Writes (command.Read sample) words = words ≡ codes "read" ∷ tag 109 sample ∷ []
-Writes (command.Release sample) words = words ≡ codes "release" ∷ tag 109 sample ∷ []
+Writes (command.Close factory) words = words ≡ codes "close" ∷ tag factory_letter factory ∷ []
+Writes (command.Loan publisher long) words = words ≡ codes "loan" ∷ tag publisher_letter publisher ∷ decimal long ∷ []
+Writes (command.LoanUninit publisher long) words = words ≡ codes "loan_uninit" ∷ tag publisher_letter publisher ∷ decimal long ∷ []
+Writes (command.Set loan place value) words = words ≡ codes "set" ∷ tag loan_letter loan ∷ decimal place ∷ decimal value ∷ []
+Writes (command.Fill loan values) words = words ≡ codes "fill" ∷ tag loan_letter loan ∷ map decimal values
+Writes (command.Drop loan) words = words ≡ codes "drop" ∷ tag loan_letter loan ∷ []
+Writes (command.Send loan) words = words ≡ codes "send" ∷ tag loan_letter loan ∷ []
+Writes (command.Put publisher values) words = words ≡ codes "put" ∷ tag publisher_letter publisher ∷ map decimal values
+Writes (command.Retry publisher nanoseconds) words = words ≡ codes "retry" ∷ tag publisher_letter publisher ∷ decimal nanoseconds ∷ []
+Writes (command.GiveUp publisher) words = words ≡ codes "giveup" ∷ tag publisher_letter publisher ∷ []
+Writes (command.Receive subscriber) words = words ≡ codes "receive" ∷ tag subscriber_letter subscriber ∷ []
+Writes (command.Read sample) words = words ≡ codes "read" ∷ tag sample_letter sample ∷ []
+Writes (command.Release sample) words = words ≡ codes "release" ∷ tag sample_letter sample ∷ []
 Writes (command.Update port) words = words ≡ codes "update" ∷ port_word port ∷ []
 Writes (command.Leave port) words = words ≡ codes "leave" ∷ port_word port ∷ []
-Writes (command.Has subscriber) words = words ≡ codes "has" ∷ tag 115 subscriber ∷ []
+Writes (command.Has subscriber) words = words ≡ codes "has" ∷ tag subscriber_letter subscriber ∷ []
 Writes (command.Publisher factory options) words = (chosen : List (List ℕ)) × AnyOrder chosen (publisher_words options)
-    × (words ≡ codes "publisher" ∷ tag 102 factory ∷ chosen)
+    × (words ≡ codes "publisher" ∷ tag factory_letter factory ∷ chosen)
 Writes (command.Subscriber factory options) words = (chosen : List (List ℕ)) × AnyOrder chosen (subscriber_words options)
-    × (words ≡ codes "subscriber" ∷ tag 102 factory ∷ chosen)
+    × (words ≡ codes "subscriber" ∷ tag factory_letter factory ∷ chosen)
 
 -- the line is the words of the command, with one space between each two
 pub record Spells (line : List ℕ) (c : Command ℕ) : Type 0 where

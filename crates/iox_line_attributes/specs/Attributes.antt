@@ -1,21 +1,22 @@
--- How attributes are written in a line. The sign @ is 64, and = is 61.
+-- How attributes are written in a line.
 use Rattle.std.specs.Prelude.{ℕ, ◌≤◌, ◌≡◌, Bool, true, not, List, ◌∷◌, ◌++◌, length, filter, map}
 use Rattle.iox_describe_base.specs.declared.attribute.Attribute.{Attribute}
 use Rattle.iox_describe_base.specs.Attributes.{Required}
 use Rattle.iox_command_text.specs.Words.{AllOf, lacks}
 use Rattle.iox_command_text.specs.Visible.{IsVisibleText}
+use Rattle.iox_command_text.specs.Letters.{at_sign, equals_sign}
 
 -- a pair: @KEY=VALUE
 abbrev pub pair_word : Attribute → List ℕ
-pair_word a = 64 ∷ (a.key ++ 61 ∷ a.value)
+pair_word a = at_sign ∷ (a.key ++ equals_sign ∷ a.value)
 
 -- a key alone: @KEY
 abbrev pub key_word : List ℕ → List ℕ
-key_word key = 64 ∷ key
+key_word key = at_sign ∷ key
 
 -- a key: 1 to 64 bytes of 0x21 to 0x7E, none of them =
 abbrev pub IsKey : List ℕ → Type 0
-IsKey key = IsVisibleText 1 64 key × (lacks 61 key ≡ true)
+IsKey key = IsVisibleText 1 64 key × (lacks equals_sign key ≡ true)
 
 -- a key, and a value of at most 256 bytes of 0x21 to 0x7E
 abbrev pub IsPair : Attribute → Type 0
@@ -31,7 +32,7 @@ VerifierFits r = (length r.pairs ≤ 8) × AllOf IsPair r.pairs × (length r.key
 
 -- whether there is a = in a word
 abbrev pub has_equals : List ℕ → Bool
-has_equals word = not (lacks 61 word)
+has_equals word = not (lacks equals_sign word)
 
 -- the words define these pairs, in their order
 abbrev pub Defines : List Attribute → List (List ℕ) → Type 0

@@ -15,6 +15,7 @@ use Rattle.iox_command_text.specs.Words.{choice, same, front, back}
 use Rattle.iox_command_text.specs.Visible.{is_visible_text}
 use Rattle.iox_command_text.specs.Numbers.{number_of, tagged}
 use Rattle.iox_command_text.specs.Options.{find, named, one}
+use Rattle.iox_command_text.specs.Letters.{at_sign, bar, node_letter}
 
 -- two values
 pub record Pair (X Y : Type 0) : Type 0 where
@@ -174,11 +175,11 @@ three_parts None kind name ws = None
 three_parts (Some node) None name ws = None
 three_parts (Some node) (Some kind) None ws = None
 three_parts (Some node) (Some kind) (Some name) ws =
-    option_map (λ o. named_service node name o (back 64 (front 124 ws)) (back 124 ws)) (options_of kind (front 64 (front 124 ws)))
+    option_map (λ o. named_service node name o (back at_sign (front bar ws)) (back bar ws)) (options_of kind (front at_sign (front bar ws)))
 
 -- the service that words name
 abbrev pub service_of : List (List ℕ) → Option NamedService
 service_of [] = None
 service_of (w ∷ []) = None
 service_of (w ∷ v ∷ []) = None
-service_of (w ∷ v ∷ u ∷ ws) = three_parts (tagged 110 w) (pattern_named v) (name_of u) ws
+service_of (w ∷ v ∷ u ∷ ws) = three_parts (tagged node_letter w) (pattern_named v) (name_of u) ws

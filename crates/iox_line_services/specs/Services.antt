@@ -1,4 +1,4 @@
--- How a service is named in a line: by its node, its pattern, its name and its options. The letter n is 110.
+-- How a service is named in a line: by its node, its pattern, its name and its options.
 use Rattle.std.specs.Prelude.{ℕ, ◌≡◌, Bool, true, false, List, [], ◌∷◌, ◌++◌, Option, None, Some, codes, decimal}
 use Rattle.std.specs.Option.{option_map}
 use Rattle.iox_describe_base.specs.declared.pattern.MessagingPattern.{MessagingPattern}
@@ -14,6 +14,7 @@ use Rattle.iox_command.specs.Patterns.{pattern_of}
 use Rattle.iox_command_text.specs.Numbers.{IsNumber, IfNumber, tag}
 use Rattle.iox_command_text.specs.Visible.{IsVisibleText}
 use Rattle.iox_command_text.specs.Options.{AnyOrder, option_words}
+use Rattle.iox_command_text.specs.Letters.{node_letter}
 
 -- how a pattern is written
 abbrev pub pattern_word : MessagingPattern → List ℕ
@@ -108,4 +109,4 @@ ServiceFits (options.RequestResponse o) = RequestResponseFits o
 -- the words name the service: its node, its pattern, its name, its options in any order, and then words for attributes and for lists of steps
 abbrev pub Names : ℕ → List ℕ → ServiceOptions → List (List ℕ) → List (List ℕ) → List (List ℕ) → Type 0
 Names node name options attributes lists words = (chosen : List (List ℕ)) × AnyOrder chosen (service_words options)
-    × (words ≡ tag 110 node ∷ pattern_word (pattern_of options) ∷ name ∷ (chosen ++ (attributes ++ lists)))
+    × (words ≡ tag node_letter node ∷ pattern_word (pattern_of options) ∷ name ∷ (chosen ++ (attributes ++ lists)))

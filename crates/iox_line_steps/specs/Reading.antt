@@ -10,6 +10,7 @@ use Rattle.iox_command_text.specs.Words.{before, beyond, pieces_left, choice}
 use Rattle.iox_command_text.specs.Numbers.{number_of, tagged}
 use Rattle.iox_command_text.specs.Options.{after}
 use Rattle.iox_command_text.specs.Memory.{prepend}
+use Rattle.iox_command_text.specs.Letters.{bar, colon, comma, foreign_letter}
 use Rattle.iox_line_services.specs.Reading.{options_of}
 use Rattle.iox_line_steps.specs.declared.step.StepVerb.{StepVerb}
 use Rattle.iox_line_steps.specs.declared.step.StepVerb.TheVariants as verb
@@ -40,12 +41,12 @@ published (Some node) (Some options) = Some (step.Publish node options)
 
 -- the step of a verb and what stands after its colon
 abbrev pub step_at : MessagingPattern → StepVerb → List ℕ → Option ForeignStep
-step_at pattern verb.Lock text = option_map (λ n. step.Lock n) (tagged 120 text)
-step_at pattern verb.GiveUp text = option_map (λ n. step.GiveUp n) (tagged 120 text)
-step_at pattern verb.Publish text = published (tagged 120 (before 58 text)) (options_of pattern (pieces_left 44 (beyond 58 text)))
-step_at pattern verb.Register text = option_map (λ n. step.Register n) (tagged 120 text)
-step_at pattern verb.Leave text = option_map (λ n. step.Leave n) (tagged 120 text)
-step_at pattern verb.Remove text = option_map (λ n. step.Remove n) (tagged 120 text)
+step_at pattern verb.Lock text = option_map (λ n. step.Lock n) (tagged foreign_letter text)
+step_at pattern verb.GiveUp text = option_map (λ n. step.GiveUp n) (tagged foreign_letter text)
+step_at pattern verb.Publish text = published (tagged foreign_letter (before colon text)) (options_of pattern (pieces_left comma (beyond colon text)))
+step_at pattern verb.Register text = option_map (λ n. step.Register n) (tagged foreign_letter text)
+step_at pattern verb.Leave text = option_map (λ n. step.Leave n) (tagged foreign_letter text)
+step_at pattern verb.Remove text = option_map (λ n. step.Remove n) (tagged foreign_letter text)
 
 -- the same, if there is a verb and a colon
 abbrev pub step_with : MessagingPattern → Option StepVerb → Option (List ℕ) → Option ForeignStep
@@ -55,7 +56,7 @@ step_with pattern (Some v) (Some text) = step_at pattern v text
 
 -- the step that a word is
 abbrev pub step_of : MessagingPattern → List ℕ → Option ForeignStep
-step_of pattern word = step_with pattern (step_verb_of (before 58 word)) (beyond 58 word)
+step_of pattern word = step_with pattern (step_verb_of (before colon word)) (beyond colon word)
 
 -- the steps that words are
 abbrev pub each_step : MessagingPattern → List (List ℕ) → Option (List ForeignStep)
@@ -97,7 +98,7 @@ bar_or_step (Some text) bar step = bar text
 -- the steps that words are, after the list of access `now` has begun; `fresh`, if it has no step yet
 abbrev pub lists_from : MessagingPattern → ℕ → Bool → List (List ℕ) → Option (List StepBefore)
 lists_from pattern now fresh [] = if fresh then None else Some []
-lists_from pattern now fresh (w ∷ ws) = bar_or_step (after (124 ∷ []) w) (λ text. and_then (next_access fresh now text) (λ i. lists_from pattern i true ws))
+lists_from pattern now fresh (w ∷ ws) = bar_or_step (after (bar ∷ []) w) (λ text. and_then (next_access fresh now text) (λ i. lists_from pattern i true ws))
     (prepend (listed_step pattern now w) (lists_from pattern now false ws))
 
 -- the lists of steps that words are

@@ -1,4 +1,4 @@
--- How steps of foreign processes are written in a line. A bar is 124, a colon 58, a comma 44 and the letter x 120.
+-- How steps of foreign processes are written in a line.
 use Rattle.std.specs.Prelude.{ℕ, ◌≡◌, ◌≤◌, ◌==◌, List, [], ◌∷◌, ◌++◌, codes, decimal, if◌then◌else◌}
 use Rattle.iox_describe_base.specs.declared.pattern.MessagingPattern.{MessagingPattern}
 use Rattle.iox_command.specs.declared.step.ForeignStep.{ForeignStep}
@@ -8,22 +8,23 @@ use Rattle.iox_command.specs.Patterns.{pattern_of}
 use Rattle.iox_command_text.specs.Words.{joined}
 use Rattle.iox_command_text.specs.Numbers.{IsNumber, tag}
 use Rattle.iox_command_text.specs.Options.{AnyOrder}
+use Rattle.iox_command_text.specs.Letters.{bar, colon, comma, foreign_letter}
 use Rattle.iox_line_services.specs.Services.{service_words, ServiceFits}
 
 -- options after a colon, with a comma between each two; nothing where there are none
 abbrev pub option_tail : List (List ℕ) → List ℕ
 option_tail [] = []
-option_tail (w ∷ ws) = 58 ∷ joined 44 (w ∷ ws)
+option_tail (w ∷ ws) = colon ∷ joined comma (w ∷ ws)
 
 -- the word writes the step: its verb, a colon, an x and the number of its node; to publish also options, in any order
 abbrev pub WritesStep : ForeignStep → List ℕ → Type 0
-WritesStep (step.Lock node) word = word ≡ codes "lock:" ++ tag 120 node
-WritesStep (step.GiveUp node) word = word ≡ codes "giveup:" ++ tag 120 node
+WritesStep (step.Lock node) word = word ≡ codes "lock:" ++ tag foreign_letter node
+WritesStep (step.GiveUp node) word = word ≡ codes "giveup:" ++ tag foreign_letter node
 WritesStep (step.Publish node options) word = (chosen : List (List ℕ)) × AnyOrder chosen (service_words options)
-    × (word ≡ codes "publish:" ++ (tag 120 node ++ option_tail chosen))
-WritesStep (step.Register node) word = word ≡ codes "register:" ++ tag 120 node
-WritesStep (step.Leave node) word = word ≡ codes "leave:" ++ tag 120 node
-WritesStep (step.Remove node) word = word ≡ codes "remove:" ++ tag 120 node
+    × (word ≡ codes "publish:" ++ (tag foreign_letter node ++ option_tail chosen))
+WritesStep (step.Register node) word = word ≡ codes "register:" ++ tag foreign_letter node
+WritesStep (step.Leave node) word = word ≡ codes "leave:" ++ tag foreign_letter node
+WritesStep (step.Remove node) word = word ≡ codes "remove:" ++ tag foreign_letter node
 
 -- the numbers have 64 bits, and what is published is of the pattern
 abbrev pub StepFits : MessagingPattern → ForeignStep → Type 0
@@ -41,7 +42,7 @@ WritesSteps (s ∷ ss) words = (w : List ℕ) × (ws : List (List ℕ)) × Write
 
 -- what begins the list of an access, where the list that stands is that of another: a bar and the number
 abbrev pub beginning : ℕ → ℕ → List (List ℕ)
-beginning now access = if access == now then [] else (124 ∷ decimal access) ∷ []
+beginning now access = if access == now then [] else (bar ∷ decimal access) ∷ []
 
 -- the words write lists of steps: the steps in their order, and each list begins before its first step; the list of access `now` has begun
 abbrev pub WritesLists : ℕ → List StepBefore → List (List ℕ) → Type 0
