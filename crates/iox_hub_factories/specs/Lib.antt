@@ -8,3 +8,5 @@ pub mod Either
 pub mod Closing
 pub mod Foreign
 pub mod FactoryLaws
+pub mod Hub
+pub mod Requests

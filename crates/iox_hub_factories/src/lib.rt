@@ -34,4 +34,5 @@ pub mod opening;
 pub use acting::foreign;
 pub use asked::ServiceAsked;
 pub use factories::Factories;
+pub use iox_hub_base;
 pub use made::MadeFactory;

@@ -8,7 +8,7 @@ use Rattle.std.specs.declared.cmp.Ordering.{Ordering}
 use Rattle.std.specs.declared.cmp.Ordering.TheVariants.{Less, Equal, Greater}
 use Rattle.iox_describe_settings.specs.Agreement.{Agreement}
 use Rattle.iox_describe_settings.specs.declared.static_config.publish_subscribe.StaticConfig.{StaticConfig}
-use Rattle.iox_hub_base.specs.Services.{is_number, Presence}
+use Rattle.iox_hub_factories.specs.Hub.{is_number, Presence}
 use Rattle.iox_hub_factories.specs.Tables.{FactoryTable, parts_of}
 use Rattle.iox_hub_factories.specs.declared.made.MadeFactory.{MadeFactory}
 use Rattle.iox_negotiate_laws.proofs.Maps.{Among, among-all}

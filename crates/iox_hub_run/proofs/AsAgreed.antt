@@ -4,7 +4,7 @@ use Rattle.std.specs.List.{All}
 use Rattle.iox_domain_laws.proofs.Sized.{sizes_agree}
 use Rattle.iox_domain_laws.specs.SizeLaws.{IsMadeFor, allowed_by}
 use Rattle.iox_domain_settings.specs.Sizes.{sizes}
-use Rattle.iox_hub_base.specs.Services.{Presence, Here, Out}
+use Rattle.iox_hub_factories.specs.Hub.{Presence, Here, Out}
 use Rattle.iox_hub_run.specs.Grown.{AnySlots, AnyAction, AnyDecision, HasGrown, HaveGrown, IsAsAgreed, AreAsAgreed}
 
 module _ {T U B D : Type 0} where

@@ -22,10 +22,10 @@ use Rattle.iox_describe_settings.specs.Agreement.{Agreement, AreWithinLimits}
 use Rattle.iox_describe_settings.specs.declared.static_config.Settings.{Settings}
 use Rattle.iox_describe_settings.specs.declared.static_config.Settings.TheVariants.{PublishSubscribe}
 use Rattle.iox_describe_settings.specs.declared.static_config.publish_subscribe.StaticConfig.{StaticConfig}
-use Rattle.iox_hub_base.specs.Closing.{is_last, less_one}
-use Rattle.iox_hub_base.specs.Opening.{Made, Enters, Settles, OpensInHub}
-use Rattle.iox_hub_base.specs.declared.hub.Hub.{Hub}
-use Rattle.iox_hub_base.specs.Services.{OpenServices, Opens as ServiceOpens, Presence, Here}
+use Rattle.iox_hub_factories.specs.Hub.{is_last, less_one}
+use Rattle.iox_hub_factories.specs.Hub.{Made, Enters, Settles, OpensInHub}
+use Rattle.iox_hub_factories.specs.Hub.{Hub}
+use Rattle.iox_hub_factories.specs.Hub.{OpenServices, Opens as ServiceOpens, Presence, Here}
 use Rattle.iox_hub_factories.specs.Closing.{ClosesUnless, ClosesIfOf, ClosesNumbered}
 use Rattle.iox_hub_factories.specs.Creating.{CreatesAgreed, CreatesAs, CreatesPrepared, CreatesNumbered}
 use Rattle.iox_hub_factories.specs.Either.{EitherJudged, EitherAs, EitherPrepared, EitherNumbered}

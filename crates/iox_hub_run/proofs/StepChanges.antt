@@ -19,7 +19,7 @@ use Rattle.iox_domain_values.specs.declared.backpressure_strategy.BackpressureSt
 use Rattle.iox_domain_values.specs.declared.degradation.DegradationAction.{DegradationAction}
 use Rattle.iox_domain_values.specs.declared.degradation.DegradationCause.{DegradationCause}
 use Rattle.iox_domain_values.specs.declared.degradation.DegradationInfo.{DegradationInfo}
-use Rattle.iox_hub_base.specs.Opening.{Made as Opened}
+use Rattle.iox_hub_factories.specs.Hub.{Made as Opened}
 use Rattle.iox_hub_commands.specs.Following.{LeaveStep}
 use Rattle.iox_hub_commands.specs.Lending.{LoanStep, LoanUninitStep}
 use Rattle.iox_hub_commands.specs.Receiving.{ReceiveStep}

@@ -15,13 +15,13 @@ use Rattle.iox_domain_values.specs.declared.backpressure_strategy.BackpressureSt
 use Rattle.iox_domain_values.specs.declared.degradation.DegradationAction.{DegradationAction}
 use Rattle.iox_domain_values.specs.declared.degradation.DegradationCause.{DegradationCause}
 use Rattle.iox_domain_values.specs.declared.degradation.DegradationInfo.{DegradationInfo}
-use Rattle.iox_hub_base.specs.Opening.{Made as Opened}
+use Rattle.iox_hub_factories.specs.Hub.{Made as Opened}
 use Rattle.iox_hub_commands.specs.Naming.{publisher_config, publisher_handlers, subscriber_config, subscriber_handler}
 use Rattle.iox_hub_run.specs.Services.{PublisherComes, SubscriberComes, domain_of_factory, owner_of_factory}
 use Rattle.iox_hub_run.specs.Steps.{IsReplied, Step, publisher_may_degrade, publisher_may_decide, subscriber_may_degrade}
 use Rattle.iox_hub_run.specs.declared.numbered_hub.NumberedHub.{NumberedHub}
 use Rattle.iox_hub_factories.specs.Tables.{FactoryTable}
-use Rattle.iox_hub_base.specs.declared.hub.Hub.{Hub}
+use Rattle.iox_hub_factories.specs.Hub.{Hub}
 use Rattle.iox_negotiate_laws.proofs.Agreements.{no-past}
 use Rattle.iox_hub_run.specs.Agreements.{AreOfOneAgreement}
 use Rattle.iox_hub_run.proofs.Agreeing.{same_factories, same_agreed}

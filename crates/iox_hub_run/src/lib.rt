@@ -21,7 +21,7 @@ pub mod run;
 mod services;
 mod step;
 
-pub use iox_hub_base;
 pub use iox_hub_commands::{FixedDegradation, FixedHandlers};
+pub use iox_hub_factories::iox_hub_base;
 pub use numbered_hub::NumberedHub;
 pub use run::RunReport;

@@ -2,7 +2,7 @@
 ghost use Rattle.std.specs.Prelude.{◌+◌, ◌<◌, ◌≤◌, ◌^◌, length};
 ghost use Rattle.iox_describe_base.specs.Detail.{detail};
 ghost use Rattle.iox_describe_base.specs.declared.type_detail.TypeVariant.TheVariants.{FixedSize};
-ghost use Rattle.iox_hub_requests.specs.Asked.{types_of};
+ghost use Rattle.iox_hub_factories.specs.Requests.{types_of};
 ghost use Rattle.iox_hub_run.specs.Agreements.{AreOfOneAgreement};
 ghost use Rattle.iox_hub_run.specs.Grown.{GrowsOn, HaveGrown, AreAsAgreed};
 ghost use Rattle.iox_hub_run.specs.Lives.{NumbersGoOn};

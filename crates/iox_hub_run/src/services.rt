@@ -2,7 +2,7 @@
 ghost use Rattle.std.specs.Prelude.{◌≡◌, ◌+◌, ◌<◌, ◌^◌, option_map};
 ghost use Rattle.iox_describe_base.specs.Detail.{detail};
 ghost use Rattle.iox_describe_base.specs.declared.type_detail.TypeVariant.TheVariants.{FixedSize};
-ghost use Rattle.iox_hub_requests.specs.Asked.{types_of};
+ghost use Rattle.iox_hub_factories.specs.Requests.{types_of};
 ghost use Rattle.iox_hub_run.specs.Services.{NodeMakes, Creates, Opens, OpensOrCreates, Acts, Closes, MakesPublisher, MakesSubscriber, domain_of_factory, owner_of_factory};
 ghost use Rattle.iox_hub_factories.specs.Tables.{publish_subscribe_in};
 ghost use Rattle.iox_numbered.specs.NumberTable.{value_at};

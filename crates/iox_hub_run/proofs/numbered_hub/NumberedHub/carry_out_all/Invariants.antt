@@ -2,7 +2,7 @@ use Rattle.std.proofs.Common.{◌≡◌, ◌+◌, ◌≤◌, ◌++◌, length, v
 use Rattle.std.specs.Vec.Iter.{into_iter_items, into_iter_len}
 use Rattle.iox_describe_base.specs.Detail.{detail}
 use Rattle.iox_describe_base.specs.declared.type_detail.TypeVariant.TheVariants.{FixedSize}
-use Rattle.iox_hub_requests.specs.Asked.{types_of}
+use Rattle.iox_hub_factories.specs.Requests.{types_of}
 use Rattle.iox_hub_run.specs.Numbers.{numbers_used}
 use Rattle.iox_hub_run.specs.Runs.{Runs}
 use Rattle.iox_hub_run.specs.Steps.{Step}
