@@ -1,6 +1,7 @@
 -- Each command on services leaves each service of one agreement, where each was.
 use Rattle.std.proofs.Common.{◌≡◌, ◌∙◌, ◌⊎◌, ⊎_elim, ℕ, Bool, true, false, List, [], ◌∷◌, Option, None, Some, Result, Ok, Err, refl, sym, ap, subst, inl, inr, if◌then◌else◌, nat_eq}
 use Rattle.std.specs.BTreeMap.{is_at}
+use Rattle.std.specs.List.{AllByRecursion}
 use Rattle.std.specs.Map.{remove_entry}
 use Rattle.std.specs.Ordering.{nat_cmp}
 use Rattle.std.specs.Result.{result_map_both}
@@ -55,7 +56,7 @@ use Rattle.iox_negotiate_rounds.specs.declared.failure.CreateFailure.{CreateFail
 use Rattle.iox_negotiate_rounds.specs.declared.failure.OpenFailure.{OpenFailure}
 use Rattle.iox_negotiate_rounds.specs.declared.failure.OpenOrCreateFailure.{OpenOrCreateFailure}
 use Rattle.iox_negotiate_rounds.specs.declared.request.Opened.{Opened}
-use Rattle.iox_negotiate_table.specs.Contents.{Contents}
+use Rattle.iox_negotiate_table.specs.Contents.{Contents, empty_table}
 use Rattle.iox_negotiate_table.specs.Stepped.{Steps, SteppedSight}
 use Rattle.iox_negotiate_table.specs.declared.step.ForeignStep.{ForeignStep}
 use Rattle.iox_numbered.specs.NumberTable.{inserted, removed}
@@ -423,3 +424,11 @@ module _ {T U B D : Type 0} where
   foreign_agrees pattern name types steps table after old new answer (inl ((happened, acts, told), is)) same =
       kept_agrees table after old new (acts-ran _ _ old.table new.table happened acts) (same_factories table after (ap (λ t. t.entries) same)) (same_agreed old.services.domains new.services.domains (ap (λ hub. hub.services.domains) is))
   foreign_agrees pattern name types steps table after old new answer (inr (some, is_answer, is)) same = same_agrees table after old new (ap (λ t. t.entries) same) is
+
+  -- where there is neither factory nor domain, and nothing happened to the table
+  pub nothing_agrees : (table : FactoryTable) (hub : Hub T U B D) (id : ℕ) → table.entries ≡ [] → hub.services.domains ≡ [] → hub.table ≡ empty_table id → AreOfOneAgreement table hub
+  nothing_agrees table hub id no_factory no_domain is = record {
+    is_reached = record { id = id; events = []; ran = is };
+    of_factories = subst (λ entries. AllByRecursion (λ factory. IsAgreement (parts_of factory.1).0.service.number (parts_of factory.1).0.service.description table hub) entries) (sym no_factory) tt;
+    of_domains = subst (λ domains. AllByRecursion (λ service. (agreed : Agreement) × IsAgreement service.0 agreed table hub × (agreed.settings ≡ PublishSubscribe (agreed_in service.1))) domains) (sym no_domain) tt;
+  }
