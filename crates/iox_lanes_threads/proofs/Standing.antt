@@ -32,7 +32,7 @@ use Rattle.iox_lanes_threads_rule.specs.declared.service.SlotRange.{SlotRange}
 use Rattle.iox_lanes_threads_rule.specs.declared.view.Port.{Port}
 use Rattle.iox_lanes_threads_rule.specs.declared.view.PortParty.{PortParty}
 use Rattle.iox_lanes_threads_rule.specs.declared.view.PortParty.TheVariants as party
-use Rattle.iox_lanes_threads_ports.specs.Ports.{sender_of, receiver_of, IsEnd, PublisherKnows, SubscriberKnows, PublisherStands, SubscriberStands}
+use Rattle.iox_lanes_threads_ports.specs.Ports.{sender_of, receiver_of, EachOnce, IsEnd, PublisherKnows, SubscriberKnows, PublisherStands, SubscriberStands}
 use Rattle.iox_lanes_threads.specs.Opening.{line_of, range_of, service_of, opened, publishers_from, subscribers_from, ports_of, Fitting}
 use Rattle.iox_lanes_threads.specs.Standing.{PublishersStand, SubscribersStand}
 use Rattle.iox_lanes_threads.proofs.Lists.{none_there, in_either, mapped_is, mapped_at}
@@ -43,6 +43,10 @@ pub record Sound (m : World) : Type 0 where
   pub rows : SlotsInRows m
   pub named : SlotsNamed m
   pub near : (connection : ℕ) → PositionsNear m connection (positions_of m.table connection)
+
+-- and of their publishers: each has each of its connections once
+abbrev pub Apart : World → Type 0
+Apart m = (who : ℕ) (lane : PublisherLaneState) → slice_get m.publishers who ≡ Some lane → EachOnce lane.port.routes
 
 -- a port at its number that knows each word
 record IsOpened (m : World) (at : ℕ) (p : Port) : Type 0 where
@@ -155,14 +159,15 @@ module _ (m : World) (k : Sound m) where
   idle_subscriber p (subscribing.Releasing place route push) h = absurd (cc h)
   idle_subscriber p (subscribing.Released done) h = absurd (cc h)
 
-  pub publisher_stands : (place : ℕ) (lane : PublisherLaneState) → slice_get m.publishers place ≡ Some lane → publisher_is_idle lane.port.call ≡ true → PublisherStands (opened m place (Publisher place) (party.Publisher lane)) lane
-  publisher_stands place lane found idle = record {
+  pub publisher_stands : Apart m → (place : ℕ) (lane : PublisherLaneState) → slice_get m.publishers place ≡ Some lane → publisher_is_idle lane.port.call ≡ true → PublisherStands (opened m place (Publisher place) (party.Publisher lane)) lane
+  publisher_stands apart place lane found idle = record {
     place = place;
     range = range_of lane;
     name = refl;
     wide = k.within.words;
     within = all_at (IsPublisher m.table.sizes) m.publishers place lane found k.within.publishers;
     routes = All-weaker (IsLinkOf m.links sender place) (IsEnd (service_of m) sender_of (Publisher place)) (sending_end place) lane.port.routes (k.within.senders place lane found);
+    once = apart place lane found;
     found = mapped_at range_of m.publishers place lane found;
     first = refl;
     count = refl;
@@ -193,13 +198,13 @@ IdlePublisher lane = publisher_is_idle lane.port.call ≡ true
 abbrev IdleSubscriber : SubscriberLaneState → Type 0
 IdleSubscriber lane = subscriber_is_idle lane.port.call ≡ true
 
-pub publishers_stand : (m : World) → Sound m → (lanes : List PublisherLaneState) (place : ℕ) → ((i : ℕ) (lane : PublisherLaneState) → slice_get lanes i ≡ Some lane → slice_get m.publishers (place + i) ≡ Some lane)
+pub publishers_stand : (m : World) → Sound m → Apart m → (lanes : List PublisherLaneState) (place : ℕ) → ((i : ℕ) (lane : PublisherLaneState) → slice_get lanes i ≡ Some lane → slice_get m.publishers (place + i) ≡ Some lane)
     → All IdlePublisher lanes → PublishersStand m place lanes
-publishers_stand m k [] place there idle = tt
-publishers_stand m k (lane ∷ lanes) place there idle =
+publishers_stand m k apart [] place there idle = tt
+publishers_stand m k apart (lane ∷ lanes) place there idle =
     let here : place ≡ place + 0 = omega arith in (
-      publisher_stands m k place lane (ap (slice_get m.publishers) here ∙ there 0 lane refl) (All-head IdlePublisher lane lanes idle),
-      publishers_stand m k lanes (place + 1) (λ i x e. let next : place + 1 + i ≡ place + suc i = omega arith in ap (slice_get m.publishers) next ∙ there (suc i) x e) (All-tail IdlePublisher lane lanes idle),
+      publisher_stands m k apart place lane (ap (slice_get m.publishers) here ∙ there 0 lane refl) (All-head IdlePublisher lane lanes idle),
+      publishers_stand m k apart lanes (place + 1) (λ i x e. let next : place + 1 + i ≡ place + suc i = omega arith in ap (slice_get m.publishers) next ∙ there (suc i) x e) (All-tail IdlePublisher lane lanes idle),
     )
 
 pub subscribers_stand : (m : World) → Sound m → (lanes : List SubscriberLaneState) (place : ℕ) → ((i : ℕ) (lane : SubscriberLaneState) → slice_get lanes i ≡ Some lane → slice_get m.subscribers (place + i) ≡ Some lane)
@@ -212,9 +217,9 @@ subscribers_stand m k (lane ∷ lanes) place there idle =
     )
 
 -- those of lanes between calls, as they are handed in
-pub all_publishers_stand : (m seen : World) (lanes : List PublisherLaneState) → Sound m → All IdlePublisher m.publishers → seen ≡ m → lanes ≡ m.publishers → (lanes ≡ seen.publishers) × PublishersStand seen 0 lanes
-all_publishers_stand m seen lanes k idle same are =
-    let stand : PublishersStand m 0 m.publishers = publishers_stand m k m.publishers 0 (λ i lane e. let here : 0 + i ≡ i = omega arith in ap (slice_get m.publishers) here ∙ e) idle in
+pub all_publishers_stand : (m seen : World) (lanes : List PublisherLaneState) → Sound m → Apart m → All IdlePublisher m.publishers → seen ≡ m → lanes ≡ m.publishers → (lanes ≡ seen.publishers) × PublishersStand seen 0 lanes
+all_publishers_stand m seen lanes k apart idle same are =
+    let stand : PublishersStand m 0 m.publishers = publishers_stand m k apart m.publishers 0 (λ i lane e. let here : 0 + i ≡ i = omega arith in ap (slice_get m.publishers) here ∙ e) idle in
     subst (λ (z : World × List PublisherLaneState). (z.1 ≡ z.0.publishers) × PublishersStand z.0 0 z.1) (λ i. (sym same i, sym are i)) (refl, stand)
 
 pub all_subscribers_stand : (m seen : World) (lanes : List SubscriberLaneState) → Sound m → All IdleSubscriber m.subscribers → seen ≡ m → lanes ≡ m.subscribers → (lanes ≡ seen.subscribers) × SubscribersStand seen 0 lanes

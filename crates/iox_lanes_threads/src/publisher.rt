@@ -1,14 +1,14 @@
 //! A publisher with its share of the words.
-ghost use Rattle.std.specs.Prelude.{◌≡◌, Option, true, is_some};
+ghost use Rattle.std.specs.Prelude.{◌≡◌, true, is_some};
 ghost use Rattle.iox_lanes_parties.specs.Parties.{head_of};
 ghost use Rattle.iox_lanes_threads_ports.specs.Known.{KeepsPayload, KnowsHead, KnowsPayload};
-ghost use Rattle.iox_lanes_threads_ports.specs.Values.{lent_of, sent_of, Publishes, Writes};
+ghost use Rattle.iox_lanes_threads_ports.specs.Values.{Loans, Sends, Writes};
 ghost use Rattle.iox_lanes_threads.specs.Ports.{StaysPublisher};
 
 use crate::table::Share;
 use crate::threads::OnBoard;
 use iox_lanes_calls::Delivery;
-use iox_lanes_parties::{Answer, Call, Move, PublisherLane};
+use iox_lanes_parties::PublisherLane;
 use iox_lanes_publisher::LoanAnswer;
 use iox_lanes_threads_ports::ThreadedPublisher;
 use std::marker::Model;
@@ -58,20 +58,21 @@ impl LanePublisher {
         self.place
     }
 
-    /// Asks for a slot to be written. None where the port stands inside a call, or took back more samples than its connections have room for, which no lanes
-    /// come to: then it stays inside this one.
+    /// Asks for a slot to be written. It ends after at most as many steps as its connections need to give back all that they have room for, and one more sample each.
+    /// None where the port stands inside a call, or where one connection gave back more samples during this call than its ring of samples given back has cells, which
+    /// no lanes come to: then it stays inside this one.
     pub fn loan_uninit(&mut self) -> Option<LoanAnswer>
         ensures same { StaysPublisher self.old self.new }
-        ensures call { (given : Option Answer) × Publishes self.old.own (Move.Begin Call.LoanUninit) self.new.own given × (result ≡ lent_of given) }
+        ensures call { Loans self.old.own self.new.own result }
     {
         self.port.loan_uninit(self.words.words())
     }
 
     /// Writes the words of a payload into the slot of a loan, and keeps those of a user header for its send. False where the slot is no loan of this port, or the
-    /// words are not as many as a payload and a user header have.
+    /// words are not as many as a payload and a user header have, or the port stands inside a call; then nothing is done.
     pub fn write(&mut self, loan: u64, payload: &[u64], user_header: &[u64]) -> bool
         ensures same { StaysPublisher self.old self.new }
-        ensures call { (given : Option Answer) × Writes self.old.own loan payload.now user_header.now self.new.own given × (result ≡ is_some given) }
+        ensures call { Writes self.old.own loan payload.now user_header.now self.new.own result }
         ensures payload { result ≡ true → KnowsPayload self.new.own.port loan payload.now }
     {
         self.port
@@ -81,7 +82,7 @@ impl LanePublisher {
     /// Sends a loan that is written, and tells how many connections took it. None where the slot is no such loan of this port, or as of a loan.
     pub fn send(&mut self, loan: u64) -> Option<Delivery>
         ensures same { StaysPublisher self.old self.new }
-        ensures call { (given : Option Answer) × Publishes self.old.own (Move.Begin (Call.Send loan)) self.new.own given × (result ≡ sent_of given) }
+        ensures call { Sends self.old.own loan self.new.own result }
         ensures slot { is_some result ≡ true → KnowsHead self.new.own.port loan (head_of loan self.old.own.lane) × KeepsPayload self.old.own.port self.new.own.port loan }
     {
         self.port.send(self.words.words(), loan)

@@ -209,6 +209,7 @@ impl Room {
         ensures { OpenedAs board lanes result }
     {
         lanes.are_of_one_service();
+        lanes.finished();
         let Room {
             of,
             words,

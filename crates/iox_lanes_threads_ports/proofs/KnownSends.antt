@@ -28,9 +28,11 @@ use Rattle.iox_lanes_calls.specs.declared.publisher.PublisherCall.{PublisherCall
 use Rattle.iox_lanes_calls.specs.declared.publisher.PublisherCall.TheVariants as publishing
 use Rattle.iox_lanes_calls.specs.declared.route.Route.{Route}
 use Rattle.iox_lanes_publisher.specs.Publishers.{words_of as call_words}
-use Rattle.iox_lanes_parties.specs.Parties.{PublisherLaneState, publisher_fits, publisher_after, head_of}
+use Rattle.iox_lanes_publisher.specs.declared.slot_book.LoanAnswer.{LoanAnswer}
+use Rattle.iox_lanes_parties.specs.Parties.{PublisherLaneState, publisher_fits, publisher_begun, publisher_after, publisher_answer, head_of}
 use Rattle.iox_lanes_parties.specs.Within.{IsPublishing}
 use Rattle.iox_lanes_parties.specs.declared.call.Answer.{Answer}
+use Rattle.iox_lanes_parties.specs.declared.call.Answer.TheVariants as answer
 use Rattle.iox_lanes_parties.specs.declared.call.Call.TheVariants as call
 use Rattle.iox_lanes_parties.specs.declared.call.Move.TheVariants.{Begin}
 use Rattle.iox_lanes_parties.specs.declared.call.Party.{Party}
@@ -42,11 +44,13 @@ use Rattle.iox_lanes_threads_rule.specs.declared.service.Service.{Service}
 use Rattle.iox_lanes_threads_rule.specs.declared.view.Port.{Port}
 use Rattle.iox_lanes_threads_rule.specs.declared.view.PortParty.{PortParty}
 use Rattle.iox_lanes_threads_rule.proofs.Held.{word_at, at_other}
-use Rattle.iox_lanes_threads_ports.specs.Courses.{publisher_party, publisher_stepped, PublisherRuns}
+use Rattle.iox_lanes_threads_ports.specs.Courses.{publisher_party, publisher_stepped}
+use Rattle.iox_lanes_threads_ports.specs.Paces.{send_steps, PublisherEnds}
 use Rattle.iox_lanes_threads_ports.specs.Ends.{knows}
 use Rattle.iox_lanes_threads_ports.specs.Known.{payload_word, KnowsHead, KeepsPayload}
 use Rattle.iox_lanes_threads_ports.specs.Ports.{PublisherStands}
-use Rattle.iox_lanes_threads_ports.specs.Values.{publisher_begins, PublisherDoes, sent_of}
+use Rattle.iox_lanes_threads_ports.specs.Values as calls
+use Rattle.iox_lanes_threads_ports.specs.Values.{PublisherPort, PublisherDoes, sent_of}
 use Rattle.iox_lanes_threads_ports.proofs.PublisherSteps as publishers
 use Rattle.iox_lanes_threads_ports.proofs.KnownWrites.{publisher_along, none_past, some_value}
 use Rattle.iox_lanes_threads_ports.proofs.Running.{publisher_begun_stands}
@@ -233,13 +237,26 @@ over_known p slot head q (publishing.Pushing s place route push delivery) h over
 over_known p slot head q (publishing.Sent s delivery) h over = h
 over_known p slot head q (publishing.Dropping s) h over = absurd h
 
+over_answer : (p : Port) (slot : ℕ) (head : List ℕ) (q : Port) (c : PublisherCall) (loan : Option LoanAnswer) (a : Answer) → InSend p slot head q c → publisher_is_over c ≡ true → publisher_answer c loan ≡ Some a → (delivery : Delivery) × (a ≡ answer.Sent delivery)
+over_answer p slot head q publishing.Idle loan a h over e = absurd (cc e)
+over_answer p slot head q (publishing.LoanReclaims place route pop) loan a h over e = absurd h
+over_answer p slot head q publishing.Lending loan a h over e = absurd h
+over_answer p slot head q (publishing.Writing s w v) loan a h over e = absurd h
+over_answer p slot head q (publishing.Written s) loan a h over e = absurd h
+over_answer p slot head q (publishing.Heading s w v) loan a h over e = absurd (cc over)
+over_answer p slot head q (publishing.Remembering s) loan a h over e = absurd (cc over)
+over_answer p slot head q (publishing.SendReclaims s place route pop) loan a h over e = absurd (cc over)
+over_answer p slot head q (publishing.Pushing s place route push delivery) loan a h over e = absurd (cc over)
+over_answer p slot head q (publishing.Sent s delivery) loan a h over e = (delivery, cc e)
+over_answer p slot head q (publishing.Dropping s) loan a h over e = absurd h
+
 -- a send that was answered
-sent_headed : (p : Port) (lane : PublisherLaneState) (loan : ℕ) (q : Port) (now : PublisherLaneState) (a : Answer) → PublisherStands p lane → publisher_fits lane (Begin (call.Send loan)) ≡ true
-    → PublisherRuns p (publisher_begins (Begin (call.Send loan)) lane) q now (Some a) → Headed p loan (head_of loan lane) q
-sent_headed p lane loan q now a stands fit run =
-    let ready : PublisherStands p (publisher_begins (Begin (call.Send loan)) lane) = publisher_begun_stands p lane (Begin (call.Send loan)) stands fit in
+send_ends : (most : ℕ) (p : Port) (lane : PublisherLaneState) (loan : ℕ) (q : Port) (now : PublisherLaneState) (a : Answer) → PublisherStands p lane → publisher_fits lane (Begin (call.Send loan)) ≡ true
+    → PublisherEnds most p (publisher_begun 0 (call.Send loan) lane) q now a → Headed p loan (head_of loan lane) q × ((delivery : Delivery) × (a ≡ answer.Sent delivery))
+send_ends most p lane loan q now a stands fit run =
+    let ready : PublisherStands p (publisher_begun 0 (call.Send loan) lane) = publisher_begun_stands p lane (Begin (call.Send loan)) stands fit in
     let mine = publishers.send_is_own lane loan fit in
-    let first : Sends p loan (head_of loan lane) p (publisher_begins (Begin (call.Send loan)) lane) = record {
+    let first : Sends p loan (head_of loan lane) p (publisher_begun 0 (call.Send loan) lane) = record {
       service = refl;
       there = omega (arith, mine.1, stands.within.slots);
       sends = refl;
@@ -247,13 +264,30 @@ sent_headed p lane loan q now a stands fit run =
       wide = ready.within.head;
       stage = from_word p loan (head_of loan lane) p 0 (slice_get (head_of loan lane) 0) refl (record { words = λ k less within. absurd (omega (arith, less)); payload = λ k less. refl });
     } in
-    let end = publisher_along (Sends p loan (head_of loan lane)) (sends_on p loan (head_of loan lane)) p (publisher_begins (Begin (call.Send loan)) lane) q run.last run.goes ready first in
-    over_known p loan (head_of loan lane) q run.last.port.call end.1.stage run.ends
+    let end = publisher_along (Sends p loan (head_of loan lane)) (sends_on p loan (head_of loan lane)) p (publisher_begun 0 (call.Send loan) lane) q run.last run.goes ready first in (
+      over_known p loan (head_of loan lane) q run.last.port.call end.1.stage run.ends,
+      over_answer p loan (head_of loan lane) q run.last.port.call now.port.book.answer a end.1.stage run.ends run.answers,
+    )
 
-pub send_known : (p : Port) (lane : PublisherLaneState) (loan : ℕ) (q : Port) (now : PublisherLaneState) (given : Option Answer) → PublisherStands p lane → PublisherDoes p lane (Begin (call.Send loan)) q now given
+pub send_known : (most : ℕ) (p : Port) (lane : PublisherLaneState) (loan : ℕ) (q : Port) (now : PublisherLaneState) (given : Option Answer) → PublisherStands p lane → PublisherDoes most p lane (Begin (call.Send loan)) q now given
     → is_some (sent_of given) ≡ true → KnowsHead q loan (head_of loan lane) × KeepsPayload p q loan
-send_known p lane loan q now None stands does some = absurd (cc some)
-send_known p lane loan q now (Some a) stands does some = elim does [
+send_known most p lane loan q now None stands does some = absurd (cc some)
+send_known most p lane loan q now (Some a) stands does some = elim does [
   | inl none ↦ absurd (cc none.1)
-  | inr done ↦ let h = sent_headed p lane loan q now a stands done.0 done.1 in (h.words, h.payload)
+  | inr done ↦ let h = (send_ends most p lane loan q now a stands done.0 done.1).0 in (h.words, h.payload)
+]
+
+-- what a send does
+pub send_called : (old new : PublisherPort) (loan : ℕ) (given : Option Answer) → PublisherStands old.port old.lane → new.table ≡ old.table
+    → PublisherDoes (send_steps old.port.service.sizes) old.port old.lane (Begin (call.Send loan)) new.port new.lane given → calls.Sends old loan new (sent_of given)
+send_called old new loan None stands table does = elim does [
+  | inl none ↦ inl (none.0, (table, none.2, none.3))
+  | inr inside ↦ inr inside
+]
+send_called old new loan (Some a) stands table does = elim does [
+  | inl none ↦ absurd (cc none.1)
+  | inr done ↦
+      let told = (send_ends (send_steps old.port.service.sizes) old.port old.lane loan new.port new.lane a stands done.0 done.1).1 in
+      subst (λ (x : Answer). calls.Sends old loan new (sent_of (Some x))) (sym told.1)
+      (done.0, subst (λ (x : Answer). PublisherEnds (send_steps old.port.service.sizes) old.port (publisher_begun 0 (call.Send loan) old.lane) new.port new.lane x) told.1 done.1)
 ]

@@ -1,32 +1,37 @@
 -- After a write the port knows its payload in the slot.
-use Rattle.std.proofs.Common.{ℕ, ◌≡◌, ◌<◌, ◌≤◌, ◌⊎◌, Bool, true, false, if◌then◌else◌, List, length, set, slice_get, slice_index, Option, Some, None, is_some, refl, sym, ◌∙◌, ap, subst, inl, inr, arith}
-use Rattle.std.proofs.lemmas.Bool.{cases_lt, cases_order}
+use Rattle.std.proofs.Common.{ℕ, ◌≡◌, ◌+◌, ◌<◌, ◌≤◌, ◌⊎◌, ◌==◌, ◌&&◌, Bool, true, false, if◌then◌else◌, List, length, set, slice_get, slice_index, Option, Some, None, is_some, refl, sym, ◌∙◌, ap, subst, inl, inr, arith}
+use Rattle.std.proofs.lemmas.Bool.{cases_lt, cases_order, eqb-true}
 use Rattle.std.proofs.lemmas.Option.{slice_get-get_or, slice_get_within}
 use Rattle.iox_queues_steps.specs.Access.{successor}
 use Rattle.iox_lanes_words.specs.Numbers.{number_of, words_of, IsWord}
 use Rattle.iox_lanes_words.specs.declared.word.SharedWord.TheVariants.{Slot}
 use Rattle.iox_lanes_words.specs.declared.word.SlotWord.TheVariants.{Payload}
-use Rattle.iox_lanes_calls.specs.Publishing.{publisher_next, publisher_take, publisher_is_over, write_from}
+use Rattle.iox_lanes_calls.specs.Publishing.{publisher_is_idle, publisher_next, publisher_take, publisher_change, publisher_is_over, write_from}
 use Rattle.iox_lanes_calls.specs.declared.publisher.PublisherCall.{PublisherCall}
 use Rattle.iox_lanes_calls.specs.declared.publisher.PublisherCall.TheVariants as publishing
 use Rattle.iox_lanes_calls.specs.declared.route.Route.{Route}
+use Rattle.iox_lanes_publisher.specs.Keeping.{loan_of}
 use Rattle.iox_lanes_publisher.specs.Publishers.{words_of as call_words}
-use Rattle.iox_lanes_parties.specs.Parties.{PublisherLaneState, publisher_fits, publisher_after}
+use Rattle.iox_lanes_publisher.specs.declared.slot_book.LoanAnswer.{LoanAnswer}
+use Rattle.iox_lanes_parties.specs.Parties.{PublisherLaneState, is_out, publisher_fits, publisher_after, publisher_answer}
 use Rattle.iox_lanes_parties.specs.Within.{IsPublishing}
 use Rattle.iox_lanes_parties.specs.declared.call.Answer.{Answer}
+use Rattle.iox_lanes_parties.specs.declared.call.Answer.TheVariants as answer
 use Rattle.iox_lanes_parties.specs.declared.call.Call.TheVariants as call
 use Rattle.iox_lanes_parties.specs.declared.call.Move.{Move}
 use Rattle.iox_lanes_parties.specs.declared.call.Move.TheVariants.{Begin, GoOn}
+use Rattle.iox_lanes_parties.proofs.Rings.{and_left, and_right}
 use Rattle.iox_lanes_threads_rule.specs.Acts.{stepped, ToldBy}
 use Rattle.iox_lanes_threads_rule.specs.declared.view.Port.{Port}
 use Rattle.iox_lanes_threads_rule.specs.declared.view.PortParty.{PortParty}
 use Rattle.iox_lanes_threads_rule.proofs.Held.{word_at}
-use Rattle.iox_lanes_threads_ports.specs.Courses.{publisher_party, publisher_stepped, PublisherGoes, PublisherRuns}
+use Rattle.iox_lanes_threads_ports.specs.Courses.{publisher_party, publisher_stepped, PublisherGoes}
+use Rattle.iox_lanes_threads_ports.specs.Paces.{back_at, taken_in, write_steps, PublisherEnds, StaysInside}
 use Rattle.iox_lanes_threads_ports.specs.Courses.PublisherGoes.{stays, goes}
 use Rattle.iox_lanes_threads_ports.specs.Ends.{knows}
 use Rattle.iox_lanes_threads_ports.specs.Known.{payload_word, KnowsPayload}
 use Rattle.iox_lanes_threads_ports.specs.Ports.{PublisherStands}
-use Rattle.iox_lanes_threads_ports.specs.Values.{Asks, publisher_begins, PublisherDoes}
+use Rattle.iox_lanes_threads_ports.specs.Values.{PublisherPort, Asks, publisher_begins, PublisherDoes, write_fits, write_begins, Writes}
 use Rattle.iox_lanes_threads_ports.proofs.PublisherSteps as publishers
 use Rattle.iox_lanes_threads_ports.proofs.Running.{publisher_begun_stands}
 
@@ -138,26 +143,119 @@ over_known slot payload q (publishing.Pushing s place route push delivery) h ove
 over_known slot payload q (publishing.Sent s delivery) h over = absurd h
 over_known slot payload q (publishing.Dropping s) h over = absurd h
 
-written : (p : Port) (lane : PublisherLaneState) (q : Port) (now : PublisherLaneState) (loan : ℕ) (payload user_header : List ℕ) (step : Move) (a : Answer) → PublisherStands p lane → publisher_fits lane step ≡ true
-    → Asks loan payload user_header step → PublisherRuns p (publisher_begins step lane) q now (Some a) → KnowsPayload q loan payload
-written p lane q now loan payload user_header GoOn a stands fit asks run = absurd asks
-written p lane q now loan payload user_header (Begin call.LoanUninit) a stands fit asks run = absurd asks
-written p lane q now loan payload user_header (Begin (call.Write slot words header)) a stands fit asks run =
-    let begun : PublisherLaneState = publisher_begins (Begin (call.Write slot words header)) lane in
-    let first : Writing slot words.items p begun = record { sends = refl; words = refl; stage = from_word p slot words.items 0 (slice_get words.items 0) refl (λ k less within. absurd (omega (arith, less))) } in
-    let end = publisher_along (Writing slot words.items) (writing_on slot words.items) p begun q run.last run.goes (publisher_begun_stands p lane (Begin (call.Write slot words header)) stands fit) first in
-    subst (λ (z : ℕ × List ℕ). KnowsPayload q z.0 z.1) (λ i. (asks.0 i, asks.1 i)) (over_known slot words.items q run.last.port.call end.1.stage run.ends)
-written p lane q now loan payload user_header (Begin (call.Send slot)) a stands fit asks run = absurd asks
-written p lane q now loan payload user_header (Begin (call.DropLoan slot)) a stands fit asks run = absurd asks
-written p lane q now loan payload user_header (Begin call.Receive) a stands fit asks run = absurd asks
-written p lane q now loan payload user_header (Begin (call.Read sample)) a stands fit asks run = absurd asks
-written p lane q now loan payload user_header (Begin (call.Release sample)) a stands fit asks run = absurd asks
+-- a write takes nothing back
+none_back : (slot : ℕ) (payload : List ℕ) (q : Port) (c : PublisherCall) (n place : ℕ) → InWrite slot payload q c → back_at place (publisher_change c n) ≡ 0
+none_back slot payload q publishing.Idle n place h = refl
+none_back slot payload q (publishing.LoanReclaims at route pop) n place h = absurd h
+none_back slot payload q publishing.Lending n place h = absurd h
+none_back slot payload q (publishing.Writing s w v) n place h = refl
+none_back slot payload q (publishing.Written s) n place h = refl
+none_back slot payload q (publishing.Heading s w v) n place h = absurd h
+none_back slot payload q (publishing.Remembering s) n place h = absurd h
+none_back slot payload q (publishing.SendReclaims s at route pop) n place h = absurd h
+none_back slot payload q (publishing.Pushing s at route push delivery) n place h = absurd h
+none_back slot payload q (publishing.Sent s delivery) n place h = absurd h
+none_back slot payload q (publishing.Dropping s) n place h = absurd h
+
+none_taken : (slot : ℕ) (payload : List ℕ) (p : Port) (lane : PublisherLaneState) (q : Port) (now : PublisherLaneState) (run : PublisherGoes p lane q now) (place : ℕ) → PublisherStands p lane → Writing slot payload p lane → taken_in run place ≡ 0
+none_taken slot payload p lane _ _ stays place stands h = refl
+none_taken slot payload p lane _ _ (goes q now n run told) place stands h =
+    let was = publisher_along (Writing slot payload) (writing_on slot payload) p lane q now run stands h in
+    let before = none_taken slot payload p lane q now run place stands h in
+    omega (arith, before, none_back slot payload q now.port.call n place was.1.stage)
+
+-- and answers that it was made
+over_answer : (slot : ℕ) (payload : List ℕ) (q : Port) (c : PublisherCall) (loan : Option LoanAnswer) (a : Answer) → InWrite slot payload q c → publisher_is_over c ≡ true → publisher_answer c loan ≡ Some a → a ≡ answer.Written
+over_answer slot payload q publishing.Idle loan a h over e = absurd (cc e)
+over_answer slot payload q (publishing.LoanReclaims at route pop) loan a h over e = absurd h
+over_answer slot payload q publishing.Lending loan a h over e = absurd h
+over_answer slot payload q (publishing.Writing s w v) loan a h over e = absurd (cc over)
+over_answer slot payload q (publishing.Written s) loan a h over e = cc e
+over_answer slot payload q (publishing.Heading s w v) loan a h over e = absurd h
+over_answer slot payload q (publishing.Remembering s) loan a h over e = absurd h
+over_answer slot payload q (publishing.SendReclaims s at route pop) loan a h over e = absurd h
+over_answer slot payload q (publishing.Pushing s at route push delivery) loan a h over e = absurd h
+over_answer slot payload q (publishing.Sent s delivery) loan a h over e = absurd h
+over_answer slot payload q (publishing.Dropping s) loan a h over e = absurd h
+
+-- a write of these words as it is asked for
+as_write : (lane : PublisherLaneState) (loan : ℕ) (payload user_header : List ℕ) (step : Move) → Asks loan payload user_header step
+    → (publisher_fits lane step ≡ write_fits lane loan payload user_header) × (publisher_begins step lane ≡ write_begins lane loan payload user_header)
+as_write lane loan payload user_header GoOn asks = absurd asks
+as_write lane loan payload user_header (Begin call.LoanUninit) asks = absurd asks
+as_write lane loan payload user_header (Begin (call.Write slot words header)) asks =
+    ((λ i. write_fits lane (asks.0 i) (asks.1 i) (asks.2 i)), (λ i. write_begins lane (asks.0 i) (asks.1 i) (asks.2 i)))
+as_write lane loan payload user_header (Begin (call.Send slot)) asks = absurd asks
+as_write lane loan payload user_header (Begin (call.DropLoan slot)) asks = absurd asks
+as_write lane loan payload user_header (Begin call.Receive) asks = absurd asks
+as_write lane loan payload user_header (Begin (call.Read sample)) asks = absurd asks
+as_write lane loan payload user_header (Begin (call.Release sample)) asks = absurd asks
+
+module _ (p : Port) (lane : PublisherLaneState) (loan : ℕ) (payload user_header : List ℕ) (stands : PublisherStands p (write_begins lane loan payload user_header)) where
+  writing_begins : Writing loan payload p (write_begins lane loan payload user_header)
+  writing_begins = record { sends = refl; words = refl; stage = from_word p loan payload 0 (slice_get payload 0) refl (λ k less within. absurd (omega (arith, less))) }
+
+  write_ends : (most : ℕ) (q : Port) (now : PublisherLaneState) (a : Answer) → PublisherEnds most p (write_begins lane loan payload user_header) q now a → KnowsPayload q loan payload × (a ≡ answer.Written)
+  write_ends most q now a run =
+      let end = publisher_along (Writing loan payload) (writing_on loan payload) p (write_begins lane loan payload user_header) q run.last run.goes stands writing_begins in
+      (over_known loan payload q run.last.port.call end.1.stage run.ends, over_answer loan payload q run.last.port.call now.port.book.answer a end.1.stage run.ends run.answers)
+
+  never_inside : (most : ℕ) (q : Port) (now : PublisherLaneState) → StaysInside most p (write_begins lane loan payload user_header) q now → ⊥
+  never_inside most q now run =
+      let none = none_taken loan payload p (write_begins lane loan payload user_header) q now run.goes run.place stands writing_begins in
+      let more = run.more in
+      absurd (omega (arith, none, more))
+
+begun_stands : (p : Port) (lane : PublisherLaneState) (loan : ℕ) (payload user_header : List ℕ) (step : Move) → PublisherStands p lane → Asks loan payload user_header step → publisher_fits lane step ≡ true
+    → PublisherStands p (write_begins lane loan payload user_header)
+begun_stands p lane loan payload user_header step stands asks fit = subst (PublisherStands p) (as_write lane loan payload user_header step asks).1 (publisher_begun_stands p lane step stands fit)
 
 -- a write that was answered
-pub write_known : (p : Port) (lane : PublisherLaneState) (q : Port) (now : PublisherLaneState) (loan : ℕ) (payload user_header : List ℕ) (step : Move) (given : Option Answer) → PublisherStands p lane
-    → Asks loan payload user_header step → PublisherDoes p lane step q now given → is_some given ≡ true → KnowsPayload q loan payload
-write_known p lane q now loan payload user_header step None stands asks does some = absurd (cc some)
-write_known p lane q now loan payload user_header step (Some a) stands asks does some = elim does [
+pub write_known : (most : ℕ) (p : Port) (lane : PublisherLaneState) (q : Port) (now : PublisherLaneState) (loan : ℕ) (payload user_header : List ℕ) (step : Move) (given : Option Answer) → PublisherStands p lane
+    → Asks loan payload user_header step → PublisherDoes most p lane step q now given → is_some given ≡ true → KnowsPayload q loan payload
+write_known most p lane q now loan payload user_header step None stands asks does some = absurd (cc some)
+write_known most p lane q now loan payload user_header step (Some a) stands asks does some = elim does [
   | inl none ↦ absurd (cc none.1)
-  | inr done ↦ written p lane q now loan payload user_header step a stands done.0 asks done.1
+  | inr done ↦
+      let begun = begun_stands p lane loan payload user_header step stands asks done.0 in
+      (write_ends p lane loan payload user_header begun most q now a (subst (λ (l : PublisherLaneState). PublisherEnds most p l q now a) (as_write lane loan payload user_header step asks).1 done.1)).0
 ]
+
+-- what a write does
+pub write_called : (old new : PublisherPort) (loan : ℕ) (payload user_header : List ℕ) (step : Move) (given : Option Answer) → PublisherStands old.port old.lane → new.table ≡ old.table → Asks loan payload user_header step
+    → PublisherDoes (write_steps old.port.service.sizes) old.port old.lane step new.port new.lane given → Writes old loan payload user_header new (is_some given)
+write_called old new loan payload user_header step None stands table asks does =
+    let same = as_write old.lane loan payload user_header step asks in
+    elim does [
+      | inl none ↦ (sym same.0 ∙ none.0, (table, none.2, none.3))
+      | inr inside ↦
+          let begun = begun_stands old.port old.lane loan payload user_header step stands asks inside.0 in
+          absurd (never_inside old.port old.lane loan payload user_header begun (write_steps old.port.service.sizes) new.port new.lane
+          (subst (λ (l : PublisherLaneState). StaysInside (write_steps old.port.service.sizes) old.port l new.port new.lane) same.1 inside.1))
+    ]
+write_called old new loan payload user_header step (Some a) stands table asks does =
+    let same = as_write old.lane loan payload user_header step asks in
+    elim does [
+      | inl none ↦ absurd (cc none.1)
+      | inr done ↦
+          let begun = begun_stands old.port old.lane loan payload user_header step stands asks done.0 in
+          let run : PublisherEnds (write_steps old.port.service.sizes) old.port (write_begins old.lane loan payload user_header) new.port new.lane a =
+          subst (λ (l : PublisherLaneState). PublisherEnds (write_steps old.port.service.sizes) old.port l new.port new.lane a) same.1 done.1 in
+          let told : a ≡ answer.Written = (write_ends old.port old.lane loan payload user_header begun (write_steps old.port.service.sizes) new.port new.lane a run).1 in
+          (sym same.0 ∙ done.0, subst (λ (x : Answer). PublisherEnds (write_steps old.port.service.sizes) old.port (write_begins old.lane loan payload user_header) new.port new.lane x) told run)
+    ]
+
+-- a write with other than these many words
+pub write_refused : (old : PublisherPort) (loan : ℕ) (payload user_header : List ℕ) → PublisherStands old.port old.lane
+    → (length payload ≡ old.port.service.sizes.payload_words → length user_header ≡ old.port.service.sizes.user_header_words → ⊥) → write_fits old.lane loan payload user_header ≡ false
+write_refused old loan payload user_header stands off = by_test (write_fits old.lane loan payload user_header) refl
+  where
+    by_test : (b : Bool) → write_fits old.lane loan payload user_header ≡ b → write_fits old.lane loan payload user_header ≡ false
+    by_test false e = e
+    by_test true e =
+        let may = and_right (publisher_is_idle old.lane.port.call) (is_out (loan_of loan old.lane.port.book) && (length payload == length old.lane.port.payload) && (3 + length user_header == length old.lane.port.head)) e in
+        let first = and_left (is_out (loan_of loan old.lane.port.book) && (length payload == length old.lane.port.payload)) (3 + length user_header == length old.lane.port.head) may in
+        let head : 3 + length user_header ≡ length old.lane.port.head = eqb-true (3 + length user_header) (length old.lane.port.head) (and_right (is_out (loan_of loan old.lane.port.book) && (length payload == length old.lane.port.payload)) (3 + length user_header == length old.lane.port.head) may) in
+        let body : length payload ≡ length old.lane.port.payload = eqb-true (length payload) (length old.lane.port.payload) (and_right (is_out (loan_of loan old.lane.port.book)) (length payload == length old.lane.port.payload) first) in
+        let wide = stands.within.head in
+        absurd (off (body ∙ stands.within.payload) (omega (arith, head, wide)))

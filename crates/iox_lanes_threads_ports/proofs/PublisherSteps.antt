@@ -51,7 +51,7 @@ use Rattle.iox_lanes_threads_rule.specs.declared.view.Port.{Port}
 use Rattle.iox_lanes_threads_rule.specs.declared.view.PortParty.{PortParty}
 use Rattle.iox_lanes_threads_ports.specs.Courses.{publisher_party, publisher_stepped}
 use Rattle.iox_lanes_threads_ports.specs.Ends.{NamesSlot, LonePop, PushKnows}
-use Rattle.iox_lanes_threads_ports.specs.Ports.{sender_of, IsEnd, IsOwnSlot, back_read, PublisherKnows, PublisherStands, PublishersGoOn}
+use Rattle.iox_lanes_threads_ports.specs.Ports.{sender_of, EachOnce, IsEnd, IsOwnSlot, back_read, PublisherKnows, PublisherStands, PublishersGoOn}
 use Rattle.iox_lanes_threads_ports.proofs.Rings.{lone_pop_may, lone_push_may, over_push_may, lone_pop_goes, lone_push_goes, over_push_goes}
 
 -- the connection's publisher
@@ -281,6 +281,7 @@ module _ (p : Port) (lane : PublisherLaneState) (stands : PublisherStands p lane
         wide = same.wide ∙ stands.wide ∙ ap (λ (s : Service). words_of s.sizes) (sym same.service);
         within = subst (λ (s : Service). IsPublisher s.sizes (publisher_after n lane)) (sym same.service) ((publishers_stay_within p.service.sizes lane stands.within).1 n);
         routes = moved_over (λ s name. All (IsEnd s sender_of name) lane.port.routes) same stands.routes;
+        once = stands.once;
         found = ap (λ (s : Service). slice_get s.ranges stands.place) same.service ∙ stands.found;
         first = stands.first ∙ sym slots.first;
         count = stands.count ∙ sym slots.loans;
@@ -337,6 +338,7 @@ begins p lane moment c stands fit =
       wide = stands.wide;
       within = (publishers_stay_within p.service.sizes lane stands.within).0 moment c fit;
       routes = subst (All (IsEnd p.service sender_of p.name)) (sym b.2) stands.routes;
+      once = subst EachOnce (sym b.2) stands.once;
       found = stands.found;
       first = stands.first ∙ sym b.1.first;
       count = stands.count ∙ sym b.1.loans;

@@ -1,9 +1,9 @@
 -- The steps of a port in threads: each is the access that the stage of its call names, with the answer that it got.
-use Rattle.std.specs.Prelude.{ℕ, ◌≡◌, true, Option, None, Some}
+use Rattle.std.specs.Prelude.{ℕ, ◌≡◌, true, Some}
 use Rattle.atomic_table.specs.Table.{Me}
-use Rattle.iox_lanes_calls.specs.Publishing.{publisher_next, publisher_is_over}
+use Rattle.iox_lanes_calls.specs.Publishing.{publisher_next}
 use Rattle.iox_lanes_calls.specs.Subscribing.{subscriber_next, subscriber_is_over}
-use Rattle.iox_lanes_parties.specs.Parties.{PublisherLaneState, SubscriberLaneState, publisher_after, publisher_answer, subscriber_after, subscriber_answer}
+use Rattle.iox_lanes_parties.specs.Parties.{PublisherLaneState, SubscriberLaneState, publisher_after, subscriber_after, subscriber_answer}
 use Rattle.iox_lanes_parties.specs.declared.call.Answer.{Answer}
 use Rattle.iox_lanes_threads_rule.specs.Acts.{single, stepped, ToldBy}
 use Rattle.iox_lanes_threads_rule.specs.declared.view.Port.{Port}
@@ -47,23 +47,10 @@ PublisherSteps p lane me now = (answer : ℕ) × ToldBy p (publisher_next lane.p
 abbrev pub SubscriberSteps : Port → SubscriberLaneState → Me ℕ View → SubscriberLaneState → Type 0
 SubscriberSteps p lane me now = (answer : ℕ) × ToldBy p (subscriber_next lane.port.call) answer × (me ≡ single (subscriber_stepped p lane answer)) × (now ≡ subscriber_after answer lane)
 
--- the steps of a publisher's call up to its last, and that one, which answers
-pub record PublisherEnds (p : Port) (lane : PublisherLaneState) (q : Port) (now : PublisherLaneState) (answer : Answer) : Type 0 where
-  pub last : PublisherLaneState
-  pub goes : PublisherGoes p lane q last
-  pub ends : publisher_is_over last.port.call ≡ true
-  pub after : now ≡ publisher_after 0 last
-  pub answers : publisher_answer last.port.call now.port.book.answer ≡ Some answer
-
--- likewise of a subscriber's call
+-- the steps of a subscriber's call up to its last, and that one, which answers
 pub record SubscriberEnds (p : Port) (lane : SubscriberLaneState) (q : Port) (now : SubscriberLaneState) (answer : Answer) : Type 0 where
   pub last : SubscriberLaneState
   pub goes : SubscriberGoes p lane q last
   pub ends : subscriber_is_over last.port.call ≡ true
   pub after : now ≡ subscriber_after 0 last
   pub answers : subscriber_answer last.port.call 0 ≡ Some answer
-
--- the steps of a publisher's call: with an answer to its end, and else to somewhere inside it
-abbrev pub PublisherRuns : Port → PublisherLaneState → Port → PublisherLaneState → Option Answer → Type 0
-PublisherRuns p lane q now None = PublisherGoes p lane q now
-PublisherRuns p lane q now (Some answer) = PublisherEnds p lane q now answer

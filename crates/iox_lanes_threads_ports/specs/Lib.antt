@@ -4,3 +4,5 @@ pub mod Ports
 pub mod Known
 pub mod Values
 pub mod Courses
+pub mod Pace
+pub mod Paces

@@ -1,5 +1,5 @@
 -- A port in threads: its lane, what it knows, and how the two fit.
-use Rattle.std.specs.Prelude.{ℕ, ◌≡◌, ◌+◌, ◌<◌, ◌≤◌, length, slice_get, Some, true}
+use Rattle.std.specs.Prelude.{ℕ, ◌≡◌, ◌+◌, ◌<◌, ◌≤◌, List, length, slice_get, Some, true}
 use Rattle.std.specs.List.{All}
 use Rattle.iox_queues_steps.specs.declared.access.Word.TheVariants.{Write, Read}
 use Rattle.iox_lanes_words.specs.Numbers.{words_of}
@@ -43,6 +43,10 @@ pub record IsEnd (s : Service) (end : Line → Party) (name : Party) (route : Ro
   pub own : name ≡ end line
   pub kind : route.kind ≡ line.kind
   pub room : 0 < route.limit
+
+-- no connection stands twice in the list
+abbrev pub EachOnce : List Route → Type 0
+EachOnce routes = (i j : ℕ) (one other : Route) → slice_get routes i ≡ Some one → slice_get routes j ≡ Some other → one.connection ≡ other.connection → i ≡ j
 
 -- a slot of the publisher's own
 abbrev pub IsOwnSlot : BookState → ℕ → Type 0
@@ -88,6 +92,7 @@ pub record PublisherStands (p : Port) (lane : PublisherLaneState) : Type 0 where
   pub wide : length p.known ≡ words_of p.service.sizes
   pub within : IsPublisher p.service.sizes lane
   pub routes : All (IsEnd p.service sender_of p.name) lane.port.routes
+  pub once : EachOnce lane.port.routes
   pub found : slice_get p.service.ranges place ≡ Some range
   pub first : range.first ≡ lane.port.book.first
   pub count : range.count ≡ length lane.port.book.loans

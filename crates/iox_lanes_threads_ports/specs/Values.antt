@@ -1,27 +1,31 @@
 -- A port in threads as its callers see it, and what its calls leave.
-use Rattle.std.specs.Prelude.{ℕ, ◌≡◌, ◌+◌, ◌-◌, ◌<◌, ◌⊎◌, Bool, true, false, ◌||◌, if◌then◌else◌, List, length, Option, None, Some}
+use Rattle.std.specs.Prelude.{ℕ, ◌≡◌, ◌+◌, ◌-◌, ◌<◌, ◌⊎◌, ◌==◌, Bool, true, false, ◌&&◌, ◌||◌, if◌then◌else◌, List, length, Option, None, Some}
 use Rattle.atomic_table.specs.Seated.{TableId}
 use Rattle.atomic_table.specs.Table.{Me}
 use Rattle.iox_lanes_words.specs.Numbers.{words_of, IsSmall}
 use Rattle.iox_lanes_words.specs.declared.sizes.TableSizes.{TableSizes}
 use Rattle.iox_queues_refusing.specs.declared.push.Push.TheVariants as push
+use Rattle.iox_lanes_calls.specs.Publishing.{publisher_is_idle}
 use Rattle.iox_lanes_calls.specs.Subscribing.{subscriber_is_idle, subscriber_is_over}
 use Rattle.iox_lanes_calls.specs.declared.subscriber.SubscriberCall.{SubscriberCall}
 use Rattle.iox_lanes_calls.specs.declared.subscriber.SubscriberCall.TheVariants as subscribing
 use Rattle.iox_lanes_calls.specs.declared.publisher.Delivery.{Delivery}
 use Rattle.iox_lanes_calls.specs.declared.subscriber.Receipt.{Receipt}
 use Rattle.iox_lanes_calls.specs.declared.subscriber.Receipt.TheVariants as receipt
+use Rattle.iox_lanes_publisher.specs.Keeping.{loan_of}
 use Rattle.iox_lanes_publisher.specs.declared.slot_book.LoanAnswer.{LoanAnswer}
-use Rattle.iox_lanes_parties.specs.Parties.{PublisherLaneState, SubscriberLaneState, publisher_fits, publisher_begun, subscriber_fits, subscriber_begun, subscriber_after}
+use Rattle.iox_lanes_parties.specs.Parties.{PublisherLaneState, SubscriberLaneState, is_out, publisher_fits, publisher_begun, write_begun, subscriber_fits, subscriber_begun, subscriber_after}
 use Rattle.iox_lanes_parties.specs.declared.call.Answer.{Answer}
 use Rattle.iox_lanes_parties.specs.declared.call.Answer.TheVariants as answer
 use Rattle.iox_lanes_parties.specs.declared.call.Call.TheVariants as call
+use Rattle.iox_lanes_parties.specs.declared.call.CallName.TheVariants as name
 use Rattle.iox_lanes_parties.specs.declared.call.Move.{Move}
 use Rattle.iox_lanes_parties.specs.declared.call.Move.TheVariants.{Begin, GoOn}
 use Rattle.iox_lanes_threads_rule.specs.Acts.{single, port_of}
 use Rattle.iox_lanes_threads_rule.specs.declared.view.Port.{Port}
 use Rattle.iox_lanes_threads_rule.specs.declared.view.View.{View}
-use Rattle.iox_lanes_threads_ports.specs.Courses.{PublisherRuns, SubscriberGoes, SubscriberEnds}
+use Rattle.iox_lanes_threads_ports.specs.Courses.{SubscriberGoes, SubscriberEnds}
+use Rattle.iox_lanes_threads_ports.specs.Paces.{loan_steps, write_steps, send_steps, PublisherEnds, StaysInside, PublisherRuns}
 
 -- a publisher: the words that it steps on, what it knows, and its lane
 pub record PublisherPort : Type 0 where
@@ -75,11 +79,11 @@ abbrev pub subscriber_begins : Move → SubscriberLaneState → SubscriberLaneSt
 subscriber_begins GoOn lane = lane
 subscriber_begins (Begin c) lane = subscriber_begun 0 c lane
 
--- What a publisher does that is asked for something, and answers: nothing where it doesn't fit, and else the steps of its call.
-abbrev pub PublisherDoes : Port → PublisherLaneState → Move → Port → PublisherLaneState → Option Answer → Type 0
-PublisherDoes p lane step q now given =
+-- What a publisher does that is asked for something, and answers: nothing where it doesn't fit, and else the steps of its call, at most so many.
+abbrev pub PublisherDoes : ℕ → Port → PublisherLaneState → Move → Port → PublisherLaneState → Option Answer → Type 0
+PublisherDoes most p lane step q now given =
     ((publisher_fits lane step ≡ false) × (given ≡ None) × (q ≡ p) × (now ≡ lane))
-    ⊎ ((publisher_fits lane step ≡ true) × PublisherRuns p (publisher_begins step lane) q now given)
+    ⊎ ((publisher_fits lane step ≡ true) × PublisherRuns most p (publisher_begins step lane) q now given)
 
 -- the port is the one that it was, on the same words
 abbrev pub SamePublisher : PublisherPort → PublisherPort → Type 0
@@ -111,15 +115,52 @@ sent_of (Some (answer.Received receipt)) = None
 sent_of (Some (answer.Read from)) = None
 sent_of (Some (answer.Released done)) = None
 
--- a publisher that is asked for something: what it answers, by its steps
-abbrev pub Publishes : PublisherPort → Move → PublisherPort → Option Answer → Type 0
-Publishes old step new given = PublisherDoes old.port old.lane step new.port new.lane given
+-- nothing was done
+abbrev pub StaysPut : PublisherPort → PublisherPort → Type 0
+StaysPut old new = (new.table ≡ old.table) × (new.port ≡ old.port) × (new.lane ≡ old.lane)
 
--- a write is refused where the words are not as many as a payload and a user header have; else it does what its steps do
-abbrev pub Writes : PublisherPort → ℕ → List ℕ → List ℕ → PublisherPort → Option Answer → Type 0
-Writes old loan payload user_header new given =
-    (((length payload ≡ old.port.service.sizes.payload_words) → (length user_header ≡ old.port.service.sizes.user_header_words) → ⊥) × (given ≡ None) × (new ≡ old))
-    ⊎ ((step : Move) × Asks loan payload user_header step × Publishes old step new given)
+-- A call of a publisher, one that fits or doesn't, with what its lane is when it begins, and the most steps of it. It has no answer where it doesn't fit, which does
+-- nothing, or where it is still inside after all of these steps; else the answer is that of its last step.
+abbrev pub Publishes : PublisherPort → PublisherPort → Bool → PublisherLaneState → ℕ → Option Answer → Type 0
+Publishes old new fits begun most None = ((fits ≡ false) × StaysPut old new) ⊎ ((fits ≡ true) × StaysInside most old.port begun new.port new.lane)
+Publishes old new fits begun most (Some answer) = (fits ≡ true) × PublisherEnds most old.port begun new.port new.lane answer
+
+-- a loan's answer
+abbrev pub as_lent : Option LoanAnswer → Option Answer
+as_lent None = None
+as_lent (Some given) = Some (answer.Lent given)
+
+-- a loan
+abbrev pub Loans : PublisherPort → PublisherPort → Option LoanAnswer → Type 0
+Loans old new given =
+    Publishes old new (publisher_fits old.lane (Begin call.LoanUninit)) (publisher_begun 0 call.LoanUninit old.lane) (loan_steps old.port.service.sizes) (as_lent given)
+
+-- a send's answer
+abbrev pub as_sent : Option Delivery → Option Answer
+as_sent None = None
+as_sent (Some delivery) = Some (answer.Sent delivery)
+
+-- a send
+abbrev pub Sends : PublisherPort → ℕ → PublisherPort → Option Delivery → Type 0
+Sends old loan new given =
+    Publishes old new (publisher_fits old.lane (Begin (call.Send loan))) (publisher_begun 0 (call.Send loan) old.lane) (send_steps old.port.service.sizes) (as_sent given)
+
+-- a write fits between calls, of a loan of the port, with as many words as a payload and a user header have
+abbrev pub write_fits : PublisherLaneState → ℕ → List ℕ → List ℕ → Bool
+write_fits lane loan payload user_header =
+    publisher_is_idle lane.port.call
+    && (is_out (loan_of loan lane.port.book) && (length payload == length lane.port.payload) && (3 + length user_header == length lane.port.head))
+
+-- the lane when it begins
+abbrev pub write_begins : PublisherLaneState → ℕ → List ℕ → List ℕ → PublisherLaneState
+write_begins lane loan payload user_header = record (write_begun loan payload user_header lane) { call = name.Write loan; first = 0 }
+
+-- a write is always answered where it fits, and does nothing where it doesn't
+abbrev pub Writes : PublisherPort → ℕ → List ℕ → List ℕ → PublisherPort → Bool → Type 0
+Writes old loan payload user_header new false = (write_fits old.lane loan payload user_header ≡ false) × StaysPut old new
+Writes old loan payload user_header new true =
+    (write_fits old.lane loan payload user_header ≡ true)
+    × PublisherEnds (write_steps old.port.service.sizes) old.port (write_begins old.lane loan payload user_header) new.port new.lane answer.Written
 
 -- a subscriber whose call only lacks its last step, which touches no shared word, stands as if it were made
 abbrev pub settled : SubscriberLaneState → SubscriberLaneState

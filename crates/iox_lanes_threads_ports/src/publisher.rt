@@ -1,12 +1,14 @@
 //! A publisher that steps in threads.
-ghost use Rattle.std.specs.Prelude.{◌≡◌, ◌≢◌, Option, true, false, length, is_some, IfOk};
-ghost use Rattle.iox_lanes_words.specs.Numbers.{words_of, IsSmall};
+ghost use Rattle.std.specs.Prelude.{◌≡◌, true, false, length, is_some, IfOk};
+ghost use Rattle.iox_lanes_words.specs.Numbers.{IsSmall};
 ghost use Rattle.std.specs.List.{All};
 ghost use Rattle.iox_lanes_parties.specs.Parties.{head_of, publisher_fits};
 ghost use Rattle.iox_lanes_threads_rule.specs.Acts.{single, port_of};
 ghost use Rattle.iox_lanes_threads_ports.specs.Known.{KeepsPayload, KnowsHead, KnowsPayload};
 ghost use Rattle.iox_lanes_threads_ports.specs.Ports.{PublisherStands};
-ghost use Rattle.iox_lanes_threads_ports.specs.Values.{IsSeated, HasRoom, Asks, PublisherDoes, publisher_begins, SamePublisher, lent_of, sent_of, Publishes, Writes};
+ghost use Rattle.iox_lanes_threads_ports.specs.Pace.{HasSteps};
+ghost use Rattle.iox_lanes_threads_ports.specs.Paces.{sweep_steps, loan_steps, write_steps, send_steps};
+ghost use Rattle.iox_lanes_threads_ports.specs.Values.{IsSeated, HasRoom, Asks, PublisherDoes, publisher_begins, SamePublisher, lent_of, sent_of, Loans, Sends, Writes};
 
 use crate::publishing::run;
 use iox_lanes_calls::Delivery;
@@ -102,9 +104,34 @@ fn sent(answer: Option<Answer>) -> Option<Delivery>
 }
 
 // How many steps a publisher makes at most to take back what came back.
-fn most_reclaiming(sizes: &TableSizes) -> u64 {
-    let one = sizes.completion_cells.saturating_mul(4).saturating_add(2);
-    sizes.connections.saturating_mul(one)
+fn sweep_steps(sizes: &TableSizes) -> u128
+    requires { IsSmall sizes.now }
+    ensures { result ≡ sweep_steps sizes.now }
+{
+    sizes.connections as u128 * (4 * (sizes.completion_cells as u128 + 1) + 2)
+}
+
+// The most steps of a loan.
+fn loan_steps(sizes: &TableSizes) -> u128
+    requires { IsSmall sizes.now }
+    ensures { result ≡ loan_steps sizes.now }
+{
+    sweep_steps(sizes) + 1
+}
+
+// The most steps of a write.
+fn write_steps(sizes: &TableSizes) -> u128
+    ensures { result ≡ write_steps sizes.now }
+{
+    sizes.payload_words as u128 + 1
+}
+
+// The most steps of a send.
+fn send_steps(sizes: &TableSizes) -> u128
+    requires { IsSmall sizes.now }
+    ensures { result ≡ send_steps sizes.now }
+{
+    3 + sizes.user_header_words as u128 + 1 + sweep_steps(sizes) + 6 * sizes.connections as u128 + 1
 }
 
 // Begins what a publisher is asked for.
@@ -126,16 +153,17 @@ fn does<K: Opening>(
     sizes: &TableSizes,
     lane: &mut PublisherLane,
     step: &Move,
-    most: u64,
+    most: u128,
 ) -> Option<Answer>
     requires table { seat.old.table_id ≡ words.now.table_id }
     requires seat { IsSeated seat.old.table_id seat.old.me sizes.now }
     requires stands { PublisherStands (port_of seat.old.me) lane.old }
+    requires enough { HasSteps sizes.now step.now most }
     ensures table { seat.new.table_id ≡ seat.old.table_id }
     ensures seat { IsSeated seat.new.table_id seat.new.me sizes.now }
     ensures stands { PublisherStands (port_of seat.new.me) lane.new }
     ensures same { ((port_of seat.new.me).name ≡ (port_of seat.old.me).name) × ((port_of seat.new.me).service ≡ (port_of seat.old.me).service) }
-    ensures does { PublisherDoes (port_of seat.old.me) lane.old step.now (port_of seat.new.me) lane.new result }
+    ensures does { PublisherDoes most (port_of seat.old.me) lane.old step.now (port_of seat.new.me) lane.new result }
 {
     if !lane.fits(step) {
         return None;
@@ -165,14 +193,15 @@ impl ThreadedPublisher {
         }
     }
 
-    /// Asks for a slot to be written. None where the port stands inside a call, or took back more samples than its connections have room for, which no lanes
+    /// Asks for a slot to be written, in at most as many steps as its connections need to give back all that they have room for, and one more sample each. None where
+    /// the port stands inside a call, or where one connection gave back more samples during this call than its ring of samples given back has cells, which no lanes
     /// come to: then it stays inside this one.
     pub fn loan_uninit<K: Opening>(&mut self, words: &Words<K>) -> Option<LoanAnswer>
         requires { self.old.table ≡ words.now.table_id }
         ensures same { SamePublisher self.old self.new }
-        ensures call { (given : Option Answer) × Publishes self.old (Move.Begin Call.LoanUninit) self.new given × (result ≡ lent_of given) }
+        ensures call { Loans self.old self.new result }
     {
-        let most = most_reclaiming(&self.sizes).saturating_add(1);
+        let most = loan_steps(&self.sizes);
         let step = Move::Begin(Call::LoanUninit);
         let answer = does(
             words,
@@ -185,8 +214,8 @@ impl ThreadedPublisher {
         lent(answer)
     }
 
-    /// Writes the words of a payload into the slot of a loan, and keeps those of a user header for its send. False where the slot is no loan of this port, or the
-    /// words are not as many as a payload and a user header have.
+    /// Writes the words of a payload into the slot of a loan, and keeps those of a user header for its send. False where the slot is no loan of this port, the
+    /// words are not as many as a payload and a user header have, or the port stands inside a call; then nothing is done.
     pub fn write<K: Opening>(
         &mut self,
         words: &Words<K>,
@@ -196,13 +225,13 @@ impl ThreadedPublisher {
     ) -> bool
         requires { self.old.table ≡ words.now.table_id }
         ensures same { SamePublisher self.old self.new }
-        ensures call { (given : Option Answer) × Writes self.old loan payload.now user_header.now self.new given × (result ≡ is_some given) }
+        ensures call { Writes self.old loan payload.now user_header.now self.new result }
         ensures payload { result ≡ true → KnowsPayload self.new.port loan payload.now }
     {
         if !fill(&mut self.asked, loan, payload, user_header) {
             return false;
         }
-        let most = self.sizes.payload_words.saturating_add(1);
+        let most = write_steps(&self.sizes);
         let answer = does(
             words,
             &mut self.seat,
@@ -218,13 +247,10 @@ impl ThreadedPublisher {
     pub fn send<K: Opening>(&mut self, words: &Words<K>, loan: u64) -> Option<Delivery>
         requires { self.old.table ≡ words.now.table_id }
         ensures same { SamePublisher self.old self.new }
-        ensures call { (given : Option Answer) × Publishes self.old (Move.Begin (Call.Send loan)) self.new given × (result ≡ sent_of given) }
+        ensures call { Sends self.old loan self.new result }
         ensures slot { is_some result ≡ true → KnowsHead self.new.port loan (head_of loan self.old.lane) × KeepsPayload self.old.port self.new.port loan }
     {
-        let most = most_reclaiming(&self.sizes)
-            .saturating_add(self.sizes.connections.saturating_mul(6))
-            .saturating_add(self.sizes.user_header_words)
-            .saturating_add(5);
+        let most = send_steps(&self.sizes);
         let step = Move::Begin(Call::Send { loan });
         let answer = does(
             words,

@@ -4,7 +4,9 @@ ghost use Rattle.iox_lanes_words.specs.Numbers.{words_of, IsSmall};
 ghost use Rattle.iox_lanes_calls.specs.Publishing.{publisher_is_over};
 ghost use Rattle.iox_lanes_parties.specs.Parties.{publisher_answer};
 ghost use Rattle.iox_lanes_threads_rule.specs.Acts.{single, port_of};
-ghost use Rattle.iox_lanes_threads_ports.specs.Courses.{publisher_party, PublisherSteps, PublisherRuns};
+ghost use Rattle.iox_lanes_threads_ports.specs.Courses.{publisher_party, PublisherSteps};
+ghost use Rattle.iox_lanes_threads_ports.specs.Pace.{StartsWithin};
+ghost use Rattle.iox_lanes_threads_ports.specs.Paces.{PublisherRuns};
 ghost use Rattle.iox_lanes_threads_ports.specs.Ports.{PublisherStands};
 
 use iox_lanes_parties::{Answer, PublisherLane};
@@ -49,23 +51,24 @@ pub(crate) fn step<K: Opening>(
     step_as::<K, Brand>(words, seat, sizes, lane)
 }
 
-/// Makes at most so many steps of a publisher's call, up to its last one.
+/// Makes at most so many steps of a publisher's call that begins, up to its last one.
 pub(crate) fn run<K: Opening>(
     words: &Words<K>,
     seat: &mut WordSeat,
     sizes: &TableSizes,
     lane: &mut PublisherLane,
-    most: u64,
+    most: u128,
 ) -> Option<Answer>
     requires table { (seat.old.table_id ≡ words.now.table_id) × (words.now.table_id.words ≡ words_of sizes.now) × IsSmall sizes.now }
     requires seat { (seat.old.me ≡ single (port_of seat.old.me)) × ((port_of seat.old.me).service.sizes ≡ sizes.now) }
     requires stands { PublisherStands (port_of seat.old.me) lane.old }
+    requires begins { StartsWithin sizes.now most lane.old.port.call }
     ensures table { (seat.new.table_id ≡ seat.old.table_id) × (seat.new.id ≡ seat.old.id) }
     ensures seat { (seat.new.me ≡ single (port_of seat.new.me)) × ((port_of seat.new.me).service ≡ (port_of seat.old.me).service) × ((port_of seat.new.me).name ≡ (port_of seat.old.me).name) }
     ensures stands { PublisherStands (port_of seat.new.me) lane.new }
-    ensures runs { PublisherRuns (port_of seat.old.me) lane.old (port_of seat.new.me) lane.new result }
+    ensures runs { PublisherRuns most (port_of seat.old.me) lane.old (port_of seat.new.me) lane.new result }
 {
-    for _ in 0..most {
+    for _made in 0..most {
         let answer = step(words, seat, sizes, lane);
         if answer.is_some() {
             return answer;

@@ -1,8 +1,8 @@
 use Rattle.std.proofs.Common.{◌≡◌}
 use Rattle.iox_lanes_threads_rule.specs.Acts.{port_of}
-use Rattle.iox_lanes_threads_ports.proofs.Running.{Publishes}
+use Rattle.iox_lanes_threads_ports.proofs.Running.{Publishes, Paced}
 use Rattle.iox_lanes_threads_ports.proofs.publishing.run.Given as goal
 
-abbrev pub invariant-loop : goal.invariant-loop
-invariant-loop g l =
-    (l.seat.table_id ≡ l.initial.seat.table_id) × (l.seat.id ≡ l.initial.seat.id) × Publishes (port_of l.initial.seat.me) l.initial.lane l.seat.me l.lane
+abbrev pub invariant-loop-made : goal.invariant-loop-made
+invariant-loop-made g l =
+    (l.seat.table_id ≡ l.initial.seat.table_id) × (l.seat.id ≡ l.initial.seat.id) × Publishes (port_of l.initial.seat.me) l.seat.me l.lane × Paced l.most l._made (port_of l.initial.seat.me) l.initial.lane (port_of l.seat.me) l.lane

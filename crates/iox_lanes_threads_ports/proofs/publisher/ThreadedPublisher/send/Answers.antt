@@ -1,13 +1,24 @@
-use Rattle.std.proofs.Common.{is_some, sym, ap, subst, ◌∙◌}
+use Rattle.std.proofs.Common.{ℕ, is_some, sym, ap, subst, ◌∙◌}
 use Rattle.iox_lanes_parties.specs.Parties.{head_of}
+use Rattle.iox_lanes_parties.specs.declared.call.Call.TheVariants as call
+use Rattle.iox_lanes_parties.specs.declared.call.Move.TheVariants.{Begin}
 use Rattle.iox_lanes_threads_rule.specs.Acts.{port_of}
 use Rattle.iox_lanes_threads_ports.specs.Known.{KnowsHead, KeepsPayload}
-use Rattle.iox_lanes_threads_ports.specs.Values.{PublisherPort}
-use Rattle.iox_lanes_threads_ports.proofs.KnownSends.{send_known}
+use Rattle.iox_lanes_threads_ports.specs.Paces.{send_steps}
+use Rattle.iox_lanes_threads_ports.specs.Values.{PublisherPort, PublisherDoes, Sends}
+use Rattle.iox_lanes_threads_ports.proofs.KnownSends.{send_known, send_called}
 use Rattle.iox_lanes_threads_ports.proofs.publisher.ThreadedPublisher.send.Goals as goal
+
+pub returns-clause-call : goal.returns-clause-call
+returns-clause-call g c =
+    let was : PublisherPort = record { table = c.self.inside.seat.table_id; port = port_of c.self.inside.seat.me; lane = c.self.inside.lane } in
+    let now : PublisherPort = record { table = c.does-answer.new.seat.table_id; port = port_of c.does-answer.new.seat.me; lane = c.does-answer.new.lane } in
+    let done = subst (λ (most : ℕ). PublisherDoes most was.port was.lane (Begin (call.Send c.args.loan)) now.port now.lane c.does-answer.result) (c.send_steps-most.ensures ∙ ap send_steps (sym c.self.invariant.0.sizes_are)) c.does-answer.ensures.does in
+    subst (λ (v : PublisherPort). Sends v c.args.loan now c.sent.result) c.self.view_is
+    (subst (Sends was c.args.loan now) (sym c.sent.ensures) (send_called was now c.args.loan c.does-answer.result c.self.invariant.1 c.does-answer.ensures.table done))
 
 pub returns-clause-slot : goal.returns-clause-slot
 returns-clause-slot g c = λ e.
     subst (λ (v : PublisherPort). KnowsHead (port_of c.does-answer.new.seat.me) c.args.loan (head_of c.args.loan v.lane) × KeepsPayload v.port (port_of c.does-answer.new.seat.me) c.args.loan) c.self.view_is
-    (send_known (port_of c.self.inside.seat.me) c.self.inside.lane c.args.loan (port_of c.does-answer.new.seat.me) c.does-answer.new.lane c.does-answer.result c.self.invariant.1 c.does-answer.ensures.does
+    (send_known c.send_steps-most.result (port_of c.self.inside.seat.me) c.self.inside.lane c.args.loan (port_of c.does-answer.new.seat.me) c.does-answer.new.lane c.does-answer.result c.self.invariant.1 c.does-answer.ensures.does
     (sym (ap is_some c.sent.ensures) ∙ e))

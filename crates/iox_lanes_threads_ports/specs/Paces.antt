@@ -1,0 +1,73 @@
+-- How many steps a publisher's call makes, and how it ends.
+use Rattle.std.specs.Prelude.{ℕ, ◌≡◌, ◌+◌, ◌*◌, ◌<◌, ◌==◌, if◌then◌else◌, true, slice_get, Option, None, Some}
+use Rattle.iox_lanes_words.specs.declared.sizes.TableSizes.{TableSizes}
+use Rattle.iox_lanes_calls.specs.Publishing.{publisher_is_over, publisher_change}
+use Rattle.iox_lanes_calls.specs.declared.publisher.PublisherChange.{PublisherChange}
+use Rattle.iox_lanes_calls.specs.declared.publisher.PublisherChange.TheVariants as change
+use Rattle.iox_lanes_calls.specs.declared.route.Route.{Route}
+use Rattle.iox_lanes_parties.specs.Parties.{PublisherLaneState, publisher_after, publisher_answer}
+use Rattle.iox_lanes_parties.specs.declared.call.Answer.{Answer}
+use Rattle.iox_lanes_threads_rule.specs.declared.view.Port.{Port}
+use Rattle.iox_lanes_threads_ports.specs.Courses.{PublisherGoes}
+use Rattle.iox_lanes_threads_ports.specs.Courses.PublisherGoes.{stays, goes}
+
+-- how many samples of the connection at a place a step takes back that changes so much
+abbrev pub back_at : ℕ → PublisherChange → ℕ
+back_at place change.Nothing = 0
+back_at place change.Lend = 0
+back_at place (change.Mark slot) = 0
+back_at place (change.Remember slot) = 0
+back_at place (change.TakenBack at slot) = if at == place then 1 else 0
+back_at place (change.Put at slot) = 0
+back_at place (change.LeftOut at slot) = 0
+back_at place (change.DropLoan slot) = 0
+
+-- how many steps these are
+abbrev pub steps_in : {p : Port} {lane : PublisherLaneState} {q : Port} {now : PublisherLaneState} → PublisherGoes p lane q now → ℕ
+steps_in stays = 0
+steps_in (goes q now answer before told) = steps_in before + 1
+
+-- how many samples they took back of the connection at a place
+abbrev pub taken_in : {p : Port} {lane : PublisherLaneState} {q : Port} {now : PublisherLaneState} → PublisherGoes p lane q now → ℕ → ℕ
+taken_in stays = λ place. 0
+taken_in (goes q now answer before told) = λ place. taken_in before place + back_at place (publisher_change now.port.call answer)
+
+-- at each connection four steps for each sample that its ring of samples given back has a cell for, four for one more, and two that find none
+abbrev pub sweep_steps : TableSizes → ℕ
+sweep_steps sizes = sizes.connections * (4 * (sizes.completion_cells + 1) + 2)
+
+-- the most steps of a loan: it takes back, and looks for a slot
+abbrev pub loan_steps : TableSizes → ℕ
+loan_steps sizes = sweep_steps sizes + 1
+
+-- the most steps of a write: one for each word, and one that ends it
+abbrev pub write_steps : TableSizes → ℕ
+write_steps sizes = sizes.payload_words + 1
+
+-- the most steps of a send: one for each word of header and user header, and one for the history; it takes back, makes at most six at each connection, and ends
+abbrev pub send_steps : TableSizes → ℕ
+send_steps sizes = 3 + sizes.user_header_words + 1 + sweep_steps sizes + 6 * sizes.connections + 1
+
+-- the steps of a publisher's call up to its last, and that one, which answers: at most so many in all
+pub record PublisherEnds (most : ℕ) (p : Port) (lane : PublisherLaneState) (q : Port) (now : PublisherLaneState) (answer : Answer) : Type 0 where
+  pub last : PublisherLaneState
+  pub goes : PublisherGoes p lane q last
+  pub few : steps_in goes < most
+  pub ends : publisher_is_over last.port.call ≡ true
+  pub after : now ≡ publisher_after 0 last
+  pub answers : publisher_answer last.port.call now.port.book.answer ≡ Some answer
+
+-- So many steps of a publisher's call, without its last. That is so only where one connection gave back more samples in this one call than its ring of samples
+-- given back has cells.
+pub record StaysInside (most : ℕ) (p : Port) (lane : PublisherLaneState) (q : Port) (now : PublisherLaneState) : Type 0 where
+  pub goes : PublisherGoes p lane q now
+  pub all : steps_in goes ≡ most
+  pub place : ℕ
+  pub route : Route
+  pub found : slice_get lane.port.routes place ≡ Some route
+  pub more : p.service.sizes.completion_cells < taken_in goes place
+
+-- the steps of a publisher's call: with an answer to its end, and else so many to somewhere inside it
+abbrev pub PublisherRuns : ℕ → Port → PublisherLaneState → Port → PublisherLaneState → Option Answer → Type 0
+PublisherRuns most p lane q now None = StaysInside most p lane q now
+PublisherRuns most p lane q now (Some answer) = PublisherEnds most p lane q now answer
