@@ -2,7 +2,7 @@
 use Rattle.std.proofs.Common.{◌≡◌, ℕ, ◌+◌, ◌<◌, Bool, true, false, arith, inl, inr, ⊎_elim, ◌⊎◌}
 use Rattle.std.specs.Prelude.{Option, Some, None, is_some}
 use Rattle.std.proofs.str.Laws.{order}
-use Rattle.example_tracer.specs.Trace.{IsOnly, NoneOrTwo}
+use Rattle.example_arrows.specs.Trace.{IsOnly, NoneOrTwo}
 
 -- below n just this one passes, or none
 abbrev pub OnlySo : (ℕ → Bool) → ℕ → Option ℕ → Type 0

@@ -4,7 +4,7 @@ use Rattle.std.specs.List.{list_any}
 use Rattle.std.specs.Option.{option_and_then}
 use Rattle.std.specs.List.{slice_index_or}
 use Rattle.example_exchange.specs.declared.Exchange.{Exchange}
-use Rattle.example_tracer.specs.declared.trace.Arrow.{Arrow}
+use Rattle.example_arrows.specs.declared.Arrow.{Arrow}
 use Rattle.example_exchange.specs.Exchange.{Seen, sent_by, received_by, is_text}
 
 -- the message that an exchange sent

@@ -1,9 +1,9 @@
 use Rattle.std.proofs.Common.{◌≡◌, sym, add-one, length, arith}
-use Rattle.example_tracer.specs.Trace.{start, silent, sample, IsArrow}
+use Rattle.example_arrows.specs.Trace.{start, silent, sample, IsArrow}
 use Rattle.example_exchange.specs.Exchange.{seen}
-use Rattle.example_tracer.proofs.TraceLemmas.{all_join, all_in_order, all_lost_for_good, counted}
-use Rattle.example_tracer.proofs.trace.trace.Goals as goal
-use Rattle.example_tracer.proofs.trace.trace.Goals.{in-Some+in_ok-push, in_default}
+use Rattle.example_arrows.proofs.TraceLemmas.{all_join, all_in_order, all_lost_for_good, counted}
+use Rattle.example_arrows.proofs.trace.Goals as goal
+use Rattle.example_arrows.proofs.trace.Goals.{in-Some+in_ok-push, in_default}
 
 pub loop-receipt-init : goal.loop-receipt-init
 loop-receipt-init c = rw c.new-arrows.ensures.items start

@@ -1,9 +1,11 @@
 //! Which line sent what a line received, as far as lines and replies tell it.
+#![tactic(auto)]
+
 ghost use Rattle.std.specs.Prelude.{◌≡◌, ◌<◌, ◌≤◌, None, IfOk, length, count_by, All};
 ghost use Rattle.std.specs.List.{AllPairs, list_any};
 ghost use Rattle.std.specs.Option.{option_map};
 ghost use Rattle.example_exchange.specs.Exchange.{seen};
-ghost use Rattle.example_tracer.specs.Trace.{sent_at, received_at, fits, passes, may_be, IsOnly, IsArrow, Trace, Joins, KeepsOrder, LostForGood, gives_sample, is_lost, untold};
+ghost use Rattle.example_arrows.specs.Trace.{sent_at, received_at, fits, passes, may_be, IsOnly, IsArrow, Trace, Joins, KeepsOrder, LostForGood, gives_sample, is_lost, untold};
 
 use example_exchange::{Exchange, Message, is, received, sent};
 use std::alloc::{AllocError, Global};

@@ -12,9 +12,9 @@ use Rattle.std.proofs.lemmas.List.{get_or-take, length-take-le}
 use Rattle.std.proofs.str.Laws.{order}
 use Rattle.std.proofs.lemmas.Option.{slice_get-get_or}
 use Rattle.example_exchange.specs.declared.Exchange.{Exchange}
-use Rattle.example_tracer.specs.declared.trace.Arrow.{Arrow}
+use Rattle.example_arrows.specs.declared.Arrow.{Arrow}
 use Rattle.example_exchange.specs.Exchange.{Seen, is_text}
-use Rattle.example_tracer.specs.Trace.{received_of, gives_sample, sent_at, received_at, fits, passes, may_come, may_be, IsOnly, IsArrow, Trace, start, silent, sample, Joins, Follows, KeepsOrder, is_lost, before_it, LostForGood}
+use Rattle.example_arrows.specs.Trace.{received_of, gives_sample, sent_at, received_at, fits, passes, may_come, may_be, IsOnly, IsArrow, Trace, start, silent, sample, Joins, Follows, KeepsOrder, is_lost, before_it, LostForGood}
 
 both : (a b : Bool) → (a && b) ≡ true → (a ≡ true) × (b ≡ true)
 both true b e = (refl, e)
