@@ -10,7 +10,8 @@ use Rattle.example_drawing.specs.declared.Shape.{Shape}
 use Rattle.example_drawing.specs.Drawing.{drawing_of}
 use Rattle.example_arrows.specs.declared.Arrow.{Arrow}
 use Rattle.example_arrows.specs.Trace.{Trace}
-use Rattle.example_tracer.specs.Picture.{is_way, rows_of, ways_in, across, rows_of_way, lost_rows, IsDrawn, more, Pictures}
+use Rattle.example_lifelines.specs.Frame.{is_way, rows_of, ways_in}
+use Rattle.example_tracer.specs.Picture.{across, rows_of_way, lost_rows, IsDrawn, more, Pictures}
 
 -- one more shape is one more way, or none
 pub drawn_behind : (shapes : List Shape) (shape : Shape) → ways_in (shapes ++ shape ∷ []) ≡ ways_in shapes ++ ways_in (shape ∷ [])

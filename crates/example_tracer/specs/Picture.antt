@@ -1,12 +1,12 @@
 -- What a picture shows of the messages of a conversation, by the rows that strokes begin and end in.
-use Rattle.std.specs.Prelude.{ℕ, Bool, false, ◌≡◌, ◌||◌, List, [], ◌∷◌, ◌++◌, map, filter, length, position, unwrap_or, Option, Some, None, codes}
+use Rattle.std.specs.Prelude.{ℕ, Bool, false, ◌≡◌, List, [], ◌∷◌, ◌++◌, map, filter, length, position, unwrap_or, Option, Some, None}
 use Rattle.std.specs.List.{range_with_len}
 use Rattle.example_exchange.specs.declared.Exchange.{Exchange}
 use Rattle.example_exchange.specs.Exchange.{is_text}
 use Rattle.example_exchange.specs.Things.{made_by}
 use Rattle.example_drawing.specs.declared.Shape.{Shape}
-use Rattle.example_drawing.specs.declared.Shape.TheVariants as shape
 use Rattle.example_drawing.specs.Drawing.{drawing_of}
+use Rattle.example_lifelines.specs.Frame.{ways_in}
 use Rattle.example_arrows.specs.declared.Arrow.{Arrow}
 use Rattle.example_arrows.specs.Trace.{Trace, sent_at, is_lost}
 
@@ -22,20 +22,6 @@ makes name it = is_name_of name (made_by it.reply.now)
 -- the row in which what has this name was made, or the first
 abbrev pub since_of : List Exchange → List ℕ → ℕ
 since_of conversation name = unwrap_or (position (makes name) conversation) 0
-
--- the rows that a stroke begins and ends in; a text stands in one
-abbrev pub rows_of : Shape → Option ℕ × ℕ
-rows_of (shape.Stroke class from to) = (Some from.1, to.1)
-rows_of (shape.Text class at text) = (None, at.1)
-
--- whether a shape is drawn as the way of a message: as one that came, as one that was lost, or as one from nobody knows where
-abbrev pub is_way : Shape → Bool
-is_way (shape.Stroke class from to) = is_text class.now (codes "message") || is_text class.now (codes "lost")
-is_way (shape.Text class at text) = is_text class.now (codes "untold")
-
--- the rows of all ways among these shapes
-abbrev pub ways_in : List Shape → List (Option ℕ × ℕ)
-ways_in shapes = map rows_of (filter is_way shapes)
 
 -- the rows of an arrow: from its origin, where that is told, to its receipt
 abbrev pub rows_of_way : Arrow → Option ℕ × ℕ

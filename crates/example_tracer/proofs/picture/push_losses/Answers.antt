@@ -1,6 +1,6 @@
 use Rattle.std.proofs.Common.{ℕ, Bool, sym, ◌∙◌, refl}
 use Rattle.std.specs.Prelude.{Option}
-use Rattle.example_tracer.specs.Picture.{ways_in}
+use Rattle.example_lifelines.specs.Frame.{ways_in}
 use Rattle.example_arrows.specs.Trace.{sent_at, is_lost}
 use Rattle.example_tracer.proofs.PictureLemmas.{one_more, none_more}
 use Rattle.example_tracer.proofs.picture.push_losses.Goals as goal

@@ -1,7 +1,8 @@
 use Rattle.std.proofs.Common.{◌≡◌, ◌++◌, map}
 use Rattle.std.specs.Prelude.{filter}
 use Rattle.std.specs.List.{range_with_len}
-use Rattle.example_tracer.specs.Picture.{ways_in, across}
+use Rattle.example_lifelines.specs.Frame.{ways_in}
+use Rattle.example_tracer.specs.Picture.{across}
 use Rattle.example_arrows.specs.Trace.{sent_at, is_lost}
 use Rattle.example_tracer.proofs.picture.push_losses.Given as goal
 

@@ -1,6 +1,7 @@
 use Rattle.std.proofs.Common.{take}
-use Rattle.example_tracer.specs.Picture.{ways_in, IsDrawn}
-use Rattle.example_tracer.proofs.picture.Layout.shapes.Given as goal
+use Rattle.example_lifelines.specs.Frame.{ways_in}
+use Rattle.example_tracer.specs.Picture.{IsDrawn}
+use Rattle.example_tracer.proofs.picture.shapes.Given as goal
 
 -- the arrows so far are drawn
 abbrev pub invariant-loop-at : goal.invariant-loop-at
