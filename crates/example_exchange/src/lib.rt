@@ -1,10 +1,11 @@
-//! A line of a script with its reply, and what the two tell of a message.
+//! A line of a script with its reply, and what the two tell: of a message, and of what was made and ended.
 #![tactic(auto)]
 
 ghost use Rattle.std.specs.Prelude.{◌≡◌, ◌≤◌, IfOk, length};
 ghost use Rattle.std.specs.List.{before_first, after_first, position_or_len};
 ghost use Rattle.std.specs.Option.{option_map};
 ghost use Rattle.example_exchange.specs.Exchange.{is_byte, first_word, behind, is_text, is_sent, sent_by, received_by, seen};
+ghost use Rattle.example_exchange.specs.Things.{is_name, made_by, ended_by};
 ghost use Rattle.example_exchange.specs.Conversation.{IsConversation};
 
 use std::alloc::{AllocError, Global};
@@ -116,6 +117,40 @@ pub fn received<'a>(exchange: &Exchange<'a>) -> Option<Message<'a>>
     } else {
         None
     }
+}
+
+/// Whether a text is a name as a hub gives it to nodes, factories, ports, samples and loans.
+fn is_name(text: &[u8]) -> bool
+    ensures { result ≡ is_name text.now }
+{
+    match text {
+        [kind, digit, ..] => {
+            matches!(*kind, b'n' | b'f' | b'p' | b's' | b'l') && digit.is_ascii_digit()
+        }
+        _ => false,
+    }
+}
+
+/// The name of the node, factory, port or loan that a reply says was made.
+pub fn made(reply: &[u8]) -> Option<&[u8]>
+    ensures { option_map (λ name. name.now) result ≡ made_by reply.now }
+{
+    let (ok, name) = word(reply);
+    (is(ok, b"ok") && is_name(name)).then_some(name)
+}
+
+/// Whether a line ended what has this name: it was closed, left, was dropped or sent, or was given back.
+pub fn ends(exchange: &Exchange<'_>, name: &[u8]) -> bool
+    ensures { result ≡ ended_by exchange.now.line.now exchange.now.reply.now name.now }
+{
+    let (verb, ended) = word(exchange.line);
+    let closes = is(verb, b"close")
+        || is(verb, b"leave")
+        || is(verb, b"drop")
+        || is(verb, b"release");
+    is(ended, name)
+        && (closes && is(exchange.reply, b"ok")
+            || is(verb, b"send") && !is(exchange.reply, b"skip"))
 }
 
 /// The rows of a text, one behind the other, each as a line and its reply. A last row without a newline counts if it isn't empty.

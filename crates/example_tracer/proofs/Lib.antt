@@ -1,3 +1,1 @@
-pub mod OnlyLemmas
 pub mod PictureLemmas
-pub mod TraceLemmas

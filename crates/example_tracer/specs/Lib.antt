@@ -1,2 +1,1 @@
 pub mod Picture
-pub mod Trace

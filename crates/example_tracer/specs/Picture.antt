@@ -1,16 +1,27 @@
--- What is drawn for an arrow, by the rows that it begins and ends in.
-use Rattle.std.specs.Prelude.{ℕ, List, map, length, Option, Some, None}
-use Rattle.std.specs.List.{filter, range_with_len}
+-- What a picture shows of the messages of a conversation, by the rows that strokes begin and end in.
+use Rattle.std.specs.Prelude.{ℕ, Bool, false, ◌≡◌, List, [], ◌∷◌, ◌++◌, map, filter, length, position, unwrap_or, Option, Some, None}
+use Rattle.std.specs.List.{range_with_len}
 use Rattle.example_exchange.specs.declared.Exchange.{Exchange}
-use Rattle.example_tracer.specs.declared.picture.Shape.{Shape}
-use Rattle.example_tracer.specs.declared.picture.Shape.TheVariants as shape
-use Rattle.example_tracer.specs.declared.trace.Arrow.{Arrow}
-use Rattle.example_tracer.specs.Trace.{sent_at, is_lost}
+use Rattle.example_exchange.specs.Exchange.{is_text}
+use Rattle.example_exchange.specs.Things.{made_by}
+use Rattle.example_drawing.specs.declared.Shape.{Shape}
+use Rattle.example_drawing.specs.Drawing.{drawing_of}
+use Rattle.example_lifelines.specs.Frame.{ways_in}
+use Rattle.example_arrows.specs.declared.Arrow.{Arrow}
+use Rattle.example_arrows.specs.Trace.{Trace, sent_at, is_lost}
 
--- the rows that a stroke begins and ends in; a text stands in one
-abbrev pub rows_of : Shape → Option ℕ × ℕ
-rows_of (shape.Stroke class from to) = (Some from.1, to.1)
-rows_of (shape.Text class at text) = (None, at.1)
+-- whether the name of what was made is this one
+abbrev pub is_name_of : List ℕ → Option (List ℕ) → Bool
+is_name_of name None = false
+is_name_of name (Some made) = is_text made name
+
+-- whether a line's reply says that what has this name was made
+abbrev pub makes : List ℕ → Exchange → Bool
+makes name it = is_name_of name (made_by it.reply.now)
+
+-- the row in which what has this name was made, or the first
+abbrev pub since_of : List Exchange → List ℕ → ℕ
+since_of conversation name = unwrap_or (position (makes name) conversation) 0
 
 -- the rows of an arrow: from its origin, where that is told, to its receipt
 abbrev pub rows_of_way : Arrow → Option ℕ × ℕ
@@ -20,7 +31,22 @@ rows_of_way arrow = (arrow.origin, arrow.receipt)
 abbrev pub across : ℕ → Option ℕ × ℕ
 across line = (Some line, line)
 
--- the rows of all lines that an arrow shows as lost, each once
-abbrev pub lost_rows : List Exchange → List Arrow → Arrow → ℕ → List (Option ℕ × ℕ)
-lost_rows conversation before arrow since =
-    filter (λ rows. is_lost before arrow rows.1 since (sent_at conversation rows.1)) (map across (range_with_len 0 (length conversation)))
+-- the rows of all lines that an arrow, behind those before it, shows as lost, each once
+abbrev pub lost_rows : List Exchange → List Arrow → Arrow → List (Option ℕ × ℕ)
+lost_rows conversation before arrow =
+    filter (λ rows. is_lost before arrow rows.1 (since_of conversation arrow.subscriber.now) (sent_at conversation rows.1)) (map across (range_with_len 0 (length conversation)))
+
+-- these rows are those of the arrows, in order: of each its way, and the lines that it shows as lost
+pub data IsDrawn (conversation : List Exchange) : List Arrow → List (Option ℕ × ℕ) → Type 0 where
+  nothing : IsDrawn conversation [] []
+  more : {arrows : List Arrow} {rows : List (Option ℕ × ℕ)} → (arrow : Arrow) → IsDrawn conversation arrows rows → IsDrawn conversation (arrows ++ arrow ∷ []) (rows ++ rows_of_way arrow ∷ [] ++ lost_rows conversation arrows arrow)
+
+-- a text is a drawing of a conversation: a row a line, and of the shapes just those are ways that are of the conversation's arrows
+pub record Pictures (conversation : List Exchange) (text : List ℕ) : Type 0 where
+  pub arrows : List Arrow
+  pub traced : Trace conversation (length conversation) arrows
+  pub style : List ℕ
+  pub width : ℕ
+  pub shapes : List Shape
+  pub drawn : IsDrawn conversation arrows (ways_in shapes)
+  pub written : text ≡ drawing_of style width (length conversation) shapes

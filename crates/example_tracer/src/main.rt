@@ -3,18 +3,15 @@
 #![tactic(auto)]
 
 mod picture;
-mod trace;
 
 use example_exchange::conversation;
-use picture::Picture;
+use picture::picture;
 use std::io::{self, Read};
 
 fn main(rt: HostRuntime) -> io::Result<()> {
     let mut text = Vec::new(rt.alloc());
     rt.stdin().read_to_end(&mut text)?;
     let conversation = conversation(rt.alloc(), &text)?;
-    let arrows = trace::trace(rt.alloc(), &conversation)?;
-    let mut out = String::new(rt.alloc());
-    Picture::new(rt.alloc(), &conversation)?.draw(&mut out, rt.alloc(), &arrows)?;
+    let out = picture(rt.alloc(), &conversation)?;
     rt.print(&out)
 }

@@ -1,13 +1,15 @@
-//! The picture of a conversation, as SVG: a row a line, a lifeline for each thing that was made, and the ways of the messages.
-ghost use Rattle.std.specs.Prelude.{◌≡◌, ◌∷◌, IfOk, map};
-ghost use Rattle.example_tracer.specs.Picture.{rows_of, rows_of_way, lost_rows};
+//! What is drawn of a conversation: its frame, the ways of the messages, and what was lost.
+ghost use Rattle.std.specs.Prelude.{◌≡◌, [], ◌∷◌, ◌++◌, IfOk, OnOk, position, string_bytes};
+ghost use Rattle.example_lifelines.specs.Frame.{ways_in};
+ghost use Rattle.example_tracer.specs.Picture.{makes, rows_of_way, lost_rows, IsDrawn, Pictures};
 
-use crate::trace::{Arrow, is_lost};
-use example_exchange::{Exchange, is, word};
+use example_arrows::{Arrow, is_lost, trace};
+use example_drawing::{Shape, drawing};
+use example_exchange::{Exchange, is, made, word};
+use example_lifelines::{Frame, Shapes, end};
 use std::alloc::{AllocError, Global};
-use std::fmt::Write;
 
-/// How each kind of stroke looks.
+/// How each class of shape looks.
 const STYLE: &str =
     "<style>text{font:13px monospace}.reply,.untold{fill:#777}.name{font-weight:bold}.nobody{fill:#c30;font-weight:bold}
 .life{stroke:#bbb}.message{stroke:#06c;stroke-width:2;marker-end:url(#tip)}.held{stroke:#06c;stroke-opacity:.3;stroke-width:10}
@@ -17,204 +19,103 @@ const STYLE: &str =
 <rect width=\"100%\" height=\"100%\" fill=\"#fff\"/>
 ";
 
-/// A place in the picture: how far to the right, and in which row.
-pub type Place = (usize, usize);
-
-/// What is drawn, each with how it looks: a stroke from a place to another, or a text at a place.
-#[derive(Clone, Copy)]
-pub enum Shape<'a> {
-    Stroke(&'static str, Place, Place),
-    Text(&'static str, Place, &'a [u8]),
+/// Whether a reply says that what has this name was made.
+fn makes(it: &Exchange<'_>, name: &[u8]) -> bool
+    ensures { result ≡ makes name.now it.now }
+{
+    match made(it.reply) {
+        Some(made) => is(made, name),
+        None => false,
+    }
 }
 
-/// What is drawn for an arrow behind those before it, whose publisher's lifeline is so far to the right, and whose subscriber's begins at this place:
-/// one stroke, from the row of its origin to that of its receipt, or a sign at its receipt where no origin is told; and one stroke in the row of each
-/// line that it shows as lost.
-fn shapes(
-    alloc: Global,
+/// The row in which what has this name was made; None where no reply says so.
+fn birth(conversation: &[Exchange<'_>], name: &[u8]) -> Option<usize>
+    ensures { result ≡ position (makes name.now) conversation.now }
+{
+    conversation.iter().position(|it| makes(it, name))
+}
+
+/// Adds the way of an arrow, from one lifeline to another: a stroke from the row of its origin to that of its receipt, or a sign at its receipt where no
+/// origin is told.
+fn push_way(
+    shapes: &mut Shapes<'_>,
+    arrow: &Arrow<'_>,
+    from: usize,
+    to: usize,
+) -> Result<(), AllocError>
+    ensures { OnOk result (ways_in shapes.new.items ≡ ways_in shapes.old.items ++ rows_of_way arrow.now ∷ []) }
+{
+    shapes.push(match arrow.origin {
+        Some(origin) => Shape::Stroke("message", (from, origin), (to, arrow.receipt)),
+        None => Shape::Text("untold", (to.saturating_sub(16), arrow.receipt), b"?"),
+    })?;
+    Ok(())
+}
+
+/// Adds a stroke in the row of each line that an arrow shows as lost.
+fn push_losses(
+    shapes: &mut Shapes<'_>,
     conversation: &[Exchange<'_>],
     before: &[Arrow<'_>],
     arrow: &Arrow<'_>,
     from: usize,
-    to: Place,
-) -> Result<Vec<Shape<'static>>, AllocError>
-    ensures { IfOk result (λ shapes. map rows_of shapes.items ≡ rows_of_way arrow.now ∷ lost_rows conversation.now before.now arrow.now to.1) }
+    to: usize,
+) -> Result<(), AllocError>
+    ensures { OnOk result (ways_in shapes.new.items ≡ ways_in shapes.old.items ++ lost_rows conversation.now before.now arrow.now) }
 {
-    let (x, since) = to;
-    let mut shapes = Vec::new(alloc);
-    shapes.push(match arrow.origin {
-        Some(origin) => Shape::Stroke("message", (from, origin), (x, arrow.receipt)),
-        None => Shape::Text("untold", (x.saturating_sub(16), arrow.receipt), b"?"),
-    })?;
+    let since = birth(conversation, arrow.subscriber).unwrap_or(0);
     for line in 0..conversation.len() {
         if is_lost(conversation, before, arrow, line, since) {
-            shapes.push(Shape::Stroke("lost", (from, line), (from / 2 + x / 2, line)))?;
+            shapes.push(Shape::Stroke("lost", (from, line), (from / 2 + to / 2, line)))?;
         }
     }
+    Ok(())
+}
+
+/// Adds for how long a message was held, its way, and what its subscriber never gets.
+fn push_arrow(
+    shapes: &mut Shapes<'_>,
+    frame: &Frame<'_>,
+    conversation: &[Exchange<'_>],
+    before: &[Arrow<'_>],
+    arrow: &Arrow<'_>,
+) -> Result<(), AllocError>
+    ensures { OnOk result (ways_in shapes.new.items ≡ ways_in shapes.old.items ++ rows_of_way arrow.now ∷ [] ++ lost_rows conversation.now before.now arrow.now) }
+{
+    let (from, to) = (frame.find(arrow.publisher), frame.find(arrow.subscriber));
+    if let Some(it) = conversation.get(arrow.receipt) {
+        let until = end(conversation, word(word(it.reply).1).0, arrow.receipt);
+        shapes.push(Shape::Stroke("held", (to, arrow.receipt), (to, until)))?;
+    }
+    push_way(shapes, arrow, from, to)?;
+    push_losses(shapes, conversation, before, arrow, from, to)
+}
+
+/// All that is drawn: the frame, the arrows, and the names of the lifelines.
+fn shapes<'a>(
+    alloc: Global,
+    frame: &Frame<'a>,
+    conversation: &[Exchange<'a>],
+    arrows: &[Arrow<'_>],
+) -> Result<Shapes<'a>, AllocError>
+    ensures { IfOk result (λ shapes. IsDrawn conversation.now arrows.now (ways_in shapes.items)) }
+{
+    let mut shapes = frame.shapes(alloc, conversation)?;
+    for (at, arrow) in arrows.iter().enumerate() {
+        push_arrow(&mut shapes, frame, conversation, &arrows[..at], arrow)?;
+    }
+    frame.push_names(&mut shapes)?;
     Ok(shapes)
 }
 
-fn y(row: usize) -> usize {
-    row.saturating_mul(24).saturating_add(28)
-}
-
-/// Writes a shape.
-fn draw(out: &mut String, shape: Shape<'_>) -> Result<(), AllocError> {
-    match shape {
-        Shape::Stroke(class, (x, row), (to_x, to_row)) => {
-            let (y, to_y) = (y(row), y(to_row));
-            out.push_str("<path")?;
-            writeln!(out, " class=\"{class}\" d=\"M{x} {y}L{to_x} {to_y}\"/>")
-        }
-        Shape::Text(class, (x, row), text) => {
-            let y = y(row).saturating_add(4);
-            write!(out, "<text class=\"{class}\" x=\"{x}\" y=\"{y}\">")?;
-            for byte in text {
-                match *byte {
-                    b'<' => out.push_str("&lt;")?,
-                    b'&' => out.push_str("&amp;")?,
-                    32..=126 => out.push(char::from(*byte))?,
-                    _ => out.push_str("?")?,
-                }
-            }
-            out.push_str("</text>\n")
-        }
-    }
-}
-
-/// The name of the node, factory, port or loan that a reply says was made.
-fn made(reply: &[u8]) -> Option<&[u8]> {
-    match word(reply) {
-        (b"ok", name @ [b'n' | b'f' | b'p' | b's' | b'l', b'0'..=b'9', ..]) => Some(name),
-        _ => None,
-    }
-}
-
-/// Whether a line ended what has this name: it was closed, left, was dropped or sent, or was given back.
-fn ends(it: &Exchange<'_>, name: &[u8]) -> bool {
-    let (verb, ended) = word(it.line);
-    is(ended, name)
-        && match verb {
-            b"close" | b"leave" | b"drop" | b"release" => is(it.reply, b"ok"),
-            b"send" => !is(it.reply, b"skip"),
-            _ => false,
-        }
-}
-
-/// What a picture is drawn of, and how far to the right its replies and its lifelines are.
-#[derive(Drop)]
-pub struct Picture<'a> {
-    conversation: &'a [Exchange<'a>],
-    /// What was made, each with the place where its lifeline begins.
-    made: Vec<(&'a [u8], Place)>,
-    replies: usize,
-    width: usize,
-}
-
-impl<'a> Picture<'a> {
-    pub fn new(alloc: Global, conversation: &'a [Exchange<'a>]) -> Result<Self, AllocError> {
-        let line = conversation.iter().map(|it| it.line.len()).max();
-        let reply = conversation.iter().map(|it| it.reply.len()).max();
-        let replies = line.unwrap_or(0).saturating_mul(8).saturating_add(32);
-        let widest = reply.unwrap_or(0).saturating_mul(8).saturating_add(48);
-        let mut width = widest.saturating_add(replies);
-        let mut lifelines = Vec::new(alloc);
-        for (row, it) in conversation.iter().enumerate() {
-            if let Some(name) = made(it.reply) {
-                lifelines.push((name, (width, row)))?;
-                width = width.saturating_add(64);
-            }
-        }
-        Ok(Picture {
-            conversation,
-            made: lifelines,
-            replies,
-            width,
-        })
-    }
-
-    /// Where the lifeline of this name begins; the left edge, where nothing of this name was made.
-    fn find(&self, name: &[u8]) -> Place {
-        for it in &self.made {
-            if is(it.0, name) {
-                return it.1;
-            }
-        }
-        (0, 0)
-    }
-
-    /// The first row from this one on that ended what has this name, or the row behind the last.
-    fn end(&self, name: &[u8], from: usize) -> usize {
-        for (row, it) in self.conversation.iter().enumerate() {
-            if from <= row && ends(it, name) {
-                return row;
-            }
-        }
-        self.conversation.len()
-    }
-
-    /// A line and its reply, and a sign where no mailbox took its message.
-    fn row(&self, out: &mut String, row: usize, it: &Exchange<'_>) -> Result<(), AllocError> {
-        draw(out, Shape::Text("line", (8, row), it.line))?;
-        draw(out, Shape::Text("reply", (self.replies, row), it.reply))?;
-        if is(it.reply, b"ok 0") {
-            let (x, _) = self.find(word(word(it.line).1).0);
-            draw(out, Shape::Text("nobody", (x.saturating_add(8), row), b"x"))?;
-        }
-        Ok(())
-    }
-
-    /// How long a message was held, its way, and what its subscriber never gets.
-    fn way(
-        &self,
-        out: &mut String,
-        alloc: Global,
-        before: &[Arrow<'_>],
-        arrow: &Arrow<'_>,
-    ) -> Result<(), AllocError> {
-        let (from, _) = self.find(arrow.publisher);
-        let to = self.find(arrow.subscriber);
-        if let Some(it) = self.conversation.get(arrow.receipt) {
-            let end = self.end(word(word(it.reply).1).0, arrow.receipt);
-            draw(
-                out,
-                Shape::Stroke("held", (to.0, arrow.receipt), (to.0, end)),
-            )?;
-        }
-        for shape in &shapes(alloc, self.conversation, before, arrow, from, to)? {
-            draw(out, *shape)?;
-        }
-        Ok(())
-    }
-
-    /// Appends the picture, with these arrows.
-    pub fn draw(
-        &self,
-        out: &mut String,
-        alloc: Global,
-        arrows: &[Arrow<'_>],
-    ) -> Result<(), AllocError> {
-        let (width, height) = (self.width, y(self.conversation.len()));
-        out.push_str("<svg xmlns=\"http://www.w3.org/2000/svg\"")?;
-        writeln!(out, " width=\"{width}\" height=\"{height}\">")?;
-        out.push_str(STYLE)?;
-        for it in &self.made {
-            let (x, row) = it.1;
-            draw(
-                out,
-                Shape::Stroke("life", (x, row), (x, self.end(it.0, row))),
-            )?;
-        }
-        for (row, it) in self.conversation.iter().enumerate() {
-            self.row(out, row, it)?;
-        }
-        for (at, arrow) in arrows.iter().enumerate() {
-            self.way(out, alloc, &arrows[..at], arrow)?;
-        }
-        for it in &self.made {
-            let (x, row) = it.1;
-            draw(out, Shape::Text("name", (x.saturating_sub(8), row), it.0))?;
-        }
-        out.push_str("</svg>\n")
-    }
+/// The picture of a conversation, as SVG.
+pub fn picture(alloc: Global, conversation: &[Exchange<'_>]) -> Result<String, AllocError>
+    // A drawing, in which just the ways of the conversation's messages are drawn as ways, and just what was lost as lost.
+    ensures { IfOk result (λ text. Pictures conversation.now (string_bytes text)) }
+{
+    let arrows = trace(alloc, conversation)?;
+    let frame = Frame::new(alloc, conversation)?;
+    let shapes = shapes(alloc, &frame, conversation, &arrows)?;
+    drawing(alloc, STYLE, frame.width, conversation.len(), &shapes)
 }

@@ -1,17 +1,9 @@
-use Rattle.std.proofs.Common.{ℕ, Bool, sym, ◌∙◌, refl}
-use Rattle.std.specs.Prelude.{Option}
-use Rattle.example_tracer.specs.Picture.{rows_of_way}
-use Rattle.example_tracer.specs.Trace.{sent_at, is_lost}
-use Rattle.example_tracer.proofs.PictureLemmas.{one_more, none_more}
+use Rattle.example_tracer.specs.Picture.{nothing}
+use Rattle.example_tracer.proofs.PictureLemmas.{drawn_on}
 use Rattle.example_tracer.proofs.picture.shapes.Goals as goal
-use Rattle.example_tracer.proofs.picture.shapes.Goals.{then-is_lost+in_ok-push-2, else-is_lost}
 
-pub loop-line-preserved : goal.loop-line-preserved
-loop-line-preserved c =
-    let test : Option ℕ × ℕ → Bool = λ rows. is_lost c.args.before.now c.args.arrow.now rows.1 c.args.to.1 (sent_at c.args.conversation.now rows.1) in
-    elim c.if-is_lost.branch [
-      | then-is_lost+in_ok-push-2 w ↦
-          rw (w.shapes-is, w.in_ok-push-2.ensures.items) (one_more c.loop-line.shapes.items _ (rows_of_way c.args.arrow.now) test c.loop-line.line c.loop-line.invariant refl (sym c.is_lost.ensures ∙ w.if-is_lost.true))
-      | else-is_lost w ↦
-          rw w.shapes-is (none_more c.loop-line.shapes.items (rows_of_way c.args.arrow.now) test c.loop-line.line c.loop-line.invariant (sym c.is_lost.ensures ∙ w.if-is_lost.false))
-    ]
+pub loop-at-init : goal.loop-at-init
+loop-at-init c = rw c.in_ok-shapes.ensures.ways nothing
+
+pub loop-at-preserved : goal.loop-at-preserved
+loop-at-preserved c = drawn_on c.args.conversation.now c.args.arrows.now c.loop-at.at _ c.loop-at.shapes.items c.push_arrow.new.shapes.items c.loop-at-test.true c.loop-at.invariant c.in_ok-push_arrow.ensures

@@ -1,0 +1,2 @@
+pub mod OnlyLemmas
+pub mod TraceLemmas
