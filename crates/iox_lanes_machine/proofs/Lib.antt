@@ -27,6 +27,7 @@ pub mod SubscriberUses
 pub mod UsesSteps
 pub mod RoomFinds
 pub mod RoomKept
+pub mod Fresh
 pub mod StartRooms
 pub mod StartUses
 pub mod Alone
