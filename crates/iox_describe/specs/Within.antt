@@ -58,6 +58,14 @@ pub record IsHash (h : ServiceHash) : Type 0 where
   pub whole : length h.digest ≡ 20
   pub bytes : (place : ℕ) → slice_index h.digest place < 256
 
+-- What every description has, whatever the numbers of its settings: texts and attributes within their limits, a whole
+-- hash, numbers of 64 bits.
+pub record HasForm (a : Agreement) : Type 0 where
+  pub name : IsText 1 255 a.name
+  pub service_hash : IsHash a.service_hash
+  pub settings : AreSettings a.settings
+  pub attributes : AreAttributes a.attributes
+
 -- an agreement that a description may spell
 pub record IsWithinLimits (a : Agreement) : Type 0 where
   pub name : IsText 1 255 a.name

@@ -38,5 +38,5 @@ pub use iox_describe_settings::{
     publish_subscribe, request_response,
 };
 pub use iox_describe_verdict::{pattern, requirement};
-pub use reader::{decode, is_within_limits};
+pub use reader::{decode, has_form, is_within_limits};
 pub use writer::encode;

@@ -16,7 +16,7 @@ ghost use Rattle.iox_describe.specs.declared.error.DescriptionError.TheVariants.
 ghost use Rattle.iox_describe.specs.Line.{attribute_tree, attributes_tree, detail_tree, line, pattern_word, settings_tree, tree, types_tree, value_tree};
 ghost use Rattle.serde_json.specs.Data.{string};
 ghost use Rattle.iox_describe.specs.Reading.{AreFound};
-ghost use Rattle.iox_describe.specs.Within.{AreSettings, AreTypes, AreValues, IsHash, IsTypeDetail, IsValue, IsWithinLimits};
+ghost use Rattle.iox_describe.specs.Within.{AreSettings, AreTypes, AreValues, HasForm, IsHash, IsTypeDetail, IsValue, IsWithinLimits};
 
 use crate::error::DescriptionError;
 use crate::writer::encode;
@@ -68,11 +68,21 @@ pub fn decode(alloc: Global, bytes: &[u8]) -> Result<Description, DescriptionErr
 pub fn is_within_limits(description: &Description) -> bool
     ensures { IsTrue result ↔ IsWithinLimits description.now }
 {
+    has_form(description);
+    description.is_within_limits()
+}
+
+/// Every description has texts and attributes within their limits, a hash of 20 bytes, and settings of 64 bits. It does
+/// nothing: a proof cites by it what holds of a description.
+///
+/// This port's own.
+pub fn has_form(description: &Description)
+    ensures { HasForm description.now }
+{
     let _name = description.name().as_bytes();
     let _attributes = description.attributes().as_slice();
     have_64_bits(*description.settings());
     has_20_bytes(*description.service_hash());
-    description.is_within_limits()
 }
 
 /// All numbers of settings have 64 bits, and their types are types.

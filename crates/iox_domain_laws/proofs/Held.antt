@@ -125,7 +125,7 @@ added_keeps {T} {U} spared may config user_header place slots old new (Ok number
     let first : PublisherPort T U = new_port (identity_of config.owner place old) old.sizes.max_subscribers config.allocation config.unit (sender_config config slots old) user_header in
     let kept : PortKeeps first port = port_updates may listed old.subscriber_list.changes first port outcome updates in
     let tidy : IsTidy port = new_tidy first port refl kept in
-    let made : (made_for port ≡ allowed_by old.sizes) × ((index : ℕ) → IsWithin old.sizes.subscriber_max_borrowed_samples (connection_of index port)) = made_still (allowed_by old.sizes) first port kept.sizes kept.within (refl, λ index. nobody_within (Message T U) old.sizes.subscriber_max_borrowed_samples) in
+    let made : (made_for port ≡ allowed_by old.sizes) × ((index : ℕ) → IsWithin (allowed_by old.sizes) (connection_of index port)) = made_still (allowed_by old.sizes) first port kept.sizes kept.within (refl, λ index. nobody_within (Message T U) (allowed_by old.sizes)) in
     call_to spared old new _ is_new (record {
       sound = λ sound. all_came (IsSoundEntry (old.next_port + 1)) old.next_port old.publishers port (omega arith, tidy) (λ one is. (is.0, tidy))
           (all_then (IsSoundEntry old.next_port) (IsSoundEntry (old.next_port + 1)) old.publishers (λ one is. (omega (arith, is.0), is.1)) sound);

@@ -9,7 +9,7 @@ use Rattle.iox_domain_slots.specs.declared.stage.Stage.TheVariants as stage
 use Rattle.iox_domain_sender.specs.Messages.{Message}
 use Rattle.iox_domain_publisher.specs.Ports.{connection_of, goes_on, is_live, ended_at}
 use Rattle.iox_domain_publisher.specs.declared.publisher_port.PublisherPort.{PublisherPort}
-use Rattle.iox_domain_laws.specs.SizeLaws.{made_for, IsWithin}
+use Rattle.iox_domain_laws.specs.SizeLaws.{MadeFor, made_for, IsWithin}
 use Rattle.iox_domain_subscriber.specs.Reading.{borrowed_in}
 
 -- what is held of a connection stays so, and one that there isn't holds nothing if that was so before
@@ -21,7 +21,7 @@ pub record Keeps {T U : Type 0} (old new : Connection (Message T U)) : Type 0 wh
 pub record PortKeeps {T U : Type 0} (old new : PublisherPort T U) : Type 0 where
   pub each : (index : ℕ) → Keeps (connection_of index old) (connection_of index new)
   pub sizes : made_for new ≡ made_for old
-  pub within : ((index : ℕ) → IsWithin old.sender.uses.most_borrowed (connection_of index old)) → (index : ℕ) → IsWithin new.sender.uses.most_borrowed (connection_of index new)
+  pub within : ((index : ℕ) → IsWithin (made_for old) (connection_of index old)) → (index : ℕ) → IsWithin (made_for new) (connection_of index new)
 
 pub keeps_same : {T U : Type 0} (old new : Connection (Message T U)) → new ≡ old → Keeps old new
 keeps_same old new is = record {
@@ -33,15 +33,15 @@ pub port_stays : {T U : Type 0} (port : PublisherPort T U) → PortKeeps port po
 port_stays port = record { each = λ index. keeps_same (connection_of index port) (connection_of index port) refl; sizes = refl; within = λ all. all }
 
 -- a connection that is the same keeps within the same
-within_same : {X : Type 0} (most most_after : ℕ) (old new : Connection X) → new ≡ old → most_after ≡ most → IsWithin most old → IsWithin most_after new
-within_same most most_after old new is same within = rw is (rw same within)
+within_same : {X : Type 0} (sizes sizes_after : MadeFor) (old new : Connection X) → new ≡ old → sizes_after ≡ sizes → IsWithin sizes old → IsWithin sizes_after new
+within_same sizes sizes_after old new is same within = rw is (rw same within)
 
 -- the connections are the same, and so is what it is made for
 pub port_same : {T U : Type 0} (old new : PublisherPort T U) → new.sender.uses.connections ≡ old.sender.uses.connections → made_for new ≡ made_for old → PortKeeps old new
 port_same old new is sizes = record {
   each = λ index. keeps_same (connection_of index old) (connection_of index new) (ap (λ all. get_or all index nobody) is);
   sizes = sizes;
-  within = λ all index. within_same old.sender.uses.most_borrowed new.sender.uses.most_borrowed (connection_of index old) (connection_of index new) (ap (λ all. get_or all index nobody) is) (ap (λ made. made.most_borrowed) sizes) (all index);
+  within = λ all index. within_same (made_for old) (made_for new) (connection_of index old) (connection_of index new) (ap (λ all. get_or all index nobody) is) sizes (all index);
 }
 
 pub port_is : {T U : Type 0} (old new : PublisherPort T U) → new ≡ old → PortKeeps old new
@@ -70,24 +70,24 @@ set_keeps (x ∷ xs) (suc index) connection keeps zero = keeps_same _ _ refl
 set_keeps (x ∷ xs) (suc index) connection keeps (suc other) = set_keeps xs index connection keeps other
 
 -- one that keeps within takes the place of another
-pub set_within : {X : Type 0} (most : ℕ) (connections : List (Connection X)) (index : ℕ) (connection : Connection X) → IsWithin most connection → ((other : ℕ) → IsWithin most (get_or connections other nobody)) → (other : ℕ)
-    → IsWithin most (get_or (set connections index connection) other nobody)
-set_within most [] index connection within all other = all other
-set_within most (x ∷ xs) zero connection within all zero = within
-set_within most (x ∷ xs) zero connection within all (suc other) = all (suc other)
-set_within most (x ∷ xs) (suc index) connection within all zero = all zero
-set_within most (x ∷ xs) (suc index) connection within all (suc other) = set_within most xs index connection within (λ k. all (suc k)) other
+pub set_within : {X : Type 0} (sizes : MadeFor) (connections : List (Connection X)) (index : ℕ) (connection : Connection X) → IsWithin sizes connection → ((other : ℕ) → IsWithin sizes (get_or connections other nobody)) → (other : ℕ)
+    → IsWithin sizes (get_or (set connections index connection) other nobody)
+set_within sizes [] index connection within all other = all other
+set_within sizes (x ∷ xs) zero connection within all zero = within
+set_within sizes (x ∷ xs) zero connection within all (suc other) = all (suc other)
+set_within sizes (x ∷ xs) (suc index) connection within all zero = all zero
+set_within sizes (x ∷ xs) (suc index) connection within all (suc other) = set_within sizes xs index connection within (λ k. all (suc k)) other
 
 -- nobody's connection is empty
-pub nobody_within : (X : Type 0) (most : ℕ) → IsWithin {X = X} most nobody
-nobody_within X most = (omega arith, omega arith)
+pub nobody_within : (X : Type 0) (sizes : MadeFor) → IsWithin {X = X} sizes nobody
+nobody_within X sizes = (omega arith, omega arith, omega arith)
 
 -- one connection changes
 pub port_set : {T U : Type 0} (old new : PublisherPort T U) (index : ℕ) (connection : Connection (Message T U)) → new.sender.uses.connections ≡ set old.sender.uses.connections index connection
-    → made_for new ≡ made_for old → (IsWithin old.sender.uses.most_borrowed (connection_of index old) → IsWithin old.sender.uses.most_borrowed connection) → Keeps (connection_of index old) connection → PortKeeps old new
+    → made_for new ≡ made_for old → (IsWithin (made_for old) (connection_of index old) → IsWithin (made_for old) connection) → Keeps (connection_of index old) connection → PortKeeps old new
 port_set {T} {U} old new index connection is sizes within keeps =
     let changed : PublisherPort T U = record old { sender = record old.sender { uses = record old.sender.uses { connections = set old.sender.uses.connections index connection } } } in
-    port_on old changed new (record { each = set_keeps old.sender.uses.connections index connection keeps; sizes = refl; within = λ all. set_within old.sender.uses.most_borrowed old.sender.uses.connections index connection (within (all index)) all }) (port_same changed new is sizes)
+    port_on old changed new (record { each = set_keeps old.sender.uses.connections index connection keeps; sizes = refl; within = λ all. set_within (made_for old) old.sender.uses.connections index connection (within (all index)) all }) (port_same changed new is sizes)
 
 -- one that ends keeps what is borrowed
 ended_by : {T U : Type 0} (connection : Connection (Message T U)) (borrowed : List (Message T U)) → connection.borrowed ≡ borrowed → Keeps connection (settled stage.Ended connection.limit [] borrowed)
@@ -146,29 +146,30 @@ placed_by : {T U : Type 0} (behind : Bool) (connections : List (Connection (Mess
 placed_by true connections index limit other none = append_keeps connections limit other
 placed_by false connections index limit other none = set_keeps connections index (connected limit) (keeps_new (get_or connections index nobody) limit none) other
 
-append_within : {X : Type 0} (most limit : ℕ) (connections : List (Connection X)) → ((other : ℕ) → IsWithin most (get_or connections other nobody)) → (other : ℕ) → IsWithin most (get_or (connections ++ connected limit ∷ []) other nobody)
-append_within most limit [] all zero = (omega arith, omega arith)
-append_within most limit [] all (suc other) = all (suc other)
-append_within most limit (x ∷ xs) all zero = all zero
-append_within most limit (x ∷ xs) all (suc other) = append_within most limit xs (λ k. all (suc k)) other
+append_within : {X : Type 0} (sizes : MadeFor) (limit : ℕ) (connections : List (Connection X)) → limit ≤ sizes.most_waiting → ((other : ℕ) → IsWithin sizes (get_or connections other nobody)) → (other : ℕ)
+    → IsWithin sizes (get_or (connections ++ connected limit ∷ []) other nobody)
+append_within sizes limit [] fits all zero = (omega arith, fits, omega arith)
+append_within sizes limit [] fits all (suc other) = all (suc other)
+append_within sizes limit (x ∷ xs) fits all zero = all zero
+append_within sizes limit (x ∷ xs) fits all (suc other) = append_within sizes limit xs fits (λ k. all (suc k)) other
 
-placed_within : {X : Type 0} (behind : Bool) (most limit index : ℕ) (connections : List (Connection X)) → ((other : ℕ) → IsWithin most (get_or connections other nobody)) → (other : ℕ)
-    → IsWithin most (get_or (if behind then connections ++ connected limit ∷ [] else set connections index (connected limit)) other nobody)
-placed_within true most limit index connections all other = append_within most limit connections all other
-placed_within false most limit index connections all other = set_within most connections index (connected limit) (omega arith, omega arith) all other
+placed_within : {X : Type 0} (behind : Bool) (sizes : MadeFor) (limit index : ℕ) (connections : List (Connection X)) → limit ≤ sizes.most_waiting → ((other : ℕ) → IsWithin sizes (get_or connections other nobody)) → (other : ℕ)
+    → IsWithin sizes (get_or (if behind then connections ++ connected limit ∷ [] else set connections index (connected limit)) other nobody)
+placed_within true sizes limit index connections fits all other = append_within sizes limit connections fits all other
+placed_within false sizes limit index connections fits all other = set_within sizes connections index (connected limit) (omega arith, fits, omega arith) all other
 
-pub port_placed : {T U : Type 0} (old new : PublisherPort T U) (index limit : ℕ) → connection_of index old ≡ nobody → new.sender.uses.connections ≡ placed index (connected limit) old.sender.uses.connections → made_for new ≡ made_for old → PortKeeps old new
-port_placed {T} {U} old new index limit none is sizes =
+pub port_placed : {T U : Type 0} (old new : PublisherPort T U) (index limit : ℕ) → limit ≤ old.sender.uses.most_waiting → connection_of index old ≡ nobody → new.sender.uses.connections ≡ placed index (connected limit) old.sender.uses.connections → made_for new ≡ made_for old → PortKeeps old new
+port_placed {T} {U} old new index limit fits none is sizes =
     let changed : PublisherPort T U = record old { sender = record old.sender { uses = record old.sender.uses { connections = placed index (connected limit) old.sender.uses.connections } } } in
     port_on old changed new
-    (record { each = λ other. placed_by (index == length old.sender.uses.connections) old.sender.uses.connections index limit other none; sizes = refl; within = placed_within (index == length old.sender.uses.connections) old.sender.uses.most_borrowed limit index old.sender.uses.connections }) (port_same changed new is sizes)
+    (record { each = λ other. placed_by (index == length old.sender.uses.connections) old.sender.uses.connections index limit other none; sizes = refl; within = placed_within (index == length old.sender.uses.connections) (made_for old) limit index old.sender.uses.connections fits }) (port_same changed new is sizes)
 
-ended_within_by : {X : Type 0} (most limit : ℕ) (borrowed : List X) → length borrowed ≤ most → IsWithin most (settled stage.Ended limit [] borrowed)
-ended_within_by {X} most limit [] few = nobody_within X most
-ended_within_by most limit (x ∷ xs) few = (omega arith, few)
+ended_within_by : {X : Type 0} (sizes : MadeFor) (limit : ℕ) (borrowed : List X) → limit ≤ sizes.most_waiting → length borrowed ≤ sizes.most_borrowed → IsWithin sizes (settled stage.Ended limit [] borrowed)
+ended_within_by {X} sizes limit [] fits few = nobody_within X sizes
+ended_within_by sizes limit (x ∷ xs) fits few = (omega arith, fits, few)
 
-ended_within : {X : Type 0} (most : ℕ) (connection : Connection X) → IsWithin most connection → IsWithin most (ended connection)
-ended_within most connection within = ended_within_by most connection.limit connection.borrowed within.1
+ended_within : {X : Type 0} (sizes : MadeFor) (connection : Connection X) → IsWithin sizes connection → IsWithin sizes (ended connection)
+ended_within sizes connection within = ended_within_by sizes connection.limit connection.borrowed within.1 within.2
 
 either_keeps : {T U : Type 0} (live : Bool) (old one other : PublisherPort T U) → PortKeeps old one → PortKeeps old other → PortKeeps old (if live then one else other)
 either_keeps true old one other keeps_one keeps_other = keeps_one
@@ -180,4 +181,4 @@ port_if false old one other keeps_one keeps_other = keeps_other refl
 
 pub port_ended : {T U : Type 0} (index : ℕ) (port : PublisherPort T U) → PortKeeps port (ended_at index port)
 port_ended index port =
-    either_keeps (is_live index port) port _ port (port_set port _ index (ended (connection_of index port)) refl refl (ended_within port.sender.uses.most_borrowed (connection_of index port)) (keeps_ended (connection_of index port))) (port_stays port)
+    either_keeps (is_live index port) port _ port (port_set port _ index (ended (connection_of index port)) refl refl (ended_within (made_for port) (connection_of index port)) (keeps_ended (connection_of index port))) (port_stays port)

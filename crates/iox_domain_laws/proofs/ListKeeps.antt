@@ -1,5 +1,5 @@
 -- What a change of the publishers of a service leaves held.
-use Rattle.std.proofs.Common.{arith, ◌≡◌, ◌<◌, ◌&&◌, ◌||◌, ◌==◌, ◌∷◌, [], ℕ, zero, suc, Bool, true, false, not, List, get_or, length, is_some, Option, None, Some, Result, Ok, Err, refl, sym, ap, ◌∙◌, if◌then◌else◌, inl, inr, subst, nat_lt}
+use Rattle.std.proofs.Common.{arith, min, ◌≡◌, ◌<◌, ◌&&◌, ◌||◌, ◌==◌, ◌∷◌, [], ℕ, zero, suc, Bool, true, false, not, List, get_or, length, is_some, Option, None, Some, Result, Ok, Err, refl, sym, ap, ◌∙◌, if◌then◌else◌, inl, inr, subst, nat_lt}
 use Rattle.std.proofs.lemmas.Bool.{cases_eq}
 use Rattle.std.specs.List.{All, list_any}
 use Rattle.std.specs.declared.alloc.AllocError.{AllocError}
@@ -56,16 +56,14 @@ held_after old new sample message keeps held = (keeps.each sample.index).held sa
 
 -- what a publisher is made for stays, and what keeps within it
 pub made_still : {T U : Type 0} (sizes : MadeFor) (port after : PublisherPort T U) → made_for after ≡ made_for port
-    → (((index : ℕ) → IsWithin port.sender.uses.most_borrowed (connection_of index port)) → (index : ℕ) → IsWithin after.sender.uses.most_borrowed (connection_of index after))
-    → (made_for port ≡ sizes) × ((index : ℕ) → IsWithin sizes.most_borrowed (connection_of index port)) → (made_for after ≡ sizes) × ((index : ℕ) → IsWithin sizes.most_borrowed (connection_of index after))
+    → (((index : ℕ) → IsWithin (made_for port) (connection_of index port)) → (index : ℕ) → IsWithin (made_for after) (connection_of index after))
+    → (made_for port ≡ sizes) × ((index : ℕ) → IsWithin sizes (connection_of index port)) → (made_for after ≡ sizes) × ((index : ℕ) → IsWithin sizes (connection_of index after))
 made_still sizes port after same within (made, all) =
-    let most : port.sender.uses.most_borrowed ≡ sizes.most_borrowed = ap (λ one. one.most_borrowed) made in
-    let later : after.sender.uses.most_borrowed ≡ sizes.most_borrowed = ap (λ one. one.most_borrowed) (same ∙ made) in
-    (same ∙ made, λ index. subst (λ n. IsWithin n (connection_of index after)) later (within (λ k. subst (λ n. IsWithin n (connection_of k port)) (sym most) (all k)) index))
+    (same ∙ made, λ index. subst (λ allowed. IsWithin allowed (connection_of index after)) (same ∙ made) (within (λ k. subst (λ allowed. IsWithin allowed (connection_of k port)) (sym made) (all k)) index))
 
 -- what the publisher of a number is made for stays
 pub sized_with : {T U : Type 0} (sizes : MadeFor) (number : ℕ) (ports : List (ℕ × PublisherPort T U)) (port after : PublisherPort T U) → port_of number ports ≡ Some port → made_for after ≡ made_for port
-    → (((index : ℕ) → IsWithin port.sender.uses.most_borrowed (connection_of index port)) → (index : ℕ) → IsWithin after.sender.uses.most_borrowed (connection_of index after))
+    → (((index : ℕ) → IsWithin (made_for port) (connection_of index port)) → (index : ℕ) → IsWithin (made_for after) (connection_of index after))
     → All (IsMadeFor sizes) ports → All (IsMadeFor sizes) (with_port number ports after)
 sized_with sizes number ports port after there same within all =
     let found : FoundEntry (IsMadeFor sizes) (at_number number) port = found_of_all (IsMadeFor sizes) (at_number number) ports port all there in
@@ -155,7 +153,7 @@ attached_found number subscriber limit (Some port) old new None there attaches =
 attached_found number subscriber limit (Some port) old new (Some (Err error)) there attaches = rw (attaches.1) (list_stays old)
 attached_found {T} {U} number subscriber limit (Some port) old new (Some (Ok index)) there attaches =
     let after : PublisherPort T U = attaches.0 in
-    rw (attaches.2) (list_with number old port after there (port_attaches subscriber _ port after (Ok index) attaches.1))
+    rw (attaches.2) (list_with number old port after there (port_attaches subscriber (min limit port.sender.uses.most_waiting) port after (Ok index) (omega arith) attaches.1))
 
 -- a connection of a publisher that left ends
 port_ended_if : {T U : Type 0} (index : ℕ) (port : PublisherPort T U) → PortKeeps port (ended_if_left index port)

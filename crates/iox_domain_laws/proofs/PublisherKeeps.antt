@@ -27,7 +27,7 @@ use Rattle.iox_domain_ports.specs.Publishing.{is_blocked, is_free, UpdatesOne, S
 use Rattle.iox_domain_ports.specs.Publishing as publishing
 use Rattle.iox_domain_ports.specs.Rolls.{RollState}
 use Rattle.std.proofs.lemmas.List.{length-drop}
-use Rattle.iox_domain_laws.specs.SizeLaws.{made_for, IsWithin}
+use Rattle.iox_domain_laws.specs.SizeLaws.{MadeFor, made_for, IsWithin}
 use Rattle.iox_domain_laws.proofs.Carrying.{Carries, carry_loans, carry_changed, carry_given_up, carry_retries, carry_gives_up, carry_sends}
 use Rattle.iox_domain_laws.proofs.Keeping.{PortKeeps, port_stays, port_same, port_is, port_on, port_to, port_set, port_placed, port_if, port_ended, keeps_taken, keeps_waiting}
 
@@ -52,7 +52,7 @@ newest_few n xs = omega (arith, length-drop (length xs - n) xs)
 -- a connection is greeted
 port_greeted : {T U : Type 0} (index : ℕ) (waiting : List (Message T U)) (port : PublisherPort T U) → is_live index port ≡ true → PortKeeps port (greeted_at index waiting port)
 port_greeted index [] port live =
-    port_set port _ index (welcomed port.sender.uses.history (connection_of index port)) refl refl (λ within. (newest_few (connection_of index port).limit port.sender.uses.history, within.1)) (keeps_waiting (connection_of index port) _ live)
+    port_set port _ index (welcomed port.sender.uses.history (connection_of index port)) refl refl (λ within. (newest_few (connection_of index port).limit port.sender.uses.history, within.1, within.2)) (keeps_waiting (connection_of index port) _ live)
 port_greeted index (message ∷ waiting) port live = port_stays port
 
 port_welcomed : {T U : Type 0} (index : ℕ) (port : PublisherPort T U) → PortKeeps port (welcomed_at index port)
@@ -60,16 +60,16 @@ port_welcomed index port =
     port_if (is_live index port) port _ port (λ live. port_greeted index (connection_of index port).waiting port live) (λ dead. port_stays port)
 
 -- a connection is made, or joined
-port_connects : {T U : Type 0} (subscriber limit : ℕ) (found : Option ℕ) (old new : PublisherPort T U) (answer : Result ℕ AllocError) → Joins subscriber limit found old answer new → PortKeeps old new
-port_connects subscriber limit (Some index) old new answer joins = port_is old new joins.1
-port_connects subscriber limit None old new (Err error) joins = port_is old new joins
-port_connects subscriber limit None old new (Ok index) joins = port_placed old new index limit joins.0 (ap (λ port. port.sender.uses.connections) joins.2) (ap (λ port. made_for port) joins.2)
+port_connects : {T U : Type 0} (subscriber limit : ℕ) (found : Option ℕ) (old new : PublisherPort T U) (answer : Result ℕ AllocError) → limit ≤ old.sender.uses.most_waiting → Joins subscriber limit found old answer new → PortKeeps old new
+port_connects subscriber limit (Some index) old new answer fits joins = port_is old new joins.1
+port_connects subscriber limit None old new (Err error) fits joins = port_is old new joins
+port_connects subscriber limit None old new (Ok index) fits joins = port_placed old new index limit fits joins.0 (ap (λ port. port.sender.uses.connections) joins.2) (ap (λ port. made_for port) joins.2)
 
-pub port_attaches : {T U : Type 0} (subscriber limit : ℕ) (old new : PublisherPort T U) (answer : Result ℕ AllocError) → Attaches subscriber limit old answer new → PortKeeps old new
-port_attaches subscriber limit old new (Err error) attaches = port_is old new attaches.1
-port_attaches {T} {U} subscriber limit old new (Ok index) attaches =
+pub port_attaches : {T U : Type 0} (subscriber limit : ℕ) (old new : PublisherPort T U) (answer : Result ℕ AllocError) → limit ≤ old.sender.uses.most_waiting → Attaches subscriber limit old answer new → PortKeeps old new
+port_attaches subscriber limit old new (Err error) fits attaches = port_is old new attaches.1
+port_attaches {T} {U} subscriber limit old new (Ok index) fits attaches =
     let joined : PublisherPort T U = attaches.0 in
-    port_on old joined new (port_connects subscriber limit (connection_to subscriber old) old joined (Ok index) attaches.1) (port_same joined new (ap (λ port. port.sender.uses.connections) attaches.2) (ap (λ port. made_for port) attaches.2))
+    port_on old joined new (port_connects subscriber limit (connection_to subscriber old) old joined (Ok index) fits attaches.1) (port_same joined new (ap (λ port. port.sender.uses.connections) attaches.2) (ap (λ port. made_for port) attaches.2))
 
 -- a place is tied, or followed
 port_ties : {T U : Type 0} (place : ℕ) (entry : SubscriberEntry) (old new : PublisherPort T U) (outcome : Result (Unit {0}) AllocError) → Ties place entry old outcome new → PortKeeps old new
@@ -78,7 +78,7 @@ port_ties {T} {U} place entry old new (Ok done) ties =
     let (index, joined, joins, is) = ties in
     let given : PublisherPort T U = record joined { ties = tie_put place (Some index) joined.ties } in
     port_on old joined new
-    (port_on old (within_reach place old) joined (port_same old (within_reach place old) refl refl) (port_connects entry.subscriber _ (connection_to entry.subscriber old) (within_reach place old) joined (Ok index) joins))
+    (port_on old (within_reach place old) joined (port_same old (within_reach place old) refl refl) (port_connects entry.subscriber _ (connection_to entry.subscriber old) (within_reach place old) joined (Ok index) (omega arith) joins))
     (port_to joined (tied place index joined) new is (port_on joined given _ (port_same joined given refl refl) (port_welcomed index given)))
 
 port_follows_to : {T U : Type 0} (place : ℕ) (entry : SubscriberEntry) (is_tie : Bool) (old new : PublisherPort T U) (outcome : Result (Unit {0}) AllocError) → FollowsTo place entry is_tie old outcome new → PortKeeps old new
@@ -114,7 +114,7 @@ port_carries = record {
   is = port_is;
   on = port_on;
   still = λ old new connections ties readers stands sizes. port_same old new connections sizes;
-  waiting = λ index waiting port live few. port_set port _ index (record (connection_of index port) { waiting = waiting }) refl refl (λ within. (few within.0, within.1)) (keeps_waiting (connection_of index port) waiting live);
+  waiting = λ index waiting port live few. port_set port _ index (record (connection_of index port) { waiting = waiting }) refl refl (λ within. (few within.0, within.1, within.2)) (keeps_waiting (connection_of index port) waiting live);
 }
 
 pub port_loans : {T U : Type 0} (values elements : ℕ) (old new : PublisherPort T U) (answer : Option (Result ℕ LoanError)) → LoansOne values elements old answer new → PortKeeps old new
@@ -149,16 +149,16 @@ port_departed {T} {U} port =
 pub port_detached : {T U : Type 0} (index : ℕ) (port : PublisherPort T U) → PortKeeps port (detached_at index port)
 port_detached index port = port_same port _ refl refl
 
-taken_within : {X : Type 0} (most : ℕ) (connection : Connection X) → length connection.borrowed < most → IsWithin most connection → IsWithin most (taken connection)
-taken_within most connection below within =
-    (omega (arith, within.0, length-drop 1 connection.waiting), omega (arith, below, length-append connection.borrowed (take 1 connection.waiting), one_taken connection.waiting))
+taken_within : {X : Type 0} (sizes : MadeFor) (connection : Connection X) → length connection.borrowed < sizes.most_borrowed → IsWithin sizes connection → IsWithin sizes (taken connection)
+taken_within sizes connection below within =
+    (omega (arith, within.0, length-drop 1 connection.waiting), within.1, omega (arith, below, length-append connection.borrowed (take 1 connection.waiting), one_taken connection.waiting))
   where
     one_taken : {X : Type 0} (xs : List X) → length (take 1 xs) ≤ 1
     one_taken [] = omega arith
     one_taken (x ∷ xs) = omega arith
 
 pub port_taken : {T U : Type 0} (index : ℕ) (port : PublisherPort T U) → length (connection_of index port).borrowed < port.sender.uses.most_borrowed → PortKeeps port (taken_at index port)
-port_taken index port below = port_set port _ index _ refl refl (taken_within port.sender.uses.most_borrowed (connection_of index port) below) (keeps_taken (connection_of index port))
+port_taken index port below = port_set port _ index _ refl refl (taken_within (made_for port) (connection_of index port) below) (keeps_taken (connection_of index port))
 
 -- the calls by number
 updates_one : {T U : Type 0} (free : Bool) (may : DegradationInfo → DegradationAction → Type 0) (list : RollState SubscriberEntry) (old new : PublisherPort T U) (answer : Option (Result (Unit {0}) ConnectionFailure))

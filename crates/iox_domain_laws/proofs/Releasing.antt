@@ -14,7 +14,7 @@ use Rattle.iox_domain_subscriber.specs.Publishers.{port_of, connection_in, conne
 use Rattle.iox_domain_subscriber.specs.Publishers as publishers
 use Rattle.iox_domain_subscriber.specs.Reading.{borrowed_in, place_of, given_back_at}
 use Rattle.iox_domain_subscriber.specs.declared.attached.Taken.{Taken}
-use Rattle.iox_domain_laws.specs.SizeLaws.{MadeFor, IsWithin, IsMadeFor}
+use Rattle.iox_domain_laws.specs.SizeLaws.{MadeFor, made_for, IsWithin, IsMadeFor}
 use Rattle.iox_domain_laws.proofs.Keeping.{set_within, nobody_within}
 use Rattle.iox_domain_laws.specs.Laws.{IsTidy, IsSoundEntry}
 use Rattle.iox_domain_ports.specs.Reading.{sample_at_port}
@@ -92,11 +92,11 @@ back_held {T} {U} index at slot other_index other_slot message port there apart 
 ]
 
 -- a publisher is given a message back
-settled_within : {X : Type 0} (now : Stage) (most limit : ℕ) (waiting borrowed : List X) → length waiting ≤ limit → length borrowed ≤ most → IsWithin most (settled now limit waiting borrowed)
-settled_within {X} stage.Ended most limit waiting [] short few = nobody_within X most
-settled_within stage.Ended most limit waiting (x ∷ xs) short few = (short, few)
-settled_within stage.Live most limit waiting borrowed short few = (short, few)
-settled_within stage.Vacant most limit waiting borrowed short few = (short, few)
+settled_within : {X : Type 0} (now : Stage) (sizes : MadeFor) (limit : ℕ) (waiting borrowed : List X) → length waiting ≤ limit → limit ≤ sizes.most_waiting → length borrowed ≤ sizes.most_borrowed → IsWithin sizes (settled now limit waiting borrowed)
+settled_within {X} stage.Ended sizes limit waiting [] short fits few = nobody_within X sizes
+settled_within stage.Ended sizes limit waiting (x ∷ xs) short fits few = (short, fits, few)
+settled_within stage.Live sizes limit waiting borrowed short fits few = (short, fits, few)
+settled_within stage.Vacant sizes limit waiting borrowed short fits few = (short, fits, few)
 
 fewer_left : {X : Type 0} (xs : List X) (at : ℕ) → length (remove xs at) ≤ length xs
 fewer_left [] zero = omega arith
@@ -105,12 +105,12 @@ fewer_left (x ∷ xs) zero = omega arith
 fewer_left (x ∷ xs) (suc at) = let rest = fewer_left xs at in omega (arith, rest)
 
 -- who gives back keeps within what may be borrowed
-back_within : {T U : Type 0} (index at : ℕ) (port : PublisherPort T U) → ((other : ℕ) → IsWithin port.sender.uses.most_borrowed (connection_of other port)) → (other : ℕ)
-    → IsWithin port.sender.uses.most_borrowed (connection_of other (given_back_at index (Some at) port))
+back_within : {T U : Type 0} (index at : ℕ) (port : PublisherPort T U) → ((other : ℕ) → IsWithin (made_for port) (connection_of other port)) → (other : ℕ)
+    → IsWithin (made_for port) (connection_of other (given_back_at index (Some at) port))
 back_within index at port all other =
     let old = connection_of index port in
-    set_within port.sender.uses.most_borrowed port.sender.uses.connections index (given_back at old)
-    (settled_within old.stage port.sender.uses.most_borrowed old.limit old.waiting (remove old.borrowed at) (all index).0 (let few = (all index).1 in omega (arith, few, fewer_left old.borrowed at))) all other
+    set_within (made_for port) port.sender.uses.connections index (given_back at old)
+    (settled_within old.stage (made_for port) old.limit old.waiting (remove old.borrowed at) (all index).0 (all index).1 (let few = (all index).2 in omega (arith, few, fewer_left old.borrowed at))) all other
 
 pub record BackKeeps {T U : Type 0} (given : Taken) (old new : List (ℕ × PublisherPort T U)) : Type 0 where
   pub sound : (next : ℕ) → All (IsSoundEntry next) old → All (IsSoundEntry next) new

@@ -39,13 +39,13 @@ allowed_by sizes = record {
   most_borrowed = sizes.subscriber_max_borrowed_samples;
 }
 
--- no more messages wait at a connection than may, and at most so many of it are borrowed
-abbrev pub IsWithin : {X : Type 0} → ℕ → Connection X → Type 0
-IsWithin most connection = (length connection.waiting ≤ connection.limit) × (length connection.borrowed ≤ most)
+-- no more messages wait at a connection than it is made for, it is made for no more than may wait, and no more of it are borrowed than may be
+abbrev pub IsWithin : {X : Type 0} → MadeFor → Connection X → Type 0
+IsWithin sizes connection = (length connection.waiting ≤ connection.limit) × (connection.limit ≤ sizes.most_waiting) × (length connection.borrowed ≤ sizes.most_borrowed)
 
 -- a publisher, under its number, is made for just this, and each of its connections keeps within it
 abbrev pub IsMadeFor : {T U : Type 0} → MadeFor → ℕ × PublisherPort T U → Type 0
-IsMadeFor sizes (number, port) = (made_for port ≡ sizes) × ((index : ℕ) → IsWithin sizes.most_borrowed (connection_of index port))
+IsMadeFor sizes (number, port) = (made_for port ≡ sizes) × ((index : ℕ) → IsWithin sizes (connection_of index port))
 
 -- each publisher is made for just what its service allows, and keeps within it
 abbrev pub AreAllowed : {T U : Type 0} → ServicePorts T U → Type 0

@@ -1,8 +1,9 @@
 //! A service that is open in a hub.
 ghost use Rattle.std.specs.Prelude.{◌≡◌, Some};
+ghost use Rattle.iox_describe.specs.Within.{HasForm};
 
 use iox_describe::pattern::Pattern;
-use iox_describe::{AttributeSpecifier, ServiceName};
+use iox_describe::{AttributeSpecifier, Description, ServiceName};
 use iox_negotiate as negotiated;
 use iox_negotiate_errors::CloseError;
 
@@ -44,6 +45,16 @@ impl<P: Pattern> PortFactory<P> {
         ensures { result.now ≡ self.now.service.membership.service.description.attributes }
     {
         self.service.attributes()
+    }
+
+    /// What the nodes of the service agree on.
+    ///
+    /// This port's own.
+    pub fn description(&self) -> &Description
+        ensures value { result.now ≡ self.now.service.membership.service.description }
+        ensures form { HasForm self.now.service.membership.service.description }
+    {
+        self.service.description()
     }
 
     /// What tells apart the hub that it is of.

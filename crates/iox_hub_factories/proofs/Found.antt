@@ -58,11 +58,11 @@ put_found table after factory number is is_new rises = (
 
 numbers_found : {E : Type 0} (pattern : MessagingPattern) (refusal : E → Refusal) (opened : Result Made E) (table after : FactoryTable) (answer : Result ℕ Refusal) → Rises 1 table.entries table.next
     → Numbers pattern refusal opened table answer after → IsFound pattern table (Some answer) after
-numbers_found pattern refusal (Ok parts) table after (Ok number) rises (factory, is_pattern, is_parts, is_new, is_answer) =
+numbers_found pattern refusal (Ok parts) table after (Ok number) rises (factory, is_pattern, is_parts, is_new, is_answer, form) =
     let is : number ≡ table.next = cc in
     let (nothing, there, others) = put_found table after factory number is is_new rises in
     (nothing, ap (λ found. option_map pattern_in found) there ∙ ap Some is_pattern, others)
-numbers_found pattern refusal (Ok parts) table after (Err other) rises (factory, is_pattern, is_parts, is_new, is_answer) = cc
+numbers_found pattern refusal (Ok parts) table after (Err other) rises (factory, is_pattern, is_parts, is_new, is_answer, form) = cc
 numbers_found pattern refusal (Err error) table after (Ok number) rises (is_answer, is_new) = cc
 numbers_found pattern refusal (Err error) table after (Err other) rises (is_answer, is_new) = equal_finds table after is_new
 

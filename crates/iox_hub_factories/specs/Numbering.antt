@@ -3,6 +3,7 @@ use Rattle.std.specs.Prelude.{ℕ, ◌≡◌, ◌<◌, ◌≤◌, List, [], leng
 use Rattle.std.specs.declared.alloc.AllocError.{AllocError}
 use Rattle.iox_command.specs.declared.refusal.Refusal.{Refusal}
 use Rattle.iox_command.specs.declared.step.StepBefore.{StepBefore}
+use Rattle.iox_describe.specs.Within.{HasForm}
 use Rattle.iox_describe_base.specs.declared.message_type.MessageTypeDetails.{MessageTypeDetails}
 use Rattle.iox_describe_base.specs.declared.pattern.MessagingPattern.{MessagingPattern}
 use Rattle.iox_hub_base.specs.Opening.{Made}
@@ -22,10 +23,11 @@ abbrev pub Prepares : List ℕ → MessageTypeDetails → List StepBefore → Fa
 Prepares name types steps old (Ok lists) new = SameNumbers old new × (lists ≡ lists_of name types steps) × (length new.entries < new.room)
 Prepares name types steps old (Err lacking) new = SameNumbers old new × (steps ≡ [] → old.room ≤ length old.entries)
 
--- A factory that was opened, of a service of this pattern, gets the next number, which is answered; a refusal is told, and no factory gets one.
+-- A factory that was opened, of a service of this pattern, gets the next number, which is answered, and carries a description, whatever its numbers; a refusal is told, and no factory gets one.
 abbrev pub Numbers : {E : Type 0} → MessagingPattern → (E → Refusal) → Result Made E → FactoryTable → Result ℕ Refusal → FactoryTable → Type 0
 Numbers pattern refusal (Ok parts) old answer new =
     (factory : MadeFactory) × (pattern_in factory ≡ pattern) × (parts_of factory ≡ parts) × (new ≡ inserted old factory) × (answer ≡ Ok old.next)
+    × HasForm parts.0.service.description
 Numbers pattern refusal (Err error) old answer new = (answer ≡ Err (refusal error)) × (new ≡ old)
 
 -- A service is opened in this way, and its factory gets the next number.

@@ -102,10 +102,7 @@ impl Factories {
             options, types,
         ));
         match builder.create_with_attributes_in(alloc, attributes, hub, lists) {
-            Ok(factory) => Ok(
-                self.made
-                    .insert_next(MadeFactory::PublishSubscribe(factory)),
-            ),
+            Ok(factory) => Ok(self.number(MadeFactory::PublishSubscribe(factory))),
             Err(error) => Err(Refusal::PublishSubscribeCreate(error)),
         }
     }
@@ -127,7 +124,7 @@ impl Factories {
     {
         let builder = builder.with_requirement::<Event>(event(options));
         match builder.create_with_attributes_in(alloc, attributes, hub, lists) {
-            Ok(factory) => Ok(self.made.insert_next(MadeFactory::Event(factory))),
+            Ok(factory) => Ok(self.number(MadeFactory::Event(factory))),
             Err(error) => Err(Refusal::EventCreate(error)),
         }
     }
@@ -150,7 +147,7 @@ impl Factories {
     {
         let builder = builder.with_requirement::<RequestResponse>(request_response(options, types));
         match builder.create_with_attributes_in(alloc, attributes, hub, lists) {
-            Ok(factory) => Ok(self.made.insert_next(MadeFactory::RequestResponse(factory))),
+            Ok(factory) => Ok(self.number(MadeFactory::RequestResponse(factory))),
             Err(error) => Err(Refusal::RequestResponseCreate(error)),
         }
     }

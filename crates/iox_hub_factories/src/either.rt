@@ -109,10 +109,7 @@ impl Factories {
             options, types,
         ));
         match builder.open_or_create_with_attributes_in(alloc, attributes, hub, lists) {
-            Ok(factory) => Ok(
-                self.made
-                    .insert_next(MadeFactory::PublishSubscribe(factory)),
-            ),
+            Ok(factory) => Ok(self.number(MadeFactory::PublishSubscribe(factory))),
             Err(error) => Err(Refusal::PublishSubscribeOpenOrCreate(error)),
         }
     }
@@ -134,7 +131,7 @@ impl Factories {
     {
         let builder = builder.with_requirement::<Event>(event(options));
         match builder.open_or_create_with_attributes_in(alloc, attributes, hub, lists) {
-            Ok(factory) => Ok(self.made.insert_next(MadeFactory::Event(factory))),
+            Ok(factory) => Ok(self.number(MadeFactory::Event(factory))),
             Err(error) => Err(Refusal::EventOpenOrCreate(error)),
         }
     }
@@ -162,7 +159,7 @@ impl Factories {
     {
         let builder = builder.with_requirement::<RequestResponse>(request_response(options, types));
         match builder.open_or_create_with_attributes_in(alloc, attributes, hub, lists) {
-            Ok(factory) => Ok(self.made.insert_next(MadeFactory::RequestResponse(factory))),
+            Ok(factory) => Ok(self.number(MadeFactory::RequestResponse(factory))),
             Err(error) => Err(Refusal::RequestResponseOpenOrCreate(error)),
         }
     }

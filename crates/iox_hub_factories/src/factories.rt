@@ -1,9 +1,10 @@
 //! The table: which factory goes by a number.
-ghost use Rattle.std.specs.Prelude.{◌≡◌, option_map};
+ghost use Rattle.std.specs.Prelude.{◌≡◌, ◌+◌, ◌<◌, ◌^◌, length, option_map};
 ghost use Rattle.std.specs.Result.{result_map_both};
-ghost use Rattle.iox_numbered.specs.NumberTable.{value_at};
+ghost use Rattle.iox_describe.specs.Within.{HasForm};
+ghost use Rattle.iox_numbered.specs.NumberTable.{value_at, inserted};
 ghost use Rattle.iox_hub_factories.specs.Numbering.{MakesRoom, Prepares};
-ghost use Rattle.iox_hub_factories.specs.Tables.{no_factories, publish_subscribe_in};
+ghost use Rattle.iox_hub_factories.specs.Tables.{no_factories, parts_of, publish_subscribe_in};
 
 use crate::made::MadeFactory;
 use iox_command::StepBefore;
@@ -59,6 +60,18 @@ impl Factories {
     {
         self.make_room()?;
         step_lists(alloc, name, types, steps)
+    }
+
+    // The factory gets the next number; its description is one, whoever agreed on it.
+    pub(crate) fn number(&mut self, factory: MadeFactory) -> u64
+        requires room { length self.old.made.entries < self.old.made.room }
+        requires number { self.old.made.next + 1 < 2 ^ 64 }
+        ensures table { self.new.made ≡ inserted self.old.made factory }
+        ensures number { result ≡ self.old.made.next }
+        ensures form { HasForm (parts_of factory).0.service.description }
+    {
+        factory.description();
+        self.made.insert_next(factory)
     }
 
     // Makes room for one factory more, where there is none.

@@ -1,10 +1,12 @@
 //! A service that is open, whatever its pattern.
 ghost use Rattle.std.specs.Prelude.{◌≡◌, false, nat_eq};
 ghost use Rattle.std.specs.Option.{option_map};
+ghost use Rattle.iox_describe.specs.Within.{HasForm};
 ghost use Rattle.iox_hub_base.specs.Closing.{in_use};
 ghost use Rattle.iox_hub_factories.specs.Closing.{Leaves};
 ghost use Rattle.iox_hub_factories.specs.Tables.{parts_of};
 
+use iox_describe::Description;
 use iox_describe::pattern::{Event, Pattern, PublishSubscribe, RequestResponse};
 use iox_hub_base::{Hub, PortFactory};
 use iox_negotiate_errors::CloseError;
@@ -23,6 +25,18 @@ pub enum MadeFactory {
 }
 
 impl MadeFactory {
+    /// What the nodes of the service agree on.
+    pub fn description(&self) -> &Description
+        ensures value { result.now ≡ (parts_of self.now).0.service.description }
+        ensures form { HasForm (parts_of self.now).0.service.description }
+    {
+        match self {
+            MadeFactory::PublishSubscribe(factory) => factory.description(),
+            MadeFactory::Event(factory) => factory.description(),
+            MadeFactory::RequestResponse(factory) => factory.description(),
+        }
+    }
+
     /// Whether it is of this hub.
     pub fn is_of<T: Copy, U: Copy, B: Drop, D: Drop>(&self, hub: &Hub<T, U, B, D>) -> bool
         ensures { result ≡ nat_eq (parts_of self.now).0.storage hub.now.table.id }

@@ -100,10 +100,7 @@ impl Factories {
             options, types,
         ));
         match builder.open_with_attributes_in(alloc, attributes, hub, lists) {
-            Ok(factory) => Ok(
-                self.made
-                    .insert_next(MadeFactory::PublishSubscribe(factory)),
-            ),
+            Ok(factory) => Ok(self.number(MadeFactory::PublishSubscribe(factory))),
             Err(error) => Err(Refusal::PublishSubscribeOpen(error)),
         }
     }
@@ -125,7 +122,7 @@ impl Factories {
     {
         let builder = builder.with_requirement::<Event>(event(options));
         match builder.open_with_attributes_in(alloc, attributes, hub, lists) {
-            Ok(factory) => Ok(self.made.insert_next(MadeFactory::Event(factory))),
+            Ok(factory) => Ok(self.number(MadeFactory::Event(factory))),
             Err(error) => Err(Refusal::EventOpen(error)),
         }
     }
@@ -148,7 +145,7 @@ impl Factories {
     {
         let builder = builder.with_requirement::<RequestResponse>(request_response(options, types));
         match builder.open_with_attributes_in(alloc, attributes, hub, lists) {
-            Ok(factory) => Ok(self.made.insert_next(MadeFactory::RequestResponse(factory))),
+            Ok(factory) => Ok(self.number(MadeFactory::RequestResponse(factory))),
             Err(error) => Err(Refusal::RequestResponseOpen(error)),
         }
     }

@@ -1,2 +1,2 @@
-mod Meeting
+pub mod Meeting
 mod Moving

@@ -2,6 +2,7 @@
 use Rattle.std.proofs.Common.{rules, IsSome, ◌≡◌, ℕ, List, ◌∷◌, ◌⊎◌, ⊎_elim, inl, inr, Option, None, Some, Result, Ok, Err, refl, sym, ap, subst, ◌∙◌}
 use Rattle.iox_describe_base.specs.declared.hash.ServiceHash.{ServiceHash}
 use Rattle.iox_describe_settings.specs.Agreement.{Agreement}
+use Rattle.iox_describe.specs.Within.{IsWithinLimits}
 use Rattle.iox_negotiate_rounds.specs.Access.{Access, Look, OpenSegment}
 use Rattle.iox_negotiate_rounds.specs.Failing.{opened, entered, created, created_or_again, opened_or_again}
 use Rattle.iox_negotiate_rounds.specs.Opening.{Registers, OpensJudged, OpensSeen, OpenRound, EitherCreates, EitherSeen, EitherRound}
@@ -43,10 +44,10 @@ not-failed number agreed failure h = cc
 not-absent : (number : ℕ) (agreed : Agreement) → sight.Standing number agreed ≡ sight.Absent → ⊥
 not-absent number agreed h = cc
 
--- what was read under a hash is of that hash
-sight-hash : (hash : ServiceHash) (answer : LookAnswer) (number : ℕ) (agreed : Agreement) → IsSight hash answer (sight.Standing number agreed) → agreed.service_hash ≡ hash
+-- what was read under a hash is of that hash, and within the limits
+sight-hash : (hash : ServiceHash) (answer : LookAnswer) (number : ℕ) (agreed : Agreement) → IsSight hash answer (sight.Standing number agreed) → (agreed.service_hash ≡ hash) × IsWithinLimits agreed
 sight-hash hash look.Absent number agreed h = absurd (not-absent _ _ h)
-sight-hash hash (look.Found from bytes) number agreed h = h.1.own
+sight-hash hash (look.Found from bytes) number agreed h = (h.1.own, h.1.within)
 sight-hash hash look.Locked number agreed h = absurd (not-failed _ _ _ h)
 sight-hash hash look.Denied number agreed h = absurd (not-failed _ _ _ h)
 sight-hash hash look.Broken number agreed h = absurd (not-failed _ _ _ h)
@@ -77,7 +78,8 @@ module _ {V : Type 0} (hash : ServiceHash) (node : ℕ) (verdict : Agreement →
       → OpensJudged hash node verdict number agreed (verdict agreed) made (Some (Ok service)) → IsMet hash verdict service
   standing-is answer number agreed made service seen h =
       let j = judged-is number agreed (verdict agreed) made service refl h in
-      (ap (λ a. a.service_hash) j.0 ∙ sight-hash hash answer number agreed seen, ap (λ a. verdict a) j.0 ∙ j.1)
+      let s = sight-hash hash answer number agreed seen in
+      (ap (λ a. a.service_hash) j.0 ∙ s.0, ap (λ a. verdict a) j.0 ∙ j.1, subst (λ a. IsWithinLimits a) (sym j.0) s.1)
 
   seen-is : (answer : LookAnswer) (shown : Sight) (made : List Access) (service : Opened) → IsSight hash answer shown
       → OpensSeen hash node verdict shown made (Some (Ok service)) → IsMet hash verdict service
@@ -104,13 +106,13 @@ module _ {V : Type 0} (hash : ServiceHash) (node : ℕ) (verdict : Agreement →
 
   module _ (agreed : Agreement) (refusal : Option CreateFailure) where
     either-creates-is : (refused : Option CreateFailure) (made : List Access) (service : Opened)
-        → EitherCreates hash node verdict agreed refusal refused made (Some (Ok service)) → service.description ≡ agreed
+        → EitherCreates hash node verdict agreed refusal refused made (Some (Ok service)) → (service.description ≡ agreed) × (refused ≡ None)
     either-creates-is (Some failure) made service h = absurd (not-some-err service _ h.1)
     either-creates-is None made service h =
-        let p = creates-service hash node agreed None (Look hash look.Absent ∷ made) service (sight.Absent, h.0, refl, refl, h.1, created-is h.0 service h.2) in p.1
+        let p = creates-service hash node agreed None (Look hash look.Absent ∷ made) service (sight.Absent, h.0, refl, refl, h.1, created-is h.0 service h.2) in (p.1, refl)
 
     either-seen-is : (answer : LookAnswer) (shown : Sight) (made : List Access) (service : Opened) → IsSight hash answer shown
-        → EitherSeen hash node verdict agreed refusal shown made (Some (Ok service)) → IsMet hash verdict service ⊎ (service.description ≡ agreed)
+        → EitherSeen hash node verdict agreed refusal shown made (Some (Ok service)) → IsMet hash verdict service ⊎ ((service.description ≡ agreed) × (refusal ≡ None))
     either-seen-is answer sight.Absent made service seen h = inr (either-creates-is refusal made service h)
     either-seen-is answer (sight.Standing number other) made service seen (came, judged, is) =
         let P : Option (Result Opened (OpenFailure V)) → Type 0 = λ a. OpensJudged hash node verdict number other (verdict other) made a in
@@ -118,7 +120,7 @@ module _ {V : Type 0} (hash : ServiceHash) (node : ℕ) (verdict : Agreement →
     either-seen-is answer (sight.Failed failure) made service seen h = absurd (not-some-err service _ h.1)
 
     either-is : (made : List Access) (service : Opened) → EitherRound hash node verdict agreed refusal made (Some (Ok service))
-        → IsMet hash verdict service ⊎ (service.description ≡ agreed)
+        → IsMet hash verdict service ⊎ ((service.description ≡ agreed) × (refusal ≡ None))
     either-is (Look under answer ∷ rest) service h = either-seen-is answer h.0 rest service h.2 h.3
     either-is made service h = absurd h
 

@@ -1,23 +1,24 @@
 -- What holds of every service that was opened, said in other words than the accesses that led to it.
-use Rattle.std.specs.Prelude.{◌≡◌, ℕ, List, ◌⊎◌, Option, Result, Ok}
+use Rattle.std.specs.Prelude.{◌≡◌, ℕ, List, ◌⊎◌, Option, None, Result, Ok}
 use Rattle.iox_describe_base.specs.declared.hash.ServiceHash.{ServiceHash}
 use Rattle.iox_describe_settings.specs.Agreement.{Agreement}
+use Rattle.iox_describe.specs.Within.{IsWithinLimits}
 use Rattle.iox_negotiate_rounds.specs.Access.{Access}
 use Rattle.iox_negotiate_rounds.specs.Opening.{Opens, OpensOrCreates}
 use Rattle.iox_negotiate_rounds.specs.declared.request.Opened.{Opened}
 use Rattle.iox_negotiate_rounds.specs.declared.failure.CreateFailure.{CreateFailure}
 
--- what was read under the hash meets what is asked
+-- what was read under the hash meets what is asked, and is within the limits of a description
 abbrev pub IsMet : {V : Type 0} → ServiceHash → (Agreement → Result (Unit {0}) V) → Opened → Type 0
-IsMet hash verdict service = (service.description.service_hash ≡ hash) × (verdict service.description ≡ Ok tt)
+IsMet hash verdict service = (service.description.service_hash ≡ hash) × (verdict service.description ≡ Ok tt) × IsWithinLimits service.description
 
 -- a service that is opened meets what is asked
 abbrev pub OpenedIsMet : Type 0 → Type 0
 OpenedIsMet V = (hash : ServiceHash) (node : ℕ) (verdict : Agreement → Result (Unit {0}) V) (made : List Access) (service : Opened)
     → Opens hash node verdict made (Ok service) → IsMet hash verdict service
 
--- a service that is opened or created meets what is asked, or is what was to be agreed
+-- a service that is opened or created meets what is asked, or is what was to be agreed, which was not refused for its settings
 abbrev pub EitherIsMet : Type 0 → Type 0
 EitherIsMet V = (hash : ServiceHash) (node : ℕ) (verdict : Agreement → Result (Unit {0}) V) (agreed : Agreement) (refusal : Option CreateFailure)
     (made : List Access) (service : Opened) → OpensOrCreates hash node verdict agreed refusal made (Ok service)
-    → IsMet hash verdict service ⊎ (service.description ≡ agreed)
+    → IsMet hash verdict service ⊎ ((service.description ≡ agreed) × (refusal ≡ None))

@@ -1,12 +1,13 @@
 //! What an open service is to a node: a factory of ports.
 ghost use Rattle.std.specs.Prelude.{◌≡◌, ◌≢◌, Some, None, Ok, Err, IsSome, MatchResult};
 ghost use Rattle.std.specs.Result.{result_map_both};
+ghost use Rattle.iox_describe.specs.Within.{HasForm};
 ghost use Rattle.iox_negotiate_rounds.specs.Runs.{Does};
 ghost use Rattle.iox_negotiate_errors.specs.declared.close.CloseError.TheVariants.{NotThisStorage};
 ghost use Rattle.iox_negotiate.specs.Factory.{membership, segment_removed, RemovesSegment, RemovalGoes, Removes, Closes};
 
 use iox_describe::pattern::Pattern;
-use iox_describe::{AttributeSpecifier, Description, ServiceName};
+use iox_describe::{AttributeSpecifier, Description, ServiceName, has_form};
 use iox_negotiate_errors::CloseError;
 use iox_negotiate_rounds::{LeaveAnswer, Opened, RemoveAnswer, Storage};
 
@@ -130,8 +131,10 @@ impl<P: Pattern> PortFactory<P> {
     ///
     /// This port's own.
     pub fn description(&self) -> &Description
-        ensures { result.now ≡ self.now.membership.service.description }
+        ensures value { result.now ≡ self.now.membership.service.description }
+        ensures form { HasForm self.now.membership.service.description }
     {
+        has_form(&self.membership.service.description);
         &self.membership.service.description
     }
 

@@ -4,12 +4,13 @@ ghost use Rattle.iox_negotiate.specs.Laws.{OpenedIsMet, EitherIsMet};
 
 use iox_negotiate_rounds::Request;
 
-/// A service that is opened is the one of the hash, and meets what is asked.
+/// A service that is opened is the one of the hash, meets what is asked, and is within the limits of a description.
 pub fn opened_is_met<R: Request>()
     ensures { OpenedIsMet R.ClauseError }
 {}
 
-/// A service that is opened or created is the one of the hash and meets what is asked, or is what was to be agreed.
+/// A service that is opened or created is the one of the hash, meets what is asked and is within the limits of a description;
+/// or it is what was to be agreed, and wasn't refused for its settings.
 pub fn opened_or_created_is_met<R: Request>()
     ensures { EitherIsMet R.ClauseError }
 {}

@@ -3,6 +3,7 @@ pub mod Few
 pub mod Seats
 pub mod Tables
 pub mod Rooms
+pub mod Lines
 pub mod Changes
 pub mod Lives
 pub mod Held
@@ -19,3 +20,4 @@ pub mod Gaining
 pub mod Owning
 pub mod Counting
 pub mod CountingInside
+pub mod Agreements

@@ -85,10 +85,10 @@ foreign-leave-room by (Emptied other) = tt
 
 -- ---- the room that a line tells
 
-same-data : (one other : Data) → Some one ≡ Some other → one ≡ other
+pub same-data : (one other : Data) → Some one ≡ Some other → one ≡ other
 same-data one other e = cc
 
-same-natural : (one other : ℕ) → Some (natural one) ≡ Some (natural other) → one ≡ other
+pub same-natural : (one other : ℕ) → Some (natural one) ≡ Some (natural other) → one ≡ other
 same-natural one other e = cc
 
 told : (settings : Settings) → get (codes "max_nodes") (settings_tree settings) ≡ Some (natural (max_nodes_of settings))

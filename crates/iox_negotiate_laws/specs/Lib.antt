@@ -5,3 +5,4 @@ pub mod Calls
 pub mod Closing
 pub mod Rooms
 pub mod Counts
+pub mod Agreements

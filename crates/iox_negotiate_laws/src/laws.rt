@@ -1,5 +1,6 @@
 //! What holds of every table of services that can be reached, whatever its own nodes and those of others do. Each function
 //! does nothing: its contract is the law.
+ghost use Rattle.iox_negotiate_laws.specs.Agreements.{AgreesAsBefore};
 ghost use Rattle.iox_negotiate_laws.specs.Calls.{OpenFactoriesStand, StandInsideCalls, of_three};
 ghost use Rattle.iox_negotiate_laws.specs.Closing.{ClosesOne};
 ghost use Rattle.iox_negotiate_laws.specs.Counts.{FactoriesAreCounted, CountedInsideCalls};
@@ -73,4 +74,10 @@ pub fn rooms_are_agreed<P: Request, Q: Request, R: Request>()
 /// And so it is after each access inside a call.
 pub fn rooms_inside_calls<P: Request, Q: Request, R: Request>()
     ensures { RoomsInsideCalls (of_three P.ClauseError Q.ClauseError R.ClauseError) }
+{}
+
+/// What is opened or created under a number is just what was ever agreed under it: no service of a number has two agreements, one
+/// after the other, whoever acts on the table meanwhile. The calls may be of services of three patterns.
+pub fn agrees_as_before<P: Request, Q: Request, R: Request>()
+    ensures { AgreesAsBefore (of_three P.ClauseError Q.ClauseError R.ClauseError) }
 {}

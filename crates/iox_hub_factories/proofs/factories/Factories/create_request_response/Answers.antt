@@ -6,7 +6,7 @@ pub returns-in-Ok : goal.returns-in-Ok
 returns-in-Ok g c = (
   Ok (c.in-Ok.factory.service.membership, c.in-Ok.factory.owner),
   rw (c.with_requirement-builder.ensures, c.request_response.ensures) at c.in-Ok.ensures,
-  (made.RequestResponse c.in-Ok.factory, refl, refl, c.insert_next.ensures.table, ap Ok c.insert_next.ensures.number),
+  (made.RequestResponse c.in-Ok.factory, refl, refl, c.number.ensures.table, ap Ok c.number.ensures.number, c.number.ensures.form),
 )
 
 pub returns-in-Err : goal.returns-in-Err
