@@ -27,9 +27,9 @@ pub struct Domain<T, U, B = Handlers, D = DegradationHandler> {
     pub agreed: StaticConfig,
     /// The ports.
     pub ports: ServicePorts<T, U>,
-    /// Who decides for each publisher that stands.
+    /// Who decides for each publisher that exists.
     pub publisher_handlers: Kept<B>,
-    /// Who decides for each subscriber that stands.
+    /// Who decides for each subscriber that exists.
     pub subscriber_handlers: Kept<D>,
     /// What fills a slot that was never written. It is never read.
     pub blank: T,
@@ -50,7 +50,7 @@ impl<T: Words + ZeroCopySend, U: Copy + ZeroCopySend, B: Drop, D: Drop> Domain<T
     /// A domain without ports, by a description that fits. So many connections of a subscriber may wait to be read after their
     /// publishers left, or as many as samples of one connection may be held, whichever is more.
     ///
-    /// Refused with `OutOfMemory` where memory is wanting; its lists take none to speak of before a port comes.
+    /// Refused with `OutOfMemory` where an allocation fails; its lists take none to speak of before a port comes.
     pub fn new(
         alloc: Global,
         id: DomainId,

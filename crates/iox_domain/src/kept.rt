@@ -39,7 +39,7 @@ impl<H: Drop> Kept<H> {
         self.values.get(&number)
     }
 
-    /// Keeps a value under a number, and answers what was kept there before. It fails only where memory is wanting, and then nothing
+    /// Keeps a value under a number, and answers what was kept there before. It fails only where an allocation fails, and then nothing
     /// has changed.
     pub fn keep(&mut self, number: u64, value: H) -> Result<Option<H>, AllocError>
         ensures before { IfOk result (λ before. before ≡ kept_under number self.old) }

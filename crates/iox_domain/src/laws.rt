@@ -1,4 +1,4 @@
-//! Laws of a domain, in other words than its calls. They stand on functions that do nothing.
+//! Laws of a domain, in other words than its calls. They are the contracts of functions that do nothing.
 ghost use Rattle.iox_domain_values.specs.declared.degradation.DegradationCause.TheVariants as cause;
 ghost use Rattle.iox_domain.specs.PartsLaws.{PartsAgree};
 

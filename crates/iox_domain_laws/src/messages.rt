@@ -1,4 +1,4 @@
-//! Laws of the calls of the ports of a service, in other words than theirs. They stand on functions that do nothing.
+//! Laws of the calls of the ports of a service, in other words than theirs. They are the contracts of functions that do nothing.
 ghost use Rattle.iox_domain_values.specs.declared.degradation.DegradationCause.TheVariants as cause;
 ghost use Rattle.iox_domain_laws.specs.Attaching.{AttachesWithoutMemory, KeysStay};
 ghost use Rattle.iox_domain_laws.specs.Laws.{HeldStays, ReceivedIsHeld, AtMostOnce, NeedsNoMemory};
@@ -20,7 +20,7 @@ pub fn received_is_held<T, U, D: Degrades>(_handler: &D)
     ensures { ReceivedIsHeld T U (D.degrades _handler.now cause.FailedToEstablishConnection) }
 {}
 
-/// No two places of a publisher that stands are tied to one connection, whatever was called before, and so a send puts its message into each
+/// No two places of a publisher that exists are tied to one connection, whatever was called before, and so a send puts its message into each
 /// mailbox at most once.
 pub fn at_most_once<T, U, O: Overrides, B: Decides + Degrades>(_overriding: &O, _handlers: &B)
     ensures { AtMostOnce T U (O.overrides _overriding.now)

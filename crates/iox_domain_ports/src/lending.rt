@@ -19,8 +19,8 @@ impl<T: Copy, U: Copy> ServicePorts<T, U> {
     ghost use Rattle.iox_domain_ports.specs.LendingLends.{LendsValue, LendsUserHeader};
 
     /// The publisher lends a slot for so many values: `PublisherPort::loan` says when that is refused and what changes. The header of
-    /// the message tells so many elements, and `blank` fills a new segment. None, and nothing happens, where the number is none of a
-    /// publisher that stands, and while a send of it waits.
+    /// the message says so many elements, and `blank` fills a new segment. None, and nothing happens, where the number is none of a
+    /// publisher that exists, and while a send of it waits.
     ///
     /// Ported from `iceoryx2::port::publisher::Publisher::loan_slice_uninit`.
     pub fn loan(
@@ -39,7 +39,7 @@ impl<T: Copy, U: Copy> ServicePorts<T, U> {
         Some(lent)
     }
 
-    /// Writes a value at a place of the loan in a slot; answers whether a loan of the publisher stands there that has this place.
+    /// Writes a value at a place of the loan in a slot; answers whether a loan of the publisher is there that has this place.
     ///
     /// Ported from writing through `iceoryx2::sample_mut_uninit::SampleMutUninit::payload_mut`.
     pub fn write(&mut self, number: u64, slot: usize, place: usize, value: T) -> bool
@@ -52,7 +52,7 @@ impl<T: Copy, U: Copy> ServicePorts<T, U> {
         }
     }
 
-    /// Writes all values of the loan in a slot at once; answers whether a loan of the publisher of as many stands there.
+    /// Writes all values of the loan in a slot at once; answers whether a loan of the publisher of as many is there.
     ///
     /// Ported from `iceoryx2::sample_mut_uninit::SampleMutUninit::write_from_slice`, which panics at another length.
     pub fn write_from_slice(&mut self, number: u64, slot: usize, values: &[T]) -> bool
@@ -65,7 +65,7 @@ impl<T: Copy, U: Copy> ServicePorts<T, U> {
         }
     }
 
-    /// Writes the one value of the loan in a slot; answers whether a loan of the publisher of one value stands there.
+    /// Writes the one value of the loan in a slot; answers whether a loan of the publisher of one value is there.
     ///
     /// Ported from `iceoryx2::sample_mut_uninit::SampleMutUninit::write_payload`.
     pub fn write_payload(&mut self, number: u64, slot: usize, value: T) -> bool
@@ -78,7 +78,7 @@ impl<T: Copy, U: Copy> ServicePorts<T, U> {
         }
     }
 
-    /// Writes the user header of the loan in a slot; answers whether a loan of the publisher stands there.
+    /// Writes the user header of the loan in a slot; answers whether a loan of the publisher is there.
     ///
     /// Ported from writing through `iceoryx2::sample_mut_uninit::SampleMutUninit::user_header_mut`.
     pub fn write_user_header(&mut self, number: u64, slot: usize, user_header: U) -> bool
@@ -91,7 +91,7 @@ impl<T: Copy, U: Copy> ServicePorts<T, U> {
         }
     }
 
-    /// The value at a place of the loan in a slot, if a loan of the publisher stands there that has this place, and it is written.
+    /// The value at a place of the loan in a slot, if a loan of the publisher is there that has this place, and it is written.
     pub fn value(&self, number: u64, slot: usize, place: usize) -> Option<&T>
         ensures { option_copied result ≡ value_at place (loan_in number slot self.now) }
     {
@@ -101,7 +101,7 @@ impl<T: Copy, U: Copy> ServicePorts<T, U> {
         }
     }
 
-    /// The value at a place of the loan in a slot, to be changed there, if a loan of the publisher stands there that has this place, and it
+    /// The value at a place of the loan in a slot, to be changed there, if a loan of the publisher is there that has this place, and it
     /// is written.
     ///
     /// Ported from changing it through `iceoryx2::sample_mut::SampleMut::payload_mut`.
@@ -115,7 +115,7 @@ impl<T: Copy, U: Copy> ServicePorts<T, U> {
         }
     }
 
-    /// The values of the loan in a slot, if a loan of the publisher stands there of which each value is written.
+    /// The values of the loan in a slot, if a loan of the publisher is there of which each value is written.
     ///
     /// Ported from `iceoryx2::sample_mut::SampleMut::payload`.
     pub fn values(&self, number: u64, slot: usize) -> Option<&[T]>
@@ -127,7 +127,7 @@ impl<T: Copy, U: Copy> ServicePorts<T, U> {
         }
     }
 
-    /// The user header of the loan in a slot, if a loan of the publisher stands there.
+    /// The user header of the loan in a slot, if a loan of the publisher is there.
     ///
     /// Ported from `iceoryx2::sample_mut_uninit::SampleMutUninit::user_header`.
     pub fn loan_user_header(&self, number: u64, slot: usize) -> Option<&U>
@@ -139,7 +139,7 @@ impl<T: Copy, U: Copy> ServicePorts<T, U> {
         }
     }
 
-    /// The user header of the loan in a slot, to be changed there, if a loan of the publisher stands there.
+    /// The user header of the loan in a slot, to be changed there, if a loan of the publisher is there.
     ///
     /// Ported from `iceoryx2::sample_mut_uninit::SampleMutUninit::user_header_mut`.
     pub fn user_header_mut(&mut self, number: u64, slot: usize) -> Option<&mut U>
@@ -152,7 +152,7 @@ impl<T: Copy, U: Copy> ServicePorts<T, U> {
         }
     }
 
-    /// What the header of the loan in a slot tells, if a loan of the publisher stands there.
+    /// What the header of the loan in a slot says, if a loan of the publisher is there.
     ///
     /// Ported from `iceoryx2::sample_mut_uninit::SampleMutUninit::header`.
     pub fn loan_header(&self, number: u64, slot: usize) -> Option<Header>
@@ -167,7 +167,7 @@ impl<T: Copy, U: Copy> ServicePorts<T, U> {
         })
     }
 
-    /// Whether a loan of the publisher stands in a slot of which each value is written: the condition of its send.
+    /// Whether a loan of the publisher is in a slot of which each value is written: the condition of its send.
     pub fn is_written(&self, number: u64, slot: usize) -> bool
         ensures { result ≡ is_written_loan (loan_in number slot self.now) }
     {

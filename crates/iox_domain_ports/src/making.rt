@@ -22,9 +22,9 @@ pub struct PublisherConfig {
     pub owner: PortOwner,
     /// How many loans may be out.
     pub max_loaned_samples: usize,
-    /// How many values stand in a slot at first: 1 where a message is a single value.
+    /// How many values are in a slot at first: 1 where a message is a single value.
     pub values: usize,
-    /// How many values an element has: 1, but where the values are the bytes of a payload that only the description tells.
+    /// How many values an element has: 1, but where the values are the bytes of a payload that only the description says.
     pub unit: usize,
     /// What a loan of more values does.
     pub allocation: AllocationStrategy,
@@ -45,7 +45,7 @@ impl<T: Copy, U: Copy> ServicePorts<T, U> {
     /// a connection isn't made `handler` is asked, and it comes nevertheless.
     ///
     /// Refused with `UnableToCreateDataSegment` if the slots of the worst case or `values` are 2^32 or more; else with
-    /// `ExceedsMaxSupportedPublishers` if no place is free; else with `UnableToCreateDataSegment` where memory is wanting. Then
+    /// `ExceedsMaxSupportedPublishers` if no place is free; else with `UnableToCreateDataSegment` where an allocation fails. Then
     /// nothing has changed.
     ///
     /// Ported from `iceoryx2::service::port_factory::publisher::PortFactoryPublisher::create`.
@@ -183,7 +183,7 @@ impl<T: Copy, U: Copy> ServicePorts<T, U> {
     /// `handler` is asked, and it comes nevertheless.
     ///
     /// Refused with `BufferSizeExceedsMaxSupportedBufferSizeOfService` if more messages are to wait than the service allows; else with
-    /// `ExceedsMaxSupportedSubscribers` if no place is free; else with `OutOfMemory` where memory is wanting. Then nothing has changed.
+    /// `ExceedsMaxSupportedSubscribers` if no place is free; else with `OutOfMemory` where an allocation fails. Then nothing has changed.
     ///
     /// Ported from `iceoryx2::service::port_factory::subscriber::PortFactorySubscriber::create`.
     pub fn create_subscriber<D: Degrades>(

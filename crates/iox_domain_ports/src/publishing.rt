@@ -13,7 +13,7 @@ use std::alloc::Global;
 
 impl<T: Copy, U: Copy> ServicePorts<T, U> {
     /// The publisher follows the list of subscribers: `PublisherPort::update` says what that does and when it fails. None, and nothing
-    /// happens, where the number is none of a publisher that stands, and while a send of it waits.
+    /// happens, where the number is none of a publisher that exists, and while a send of it waits.
     ///
     /// Ported from `iceoryx2::port::publisher::Publisher::update_connections`.
     pub fn update_publisher<D: Degrades>(
@@ -31,7 +31,7 @@ impl<T: Copy, U: Copy> ServicePorts<T, U> {
     }
 
     /// The publisher sends the written loan in a slot: `PublisherPort::send` says what that does and answers. None, and nothing happens,
-    /// where the number is none of a publisher, no written loan of it stands in the slot, or another send of it waits.
+    /// where the number is none of a publisher, no written loan of it is in the slot, or another send of it waits.
     ///
     /// Ported from `iceoryx2::sample_mut::SampleMut::send`.
     pub fn send<B: Decides + Degrades>(
@@ -81,7 +81,7 @@ impl<T: Copy, U: Copy> ServicePorts<T, U> {
     }
 
     /// The publisher leaves: it is listed no longer and sends no more. What it sent stays to be read; its connections end as their
-    /// subscribers find out. Answers false, and nothing happens, where the number is none of a publisher that stands, and while a
+    /// subscribers find out. Answers false, and nothing happens, where the number is none of a publisher that exists, and while a
     /// send of it waits.
     ///
     /// Ported from dropping an `iceoryx2::port::publisher::Publisher`.

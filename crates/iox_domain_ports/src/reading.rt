@@ -32,7 +32,7 @@ impl<T: Copy, U: Copy> ServicePorts<T, U> {
         }
     }
 
-    /// What the header of a sample that is held tells. None where no such sample is held.
+    /// What the header of a sample that is held says. None where no such sample is held.
     ///
     /// Ported from `iceoryx2::sample::Sample::header`.
     pub fn header(&self, sample: Taken) -> Option<Header>

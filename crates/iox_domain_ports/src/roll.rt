@@ -30,7 +30,7 @@ impl<V: Copy> Model for Roll<V> {
 }
 
 impl<V: Copy> Roll<V> {
-    /// A list of so many places that lists nobody. It fails only where memory is wanting.
+    /// A list of so many places that lists nobody. It fails only where an allocation fails.
     pub fn new(alloc: Global, places: usize) -> Result<Roll<V>, AllocError>
         ensures { IfOk result (λ roll. roll ≡ new_roll places) }
     {

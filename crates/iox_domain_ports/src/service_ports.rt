@@ -31,7 +31,7 @@ pub struct ServicePorts<T, U> {
 }
 
 impl<T: Copy, U: Copy> ServicePorts<T, U> {
-    /// A service without ports. Its lists take no memory to speak of before a port comes. It fails only where memory is wanting.
+    /// A service without ports. Its lists take no memory to speak of before a port comes. It fails only where an allocation fails.
     pub fn new(alloc: Global, service: u64, sizes: ServiceSizes) -> Result<Self, AllocError>
         ensures { IfOk result (λ ports. ports ≡ no_ports service sizes) }
     {

@@ -55,7 +55,7 @@ impl Subscribers {
         self.ports.get_mut(&number)
     }
 
-    /// Adds a subscriber under a number, in the place of one that had it. It fails only where memory is wanting, and then nothing has
+    /// Adds a subscriber under a number, in the place of one that had it. It fails only where an allocation fails, and then nothing has
     /// changed.
     pub fn insert(&mut self, number: u64, port: SubscriberPort) -> Result<(), AllocError>
         ensures ok { OnOk result (self.new ≡ subscriber_added number port self.old) }
@@ -74,7 +74,7 @@ impl Subscribers {
         }
     }
 
-    /// How much lives of the subscribers of an owner, or of all where none is named: those that stand, and the samples that are held. Past
+    /// How much lives of the subscribers of an owner, or of all where none is named: those that exist, and the samples that are held. Past
     /// 2^64 - 1 it is that.
     pub fn living(&self, owner: Option<u64>) -> u64
         ensures { result ≡ min (living_subscribers owner self.now) (2 ^ 64 - 1) }

@@ -13,7 +13,7 @@ use std::alloc::Global;
 
 impl<T: Copy, U: Copy> ServicePorts<T, U> {
     /// The subscriber follows the list of publishers: `SubscriberPort::update` says what that does and when it fails. None, and nothing
-    /// happens, where the number is none of a subscriber that stands.
+    /// happens, where the number is none of a subscriber that exists.
     ///
     /// Ported from `iceoryx2::port::subscriber::Subscriber::update_connections`.
     pub fn update_subscriber<D: Degrades>(
@@ -35,7 +35,7 @@ impl<T: Copy, U: Copy> ServicePorts<T, U> {
     }
 
     /// Whether some connection of the subscriber has data, after it followed the list of publishers: `SubscriberPort::has_samples` says
-    /// when it fails. None, and nothing happens, where the number is none of a subscriber that stands.
+    /// when it fails. None, and nothing happens, where the number is none of a subscriber that exists.
     ///
     /// Ported from `iceoryx2::port::subscriber::Subscriber::has_samples`.
     pub fn has_samples<D: Degrades>(
@@ -57,7 +57,7 @@ impl<T: Copy, U: Copy> ServicePorts<T, U> {
     }
 
     /// The subscriber receives: `SubscriberPort::receive` says which message comes, and when it is refused. A message that came is held
-    /// until it is released. None, and nothing happens, where the number is none of a subscriber that stands.
+    /// until it is released. None, and nothing happens, where the number is none of a subscriber that exists.
     ///
     /// Ported from `iceoryx2::port::subscriber::Subscriber::receive`.
     pub fn receive<D: Degrades>(
@@ -111,7 +111,7 @@ impl<T: Copy, U: Copy> ServicePorts<T, U> {
 
     /// The subscriber leaves: it is listed no longer and receives no more. The samples that it holds stay to be read and released; what
     /// waits for it is lost as its publishers find out. Answers false, and nothing happens, where the number is none of a subscriber
-    /// that stands.
+    /// that exists.
     ///
     /// Ported from dropping an `iceoryx2::port::subscriber::Subscriber`.
     pub fn leave_subscriber(&mut self, number: u64) -> bool

@@ -102,7 +102,7 @@ pub trait HubBuilder<P: Negotiated>: Sized {
         requires { hub_of self ≡ hub.old.table.id }
         ensures { OpensInHub (detail FixedSize T.name T.size T.alignment) (detail FixedSize U.name U.size U.alignment) (λ was_new. P.open_or_create_error (lacking_either was_new)) (λ old answer new. Either SteppedSight old.table.id (service_hash_of P.pattern (name_of self)) (node_of self) (λ given. P.verdict (requirement_of self) given) (agreement (name_of self) (service_hash_of P.pattern (name_of self)) (P.settings (P.adjusted (P.asked (requirement_of self)))) (P.attributes (requirement_of self)).pairs) (P.IsWithinLimits (P.adjusted (P.asked (requirement_of self)))) (P.IsHistoryTooLong (P.adjusted (P.asked (requirement_of self)))) P.open_or_create_error old answer new) steps.items hub.old (result_map_both (λ factory. (factory.service.membership, factory.owner)) (λ error. error) result) hub.new };
 
-    /// Opens the service if it has these attributes too, or creates it with the required pairs where none stands.
+    /// Opens the service if it has these attributes too, or creates it with the required pairs where none exists.
     ///
     /// Refused as `ServiceBuilder::open_or_create_with_attributes` refuses it.
     fn open_or_create_with_attributes_in<

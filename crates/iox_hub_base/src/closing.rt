@@ -13,7 +13,7 @@ impl<T: Copy, U: Copy, B: Drop, D: Drop> Hub<T, U, B, D> {
     /// last one in. With the last factory of a service in the hub its domain ends.
     ///
     /// Refused with `StillInUse`, the factory handed back, and nothing has changed: while the domain of the service is out; while a port
-    /// that was made by the factory stands, a loan or a blocked send of such a publisher, or a sample that such a subscriber received; and
+    /// that was made by the factory exists, a loan or a blocked send of such a publisher, or a sample that such a subscriber received; and
     /// for the last factory of its service in the hub while any port, loan, blocked send or sample of the domain lives.
     /// `UnableToRemoveDescription` and `UnableToRemoveSegment` as the table answers; the factory is spent then.
     ///

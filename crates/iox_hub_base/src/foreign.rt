@@ -14,7 +14,7 @@ impl<T: Copy, U: Copy, B: Drop, D: Drop> Hub<T, U, B, D> {
     /// Nodes of others do these steps on the service of this pattern and name, one after the other. A step that doesn't fit changes
     /// nothing.
     ///
-    /// Refused with `HubError::OutOfMemory` at the first step that finds no memory; the steps before it stand.
+    /// Refused with `HubError::OutOfMemory` at the first step that finds no memory; the steps before it stay done.
     ///
     /// This port's own: in `iceoryx2` other processes act by themselves.
     pub fn foreign(

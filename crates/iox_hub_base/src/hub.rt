@@ -65,7 +65,7 @@ impl<T: Copy, U: Copy, B: Drop, D: Drop> Hub<T, U, B, D> {
 
     /// One more node, whose number is the next one; past 2^64 - 1 it is that.
     ///
-    /// `HubError::OutOfMemory` would tell that memory is wanting, of which a node takes none.
+    /// `HubError::OutOfMemory` would say that an allocation failed; a node takes none.
     ///
     /// Stands for `iceoryx2::node::NodeBuilder::create`.
     pub fn new_node(&mut self) -> Result<NodeHandle, HubError>

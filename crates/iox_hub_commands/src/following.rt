@@ -1,4 +1,4 @@
-//! The commands by which ports follow the list of the others, tell whether messages wait, and leave.
+//! The commands by which ports follow the list of the others, say whether messages wait, and leave.
 ghost use Rattle.iox_hub_commands.specs.Following.{UpdateStep, HasStep, LeaveStep};
 
 use crate::replies::{done_reply, has_reply, updated_reply};

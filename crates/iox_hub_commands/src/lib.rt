@@ -11,7 +11,7 @@
 //! | `lending` | publishers lend, and send values at once |
 //! | `messages` | loans are written, sent and given up; samples are read and released |
 //! | `receiving` | subscribers receive |
-//! | `following` | ports follow the list of the others, tell whether messages wait, and leave |
+//! | `following` | ports follow the list of the others, say whether messages wait, and leave |
 //!
 //! First calls. `NumberedHub` of `iox_hub_run` makes them.
 //!

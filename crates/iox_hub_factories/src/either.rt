@@ -28,7 +28,7 @@ use iox_queues_base::Words;
 use std::alloc::Global;
 
 impl Factories {
-    /// Opens a service if it has these attributes too, or creates it with the required pairs where none stands, and answers the number of its
+    /// Opens a service if it has these attributes too, or creates it with the required pairs where none exists, and answers the number of its
     /// factory. The steps of foreign nodes are done before the
     /// accesses that they name.
     ///

@@ -13,7 +13,7 @@ use iox_numbered::Numbered;
 use std::alloc::{AllocError, Global};
 
 impl Made {
-    /// As `loan_uninit`, and room is made first for one more loan, if there is none. Fails only where memory is wanting for that; then nothing
+    /// As `loan_uninit`, and room is made first for one more loan, if there is none. Fails only where an allocation fails for that; then nothing
     /// has changed.
     pub fn loan_uninit_growing<T: Copy, U: Copy, H: Home<T, U>>(
         &mut self,
@@ -29,7 +29,7 @@ impl Made {
         Ok(self.loan_uninit(alloc, home, publisher, elements))
     }
 
-    /// As `loan`, and room is made first for one more loan, if there is none. Fails only where memory is wanting for that; then nothing has
+    /// As `loan`, and room is made first for one more loan, if there is none. Fails only where an allocation fails for that; then nothing has
     /// changed.
     pub fn loan_growing<T: Copy, U: Copy, H: Home<T, U>>(
         &mut self,
@@ -46,7 +46,7 @@ impl Made {
         Ok(self.loan(alloc, home, publisher, elements, value))
     }
 
-    /// As `receive`, and room is made first for one more sample, if there is none. Fails only where memory is wanting for that; then nothing has
+    /// As `receive`, and room is made first for one more sample, if there is none. Fails only where an allocation fails for that; then nothing has
     /// changed, and what waits is there still.
     pub fn receive_growing<T: Copy, U: Copy, H: Home<T, U>>(
         &mut self,

@@ -1,4 +1,4 @@
-//! Laws of the calls by number, in other words than their steps. They stand on functions that do nothing.
+//! Laws of the calls by number, in other words than their steps. They are the contracts of functions that do nothing.
 ghost use Rattle.iox_hub_ports.specs.Laws.{MisfitChangesNothing, AnswersWhereReady};
 
 use iox_domain_home::Home;

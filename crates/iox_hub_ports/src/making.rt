@@ -91,7 +91,7 @@ impl Made {
 
     /// As `create_publisher`, and room is made first for one more, if there is none: nothing else changes where the publisher doesn't come.
     ///
-    /// None, and nothing happens, where the domain isn't here. Refused as `create_publisher` is, also where memory is wanting for that room: with
+    /// None, and nothing happens, where the domain isn't here. Refused as `create_publisher` is, also where an allocation fails for that room: with
     /// `ExceedsMaxSupportedPublishers` if no place is free, else with `UnableToCreateDataSegment`.
     pub fn make_publisher<
         T: Copy,
@@ -119,7 +119,7 @@ impl Made {
 
     /// As `create_subscriber`, and room is made first for one more, if there is none: nothing else changes where the subscriber doesn't come.
     ///
-    /// None, and nothing happens, where the domain isn't here. Refused as `create_subscriber` is, also where memory is wanting for that room:
+    /// None, and nothing happens, where the domain isn't here. Refused as `create_subscriber` is, also where an allocation fails for that room:
     /// with `BufferSizeExceedsMaxSupportedBufferSizeOfService` if its buffer is larger than the service allows, else with
     /// `ExceedsMaxSupportedSubscribers` if no place is free, else with `OutOfMemory`.
     pub fn make_subscriber<T: Copy, U: Copy, B: Degrades, D: Degrades, H: MakesPorts<T, U, B, D>>(

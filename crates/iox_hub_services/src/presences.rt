@@ -72,7 +72,7 @@ impl<T: Copy, U: Copy, B: Drop, D: Drop> Presences<T, U, B, D> {
         }
     }
 
-    /// Something else stands under a number, if something is open under it. It takes no memory.
+    /// Something else is under a number, if something is open under it. It takes no memory.
     pub fn replace(&mut self, number: u64, presence: Presence<T, U, B, D>)
         ensures { self.new ≡ with_presence number self.old presence }
     {
@@ -81,7 +81,7 @@ impl<T: Copy, U: Copy, B: Drop, D: Drop> Presences<T, U, B, D> {
         }
     }
 
-    /// A service opens under a number, in the place of one that had it. It fails only where memory is wanting, and then nothing has
+    /// A service opens under a number, in the place of one that had it. It fails only where an allocation fails, and then nothing has
     /// changed.
     pub fn insert(&mut self, number: u64, presence: Presence<T, U, B, D>) -> Result<(), AllocError>
         ensures ok { OnOk result (self.new ≡ opened number presence self.old) }

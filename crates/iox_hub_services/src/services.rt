@@ -19,7 +19,7 @@ use std::marker::Model;
 /// elsewhere.
 ///
 /// Contracts see the number of the hub, and each service with its number, by rising number. A domain that is here is of this hub, and of the
-/// service whose number it stands under. This port's own.
+/// service under whose number it is kept. This port's own.
 #[derive(Drop)]
 pub struct Services<T, U, B = Handlers, D = DegradationHandler> {
     pub(crate) hub: u64,
@@ -79,7 +79,7 @@ impl<T: Words + ZeroCopySend, U: Copy + ZeroCopySend, B: Drop, D: Drop> Services
     /// many connections of a subscriber may wait to be read after their publishers left, or as many as samples of one connection may be
     /// held, whichever is more.
     ///
-    /// Refused with `OutOfMemory` where a domain is to be made and memory is wanting; then nothing has changed.
+    /// Refused with `OutOfMemory` where a domain is to be made and an allocation fails; then nothing has changed.
     pub fn open(
         &mut self,
         alloc: Global,

@@ -28,6 +28,7 @@ pub mod UsesSteps
 pub mod RoomFinds
 pub mod RoomKept
 pub mod Fresh
+pub mod Findings
 pub mod StartRooms
 pub mod StartUses
 pub mod Alone

@@ -28,3 +28,4 @@ pub mod Opening
 pub mod PermittedLoans
 pub mod Queues
 pub mod Fresh
+pub mod Findings

@@ -1,7 +1,8 @@
 //! The connections of lanes.
-ghost use Rattle.std.specs.Prelude.{◌≡◌};
+ghost use Rattle.std.specs.Prelude.{◌≡◌, ◌++◌, ◌∷◌, [], OnOk, OnErr};
 
 use iox_queues_rings::RingKind;
+use std::alloc::AllocError;
 use std::marker::Model;
 
 /// A connection: which publisher sends to which subscriber, by their numbers, what its ring of messages does, and what waited before the first step.
@@ -55,6 +56,16 @@ impl Link {
         ensures { result ≡ self.now.limit }
     {
         self.limit
+    }
+
+    // One message more waited.
+    pub(crate) fn find(&mut self, slot: u64) -> Result<(), AllocError>
+        ensures found { OnOk result (self.new ≡ record self.old { found = self.old.found ++ slot ∷ [] }) }
+        ensures same { OnErr result (self.new ≡ self.old) }
+    {
+        self.found.reserve(1)?;
+        self.found.push_reserved(slot);
+        Ok(())
     }
 
     /// The slots of the messages that waited before the first step, the oldest first.
