@@ -29,6 +29,8 @@ pub mod RoomFinds
 pub mod RoomKept
 pub mod Fresh
 pub mod Findings
+pub mod FoundFresh
+pub mod FoundKept
 pub mod StartRooms
 pub mod StartUses
 pub mod Alone

@@ -140,7 +140,7 @@ at_each {X} routes P xs place x y found same all i z e =
     some_is h = cc h
 
 -- a step of a publisher, at which it stays within the service and keeps its connections
-publisher_within : (m n : World) (place : ℕ) (lane after : PublisherLaneState) → slice_get m.publishers place ≡ Some lane → IsPublisher m.table.sizes after → after.port.routes ≡ lane.port.routes
+pub publisher_within : (m n : World) (place : ℕ) (lane after : PublisherLaneState) → slice_get m.publishers place ≡ Some lane → IsPublisher m.table.sizes after → after.port.routes ≡ lane.port.routes
     → n.publishers ≡ set m.publishers place after → n.subscribers ≡ m.subscribers → n.links ≡ m.links → length n.orders ≡ length m.orders
     → n.table.sizes ≡ m.table.sizes → length n.table.words ≡ length m.table.words → IsWithin m → IsWithin n
 publisher_within m n place lane after found is routes p s l o t w k = record {

@@ -1,5 +1,5 @@
 -- Lanes before their first step, whatever waits, was kept or was given back when they begin.
-use Rattle.std.specs.Prelude.{ℕ, ◌≡◌, ◌+◌, ◌<◌, ◌≤◌, ◌^◌, List, [], length, get_or, slice_get, slice_index, Option, Some, None}
+use Rattle.std.specs.Prelude.{ℕ, ◌≡◌, ◌+◌, ◌<◌, ◌≤◌, ◌^◌, false, List, [], length, get_or, slice_get, slice_index, Option, Some, None}
 use Rattle.iox_queues_steps.specs.declared.order.Placed.{Placed}
 use Rattle.iox_queues_rings.specs.Ends.{cells_of}
 use Rattle.iox_queues_rings.specs.RingMachine.{first_words}
@@ -7,9 +7,10 @@ use Rattle.iox_queues_rings.specs.declared.ends.RingKind.TheVariants as kind
 use Rattle.iox_lanes_calls.specs.declared.publisher.PublisherCall.TheVariants as publishing
 use Rattle.iox_lanes_calls.specs.declared.route.Route.{Route}
 use Rattle.iox_lanes_calls.specs.declared.subscriber.SubscriberCall.TheVariants as subscribing
-use Rattle.iox_lanes_parties.specs.Parties.{PublisherLaneState, SubscriberLaneState}
+use Rattle.iox_lanes_publisher.specs.declared.slot_book.LoanMark.TheVariants as mark
+use Rattle.iox_lanes_parties.specs.Parties.{PublisherLaneState, SubscriberLaneState, is_out}
 use Rattle.iox_lanes_ledger.specs.Rooms.{CountsLoans}
-use Rattle.iox_lanes_ledger.specs.Uses.{one_if, count, refers_to, UsesCounted}
+use Rattle.iox_lanes_ledger.specs.Uses.{one_if, count, entry, refers_to, UsesCounted}
 use Rattle.iox_lanes_machine.specs.Links.{LinkState}
 use Rattle.iox_lanes_machine.specs.Opening.{CellsNameSlots}
 use Rattle.iox_lanes_machine.specs.Reads.{width}
@@ -26,13 +27,14 @@ abbrev pub HasFound : World → PublisherLaneState → Type 0
 HasFound m lane = (place : ℕ) (route : Route) (link : LinkState) → slice_get lane.port.routes place ≡ Some route → slice_get m.links route.connection ≡ Some link
     → (slot : ℕ) → count slot link.found + count slot (given_back m.table route.connection) ≡ one_if (refers_to lane.port.book place slot)
 
--- a publisher between calls, with all its connections, whose record counts the uses of its slots
+-- a publisher between calls, with all its connections, whose record counts the uses of its slots; no loan is out
 pub record IsFreshPublisher (m : World) (who : ℕ) (lane : PublisherLaneState) : Type 0 where
   pub idle : lane.port.call ≡ publishing.Idle
   pub connections : HasConnections m.links who lane.port.routes
   pub round : GoesRound m.table.sizes.completion_cells lane.port.routes
   pub counted : UsesCounted (length lane.port.routes) lane.port.book
   pub counts : CountsLoans lane.port.book
+  pub unlent : (slot : ℕ) → is_out (entry lane.port.book.first lane.port.book.loans slot mark.No) ≡ false
   pub has : HasFound m lane
 
 -- a subscriber between calls, with all its connections, that borrows nothing
