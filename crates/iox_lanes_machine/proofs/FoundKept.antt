@@ -17,6 +17,7 @@ use Rattle.iox_queues_refusing.specs.declared.push.Push.TheVariants as refusing_
 use Rattle.iox_lanes_words.specs.Numbers.{IsWord, words_of, number_of}
 use Rattle.iox_lanes_words.specs.Table.{TableWords, held_by, stored_in}
 use Rattle.iox_lanes_words.specs.declared.access.SharedAccess.TheVariants.{Store}
+use Rattle.iox_lanes_words.specs.declared.sizes.TableSizes.{TableSizes}
 use Rattle.iox_lanes_words.specs.declared.word.ConnectionRing.{ConnectionRing}
 use Rattle.iox_lanes_words.specs.declared.word.ConnectionRing.TheVariants.{Submission, Completion}
 use Rattle.iox_lanes_words.specs.declared.word.SharedWord.TheVariants.{Ring, Slot}
@@ -282,3 +283,297 @@ waiting_fresh m who place slot lane is found w h = (within, fresh)
         let moved : IsPublisher m.table.sizes (lane_found place slot lane) = record { routes = port.routes; call = port.call; slots = port.slots; payload = port.payload; head = port.head; heads = port.heads; widths = port.widths } in
         relinked_within (after m table'.words m.links publishers') links' ends
         (publisher_within m (after m table'.words m.links publishers') who lane (lane_found place slot lane) found moved refl refl refl refl refl refl (laid_length m.table c n slot Submission) w)
+
+-- a sample more was given back
+given_fresh : (m : World) (who place slot : ℕ) (lane : PublisherLaneState) (is : MayBeBack m place slot lane) → slice_get m.publishers who ≡ Some lane → IsWithin m → IsFresh m
+    → IsWithin (given_at m who place slot lane (Some is.route)) × IsFresh (given_at m who place slot lane (Some is.route))
+given_fresh m who place slot lane is found w h = (within, fresh)
+  where
+    c : ℕ
+    c = is.route.connection
+
+    own : IsFreshPublisher m who lane
+    own = h.publishers who lane found
+
+    link_is : IsFreshLink m c is.link
+    link_is = h.links c is.link is.found
+
+    cells : ℕ
+    cells = m.table.sizes.completion_cells
+
+    back : List ℕ
+    back = (h.links c is.link is.found).back
+
+    count_is : back_found m.table c ≡ length back
+    count_is = back_count m c is.link is.found h
+
+    fits : MayBeReferred (length lane.port.routes) lane.port.book place slot
+    fits = lacks_is (length lane.port.routes) place slot lane.port.book is.lacks (slice_get_within lane.port.routes place is.route is.at) (own.unlent slot)
+
+    table' : TableWords
+    table' = laid m.table c Completion (back_found m.table c) slot
+
+    cell : IsWord m.table.sizes (Ring c Completion (Cell (back_found m.table c)))
+    cell = ((w.links c is.link is.found).connection_is, omega (arith, is.few))
+
+    publishers' : List PublisherLaneState
+    publishers' = set m.publishers who (lane_found place slot lane)
+
+    world : World
+    world = after m table'.words m.links publishers'
+
+    returned : back_ring table' c cells ≡ first_words kind.Refusing cells (back ++ slot ∷ [])
+    returned = ap (λ (i : ℕ). back_ring (laid m.table c Completion i slot) c cells) count_is
+        ∙ laid_back m.table c cells back slot (back_seat m c is.link is.found w h) (omega (arith, is.few, count_is)) (omega (arith, is.few, count_is, h.small)) (h.links c is.link is.found).returned
+
+    backs : (d : ℕ) (link : LinkState) → slice_get m.links d ≡ Some link → (d ≡ c → ⊥) → back_ring table' d cells ≡ back_ring m.table d cells
+    backs d link e not = back_away m.table c d cells (back_found m.table c) slot Completion (back_seat m d link e w h) cell (λ word same. not (sym same))
+
+    given : given_back table' c ≡ back ++ slot ∷ []
+    given =
+        let size : length (back ++ slot ∷ []) ≡ length back + 1 = length-append back (slot ∷ []) in
+        ap between returned ∙ between_is cells (first_words kind.Refusing cells (back ++ slot ∷ [])) (back ++ slot ∷ []) refusing_push.Idle refusing_pop.Idle
+        (start_refusing cells (back ++ slot ∷ []) h.small (omega (arith, size, is.few, count_is)))
+
+    stands : Stands m world c slot
+    stands = record {
+      here = λ was now was_is now_is s.
+          omega (
+            arith,
+            ap (λ (l : LinkState). count s l.found) (some_is was now (sym was_is ∙ now_is)),
+            ap (count s) given,
+            count_append s back (slot ∷ []),
+            ap (count s) (returned_is m c is.link is.found h),
+          );
+      elsewhere = λ d now not now_is. (now_is, ap between (backs d now now_is not));
+    }
+
+    named : CellsNameSlots table' × (slice_index table'.words 0 ≡ 0)
+    named = laid_named m.table c (back_found m.table c) slot Completion w.words cell (own_below m who lane slot found w h fits.own.below) h.named h.spare
+
+    rings : (d : ℕ) (link : LinkState) → slice_get m.links d ≡ Some link → ring_in table' d (cells_of link.kind link.limit) ≡ ring_in m.table d (cells_of link.kind link.limit)
+    rings d link e = sent_stays m.table c d (cells_of link.kind link.limit) (back_found m.table c) slot Completion (seat m d link e w) cell (λ word. tt)
+
+    each : (d : ℕ) (link : LinkState) → slice_get m.links d ≡ Some link → IsFreshLink world d link
+    each d link e = elim (eqb_tells d c) [
+      | inl here ↦
+          let same : is.link ≡ link = some_is is.link link (sym is.found ∙ ap (slice_get m.links) (sym here.1) ∙ e) in
+          subst (IsFreshLink world d) same (subst (λ (x : ℕ). IsFreshLink world x is.link) (sym here.1) mine)
+      | inr off ↦ link_stays m table'.words m.links publishers' d link (length-set m.publishers who (lane_found place slot lane)) (rings d link e) (backs d link e off.1) (h.links d link e)
+    ]
+      where
+        mine : IsFreshLink world c is.link
+        mine =
+            let size : length (back ++ slot ∷ []) ≡ length back + 1 = length-append back (slot ∷ []) in
+            record {
+              some = link_is.some;
+              small = link_is.small;
+              room = link_is.room;
+              ring = rings c is.link is.found ∙ link_is.ring;
+              back = back ++ slot ∷ [];
+              returned = returned;
+              few = omega (arith, size, is.few, count_is);
+              sender = omega (arith, link_is.sender, length-set m.publishers who (lane_found place slot lane));
+              cells = link_is.cells;
+            }
+
+    fresh : IsFresh world
+    fresh = fresh_after m table'.words m.links publishers' (same_ends m.links) named.1 named.0 each
+        (found_publisher m world who place slot lane found fits h (has_after m world who place slot lane is.route is.link found is.at is.found fits stands w h))
+        (rows_after m table'.words m.links who lane (lane_found place slot lane) found refl refl h.rows) h
+
+    within : IsWithin world
+    within =
+        let port : IsPublisher m.table.sizes lane = all_at (IsPublisher m.table.sizes) m.publishers who lane found w.publishers in
+        let moved : IsPublisher m.table.sizes (lane_found place slot lane) = record { routes = port.routes; call = port.call; slots = port.slots; payload = port.payload; head = port.head; heads = port.heads; widths = port.widths } in
+        publisher_within m world who lane (lane_found place slot lane) found moved refl refl refl refl refl refl (laid_length m.table c (back_found m.table c) slot Completion) w
+
+-- a slot is the newest of its publisher's history
+newest_fresh : (m : World) (who slot : ℕ) (lane : PublisherLaneState) → may_remember slot lane.port.book ≡ true → slice_get m.publishers who ≡ Some lane → IsWithin m → IsFresh m
+    → IsWithin (remembered_of m who slot (Some lane)) × IsFresh (remembered_of m who slot (Some lane))
+newest_fresh m who slot lane may found w h = (within, fresh)
+  where
+    own : IsFreshPublisher m who lane
+    own = h.publishers who lane found
+
+    publishers' : List PublisherLaneState
+    publishers' = set m.publishers who (lane_remembers slot lane)
+
+    world : World
+    world = after m m.table.words m.links publishers'
+
+    lanes : (other : ℕ) (now : PublisherLaneState) → slice_get publishers' other ≡ Some now → PublisherAfter m world other now
+    lanes other now e = elim (set_cases m.publishers who lane (lane_remembers slot lane) found other now e) [
+      | inl here ↦ record {
+          was = lane;
+          before = ap (slice_get m.publishers) here.0 ∙ found;
+          call = ap (λ (l : PublisherLaneState). l.port.call) (sym here.1);
+          routes = ap (λ (l : PublisherLaneState). l.port.routes) (sym here.1);
+          counted = subst (λ (l : PublisherLaneState). UsesCounted (length l.port.routes) l.port.book) here.1 (newest_counted (length lane.port.routes) slot lane.port.book may (own.unlent slot) own.counted);
+          counts = subst (λ (l : PublisherLaneState). CountsLoans l.port.book) here.1 (newest_counts slot lane.port.book may own.counts);
+          unlent = subst (λ (l : PublisherLaneState). (s : ℕ) → is_out (entry l.port.book.first l.port.book.loans s mark.No) ≡ false) here.1 own.unlent;
+          has = subst (HasFound world) here.1 (λ at route link at_is link_is s. own.has at route link at_is link_is s ∙ ap one_if (sym (newest_refers slot lane.port.book at s)));
+        }
+      | inr off ↦
+          let is = h.publishers other now off.1 in
+          record { was = now; before = off.1; call = refl; routes = refl; counted = is.counted; counts = is.counts; unlent = is.unlent; has = is.has }
+    ]
+
+    fresh : IsFresh world
+    fresh = fresh_after m m.table.words m.links publishers' (same_ends m.links) h.spare h.named
+        (λ d link e. link_stays m m.table.words m.links publishers' d link (length-set m.publishers who (lane_remembers slot lane)) refl refl (h.links d link e))
+        lanes (rows_after m m.table.words m.links who lane (lane_remembers slot lane) found refl refl h.rows) h
+
+    within : IsWithin world
+    within =
+        let port : IsPublisher m.table.sizes lane = all_at (IsPublisher m.table.sizes) m.publishers who lane found w.publishers in
+        let moved : IsPublisher m.table.sizes (lane_remembers slot lane) = record { routes = port.routes; call = port.call; slots = port.slots; payload = port.payload; head = port.head; heads = port.heads; widths = port.widths } in
+        publisher_within m world who lane (lane_remembers slot lane) found moved refl refl refl refl refl refl refl w
+
+-- a slot has the word
+pub word_there : (sizes : TableSizes) (slot : ℕ) (word : SlotWord) → nat_lt slot sizes.slots ≡ true → has_word sizes word ≡ true → IsWord sizes (Slot slot word)
+word_there sizes slot (Header word) below has = (ltb-true slot sizes.slots below, ltb-true word 3 has)
+word_there sizes slot (UserHeader word) below has = (ltb-true slot sizes.slots below, ltb-true word sizes.user_header_words has)
+word_there sizes slot (Payload word) below has = (ltb-true slot sizes.slots below, ltb-true word sizes.payload_words has)
+
+-- a word of a slot holds something
+held_fresh : (m : World) (slot : ℕ) (word : SlotWord) (value : ℕ) → IsWord m.table.sizes (Slot slot word) → IsWithin m → IsFresh m
+    → IsWithin (record m { table = stored_in m.table (Slot slot word) value }) × IsFresh (record m { table = stored_in m.table (Slot slot word) value })
+held_fresh m slot word value is w h = (within, fresh)
+  where
+    table' : TableWords
+    table' = stored_in m.table (Slot slot word) value
+
+    size : length table'.words ≡ length m.table.words
+    size = length-set m.table.words (number_of m.table.sizes (Slot slot word)) value
+
+    world : World
+    world = after m table'.words m.links m.publishers
+
+    named : CellsNameSlots table' × (slice_index table'.words 0 ≡ 0)
+    named = after_access m.table w.words (Store (Slot slot word) value) is tt h.named h.spare
+
+    backs : (d : ℕ) (link : LinkState) → slice_get m.links d ≡ Some link → back_ring table' d m.table.sizes.completion_cells ≡ back_ring m.table d m.table.sizes.completion_cells
+    backs d link e = back_stays m.table d m.table.sizes.completion_cells (Store (Slot slot word) value) (back_seat m d link e w h) (is, tt)
+
+    lanes : (who : ℕ) (lane : PublisherLaneState) → slice_get m.publishers who ≡ Some lane → PublisherAfter m world who lane
+    lanes who lane e =
+        let own = h.publishers who lane e in
+        record {
+          was = lane;
+          before = e;
+          call = refl;
+          routes = refl;
+          counted = own.counted;
+          counts = own.counts;
+          unlent = own.unlent;
+          has = λ at route link at_is link_is s. ap (λ (xs : List ℕ). count s link.found + count s xs) (ap between (backs route.connection link link_is)) ∙ own.has at route link at_is link_is s;
+        }
+
+    fresh : IsFresh world
+    fresh = fresh_after m table'.words m.links m.publishers (same_ends m.links) named.1 named.0
+        (λ d link e. link_stays m table'.words m.links m.publishers d link refl
+        (access_elsewhere m.table d (cells_of link.kind link.limit) (Store (Slot slot word) value) (seat m d link e w) (is, tt))
+        (backs d link e) (h.links d link e))
+        lanes h.rows h
+
+    within : IsWithin world
+    within = record {
+      publishers = w.publishers;
+      subscribers = w.subscribers;
+      senders = w.senders;
+      receivers = w.receivers;
+      links = w.links;
+      orders = w.orders;
+      words = size ∙ w.words;
+    }
+
+-- what waits at the connection at a place of a publisher
+waiting_is : (m : World) (who place slot : ℕ) (lane : PublisherLaneState) (is : MayWait m place slot lane) → slice_get m.publishers who ≡ Some lane
+    → waiting_in m who place slot lane is.route.connection (Some is.link) ≡ waiting_of m who place slot (slice_get m.publishers who)
+waiting_is m who place slot lane is found =
+    sym (ap (waiting_in m who place slot lane is.route.connection) is.found)
+    ∙ sym (ap (waiting_at m who place slot lane) is.at)
+    ∙ sym (ap (waiting_of m who place slot) found)
+
+given_is : (m : World) (who place slot : ℕ) (lane : PublisherLaneState) (is : MayBeBack m place slot lane) → slice_get m.publishers who ≡ Some lane
+    → given_at m who place slot lane (Some is.route) ≡ given_of m who place slot (slice_get m.publishers who)
+given_is m who place slot lane is found = sym (ap (given_at m who place slot lane) is.at) ∙ sym (ap (given_of m who place slot) found)
+
+-- lanes before their first step
+abbrev pub Both : World → Type 0
+Both n = IsWithin n × IsFresh n
+
+waits_keep : (m : World) (who place slot : ℕ) (at : Option PublisherLaneState) → slice_get m.publishers who ≡ at → waits_of m place slot at ≡ true → IsWithin m → IsFresh m → Both (waiting_of m who place slot (slice_get m.publishers who))
+waits_keep m who place slot None e fit w h = absurd (cc fit)
+waits_keep m who place slot (Some lane) e fit w h =
+    let is = may_wait_is m place slot lane fit in
+    subst Both (waiting_is m who place slot lane is e) (waiting_fresh m who place slot lane is e w h)
+
+backs_keep : (m : World) (who place slot : ℕ) (at : Option PublisherLaneState) → slice_get m.publishers who ≡ at → back_of m place slot at ≡ true → IsWithin m → IsFresh m → Both (given_of m who place slot (slice_get m.publishers who))
+backs_keep m who place slot None e fit w h = absurd (cc fit)
+backs_keep m who place slot (Some lane) e fit w h =
+    let is = may_be_back_is m place slot lane fit in
+    subst Both (given_is m who place slot lane is e) (given_fresh m who place slot lane is e w h)
+
+newest_keeps : (m : World) (who slot : ℕ) (at : Option PublisherLaneState) → slice_get m.publishers who ≡ at → newest_of slot at ≡ true → IsWithin m → IsFresh m → Both (remembered_of m who slot (slice_get m.publishers who))
+newest_keeps m who slot None e fit w h = absurd (cc fit)
+newest_keeps m who slot (Some lane) e fit w h = subst Both (sym (ap (remembered_of m who slot) e)) (newest_fresh m who slot lane fit e w h)
+
+found_both : (m : World) (f : Found) → finds_now m f ≡ true → IsWithin m → IsFresh m → Both (with_found m f)
+found_both m (found.Waiting publisher place slot) fit w h = waits_keep m publisher place slot (slice_get m.publishers publisher) refl fit w h
+found_both m (found.GivenBack publisher place slot) fit w h = backs_keep m publisher place slot (slice_get m.publishers publisher) refl fit w h
+found_both m (found.Newest publisher slot) fit w h = newest_keeps m publisher slot (slice_get m.publishers publisher) refl fit w h
+found_both m (found.Held slot word value) fit w h =
+    held_fresh m slot word value (word_there m.table.sizes slot word (and_left (nat_lt slot m.table.sizes.slots) (has_word m.table.sizes word) fit) (and_right (nat_lt slot m.table.sizes.slots) (has_word m.table.sizes word) fit)) w h
+
+-- no step was made
+waiting_moments : (m : World) (who place slot connection : ℕ) (lane : PublisherLaneState) (at : Option LinkState) → (waiting_in m who place slot lane connection at).moments ≡ m.moments
+waiting_moments m who place slot connection lane None = refl
+waiting_moments m who place slot connection lane (Some link) = refl
+
+waits_moments : (m : World) (who place slot : ℕ) (lane : PublisherLaneState) (at : Option Route) → (waiting_at m who place slot lane at).moments ≡ m.moments
+waits_moments m who place slot lane None = refl
+waits_moments m who place slot lane (Some route) = waiting_moments m who place slot route.connection lane (slice_get m.links route.connection)
+
+waits_of_moments : (m : World) (who place slot : ℕ) (at : Option PublisherLaneState) → (waiting_of m who place slot at).moments ≡ m.moments
+waits_of_moments m who place slot None = refl
+waits_of_moments m who place slot (Some lane) = waits_moments m who place slot lane (slice_get lane.port.routes place)
+
+given_moments : (m : World) (who place slot : ℕ) (lane : PublisherLaneState) (at : Option Route) → (given_at m who place slot lane at).moments ≡ m.moments
+given_moments m who place slot lane None = refl
+given_moments m who place slot lane (Some route) = refl
+
+given_of_moments : (m : World) (who place slot : ℕ) (at : Option PublisherLaneState) → (given_of m who place slot at).moments ≡ m.moments
+given_of_moments m who place slot None = refl
+given_of_moments m who place slot (Some lane) = given_moments m who place slot lane (slice_get lane.port.routes place)
+
+newest_moments : (m : World) (who slot : ℕ) (at : Option PublisherLaneState) → (remembered_of m who slot at).moments ≡ m.moments
+newest_moments m who slot None = refl
+newest_moments m who slot (Some lane) = refl
+
+pub found_moments : (m : World) (f : Found) → (with_found m f).moments ≡ m.moments
+found_moments m (found.Waiting publisher place slot) = waits_of_moments m publisher place slot (slice_get m.publishers publisher)
+found_moments m (found.GivenBack publisher place slot) = given_of_moments m publisher place slot (slice_get m.publishers publisher)
+found_moments m (found.Newest publisher slot) = newest_moments m publisher slot (slice_get m.publishers publisher)
+found_moments m (found.Held slot word value) = refl
+
+-- before the first step alone
+pub finds_first : (m : World) (f : Found) → finds m f ≡ true → (m.moments ≡ 0) × (finds_now m f ≡ true)
+finds_first m f fit = (first (and_left (m.moments == 0) (finds_now m f) fit), and_right (m.moments == 0) (finds_now m f) fit)
+  where
+    first : (m.moments == 0) ≡ true → m.moments ≡ 0
+    first e = elim (eqb_tells m.moments 0) [
+      | inl same ↦ same.1
+      | inr other ↦ absurd (cc (sym e ∙ other.0))
+    ]
+
+pub found_keeps : (m : World) (f : Found) → finds m f ≡ true → IsKept m → IsKept (with_found m f)
+found_keeps m f fit k =
+    let now = finds_first m f fit in
+    let both = found_both m f now.1 k.within (k.fresh now.0) in
+    fresh_kept (with_found m f) (found_moments m f ∙ now.0) both.0 both.1
+
+pub finds_keep : (m : World) (f : Found) (answer : Bool) (n : World) → FindsTo m f answer n → IsKept m → IsKept n
+finds_keep m f true n h k = subst IsKept (sym h.1) (found_keeps m f h.0 k)
+finds_keep m f false n h k = subst IsKept (sym h.1) k
