@@ -35,7 +35,7 @@ use Rattle.iox_lanes_ledger.specs.Uses.{one_if, count, entry, refers_to, UsesCou
 use Rattle.iox_lanes_ledger.proofs.Entries.{count_append}
 use Rattle.iox_lanes_ledger.proofs.Findings.{lacks_is, found_counted, found_counts, found_refers, found_refers_elsewhere, newest_counted, newest_counts, newest_refers}
 use Rattle.iox_lanes_ledger.proofs.Rings.{between_is}
-use Rattle.iox_lanes_machine.specs.Findings.{laid, back_found, waits_of, back_of, newest_of, has_word, finds, finds_now, waiting_in, waiting_at, waiting_of, given_at, given_of, remembered_of, with_found, FindsTo}
+use Rattle.iox_lanes_machine.specs.Findings.{laid, back_found, waits_of, back_of, newest_of, has_word, finds, finds_now, waiting_in, waiting_at, waiting_of, given_at, given_of, remembered_of, with_found, FindsTo, AreFound}
 use Rattle.iox_lanes_machine.specs.Fresh.{HasFound, IsFreshPublisher, IsFreshLink, IsFresh}
 use Rattle.iox_lanes_machine.specs.Kept.{IsLinkOf, sender, IsWithin, IsKept}
 use Rattle.iox_lanes_machine.specs.Links.{LinkState}
@@ -577,3 +577,56 @@ found_keeps m f fit k =
 pub finds_keep : (m : World) (f : Found) (answer : Bool) (n : World) → FindsTo m f answer n → IsKept m → IsKept n
 finds_keep m f true n h k = subst IsKept (sym h.1) (found_keeps m f h.0 k)
 finds_keep m f false n h k = subst IsKept (sym h.1) k
+
+-- so does a list of findings
+pub all_found : (m : World) (fs : List Found) (n : World) → AreFound m fs n → IsKept m → IsKept n
+all_found m [] n h k = subst IsKept (sym h) k
+all_found m (f ∷ fs) n h k = all_found (with_found m f) fs n h.1 (found_keeps m f h.0 k)
+
+-- findings leave the sizes of the service, and the connections of each publisher
+pub record SameRoutes (m n : World) : Type 0 where
+  pub sizes : n.table.sizes ≡ m.table.sizes
+  pub routes : (place : ℕ) (lane : PublisherLaneState) → slice_get n.publishers place ≡ Some lane → (was : PublisherLaneState) × (slice_get m.publishers place ≡ Some was) × (lane.port.routes ≡ was.port.routes)
+
+none_changed : (m : World) → SameRoutes m m
+none_changed m = record { sizes = refl; routes = λ place lane e. (lane, e, refl) }
+
+one_changed : (m : World) (words : List ℕ) (links : List LinkState) (who : ℕ) (lane now : PublisherLaneState) → slice_get m.publishers who ≡ Some lane → now.port.routes ≡ lane.port.routes → SameRoutes m (after m words links (set m.publishers who now))
+one_changed m words links who lane now found same = record {
+  sizes = refl;
+  routes = λ place z e. elim (set_cases m.publishers who lane now found place z e) [
+    | inl here ↦ (lane, ap (slice_get m.publishers) here.0 ∙ found, ap (λ (l : PublisherLaneState). l.port.routes) (sym here.1) ∙ same)
+    | inr off ↦ (z, off.1, refl)
+  ];
+}
+
+waiting_routes : (m : World) (who place slot : ℕ) (lane : PublisherLaneState) (connection : ℕ) (at : Option LinkState) → slice_get m.publishers who ≡ Some lane → SameRoutes m (waiting_in m who place slot lane connection at)
+waiting_routes m who place slot lane connection None found = none_changed m
+waiting_routes m who place slot lane connection (Some link) found =
+    one_changed m (laid m.table connection Submission (length link.found) slot).words (set m.links connection (record link { found = link.found ++ slot ∷ [] })) who lane (lane_found place slot lane) found refl
+
+waits_routes : (m : World) (who place slot : ℕ) (lane : PublisherLaneState) (at : Option Route) → slice_get m.publishers who ≡ Some lane → SameRoutes m (waiting_at m who place slot lane at)
+waits_routes m who place slot lane None found = none_changed m
+waits_routes m who place slot lane (Some route) found = waiting_routes m who place slot lane route.connection (slice_get m.links route.connection) found
+
+waits_of_routes : (m : World) (who place slot : ℕ) (at : Option PublisherLaneState) → slice_get m.publishers who ≡ at → SameRoutes m (waiting_of m who place slot at)
+waits_of_routes m who place slot None e = none_changed m
+waits_of_routes m who place slot (Some lane) e = waits_routes m who place slot lane (slice_get lane.port.routes place) e
+
+given_routes : (m : World) (who place slot : ℕ) (lane : PublisherLaneState) (at : Option Route) → slice_get m.publishers who ≡ Some lane → SameRoutes m (given_at m who place slot lane at)
+given_routes m who place slot lane None found = none_changed m
+given_routes m who place slot lane (Some route) found = one_changed m (laid m.table route.connection Completion (back_found m.table route.connection) slot).words m.links who lane (lane_found place slot lane) found refl
+
+given_of_routes : (m : World) (who place slot : ℕ) (at : Option PublisherLaneState) → slice_get m.publishers who ≡ at → SameRoutes m (given_of m who place slot at)
+given_of_routes m who place slot None e = none_changed m
+given_of_routes m who place slot (Some lane) e = given_routes m who place slot lane (slice_get lane.port.routes place) e
+
+newest_routes : (m : World) (who slot : ℕ) (at : Option PublisherLaneState) → slice_get m.publishers who ≡ at → SameRoutes m (remembered_of m who slot at)
+newest_routes m who slot None e = none_changed m
+newest_routes m who slot (Some lane) e = one_changed m m.table.words m.links who lane (lane_remembers slot lane) e refl
+
+pub found_routes : (m : World) (f : Found) → SameRoutes m (with_found m f)
+found_routes m (found.Waiting publisher place slot) = waits_of_routes m publisher place slot (slice_get m.publishers publisher) refl
+found_routes m (found.GivenBack publisher place slot) = given_of_routes m publisher place slot (slice_get m.publishers publisher) refl
+found_routes m (found.Newest publisher slot) = newest_routes m publisher slot (slice_get m.publishers publisher) refl
+found_routes m (found.Held slot word value) = record { sizes = refl; routes = λ place lane e. (lane, e, refl) }
