@@ -1,10 +1,8 @@
 -- What is found leaves lanes as they are before their first step.
-use Rattle.std.proofs.Common.{ℕ, suc, ◌≡◌, ◌+◌, ◌-◌, ◌*◌, ◌%◌, ◌<◌, ◌≤◌, ◌^◌, ◌⊎◌, ◌==◌, Bool, true, false, List, [], ◌∷◌, ◌++◌, length, set, get_or, replicate, slice_get, slice_index, Option, Some, None, refl, sym, ◌∙◌, ap, subst, inl, inr, arith, append_assoc, length-append, mod-eq_of_lt}
-use Rattle.std.specs.List.{All}
+use Rattle.std.proofs.Common.{ℕ, suc, ◌≡◌, ◌+◌, ◌-◌, ◌%◌, ◌<◌, ◌≤◌, ◌^◌, ◌⊎◌, false, List, [], ◌∷◌, ◌++◌, length, set, replicate, slice_get, slice_index, Some, refl, sym, ◌∙◌, ap, subst, inl, inr, arith, append_assoc, length-append, mod-eq_of_lt}
 use Rattle.std.proofs.lemmas.Bool.Decides.{eqb_tells}
 use Rattle.std.proofs.lemmas.List.{length-set, length-replicate}
-use Rattle.std.proofs.lemmas.List.Elements.{All-set, All-weaker}
-use Rattle.std.proofs.lemmas.Option.{slice_get_within}
+use Rattle.std.proofs.lemmas.List.Elements.{All-weaker}
 use Rattle.std.proofs.Math.Seq.{set-append_seam}
 use Rattle.iox_queues_steps.specs.Access.{RingWords, successor, after_store}
 use Rattle.iox_queues_steps.specs.declared.access.Word.TheVariants.{Write, Cell}
@@ -13,45 +11,32 @@ use Rattle.iox_queues_rings.specs.Ends.{cells_of}
 use Rattle.iox_queues_rings.specs.RingMachine.{first_words}
 use Rattle.iox_queues_rings.specs.declared.ends.RingKind.{RingKind}
 use Rattle.iox_queues_rings.specs.declared.ends.RingKind.TheVariants as kind
-use Rattle.iox_lanes_words.specs.Numbers.{IsWord, words_of, number_of}
-use Rattle.iox_lanes_words.specs.Table.{TableWords, held_by, stored_in}
-use Rattle.iox_lanes_words.specs.declared.access.SharedAccess.TheVariants.{Store}
+use Rattle.iox_lanes_words.specs.Numbers.{number_of}
+use Rattle.iox_lanes_words.specs.Table.{TableWords, stored_in}
 use Rattle.iox_lanes_words.specs.declared.word.ConnectionRing.TheVariants.{Submission, Completion}
-use Rattle.iox_lanes_words.specs.declared.word.SharedWord.{SharedWord}
-use Rattle.iox_lanes_words.specs.declared.word.SharedWord.TheVariants.{Ring, Slot}
-use Rattle.iox_lanes_words.specs.declared.word.SlotWord.{SlotWord}
-use Rattle.iox_lanes_calls.specs.declared.publisher.PublisherCall.TheVariants as publishing
+use Rattle.iox_lanes_words.specs.declared.word.SharedWord.TheVariants.{Ring}
 use Rattle.iox_lanes_calls.specs.declared.route.Route.{Route}
 use Rattle.iox_lanes_publisher.specs.declared.slot_book.LoanMark.{LoanMark}
 use Rattle.iox_lanes_publisher.specs.declared.slot_book.LoanMark.TheVariants as mark
-use Rattle.iox_lanes_parties.specs.Parties.{PublisherLaneState, SubscriberLaneState, is_out, lane_found, lane_remembers}
-use Rattle.iox_lanes_parties.specs.Within.{IsPublisher}
-use Rattle.iox_lanes_parties.proofs.Rings.{all_at}
+use Rattle.iox_lanes_parties.specs.Parties.{PublisherLaneState, is_out}
 use Rattle.iox_lanes_ledger.specs.Rooms.{CountsLoans}
-use Rattle.iox_lanes_ledger.specs.Stored.{between}
-use Rattle.iox_lanes_ledger.specs.Uses.{one_if, count, entry, refers_to, UsesCounted, MayBeReferred}
-use Rattle.iox_lanes_ledger.proofs.Entries.{count_append}
-use Rattle.iox_lanes_ledger.proofs.Findings.{lacks_is, found_counted, found_counts, found_refers, found_refers_elsewhere, newest_counted, newest_counts, newest_refers}
-use Rattle.iox_lanes_machine.specs.Findings.{laid, back_found, waits_of, back_of}
-use Rattle.iox_lanes_machine.specs.Fresh.{HasFound, IsFreshPublisher, IsFreshSubscriber, IsFreshLink, IsFresh}
-use Rattle.iox_lanes_machine.specs.Kept.{IsLink, IsLinkOf, sender, receiver, IsWithin}
+use Rattle.iox_lanes_ledger.specs.Uses.{entry, UsesCounted}
+use Rattle.iox_lanes_machine.specs.Findings.{laid}
+use Rattle.iox_lanes_machine.specs.Fresh.{HasFound, IsFreshLink, IsFresh}
+use Rattle.iox_lanes_machine.specs.Kept.{IsLinkOf, sender, receiver, IsWithin}
 use Rattle.iox_lanes_machine.specs.Links.{LinkState}
 use Rattle.iox_lanes_machine.specs.Opening.{CellsNameSlots}
 use Rattle.iox_lanes_machine.specs.Returns.{back_ring, GoesRound}
 use Rattle.iox_lanes_machine.specs.Rings.{ring_in}
 use Rattle.iox_lanes_machine.specs.Rooms.{HasReceived}
-use Rattle.iox_lanes_machine.specs.Sends.{IsAmong, HasConnections}
+use Rattle.iox_lanes_machine.specs.Sends.{HasConnections}
 use Rattle.iox_lanes_machine.specs.Slots.{SlotsInRows}
-use Rattle.iox_lanes_machine.specs.Uses.{given_back}
 use Rattle.iox_lanes_machine.specs.World.{World}
 use Rattle.iox_lanes_machine.proofs.Ends.{some_is}
-use Rattle.iox_lanes_machine.proofs.Fresh.{returned_is}
-use Rattle.iox_lanes_machine.proofs.Findings.{MayWait, may_wait_is, MayBeBack, may_be_back_is, cell_below}
-use Rattle.iox_lanes_machine.proofs.InBack.{IsBackSeat, back_after, back_stays}
-use Rattle.iox_lanes_machine.proofs.InTable.{IsSeat, same_ring, access_after, access_elsewhere}
-use Rattle.iox_lanes_machine.proofs.Kept.{seat}
-use Rattle.iox_lanes_machine.proofs.Opening.{after_access}
-use Rattle.iox_lanes_machine.proofs.Within.{set_same, set_other, publisher_within}
+use Rattle.iox_lanes_machine.proofs.Findings.{cell_below}
+use Rattle.iox_lanes_machine.proofs.InBack.{IsBackSeat, back_after}
+use Rattle.iox_lanes_machine.proofs.InTable.{IsSeat, same_ring, access_after}
+use Rattle.iox_lanes_machine.proofs.Within.{set_same, set_other}
 
 -- a place of a list after one was set: that one, or another as it was
 pub set_cases : {X : Type 0} (xs : List X) (place : ℕ) (x y : X) → slice_get xs place ≡ Some x → (i : ℕ) (z : X) → slice_get (set xs place y) i ≡ Some z
@@ -85,23 +70,30 @@ pub found_ends : (links : List LinkState) (connection : ℕ) (link : LinkState) 
 found_ends links connection link found e = record {
   size = length-set links connection (record link { found = found });
   back = λ c after now. elim (set_cases links connection link (record link { found = found }) e c after now) [
-    | inl here ↦ (link, ap (slice_get links) here.0 ∙ e, record {
+    | inl here ↦ (
+      link,
+      ap (slice_get links) here.0 ∙ e,
+      record {
         publisher = ap (λ (l : LinkState). l.publisher) (sym here.1);
         subscriber = ap (λ (l : LinkState). l.subscriber) (sym here.1);
         kind = ap (λ (l : LinkState). l.kind) (sym here.1);
         limit = ap (λ (l : LinkState). l.limit) (sym here.1);
-      })
+      },
+    )
     | inr other ↦ (after, other.1, record { publisher = refl; subscriber = refl; kind = refl; limit = refl })
   ];
   there = λ c was before. elim (eqb_tells c connection) [
     | inl here ↦
-        let same : link ≡ was = some_is link was (sym e ∙ ap (slice_get links) (sym here.1) ∙ before) in
-        (record link { found = found }, ap (slice_get (set links connection (record link { found = found }))) here.1 ∙ set_same links connection (record link { found = found }) link e, record {
-          publisher = ap (λ (l : LinkState). l.publisher) same;
-          subscriber = ap (λ (l : LinkState). l.subscriber) same;
-          kind = ap (λ (l : LinkState). l.kind) same;
-          limit = ap (λ (l : LinkState). l.limit) same;
-        })
+        let same : link ≡ was = some_is link was (sym e ∙ ap (slice_get links) (sym here.1) ∙ before) in (
+          record link { found = found },
+          ap (slice_get (set links connection (record link { found = found }))) here.1 ∙ set_same links connection (record link { found = found }) link e,
+          record {
+            publisher = ap (λ (l : LinkState). l.publisher) same;
+            subscriber = ap (λ (l : LinkState). l.subscriber) same;
+            kind = ap (λ (l : LinkState). l.kind) same;
+            limit = ap (λ (l : LinkState). l.limit) same;
+          },
+        )
     | inr other ↦ (was, set_other links connection c (record link { found = found }) other.1 ∙ before, record { publisher = refl; subscriber = refl; kind = refl; limit = refl })
   ];
 }
@@ -234,11 +226,11 @@ rows_after m words links place lane now found first loans h = λ one other low h
         → (before : PublisherLaneState) × (slice_get m.publishers who ≡ Some before) × (z.port.book.first ≡ before.port.book.first) × (length z.port.book.loans ≡ length before.port.book.loans)
     was who z e = elim (set_cases m.publishers place lane now found who z e) [
       | inl here ↦ (
-          lane,
-          ap (slice_get m.publishers) here.0 ∙ found,
-          ap (λ (l : PublisherLaneState). l.port.book.first) (sym here.1) ∙ first,
-          ap (λ (l : PublisherLaneState). length l.port.book.loans) (sym here.1) ∙ ap (λ (xs : List LoanMark). length xs) loans,
-        )
+        lane,
+        ap (slice_get m.publishers) here.0 ∙ found,
+        ap (λ (l : PublisherLaneState). l.port.book.first) (sym here.1) ∙ first,
+        ap (λ (l : PublisherLaneState). length l.port.book.loans) (sym here.1) ∙ ap (λ (xs : List LoanMark). length xs) loans,
+      )
       | inr other ↦ (z, other.1, refl, refl)
     ]
 

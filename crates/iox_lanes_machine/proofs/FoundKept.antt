@@ -1,6 +1,5 @@
 -- What is found keeps all that lanes keep.
-use Rattle.std.proofs.Common.{ℕ, suc, ◌≡◌, ◌+◌, ◌-◌, ◌<◌, ◌≤◌, ◌^◌, ◌⊎◌, ◌==◌, ◌&&◌, Bool, true, false, nat_lt, List, [], ◌∷◌, ◌++◌, length, set, get_or, slice_get, slice_index, Option, Some, None, refl, sym, ◌∙◌, ap, subst, inl, inr, arith, length-append}
-use Rattle.std.specs.List.{All}
+use Rattle.std.proofs.Common.{ℕ, ◌≡◌, ◌+◌, ◌<◌, ◌^◌, ◌==◌, Bool, true, false, nat_lt, List, [], ◌∷◌, ◌++◌, length, set, slice_get, slice_index, Option, Some, None, refl, sym, ◌∙◌, ap, subst, inl, inr, arith, length-append}
 use Rattle.std.proofs.lemmas.Bool.{ltb-true}
 use Rattle.std.proofs.lemmas.Bool.Decides.{eqb_tells}
 use Rattle.std.proofs.lemmas.List.{length-set}
@@ -15,7 +14,7 @@ use Rattle.iox_queues_rings.proofs.EitherRing.{start_refusing}
 use Rattle.iox_queues_refusing.specs.declared.pop.Pop.TheVariants as refusing_pop
 use Rattle.iox_queues_refusing.specs.declared.push.Push.TheVariants as refusing_push
 use Rattle.iox_lanes_words.specs.Numbers.{IsWord, words_of, number_of}
-use Rattle.iox_lanes_words.specs.Table.{TableWords, held_by, stored_in}
+use Rattle.iox_lanes_words.specs.Table.{TableWords, stored_in}
 use Rattle.iox_lanes_words.specs.declared.access.SharedAccess.TheVariants.{Store}
 use Rattle.iox_lanes_words.specs.declared.sizes.TableSizes.{TableSizes}
 use Rattle.iox_lanes_words.specs.declared.word.ConnectionRing.{ConnectionRing}
@@ -25,7 +24,7 @@ use Rattle.iox_lanes_words.specs.declared.word.SlotWord.{SlotWord}
 use Rattle.iox_lanes_words.specs.declared.word.SlotWord.TheVariants.{Header, UserHeader, Payload}
 use Rattle.iox_lanes_calls.specs.declared.route.Route.{Route}
 use Rattle.iox_lanes_publisher.specs.declared.slot_book.LoanMark.TheVariants as mark
-use Rattle.iox_lanes_publisher.specs.Keeping.{may_have, may_remember}
+use Rattle.iox_lanes_publisher.specs.Keeping.{may_remember}
 use Rattle.iox_lanes_parties.specs.Parties.{PublisherLaneState, is_out, lane_found, lane_remembers}
 use Rattle.iox_lanes_parties.specs.Within.{IsPublisher}
 use Rattle.iox_lanes_parties.proofs.Rings.{all_at, and_left, and_right}
@@ -148,9 +147,9 @@ has_after m n who place slot lane route link found here there fits stands w h ot
         let yours : IsLinkOf m.links sender other r = all_at (IsLinkOf m.links sender other) now.port.routes at r at_is (w.senders other now before) in
         let ours : IsLinkOf m.links sender who route = all_at (IsLinkOf m.links sender who) lane.port.routes place route here (w.senders who lane found) in
         let differs : (r.connection ≡ route.connection → ⊥) = λ same. not (
-          sym yours.own
-          ∙ ap sender (some_is yours.link ours.link (sym yours.found ∙ ap (slice_get m.links) same ∙ ours.found))
-          ∙ ours.own) in
+        sym yours.own
+        ∙ ap sender (some_is yours.link ours.link (sym yours.found ∙ ap (slice_get m.links) same ∙ ours.found))
+        ∙ ours.own) in
         let same = stands.elsewhere r.connection l differs l_is in
         ap (λ (xs : List ℕ). count s l.found + count s xs) same.1 ∙ (h.publishers other now before).has at r l at_is same.0 s
 
@@ -405,15 +404,15 @@ newest_fresh m who slot lane may found w h = (within, fresh)
     lanes : (other : ℕ) (now : PublisherLaneState) → slice_get publishers' other ≡ Some now → PublisherAfter m world other now
     lanes other now e = elim (set_cases m.publishers who lane (lane_remembers slot lane) found other now e) [
       | inl here ↦ record {
-          was = lane;
-          before = ap (slice_get m.publishers) here.0 ∙ found;
-          call = ap (λ (l : PublisherLaneState). l.port.call) (sym here.1);
-          routes = ap (λ (l : PublisherLaneState). l.port.routes) (sym here.1);
-          counted = subst (λ (l : PublisherLaneState). UsesCounted (length l.port.routes) l.port.book) here.1 (newest_counted (length lane.port.routes) slot lane.port.book may (own.unlent slot) own.counted);
-          counts = subst (λ (l : PublisherLaneState). CountsLoans l.port.book) here.1 (newest_counts slot lane.port.book may own.counts);
-          unlent = subst (λ (l : PublisherLaneState). (s : ℕ) → is_out (entry l.port.book.first l.port.book.loans s mark.No) ≡ false) here.1 own.unlent;
-          has = subst (HasFound world) here.1 (λ at route link at_is link_is s. own.has at route link at_is link_is s ∙ ap one_if (sym (newest_refers slot lane.port.book at s)));
-        }
+        was = lane;
+        before = ap (slice_get m.publishers) here.0 ∙ found;
+        call = ap (λ (l : PublisherLaneState). l.port.call) (sym here.1);
+        routes = ap (λ (l : PublisherLaneState). l.port.routes) (sym here.1);
+        counted = subst (λ (l : PublisherLaneState). UsesCounted (length l.port.routes) l.port.book) here.1 (newest_counted (length lane.port.routes) slot lane.port.book may (own.unlent slot) own.counted);
+        counts = subst (λ (l : PublisherLaneState). CountsLoans l.port.book) here.1 (newest_counts slot lane.port.book may own.counts);
+        unlent = subst (λ (l : PublisherLaneState). (s : ℕ) → is_out (entry l.port.book.first l.port.book.loans s mark.No) ≡ false) here.1 own.unlent;
+        has = subst (HasFound world) here.1 (λ at route link at_is link_is s. own.has at route link at_is link_is s ∙ ap one_if (sym (newest_refers slot lane.port.book at s)));
+      }
       | inr off ↦
           let is = h.publishers other now off.1 in
           record { was = now; before = off.1; call = refl; routes = refl; counted = is.counted; counts = is.counts; unlent = is.unlent; has = is.has }

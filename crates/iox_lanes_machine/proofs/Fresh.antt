@@ -1,5 +1,5 @@
 -- Lanes before their first step keep what every step keeps.
-use Rattle.std.proofs.Common.{ℕ, ◌≡◌, ◌+◌, ◌*◌, ◌<◌, ◌≤◌, ◌^◌, Bool, true, false, List, [], length, get_or, slice_get, Option, Some, None, refl, sym, ◌∙◌, ap, subst, inl, inr, arith}
+use Rattle.std.proofs.Common.{ℕ, ◌≡◌, ◌+◌, ◌*◌, ◌<◌, ◌≤◌, ◌^◌, false, List, [], length, get_or, slice_get, Option, Some, None, refl, sym, ◌∙◌, ap, subst, inl, inr, arith}
 use Rattle.std.specs.List.{All}
 use Rattle.std.proofs.lemmas.Bool.{cases_lt}
 use Rattle.std.proofs.lemmas.List.{get_or_past}
@@ -14,7 +14,7 @@ use Rattle.iox_queues_steps.specs.Order.{PutNow}
 use Rattle.iox_queues_refusing.specs.Refusing as refusing
 use Rattle.iox_queues_refusing.specs.declared.pop.Pop.TheVariants as refusing_pop
 use Rattle.iox_queues_refusing.specs.declared.push.Push.TheVariants as refusing_push
-use Rattle.iox_queues_rings.specs.Ends.{Shape, cells_of, push_idle, pop_idle, put_in_hand}
+use Rattle.iox_queues_rings.specs.Ends.{Shape, cells_of, push_idle, pop_idle}
 use Rattle.iox_queues_rings.specs.RingMachine.{first_words}
 use Rattle.iox_queues_rings.specs.declared.ends.RingKind.{RingKind}
 use Rattle.iox_queues_rings.specs.declared.ends.RingKind.TheVariants as kind
@@ -35,12 +35,12 @@ use Rattle.iox_lanes_ledger.specs.Borrowing.{is_at, borrows, UsesBorrowed}
 use Rattle.iox_lanes_ledger.specs.Rooms.{slots_at, borrowed_of, HasRooms, MayBorrow, ReleasesOk, CountsBorrowed}
 use Rattle.iox_lanes_ledger.specs.Sending.{SendsLacking}
 use Rattle.iox_lanes_ledger.specs.Stored.{between}
-use Rattle.iox_lanes_ledger.specs.Uses.{one_if, count, refers_to}
+use Rattle.iox_lanes_ledger.specs.Uses.{one_if, count}
 use Rattle.iox_lanes_ledger.proofs.Entries.{total_zero}
 use Rattle.iox_lanes_ledger.proofs.Rings.{between_is, idle_aside}
 use Rattle.iox_lanes_ledger.proofs.Rooms.{slots_most}
 use Rattle.iox_lanes_ledger.proofs.RoomSteps.{none_within}
-use Rattle.iox_lanes_machine.specs.Calls.{IsEnded, AreInTurn, IsStageOf, IsReceiverStageOf, PublisherFollows, SubscriberFollows, CallsFollow}
+use Rattle.iox_lanes_machine.specs.Calls.{IsEnded, AreInTurn, IsStageOf, IsReceiverStageOf, CallsFollow}
 use Rattle.iox_lanes_machine.specs.Fresh.{IsFresh}
 use Rattle.iox_lanes_machine.specs.Held.{LoadsHeld}
 use Rattle.iox_lanes_machine.specs.Kept.{IsLinkOf, sender, IsWithin, IsKeptAt, AreKept, IsKept}
@@ -50,11 +50,11 @@ use Rattle.iox_lanes_machine.specs.Opening.{SendsSlot, GivesSlot}
 use Rattle.iox_lanes_machine.specs.Reads.{ReadsLie, reads_of, width}
 use Rattle.iox_lanes_machine.specs.Receipts.{given_in_hand, ReceivesGive, AllReceivesGive}
 use Rattle.iox_lanes_machine.specs.Returns.{back_ring, reclaim_on, release_on, AreReturning, ReturnsKept}
-use Rattle.iox_lanes_machine.specs.Rings.{sent_word, ring_in, push_on, pop_on, waiting}
+use Rattle.iox_lanes_machine.specs.Rings.{sent_word, waiting}
 use Rattle.iox_lanes_machine.specs.Rooms.{GaveBack, RoomsKept}
-use Rattle.iox_lanes_machine.specs.Sends.{puts_at, read_at, sends_of, IsSent, PutSoFar, done_at, in_hand_at, SendsPut, AllSendsPut}
+use Rattle.iox_lanes_machine.specs.Sends.{puts_at, read_at, sends_of, PutSoFar, done_at, in_hand_at, AllSendsPut}
 use Rattle.iox_lanes_machine.specs.Slots.{StandsAtLoan}
-use Rattle.iox_lanes_machine.specs.Uses.{given_back, aside_at, stands_at, PublisherUses, SubscriberUses, UsesKept}
+use Rattle.iox_lanes_machine.specs.Uses.{given_back, aside_at, stands_at, UsesKept}
 use Rattle.iox_lanes_machine.specs.World.{World, publisher_stage, subscriber_stage}
 use Rattle.iox_lanes_machine.proofs.Puts.{idle_hand}
 

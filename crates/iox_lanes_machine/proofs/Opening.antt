@@ -1,5 +1,5 @@
 -- Every step keeps the numbers of slots in the cells of rings.
-use Rattle.std.proofs.Common.{ℕ, ◌≡◌, ◌+◌, ◌-◌, ◌*◌, ◌<◌, ◌≤◌, ◌==◌, Bool, true, false, if◌then◌else◌, nat_lt, List, length, replicate, set, get_or, slice_get, slice_index, Option, Some, None, refl, sym, ◌∙◌, ap, subst, inl, inr, arith}
+use Rattle.std.proofs.Common.{ℕ, ◌≡◌, ◌+◌, ◌-◌, ◌<◌, ◌≤◌, ◌==◌, Bool, true, false, if◌then◌else◌, nat_lt, List, length, replicate, set, get_or, slice_get, slice_index, Option, Some, None, refl, sym, ◌∙◌, ap, subst, inl, inr, arith}
 use Rattle.std.proofs.lemmas.Bool.{cases_lt, ltb-false}
 use Rattle.std.proofs.lemmas.Bool.Decides.{eqb_tells}
 use Rattle.std.proofs.lemmas.List.{get_or_past, get_or-set_same, get_or-set_other, get_or-replicate}
@@ -62,13 +62,11 @@ use Rattle.iox_lanes_parties.proofs.Rings.{and_right, all_at}
 use Rattle.iox_lanes_parties.proofs.PublishersWithin.{publishers_stay_within}
 use Rattle.iox_lanes_parties.proofs.SubscribersWithin.{subscribers_stay_within}
 use Rattle.iox_lanes_machine.specs.Kept.{IsWithin}
-use Rattle.iox_lanes_machine.specs.Made.{table_sizes, link_at, publisher_at, subscriber_at, start}
+use Rattle.iox_lanes_machine.specs.Made.{table_sizes, start}
 use Rattle.iox_lanes_machine.specs.Opening.{cell_of, CellsNameSlots, OverPuts, LonePuts, Puts, SendsSlot, GivesSlot, SlotsNamed}
 use Rattle.iox_lanes_machine.specs.World.{World, placed, fits, happens, publisher_fits_at, publisher_begins, subscriber_begins, publisher_goes_on, subscriber_goes_on, publisher_given, subscriber_given}
-use Rattle.iox_lanes_machine.specs.Links.{LinkState}
 use Rattle.iox_lanes_machine.specs.declared.sizes.LaneSizes.{LaneSizes}
 use Rattle.iox_lanes_machine.proofs.Calls.{set_is}
-use Rattle.iox_lanes_machine.proofs.Start.{listed_is}
 use Rattle.iox_lanes_machine.proofs.Within.{set_other, sizes_stay, changed_routes, placed_within}
 
 -- the access leaves the numbers of slots in the cells

@@ -1,44 +1,28 @@
 -- Lanes as they are made keep what every step keeps.
-use Rattle.std.proofs.Common.{nat_lt, ℕ, zero, suc, ◌≡◌, ◌+◌, ◌-◌, ◌*◌, ◌/◌, ◌%◌, ◌<◌, ◌^◌, List, [], ◌∷◌, ◌++◌, length, take, get_or, replicate, slice_get, Option, Some, None, refl, sym, ◌∙◌, ap, subst, inl, inr, arith, length-append}
+use Rattle.std.proofs.Common.{nat_lt, ℕ, zero, suc, ◌≡◌, ◌+◌, ◌-◌, ◌*◌, ◌/◌, ◌%◌, ◌<◌, List, [], ◌∷◌, ◌++◌, length, take, get_or, replicate, slice_get, Option, Some, None, refl, sym, ◌∙◌, ap, subst, inl, inr, arith, length-append}
 use Rattle.std.specs.List.{All}
 use Rattle.std.proofs.lemmas.Bool.{cases_lt, lt-ltb}
 use Rattle.std.proofs.lemmas.Nat.{div-mul-add, mod-mul-add, mod_below, row_fits, div-add-mod'}
-use Rattle.std.proofs.lemmas.List.{get_or_past, length-replicate, drop-replicate, take-replicate, get_or-replicate}
-use Rattle.std.proofs.lemmas.List.Elements.{All-nil, All-from_get_or, All-replicate}
+use Rattle.std.proofs.lemmas.List.{length-replicate, drop-replicate, take-replicate, get_or-replicate}
+use Rattle.std.proofs.lemmas.List.Elements.{All-from_get_or, All-replicate}
 use Rattle.std.proofs.lemmas.Option.{slice_get_within, slice_get-get_or, get_or_from_slice_get}
 use Rattle.std.proofs.Math.ListN.{get_or-append}
 use Rattle.std.proofs.Math.Seq.{get_or-append_seam}
-use Rattle.iox_queues_steps.specs.Access.{RingWords}
 use Rattle.iox_queues_steps.specs.declared.access.Word.TheVariants.{Write, Read, Cell}
 use Rattle.iox_queues_steps.specs.declared.order.Placed.{Placed}
-use Rattle.iox_queues_steps.specs.Order.{puts, PutNow}
-use Rattle.iox_queues_steps.specs.declared.order.PushCall.{PushCall}
-use Rattle.iox_queues_refusing.specs.Refusing as refusing
-use Rattle.iox_queues_refusing.specs.declared.pop.Pop as refusing_pop_type
-use Rattle.iox_queues_refusing.specs.declared.pop.Pop.TheVariants as refusing_pop
-use Rattle.iox_queues_refusing.specs.declared.push.Push as refusing_push_type
-use Rattle.iox_queues_refusing.specs.declared.push.Push.TheVariants as refusing_push
-use Rattle.iox_queues_rings.specs.Ends.{Shape, cells_of, push_idle, pop_idle, put_in_hand}
+use Rattle.iox_queues_rings.specs.Ends.{cells_of}
 use Rattle.iox_queues_rings.specs.RingMachine.{first_words}
-use Rattle.iox_queues_rings.specs.declared.ends.RingKind.{RingKind}
 use Rattle.iox_queues_rings.specs.declared.ends.RingKind.TheVariants as kind
-use Rattle.iox_queues_rings.specs.declared.ends.Push.{Push}
-use Rattle.iox_queues_rings.specs.declared.ends.Pop.{Pop}
-use Rattle.iox_queues_rings.proofs.EitherRing.{start_overflowing, start_refusing}
 use Rattle.iox_lanes_words.specs.Numbers.{words_of, number_of}
 use Rattle.iox_lanes_calls.specs.declared.route.Route.{Route}
 use Rattle.iox_lanes_publisher.specs.declared.slot_book.LoanMark.{LoanMark}
 use Rattle.iox_lanes_publisher.specs.declared.slot_book.LoanMark.TheVariants as mark
 use Rattle.iox_lanes_parties.specs.Parties.{PublisherLaneState, SubscriberLaneState}
 use Rattle.iox_lanes_parties.specs.Within.{IsRoute, IsPublisher, IsSubscriber}
-use Rattle.iox_lanes_machine.specs.Rings.{sent_word, ring_in, push_on, pop_on}
-use Rattle.iox_lanes_machine.specs.World.{publisher_stage, subscriber_stage}
-use Rattle.iox_lanes_machine.specs.Kept.{IsLink, IsLinkOf, sender, receiver, IsWithin, IsKeptAt, AreKept}
-use Rattle.iox_lanes_machine.specs.Calls.{IsEnded, PublisherFollows, SubscriberFollows, CallsFollow}
-use Rattle.iox_lanes_machine.specs.Receipts.{ReceivesGive, ReceiptsFollow}
-use Rattle.iox_lanes_machine.specs.Sends.{puts_at, read_at, HasConnections, SendsPut, AllSendsPut}
-use Rattle.iox_lanes_machine.specs.Reads.{ReadsLie}
-use Rattle.iox_lanes_machine.specs.Returns.{back_word, back_ring, reclaim_on, release_on, AreReturning, GoesRound, ReturnsKept}
+use Rattle.iox_lanes_machine.specs.Rings.{sent_word, ring_in}
+use Rattle.iox_lanes_machine.specs.Kept.{IsLink, IsLinkOf, sender, receiver, IsWithin}
+use Rattle.iox_lanes_machine.specs.Sends.{HasConnections}
+use Rattle.iox_lanes_machine.specs.Returns.{back_word, back_ring, GoesRound}
 use Rattle.iox_lanes_machine.specs.Slots.{SlotsInRows}
 use Rattle.iox_lanes_machine.specs.Made.{listed, cells_back, receiving_routes, table_sizes, link_at, route_to, sending_routes, publisher_at, subscriber_at, first_head, start}
 use Rattle.iox_lanes_machine.specs.Links.{LinkState}
@@ -47,7 +31,6 @@ use Rattle.iox_lanes_machine.proofs.Ends.{choose_one}
 use Rattle.iox_lanes_machine.proofs.InTable.{IsSeat, same_ring, ends_below, write_below, read_below}
 use Rattle.iox_lanes_machine.proofs.Kept.{cells_some}
 use Rattle.iox_lanes_machine.proofs.InBack.{IsBackSeat, ends_below as back_ends_below, write_below as back_write_below, read_below as back_read_below}
-use Rattle.iox_lanes_machine.proofs.Puts.{idle_hand}
 
 pub listed_length : {X : Type 0} (f : ℕ → X) (n : ℕ) → length (listed f n) ≡ n
 listed_length f zero = refl

@@ -1,20 +1,16 @@
 -- Lanes that were just made have room at each connection.
-use Rattle.std.proofs.Common.{ℕ, zero, suc, ◌≡◌, ◌+◌, ◌*◌, ◌/◌, ◌%◌, ◌<◌, ◌≤◌, List, length, get_or, replicate, slice_get, Option, Some, None, refl, sym, ◌∙◌, ap, subst, arith}
+use Rattle.std.proofs.Common.{ℕ, zero, suc, ◌≡◌, ◌+◌, ◌*◌, ◌/◌, ◌%◌, ◌<◌, ◌≤◌, List, length, get_or, replicate, slice_get, Option, Some, None, sym, ◌∙◌, ap, arith}
 use Rattle.std.proofs.lemmas.List.{length-replicate, get_or-replicate}
-use Rattle.std.proofs.lemmas.List.Elements.{All-nil}
 use Rattle.std.proofs.lemmas.Nat.{div_below, div-add-mod', div-mul-add}
-use Rattle.std.proofs.lemmas.Option.{slice_get_within, slice_get-get_or}
-use Rattle.iox_lanes_calls.specs.declared.publisher.PublisherCall.TheVariants as publishing
+use Rattle.std.proofs.lemmas.Option.{slice_get-get_or}
 use Rattle.iox_lanes_calls.specs.declared.route.Route.{Route}
 use Rattle.iox_lanes_publisher.specs.declared.slot_book.LoanMark.{LoanMark}
 use Rattle.iox_lanes_publisher.specs.declared.slot_book.LoanMark.TheVariants as mark
-use Rattle.iox_lanes_parties.specs.Parties.{PublisherLaneState, SubscriberLaneState, is_out, route_at}
-use Rattle.iox_lanes_ledger.specs.Borrowing.{is_at, borrows}
+use Rattle.iox_lanes_parties.specs.Parties.{SubscriberLaneState, is_out}
 use Rattle.iox_lanes_ledger.specs.Rooms.{loans_out, CountsLoans}
-use Rattle.iox_lanes_ledger.specs.Uses.{refers_to}
-use Rattle.iox_lanes_ledger.proofs.Entries.{total_zero, refers_none, get_replicated}
+use Rattle.iox_lanes_ledger.proofs.Entries.{total_zero, get_replicated}
 use Rattle.iox_lanes_machine.specs.Made.{listed, link_at, route_to, receiving_routes, publisher_at, subscriber_at, start}
-use Rattle.iox_lanes_machine.specs.Rooms.{may_borrow, GaveBack, HasReceived, RoomsKept}
+use Rattle.iox_lanes_machine.specs.Rooms.{may_borrow, HasReceived}
 use Rattle.iox_lanes_machine.specs.Links.{LinkState}
 use Rattle.iox_lanes_machine.specs.declared.sizes.LaneSizes.{LaneSizes}
 use Rattle.iox_lanes_machine.proofs.Start.{listed_is, listed_at}

@@ -3,22 +3,15 @@ use Rattle.std.proofs.Common.{ℕ, zero, suc, ◌≡◌, ◌+◌, ◌*◌, ◌/�
 use Rattle.std.proofs.lemmas.Nat.{div_below, div-add-mod'}
 use Rattle.std.proofs.lemmas.List.{length-replicate}
 use Rattle.iox_queues_steps.specs.Access.{RingWords}
-use Rattle.iox_queues_steps.specs.declared.access.Word.TheVariants.{Read}
 use Rattle.iox_queues_steps.specs.declared.order.Placed.{Placed}
-use Rattle.iox_lanes_words.specs.Table.{held_by}
 use Rattle.iox_lanes_publisher.specs.declared.slot_book.LoanMark.{LoanMark}
 use Rattle.iox_lanes_publisher.specs.declared.slot_book.LoanMark.TheVariants as mark
 use Rattle.iox_lanes_calls.specs.declared.route.Route.{Route}
-use Rattle.iox_lanes_parties.specs.Parties.{PublisherLaneState, SubscriberLaneState, is_out, route_at}
-use Rattle.iox_lanes_ledger.specs.Borrowing.{is_at, borrows}
+use Rattle.iox_lanes_parties.specs.Parties.{is_out}
 use Rattle.iox_lanes_ledger.specs.Stored.{between}
 use Rattle.iox_lanes_ledger.specs.Uses.{one_if, count, refers, refers_to, UsesCounted}
 use Rattle.iox_lanes_ledger.proofs.Entries.{entry_none, refers_none, total_zero, get_replicated}
-use Rattle.iox_lanes_ledger.proofs.Rings.{idle_aside}
-use Rattle.iox_lanes_machine.specs.Rings.{sent_word, waiting}
-use Rattle.iox_lanes_machine.specs.Held.{LoadsHeld}
 use Rattle.iox_lanes_machine.specs.Kept.{IsKept}
-use Rattle.iox_lanes_machine.specs.Left.{StoresHeld}
 use Rattle.iox_lanes_machine.specs.Made.{link_at, route_to, sending_routes, publisher_at, subscriber_at, start}
 use Rattle.iox_lanes_machine.specs.Fresh.{IsFreshPublisher, IsFreshSubscriber, IsFreshLink, IsFresh}
 use Rattle.iox_lanes_machine.specs.Uses.{given_back}

@@ -1,5 +1,5 @@
 -- What lanes may find before their first step, and what that makes of them: messages that wait, samples given back, histories, and what slots hold.
-use Rattle.std.specs.Prelude.{ℕ, ◌≡◌, ◌+◌, ◌-◌, ◌==◌, ◌&&◌, Bool, true, false, nat_lt, List, [], ◌∷◌, ◌++◌, length, set, slice_get, Option, Some, None}
+use Rattle.std.specs.Prelude.{ℕ, ◌≡◌, ◌-◌, ◌==◌, ◌&&◌, Bool, true, false, nat_lt, List, [], ◌∷◌, ◌++◌, length, set, slice_get, Option, Some, None}
 use Rattle.iox_queues_steps.specs.Access.{successor}
 use Rattle.iox_queues_steps.specs.declared.access.Word.TheVariants.{Write, Cell}
 use Rattle.iox_lanes_words.specs.Table.{TableWords, held_by, stored_in}

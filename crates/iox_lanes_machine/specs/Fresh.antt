@@ -1,5 +1,5 @@
 -- Lanes before their first step, whatever waits, was kept or was given back when they begin.
-use Rattle.std.specs.Prelude.{ℕ, ◌≡◌, ◌+◌, ◌<◌, ◌≤◌, ◌^◌, false, List, [], length, get_or, slice_get, slice_index, Option, Some, None}
+use Rattle.std.specs.Prelude.{ℕ, ◌≡◌, ◌+◌, ◌<◌, ◌≤◌, ◌^◌, false, List, [], length, get_or, slice_get, slice_index, Some, None}
 use Rattle.iox_queues_steps.specs.declared.order.Placed.{Placed}
 use Rattle.iox_queues_rings.specs.Ends.{cells_of}
 use Rattle.iox_queues_rings.specs.RingMachine.{first_words}

@@ -1,5 +1,5 @@
 -- What every step of lanes keeps.
-use Rattle.std.specs.Prelude.{ℕ, ◌≡◌, ◌+◌, ◌<◌, ◌≤◌, ◌^◌, List, [], length, slice_get, Option, Some, None}
+use Rattle.std.specs.Prelude.{ℕ, ◌≡◌, ◌+◌, ◌<◌, ◌≤◌, ◌^◌, List, length, slice_get, Option, Some, None}
 use Rattle.std.specs.List.{All}
 use Rattle.iox_queues_steps.specs.Order.{Acts, acts_of, Rises}
 use Rattle.iox_queues_steps.specs.declared.order.Placed.{Placed}

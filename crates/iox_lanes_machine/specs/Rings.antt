@@ -1,5 +1,5 @@
 -- The ring of messages of a connection, as it lies in the table of all words, and the two ends that stand at it.
-use Rattle.std.specs.Prelude.{ℕ, ◌==◌, if◌then◌else◌, List, [], take, drop}
+use Rattle.std.specs.Prelude.{ℕ, ◌==◌, if◌then◌else◌, List, take, drop}
 use Rattle.iox_queues_steps.specs.Access.{RingWords}
 use Rattle.iox_queues_steps.specs.Order.{after_acts, acts_of}
 use Rattle.iox_queues_steps.specs.declared.access.Word.{Word}

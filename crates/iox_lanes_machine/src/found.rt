@@ -122,7 +122,8 @@ impl State {
     {
         match self.link(connection) {
             Some(link) => {
-                (link.found().len() as u64) < link.limit() && has_place(&self.table, connection, link)
+                (link.found().len() as u64) < link.limit()
+                    && has_place(&self.table, connection, link)
             }
             None => false,
         }
@@ -234,8 +235,7 @@ impl State {
         requires { IsWord self.old.table.sizes (SharedWord.Slot slot word) }
         ensures { world_of self.new ≡ record (world_of self.old) { table = stored_in self.old.table (SharedWord.Slot slot word) value } }
     {
-        self.table
-            .apply(SharedAccess::Store(SharedWord::Slot { slot, word }, value));
+        self.table.apply(SharedAccess::Store(SharedWord::Slot { slot, word }, value));
     }
 }
 

@@ -2,7 +2,7 @@ use Rattle.std.proofs.Common.{ℕ, ◌≡◌, set, slice_get, Some, sym, ◌∙�
 use Rattle.iox_lanes_words.specs.Table.{TableWords}
 use Rattle.iox_lanes_words.specs.declared.word.ConnectionRing.TheVariants.{Completion}
 use Rattle.iox_lanes_calls.specs.declared.route.Route.{Route}
-use Rattle.iox_lanes_parties.specs.Parties.{PublisherLaneState, lane_found}
+use Rattle.iox_lanes_parties.specs.Parties.{PublisherLaneState}
 use Rattle.iox_lanes_machine.specs.Findings.{back_found, laid, given_at, given_of}
 use Rattle.iox_lanes_machine.specs.State.{world_of}
 use Rattle.iox_lanes_machine.specs.World.{World}

@@ -2,7 +2,7 @@ use Rattle.std.proofs.Common.{ℕ, ◌≡◌, ◌∷◌, [], ◌++◌, true, Lis
 use Rattle.iox_lanes_words.specs.Table.{TableWords}
 use Rattle.iox_lanes_words.specs.declared.word.ConnectionRing.TheVariants.{Submission}
 use Rattle.iox_lanes_calls.specs.declared.route.Route.{Route}
-use Rattle.iox_lanes_parties.specs.Parties.{PublisherLaneState, lane_found}
+use Rattle.iox_lanes_parties.specs.Parties.{PublisherLaneState}
 use Rattle.iox_lanes_machine.specs.Findings.{laid, waits_of, waiting_at, waiting_in, waiting_of}
 use Rattle.iox_lanes_machine.specs.Links.{LinkState}
 use Rattle.iox_lanes_machine.specs.State.{world_of}
