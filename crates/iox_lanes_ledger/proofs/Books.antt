@@ -15,7 +15,7 @@ use Rattle.iox_lanes_ledger.proofs.Entries.{choose_one, choose_other, count_appe
 next : (n : ℕ) → n < 2 ^ 63 → successor n ≡ n + 1
 next n h = omega arith
 
-clause_is : (u u' : ℕ) (o o' : Bool) (h h' r r' : ℕ) → u ≡ u' → o ≡ o' → h ≡ h' → r ≡ r' → IsCounted u' o' h' r' → IsCounted u o h r
+pub clause_is : (u u' : ℕ) (o o' : Bool) (h h' r r' : ℕ) → u ≡ u' → o ≡ o' → h ≡ h' → r ≡ r' → IsCounted u' o' h' r' → IsCounted u o h r
 clause_is u u' o o' h h' r r' a b c d k = record {
   counted = omega (arith, a, ap one_if b, c, d, k.counted);
   once = omega (arith, c, k.once);
@@ -29,7 +29,7 @@ uses_few connections first slots loans history referred uses slot k =
     omega (arith, was.counted, was.once, one_if_le (is_out (entry first loans slot mark.No)), total_le (λ place. refers first slots referred place slot) connections, k.few)
 
 -- one use more or fewer of a slot
-up_same : (first slots v : ℕ) (uses : List ℕ) → length uses ≡ slots → first ≤ v → v < first + slots → entry first uses v 0 < 2 ^ 63 → entry first (counted_up uses (v - first)) v 0 ≡ entry first uses v 0 + 1
+pub up_same : (first slots v : ℕ) (uses : List ℕ) → length uses ≡ slots → first ≤ v → v < first + slots → entry first uses v 0 < 2 ^ 63 → entry first (counted_up uses (v - first)) v 0 ≡ entry first uses v 0 + 1
 up_same first slots v uses size le below few =
     let within : v < first + length uses = omega (arith, below, size) in
     let is : entry first uses v 0 ≡ get_or uses (v - first) 0 = entry_is first v uses 0 le in
@@ -249,7 +249,7 @@ unrefer_at connections first slots loans history referred uses place v there le 
         }
 
 -- the width is that of the list of uses
-widen : (connections first slots : ℕ) (loans : List LoanMark) (history : List ℕ) (referred : List Bool) (uses : List ℕ) → AreCounted connections first slots loans history referred uses → AreCounted connections first (length uses) loans history referred uses
+pub widen : (connections first slots : ℕ) (loans : List LoanMark) (history : List ℕ) (referred : List Bool) (uses : List ℕ) → AreCounted connections first slots loans history referred uses → AreCounted connections first (length uses) loans history referred uses
 widen connections first slots loans history referred uses k = subst (λ (w : ℕ). AreCounted connections first w loans history referred uses) (sym k.uses_each) k
 
 -- the first place without a use has none

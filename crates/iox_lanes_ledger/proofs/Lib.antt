@@ -13,3 +13,4 @@ pub mod BorrowCounts
 pub mod Permitted
 pub mod Pace
 pub mod Queue
+pub mod Findings

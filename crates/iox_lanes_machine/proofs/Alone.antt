@@ -16,7 +16,7 @@ use Rattle.iox_lanes_machine.specs.Sends.{AllSendsPut}
 use Rattle.iox_lanes_machine.specs.Slots.{IsLoanAt, IsLoanOf, SlotsStay, LoansStand}
 use Rattle.iox_lanes_machine.specs.Uses.{PublisherUses, UsesKept}
 use Rattle.iox_lanes_machine.specs.World.{World}
-use Rattle.iox_lanes_machine.specs.declared.link.Link.{Link}
+use Rattle.iox_lanes_machine.specs.Links.{LinkState}
 use Rattle.iox_lanes_machine.proofs.Ends.{some_is}
 use Rattle.iox_lanes_machine.proofs.SubscriberUses.{Standing, recorded}
 
@@ -50,7 +50,7 @@ in_no_history m place slot loan l u = λ who z found.
       | inr none ↦ omega (arith, none)
     ]
 
-refers_not : (m : World) (place slot connection : ℕ) (link : Link) (loan : IsLoanAt m place slot) (z : PublisherLaneState) (at : ℕ) → LoansStand m → UsesKept m → slice_get m.publishers link.publisher ≡ Some z → at < length z.port.routes
+refers_not : (m : World) (place slot connection : ℕ) (link : LinkState) (loan : IsLoanAt m place slot) (z : PublisherLaneState) (at : ℕ) → LoansStand m → UsesKept m → slice_get m.publishers link.publisher ≡ Some z → at < length z.port.routes
     → (b : Bool) → refers_to z.port.book at slot ≡ b → b ≡ false
 refers_not m place slot connection link loan z at l u found there false e = refl
 refers_not m place slot connection link loan z at l u found there true e =
@@ -65,7 +65,7 @@ is_none : (b : Bool) → one_if b ≡ 0 → b ≡ false
 is_none true h = absurd (omega (arith, h))
 is_none false h = refl
 
-stands_not : (m : World) (place slot : ℕ) (loan : IsLoanAt m place slot) → AllSendsPut m → LoansStand m → UsesKept m → (connection : ℕ) (link : Link) (order : List Placed) → slice_get m.links connection ≡ Some link → slice_get m.orders connection ≡ Some order → Standing m connection link order slot ≡ 0
+stands_not : (m : World) (place slot : ℕ) (loan : IsLoanAt m place slot) → AllSendsPut m → LoansStand m → UsesKept m → (connection : ℕ) (link : LinkState) (order : List Placed) → slice_get m.links connection ≡ Some link → slice_get m.orders connection ≡ Some order → Standing m connection link order slot ≡ 0
 stands_not m place slot loan s l u connection link order found got =
     let r = recorded m connection link order found got s u slot in
     r.is ∙ ap one_if (refers_not m place slot connection link loan r.lane r.place l u r.found (slice_get_within (r.lane).port.routes r.place r.route r.at) (refers_to (r.lane).port.book r.place slot) refl)

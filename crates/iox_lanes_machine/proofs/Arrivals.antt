@@ -10,6 +10,7 @@ use Rattle.iox_queues_rings.specs.Ends.{overflows}
 use Rattle.iox_lanes_machine.specs.Arrivals.{IsPartOf, slots_put, OrderArrives}
 use Rattle.iox_lanes_machine.specs.Mailboxes.{OrderFollows}
 use Rattle.iox_lanes_machine.specs.Receipts.{slots_of, slots_taken}
+use Rattle.iox_lanes_machine.specs.Rings.{waiting}
 use Rattle.iox_lanes_machine.specs.World.{World}
 
 part_skip : (xs : List ℕ) (y : ℕ) (ys : List ℕ) → IsPartOf xs ys → IsPartOf xs (y ∷ ys)
@@ -104,5 +105,5 @@ values_are (placed ∷ order) =
 
 pub order_arrives : (m : World) (connection : ℕ) (order : List Placed) → OrderFollows m connection order → OrderArrives m connection order
 order_arrives m connection order follows = λ few link found.
-    let h = parts (overflows link.kind) link.limit [] (acts_of order) (follows few link found).acts in
-    subst (IsPartOf (slots_taken order ++ after_acts (overflows link.kind) link.limit [] (acts_of order))) (sym (values_are order)) h
+    let h = parts (overflows link.kind) link.limit link.found (acts_of order) (follows few link found).acts in
+    subst (λ (vs : List ℕ). IsPartOf (slots_taken order ++ waiting link order) (link.found ++ vs)) (sym (values_are order)) h

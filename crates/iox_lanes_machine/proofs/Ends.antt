@@ -44,7 +44,7 @@ use Rattle.iox_lanes_parties.proofs.Rings.{and_left, all_at}
 use Rattle.iox_lanes_machine.specs.Rings.{push_on, pop_on}
 use Rattle.iox_lanes_machine.specs.World.{pushes_to, pops_from}
 use Rattle.iox_lanes_machine.specs.Kept.{IsLinkOf}
-use Rattle.iox_lanes_machine.specs.declared.link.Link.{Link}
+use Rattle.iox_lanes_machine.specs.Links.{LinkState}
 
 pub some_is : {X : Type 0} (x y : X) → Some x ≡ Some y → x ≡ y
 some_is x y h = cc h
@@ -152,7 +152,7 @@ pub pop_here : (place : ℕ) (route : Route) (kind : RingKind) (pop : Pop) (wait
 pop_here place route kind pop waits = choose_one (route.connection == route.connection) pop (pop_idle kind) (eq-eqb route.connection route.connection refl)
 
 -- a call that goes to a connection begins a push there as its link says
-fresh_push_from : (links : List Link) (port : Link → ℕ) (who : ℕ) (routes : List Route) (slot place : ℕ) (delivery : Delivery) (connection : ℕ) (link : Link) (at : Option Route)
+fresh_push_from : (links : List LinkState) (port : LinkState → ℕ) (who : ℕ) (routes : List Route) (slot place : ℕ) (delivery : Delivery) (connection : ℕ) (link : LinkState) (at : Option Route)
     → slice_get routes place ≡ at → All (IsLinkOf links port who) routes → slice_get links connection ≡ Some link → IsFreshPush link.kind link.limit (push_on connection link.kind (push_from slot place delivery at))
 fresh_push_from links port who routes slot place delivery connection link None e all found = inl refl
 fresh_push_from links port who routes slot place delivery connection link (Some route) e all found =
@@ -163,18 +163,18 @@ fresh_push_from links port who routes slot place delivery connection link (Some 
           inr (
             slot,
             choose_one (route.connection == connection) (push_begun route.kind route.limit slot) (push_idle link.kind) here.0
-                ∙ ap (λ (k : RingKind). push_begun k route.limit slot) (own.kind ∙ ap (λ (l : Link). l.kind) same)
-                ∙ ap (λ (n : ℕ). push_begun link.kind n slot) (own.limit ∙ ap (λ (l : Link). l.limit) same),
+                ∙ ap (λ (k : RingKind). push_begun k route.limit slot) (own.kind ∙ ap (λ (l : LinkState). l.kind) same)
+                ∙ ap (λ (n : ℕ). push_begun link.kind n slot) (own.limit ∙ ap (λ (l : LinkState). l.limit) same),
           )
       | inr there ↦ inl (choose_other (route.connection == connection) (push_begun route.kind route.limit slot) (push_idle link.kind) there.0)
     ]
 
-pub fresh_push_at : (links : List Link) (port : Link → ℕ) (who : ℕ) (routes : List Route) (slot place : ℕ) (delivery : Delivery) (connection : ℕ) (link : Link)
+pub fresh_push_at : (links : List LinkState) (port : LinkState → ℕ) (who : ℕ) (routes : List Route) (slot place : ℕ) (delivery : Delivery) (connection : ℕ) (link : LinkState)
     → All (IsLinkOf links port who) routes → slice_get links connection ≡ Some link → IsFreshPush link.kind link.limit (push_on connection link.kind (push_at routes slot place delivery))
 fresh_push_at links port who routes slot place delivery connection link all found =
     fresh_push_from links port who routes slot place delivery connection link (slice_get routes place) refl all found
 
-fresh_sweep : (links : List Link) (port : Link → ℕ) (who : ℕ) (routes : List Route) (slot place : ℕ) (connection : ℕ) (link : Link) (at : Option Route)
+fresh_sweep : (links : List LinkState) (port : LinkState → ℕ) (who : ℕ) (routes : List Route) (slot place : ℕ) (connection : ℕ) (link : LinkState) (at : Option Route)
     → All (IsLinkOf links port who) routes → slice_get links connection ≡ Some link → IsFreshPush link.kind link.limit (push_on connection link.kind (sweep_from routes slot place at))
 fresh_sweep links port who routes slot place connection link None all found = fresh_push_at links port who routes slot 0 nothing_sent connection link all found
 fresh_sweep links port who routes slot place connection link (Some route) all found = inl refl
@@ -198,21 +198,21 @@ head_off : (connection : ℕ) (kind : RingKind) (slot word : ℕ) (value : Optio
 head_off connection kind slot word None = refl
 head_off connection kind slot word (Some value) = refl
 
-fresh_reclaimed : (links : List Link) (port : Link → ℕ) (who : ℕ) (routes : List Route) (slot place : ℕ) (route : Route) (p : refusing_pop_type.Pop) (answer : Option PopAnswer) (connection : ℕ) (link : Link)
+fresh_reclaimed : (links : List LinkState) (port : LinkState → ℕ) (who : ℕ) (routes : List Route) (slot place : ℕ) (route : Route) (p : refusing_pop_type.Pop) (answer : Option PopAnswer) (connection : ℕ) (link : LinkState)
     → All (IsLinkOf links port who) routes → slice_get links connection ≡ Some link → IsFreshPush link.kind link.limit (push_on connection link.kind (send_reclaimed routes slot place route p answer))
 fresh_reclaimed links port who routes slot place route p None connection link all found = inl refl
 fresh_reclaimed links port who routes slot place route p (Some (Got (Some back))) connection link all found = inl refl
 fresh_reclaimed links port who routes slot place route p (Some (Got None)) connection link all found = fresh_sweep links port who routes slot (successor place) connection link (slice_get routes (successor place)) all found
 fresh_reclaimed links port who routes slot place route p (Some (Saw some)) connection link all found = fresh_sweep links port who routes slot (successor place) connection link (slice_get routes (successor place)) all found
 
-fresh_pushed : (links : List Link) (port : Link → ℕ) (who : ℕ) (routes : List Route) (slot place : ℕ) (route : Route) (p : Push) (delivery : Delivery) (answer : Option PushAnswer) (connection : ℕ) (link : Link)
+fresh_pushed : (links : List LinkState) (port : LinkState → ℕ) (who : ℕ) (routes : List Route) (slot place : ℕ) (route : Route) (p : Push) (delivery : Delivery) (answer : Option PushAnswer) (connection : ℕ) (link : LinkState)
     → All (IsLinkOf links port who) routes → slice_get links connection ≡ Some link → (Some route.connection ≡ Some connection → ⊥)
     → IsFreshPush link.kind link.limit (push_on connection link.kind (pushed routes slot place route p delivery answer))
 fresh_pushed links port who routes slot place route p delivery None connection link all found off = inl (push_off connection link.kind (publishing.Pushing slot place route p delivery) off)
 fresh_pushed links port who routes slot place route p delivery (Some answer) connection link all found off = fresh_push_at links port who routes slot (successor place) (counted delivery answer) connection link all found
 
 -- after a step elsewhere a push may begin
-pub fresh_take : (links : List Link) (port : Link → ℕ) (who : ℕ) (routes : List Route) (words : List ℕ) (call : PublisherCall) (answer connection : ℕ) (link : Link)
+pub fresh_take : (links : List LinkState) (port : LinkState → ℕ) (who : ℕ) (routes : List Route) (words : List ℕ) (call : PublisherCall) (answer connection : ℕ) (link : LinkState)
     → All (IsLinkOf links port who) routes → slice_get links connection ≡ Some link → (pushes_to call ≡ Some connection → ⊥)
     → IsFreshPush link.kind link.limit (push_on connection link.kind (publisher_take routes words call answer))
 fresh_take links port who routes words publishing.Idle answer connection link all found off = inl refl
@@ -231,7 +231,7 @@ fresh_take links port who routes words (publishing.Sent slot delivery) answer co
 fresh_take links port who routes words (publishing.Dropping slot) answer connection link all found off = inl refl
 
 -- after a step of the push itself it goes on, or is over and another may begin
-pub next_push : (links : List Link) (port : Link → ℕ) (who : ℕ) (routes : List Route) (slot place : ℕ) (route : Route) (p : Push) (delivery : Delivery) (answer : Option PushAnswer) (link : Link) (words : RingWords) (q : List ℕ) (pop : Pop)
+pub next_push : (links : List LinkState) (port : LinkState → ℕ) (who : ℕ) (routes : List Route) (slot place : ℕ) (route : Route) (p : Push) (delivery : Delivery) (answer : Option PushAnswer) (link : LinkState) (words : RingWords) (q : List ℕ) (pop : Pop)
     → push_answer p ≡ answer → All (IsLinkOf links port who) routes → slice_get links route.connection ≡ Some link → Shape link.kind link.limit words q p pop
     → Shape link.kind link.limit words q (push_on route.connection link.kind (pushed routes slot place route p delivery answer)) pop
 next_push links port who routes slot place route p delivery None link words q pop e all found s = subst (λ (x : Push). Shape link.kind link.limit words q x pop) (sym (push_here slot place route link.kind p delivery)) s
@@ -239,7 +239,7 @@ next_push links port who routes slot place route p delivery (Some answer) link w
     fresh_push_shape link.kind link.limit words q (push_on route.connection link.kind (push_at routes slot (successor place) (counted delivery answer))) pop
     (fresh_push_at links port who routes slot (successor place) (counted delivery answer) route.connection link all found) (done_push link.kind link.limit words q p pop answer e s)
 
-fresh_pop_from : (links : List Link) (port : Link → ℕ) (who : ℕ) (routes : List Route) (place : ℕ) (full waits : Bool) (connection : ℕ) (link : Link) (at : Option Route)
+fresh_pop_from : (links : List LinkState) (port : LinkState → ℕ) (who : ℕ) (routes : List Route) (place : ℕ) (full waits : Bool) (connection : ℕ) (link : LinkState) (at : Option Route)
     → slice_get routes place ≡ at → All (IsLinkOf links port who) routes → slice_get links connection ≡ Some link → IsFreshPop link.kind (pop_on connection link.kind (receive_from place full waits at))
 fresh_pop_from links port who routes place full waits connection link None e all found = inl refl
 fresh_pop_from links port who routes place full waits connection link (Some route) e all found =
@@ -250,18 +250,18 @@ fresh_pop_from links port who routes place full waits connection link (Some rout
           inr (
             full,
             choose_one (route.connection == connection) (pop_first route.kind full) (pop_idle link.kind) here.0
-                ∙ ap (λ (k : RingKind). pop_first k full) (own.kind ∙ ap (λ (l : Link). l.kind) same),
+                ∙ ap (λ (k : RingKind). pop_first k full) (own.kind ∙ ap (λ (l : LinkState). l.kind) same),
           )
       | inr there ↦ inl (choose_other (route.connection == connection) (pop_first route.kind full) (pop_idle link.kind) there.0)
     ]
 
 -- a receive that goes to a connection begins a pop or look there as its link says
-pub fresh_receive : (links : List Link) (port : Link → ℕ) (who : ℕ) (routes : List Route) (borrowed : List ℕ) (most place : ℕ) (waits : Bool) (connection : ℕ) (link : Link)
+pub fresh_receive : (links : List LinkState) (port : LinkState → ℕ) (who : ℕ) (routes : List Route) (borrowed : List ℕ) (most place : ℕ) (waits : Bool) (connection : ℕ) (link : LinkState)
     → All (IsLinkOf links port who) routes → slice_get links connection ≡ Some link → IsFreshPop link.kind (pop_on connection link.kind (receive_from place (is_full_at borrowed most place) waits (slice_get routes place)))
 fresh_receive links port who routes borrowed most place waits connection link all found =
     fresh_pop_from links port who routes place (is_full_at borrowed most place) waits connection link (slice_get routes place) refl all found
 
-fresh_received : (links : List Link) (port : Link → ℕ) (who : ℕ) (routes : List Route) (borrowed : List ℕ) (most place : ℕ) (route : Route) (p : Pop) (waits : Bool) (answer : Option PopAnswer) (connection : ℕ) (link : Link)
+fresh_received : (links : List LinkState) (port : LinkState → ℕ) (who : ℕ) (routes : List Route) (borrowed : List ℕ) (most place : ℕ) (route : Route) (p : Pop) (waits : Bool) (answer : Option PopAnswer) (connection : ℕ) (link : LinkState)
     → All (IsLinkOf links port who) routes → slice_get links connection ≡ Some link → (Some route.connection ≡ Some connection → ⊥)
     → IsFreshPop link.kind (pop_on connection link.kind (received routes borrowed most place route p waits answer))
 fresh_received links port who routes borrowed most place route p waits None connection link all found off = inl (pop_off connection link.kind (subscribing.Receiving place route p waits) off)
@@ -281,7 +281,7 @@ released_off connection kind place route p (Some (LeftOut oldest)) = refl
 released_off connection kind place route p (Some Refused) = refl
 
 -- after a step elsewhere a pop or look may begin
-pub fresh_subscriber_take : (links : List Link) (port : Link → ℕ) (who : ℕ) (routes : List Route) (borrowed : List ℕ) (most : ℕ) (call : SubscriberCall) (answer connection : ℕ) (link : Link)
+pub fresh_subscriber_take : (links : List LinkState) (port : LinkState → ℕ) (who : ℕ) (routes : List Route) (borrowed : List ℕ) (most : ℕ) (call : SubscriberCall) (answer connection : ℕ) (link : LinkState)
     → All (IsLinkOf links port who) routes → slice_get links connection ≡ Some link → (pops_from call ≡ Some connection → ⊥)
     → IsFreshPop link.kind (pop_on connection link.kind (subscriber_take routes borrowed most call answer))
 fresh_subscriber_take links port who routes borrowed most subscribing.Idle answer connection link all found off = inl refl
@@ -296,7 +296,7 @@ fresh_subscriber_take links port who routes borrowed most (subscribing.Releasing
 fresh_subscriber_take links port who routes borrowed most (subscribing.Released done) answer connection link all found off = inl refl
 
 -- after a step of the pop or look itself it goes on, or is over and another may begin
-pub next_pop : (links : List Link) (port : Link → ℕ) (who : ℕ) (routes : List Route) (borrowed : List ℕ) (most place : ℕ) (route : Route) (p : Pop) (waits : Bool) (answer : Option PopAnswer) (link : Link) (words : RingWords) (q : List ℕ) (push : Push)
+pub next_pop : (links : List LinkState) (port : LinkState → ℕ) (who : ℕ) (routes : List Route) (borrowed : List ℕ) (most place : ℕ) (route : Route) (p : Pop) (waits : Bool) (answer : Option PopAnswer) (link : LinkState) (words : RingWords) (q : List ℕ) (push : Push)
     → All (IsLinkOf links port who) routes → slice_get links route.connection ≡ Some link → Shape link.kind link.limit words q push p
     → Shape link.kind link.limit words q push (pop_on route.connection link.kind (received routes borrowed most place route p waits answer))
 next_pop links port who routes borrowed most place route p waits None link words q push all found s = subst (λ (x : Pop). Shape link.kind link.limit words q push x) (sym (pop_here place route link.kind p waits)) s
@@ -352,7 +352,7 @@ release_off connection kind moment sample (Some place) None lane h = h
 release_off connection kind moment sample (Some place) (Some route) lane h = refl
 
 -- a subscriber that begins a call may begin a pop or look
-pub pop_begins : (links : List Link) (port : Link → ℕ) (who connection : ℕ) (link : Link) (moment : ℕ) (c : Call) (lane : SubscriberLaneState) → subscriber_fits lane (Begin c) ≡ true
+pub pop_begins : (links : List LinkState) (port : LinkState → ℕ) (who connection : ℕ) (link : LinkState) (moment : ℕ) (c : Call) (lane : SubscriberLaneState) → subscriber_fits lane (Begin c) ≡ true
     → All (IsLinkOf links port who) lane.port.routes → slice_get links connection ≡ Some link
     → (pop_on connection link.kind lane.port.call ≡ pop_idle link.kind) × IsFreshPop link.kind (pop_on connection link.kind (subscriber_begun moment c lane).port.call)
 pop_begins links port who connection link moment c lane fit all found =

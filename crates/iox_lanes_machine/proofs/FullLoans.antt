@@ -52,7 +52,7 @@ use Rattle.iox_lanes_machine.specs.Returns.{back_ring, release_on, IsReturning}
 use Rattle.iox_lanes_machine.specs.Sends.{is_sender}
 use Rattle.iox_lanes_machine.specs.Uses.{aside_at, given_back}
 use Rattle.iox_lanes_machine.specs.World.{World, fits, happens, placed, publisher_stage, subscriber_stage, publisher_given, publisher_begins, publisher_goes_on, publisher_fits_at, subscriber_begins, subscriber_goes_on, subscriber_fits_at, pops_from, pop_acts, added}
-use Rattle.iox_lanes_machine.specs.declared.link.Link.{Link}
+use Rattle.iox_lanes_machine.specs.Links.{LinkState}
 use Rattle.iox_lanes_machine.proofs.Ends.{some_is}
 use Rattle.iox_lanes_machine.proofs.InBack.{back_answer, back_stays}
 use Rattle.iox_lanes_machine.proofs.Loans.{finds, lends_at, goes}
@@ -73,7 +73,7 @@ abbrev Back : World → ℕ → ℕ → ℕ
 Back m connection slot = count slot (given_back m.table connection)
 
 -- a step of another party takes no sample back
-other_publisher : (m : World) (own place connection slot : ℕ) (link : Link) (at : Option PublisherLaneState) → slice_get m.publishers own ≡ at → publisher_fits_at at GoOn ≡ true → IsKept m → slice_get m.links connection ≡ Some link → link.publisher ≡ place → (own ≡ place → ⊥)
+other_publisher : (m : World) (own place connection slot : ℕ) (link : LinkState) (at : Option PublisherLaneState) → slice_get m.publishers own ≡ at → publisher_fits_at at GoOn ≡ true → IsKept m → slice_get m.links connection ≡ Some link → link.publisher ≡ place → (own ≡ place → ⊥)
     → Back m connection slot ≤ Back (publisher_goes_on (placed m (Publisher own)) own at) connection slot
 other_publisher m own place connection slot link None e fit k found is not = absurd (cc)
 other_publisher m own place connection slot link (Some lane) e fit k found is not =
@@ -84,7 +84,7 @@ other_publisher m own place connection slot link (Some lane) e fit k found is no
     (back_stays m.table connection m.table.sizes.completion_cells (publisher_next lane.port.call) (back_seat m connection link found k.returns.some w) (publisher_off m.table connection lane.port.call off ((publishers_stay_within m.table.sizes lane in_table).2))) slot in
     omega (arith, same)
 
-subscriber_back : (m : World) (own connection slot : ℕ) (link : Link) (lane : SubscriberLaneState) (c : SubscriberCall) → subscribers.Setting m own lane c → slice_get m.links connection ≡ Some link → link.subscriber ≡ own
+subscriber_back : (m : World) (own connection slot : ℕ) (link : LinkState) (lane : SubscriberLaneState) (c : SubscriberCall) → subscribers.Setting m own lane c → slice_get m.links connection ≡ Some link → link.subscriber ≡ own
     → Back m connection slot ≤ count slot (given_back (after_shared m.table (subscriber_next c)) connection)
 subscriber_back m own connection slot link lane c k found is = by_call c k
   where
@@ -109,7 +109,7 @@ subscriber_back m own connection slot link lane c k found is = by_call c k
     ]
     by_call (subscribing.Released done) k = elsewhere (subscribing.Released done) k (λ e. cc e)
 
-other_subscriber : (m : World) (own connection slot : ℕ) (link : Link) (at : Option SubscriberLaneState) → slice_get m.subscribers own ≡ at → subscriber_fits_at at GoOn ≡ true → IsKept m → m.moments < 2 ^ 63 → slice_get m.links connection ≡ Some link
+other_subscriber : (m : World) (own connection slot : ℕ) (link : LinkState) (at : Option SubscriberLaneState) → slice_get m.subscribers own ≡ at → subscriber_fits_at at GoOn ≡ true → IsKept m → m.moments < 2 ^ 63 → slice_get m.links connection ≡ Some link
     → Back m connection slot ≤ Back (subscriber_goes_on (placed m (Subscriber own)) own at) connection slot
 other_subscriber m own connection slot link None e fit k bound found = absurd (cc)
 other_subscriber m own connection slot link (Some lane) e fit k bound found =
@@ -134,7 +134,7 @@ subscriber_begun_back : (m : World) (own connection slot : ℕ) (c : Call) (at :
 subscriber_begun_back m own connection slot c None = omega arith
 subscriber_begun_back m own connection slot c (Some lane) = omega arith
 
-others_back : (m : World) (party : Party) (step : Move) (place connection slot : ℕ) (link : Link) → fits m party step ≡ true → IsKept m → m.moments < 2 ^ 63 → slice_get m.links connection ≡ Some link → link.publisher ≡ place → is_sender party place ≡ false
+others_back : (m : World) (party : Party) (step : Move) (place connection slot : ℕ) (link : LinkState) → fits m party step ≡ true → IsKept m → m.moments < 2 ^ 63 → slice_get m.links connection ≡ Some link → link.publisher ≡ place → is_sender party place ≡ false
     → Back m connection slot ≤ Back (happens m party step) connection slot
 others_back m (Publisher own) (Begin c) place connection slot link fit k bound found is not = begun_back m own connection slot c (slice_get m.publishers own)
 others_back m (Subscriber own) (Begin c) place connection slot link fit k bound found is not = subscriber_begun_back m own connection slot c (slice_get m.subscribers own)
@@ -333,7 +333,7 @@ record Spared (place first slot : ℕ) (m : World) : Type 0 where
 
 -- the step of another party
 spare_stays : (m n : World) (place slot : ℕ) (lane : PublisherLaneState) → slice_get m.publishers place ≡ Some lane → slice_get n.publishers place ≡ Some lane → IsKept m → IsKept n → n.moments ≤ 2 ^ 63
-    → ((connection : ℕ) (link : Link) → slice_get m.links connection ≡ Some link → link.publisher ≡ place → Back m connection slot ≤ Back n connection slot)
+    → ((connection : ℕ) (link : LinkState) → slice_get m.links connection ≡ Some link → link.publisher ≡ place → Back m connection slot ≤ Back n connection slot)
     → IsSpare m lane.port.routes lane.port.book lane.port.call slot → IsSpare n lane.port.routes lane.port.book lane.port.call slot
 spare_stays m n place slot lane found now k kept few grows z = record {
   loan = z.loan;

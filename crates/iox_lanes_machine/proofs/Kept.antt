@@ -31,7 +31,7 @@ use Rattle.iox_lanes_parties.proofs.Rings.{all_at}
 use Rattle.iox_lanes_machine.specs.Rings.{sent_word, ring_in, push_on, pop_on, waiting}
 use Rattle.iox_lanes_machine.specs.World.{World, publisher_stage, sender_stage, push_at, pushes_to, pops_from, push_acts, pop_acts, placed}
 use Rattle.iox_lanes_machine.specs.Kept.{IsLink, IsLinkOf, sender, receiver, IsWithin, IsKeptAt, FollowsMailbox}
-use Rattle.iox_lanes_machine.specs.declared.link.Link.{Link}
+use Rattle.iox_lanes_machine.specs.Links.{LinkState}
 use Rattle.iox_lanes_machine.proofs.InTable.{IsSeat, access_answer, access_after}
 use Rattle.iox_lanes_machine.proofs.Ends.{some_is, push_here, pop_here, next_push, next_pop}
 
@@ -48,13 +48,13 @@ cells_some kind.Refusing limit = by_test (nat_lt 0 limit) refl
     by_test true e = ltb-true 0 limit e
     by_test false e = omega arith
 
-pub seat : (m : World) (connection : ℕ) (link : Link) → slice_get m.links connection ≡ Some link → IsWithin m → IsSeat m.table connection (cells_of link.kind link.limit)
+pub seat : (m : World) (connection : ℕ) (link : LinkState) → slice_get m.links connection ≡ Some link → IsWithin m → IsSeat m.table connection (cells_of link.kind link.limit)
 seat m connection link found k =
     let is : IsLink m.table.sizes connection link = k.links connection link found in
     record { there = is.connection_is; some = cells_some link.kind link.limit; room = is.cells; words = k.words }
 
 -- a step that touches no word of the ring, and places nothing
-pub quiet_kept : (table table' : TableWords) (moments moments' connection : ℕ) (link : Link) (order : List Placed) (sends sends' : PublisherCall) (receives receives' : SubscriberCall)
+pub quiet_kept : (table table' : TableWords) (moments moments' connection : ℕ) (link : LinkState) (order : List Placed) (sends sends' : PublisherCall) (receives receives' : SubscriberCall)
     → ring_in table' connection (cells_of link.kind link.limit) ≡ ring_in table connection (cells_of link.kind link.limit) → moments ≤ moments'
     → Shape link.kind link.limit (ring_in table connection (cells_of link.kind link.limit)) (waiting link order) (push_on connection link.kind sends') (pop_on connection link.kind receives')
     → IsKeptAt table moments connection link order sends receives → IsKeptAt table' moments' connection link order sends' receives'
@@ -65,14 +65,14 @@ quiet_kept table table' moments moments' connection link order sends sends' rece
 }
 
 -- what waits after more acts
-pub waits : (link : Link) (order : List Placed) (moment : ℕ) (new : List Act) (list : List ℕ) → after_acts (overflows link.kind) link.limit (waiting link order) new ≡ list → waiting link (order ++ at moment new) ≡ list
+pub waits : (link : LinkState) (order : List Placed) (moment : ℕ) (new : List Act) (list : List ℕ) → after_acts (overflows link.kind) link.limit (waiting link order) new ≡ list → waiting link (order ++ at moment new) ≡ list
 waits link order moment new list e =
-    ap (after_acts (overflows link.kind) link.limit []) (acts_more order moment new) ∙ after_acts-append (overflows link.kind) link.limit [] (acts_of order) new ∙ e
+    ap (after_acts (overflows link.kind) link.limit link.found) (acts_more order moment new) ∙ after_acts-append (overflows link.kind) link.limit link.found (acts_of order) new ∙ e
 
-more_mailbox : (link : Link) (order : List Placed) (moment : ℕ) (new : List Act) → moment < 2 ^ 63 → Acts (overflows link.kind) link.limit (waiting link order) new → FollowsMailbox link order moment
+more_mailbox : (link : LinkState) (order : List Placed) (moment : ℕ) (new : List Act) → moment < 2 ^ 63 → Acts (overflows link.kind) link.limit (waiting link order) new → FollowsMailbox link order moment
     → FollowsMailbox link (order ++ at moment new) (successor moment)
 more_mailbox link order moment new bound h k = record {
-  acts = subst (Acts (overflows link.kind) link.limit []) (sym (acts_more order moment new)) (Acts-append (overflows link.kind) link.limit [] (acts_of order) new k.acts h);
+  acts = subst (Acts (overflows link.kind) link.limit link.found) (sym (acts_more order moment new)) (Acts-append (overflows link.kind) link.limit link.found (acts_of order) new k.acts h);
   rises = subst (Rises 0 (order ++ at moment new)) (next moment bound) (rises_more 0 order moment new k.rises);
 }
   where
@@ -80,7 +80,7 @@ more_mailbox link order moment new bound h k = record {
     next n h = omega arith
 
 -- a step of the push that stands at a connection
-push_core : (table : TableWords) (moments : ℕ) (links : List Link) (who : ℕ) (routes : List Route) (slot place : ℕ) (route : Route) (p : Push) (delivery : Delivery) (link : Link) (order : List Placed) (receives : SubscriberCall)
+push_core : (table : TableWords) (moments : ℕ) (links : List LinkState) (who : ℕ) (routes : List Route) (slot place : ℕ) (route : Route) (p : Push) (delivery : Delivery) (link : LinkState) (order : List Placed) (receives : SubscriberCall)
     → (cells limit : ℕ) → cells ≡ cells_of link.kind link.limit → limit ≡ link.limit
     → All (IsLinkOf links sender who) routes → slice_get links route.connection ≡ Some link → IsSeat table route.connection (cells_of link.kind link.limit) → moments < 2 ^ 63
     → IsKeptAt table moments route.connection link order (publishing.Pushing slot place route p delivery) receives
@@ -112,7 +112,7 @@ push_core table moments links who routes slot place route p delivery link order 
           few = omega (arith, ap (λ (ws : RingWords). ws.write) after, push_grows link.kind link.limit words (waiting link order) p pop s, k.few, bound);
         }
 
-pub push_active : (table : TableWords) (moments connection : ℕ) (links : List Link) (who : ℕ) (routes : List Route) (stored : List ℕ) (call : PublisherCall) (link : Link) (order : List Placed) (receives : SubscriberCall)
+pub push_active : (table : TableWords) (moments connection : ℕ) (links : List LinkState) (who : ℕ) (routes : List Route) (stored : List ℕ) (call : PublisherCall) (link : LinkState) (order : List Placed) (receives : SubscriberCall)
     → pushes_to call ≡ Some connection → All (IsLinkOf links sender who) routes → IsPublishing table.sizes routes stored call → slice_get links connection ≡ Some link
     → IsSeat table connection (cells_of link.kind link.limit) → moments < 2 ^ 63 → IsKeptAt table moments connection link order call receives
     → IsKeptAt (after_shared table (publisher_next call)) (successor moments) connection link (order ++ at moments (push_acts table call)) (publisher_take routes stored call (shared_answer table (publisher_next call))) receives
@@ -131,14 +131,14 @@ push_active table moments connection links who routes stored (publishing.Pushing
     let same : mine.link ≡ link = some_is mine.link link (sym mine.found ∙ found') in
     subst (λ (c : ℕ). IsKeptAt (after_shared table (publisher_next (publishing.Pushing slot place route p delivery))) (successor moments) c link (order ++ at moments (push_acts table (publishing.Pushing slot place route p delivery))) (publisher_take routes stored (publishing.Pushing slot place route p delivery) (shared_answer table (publisher_next (publishing.Pushing slot place route p delivery)))) receives) here
     (push_core table moments links who routes slot place route p delivery link order receives route.submission_cells route.limit
-    (mine.cells ∙ ap (λ (l : Link). cells_of l.kind l.limit) same) (mine.limit ∙ ap (λ (l : Link). l.limit) same) all found'
+    (mine.cells ∙ ap (λ (l : LinkState). cells_of l.kind l.limit) same) (mine.limit ∙ ap (λ (l : LinkState). l.limit) same) all found'
     (subst (λ (c : ℕ). IsSeat table c (cells_of link.kind link.limit)) (sym here) st) bound
     (subst (λ (c : ℕ). IsKeptAt table moments c link order (publishing.Pushing slot place route p delivery) receives) (sym here) k))
 push_active table moments connection links who routes stored (publishing.Sent slot delivery) link order receives e all h found st bound k = absurd (cc)
 push_active table moments connection links who routes stored (publishing.Dropping slot) link order receives e all h found st bound k = absurd (cc)
 
 -- a step of the pop or look that stands at a connection
-pop_core : (table : TableWords) (moments : ℕ) (links : List Link) (who : ℕ) (routes : List Route) (borrowed : List ℕ) (most place : ℕ) (route : Route) (p : Pop) (waits_too : Bool) (link : Link) (order : List Placed) (sends : PublisherCall)
+pop_core : (table : TableWords) (moments : ℕ) (links : List LinkState) (who : ℕ) (routes : List Route) (borrowed : List ℕ) (most place : ℕ) (route : Route) (p : Pop) (waits_too : Bool) (link : LinkState) (order : List Placed) (sends : PublisherCall)
     → (cells : ℕ) (push : Push) → cells ≡ cells_of link.kind link.limit → push ≡ push_on route.connection link.kind sends
     → All (IsLinkOf links receiver who) routes → slice_get links route.connection ≡ Some link → IsSeat table route.connection (cells_of link.kind link.limit) → moments < 2 ^ 63
     → IsKeptAt table moments route.connection link order sends (subscribing.Receiving place route p waits_too)
@@ -170,7 +170,7 @@ pop_core table moments links who routes borrowed most place route p waits_too li
           few = omega (arith, ap (λ (ws : RingWords). ws.write) after, pop_grows words p, k.few, bound);
         }
 
-pub pop_active : (m : World) (connection who : ℕ) (routes : List Route) (borrowed : List ℕ) (most : ℕ) (call : SubscriberCall) (link : Link) (order : List Placed)
+pub pop_active : (m : World) (connection who : ℕ) (routes : List Route) (borrowed : List ℕ) (most : ℕ) (call : SubscriberCall) (link : LinkState) (order : List Placed)
     → pops_from call ≡ Some connection → All (IsLinkOf m.links receiver who) routes → IsSubscribing m.table.sizes routes call → slice_get m.links connection ≡ Some link
     → IsSeat m.table connection (cells_of link.kind link.limit) → m.moments < 2 ^ 63 → IsKeptAt m.table m.moments connection link order (publisher_stage (slice_get m.publishers link.publisher)) call
     → IsKeptAt (after_shared m.table (subscriber_next call)) (successor m.moments) connection link (order ++ at m.moments (pop_acts m call)) (publisher_stage (slice_get m.publishers link.publisher)) (subscriber_take routes borrowed most call (shared_answer m.table (subscriber_next call)))
@@ -181,11 +181,11 @@ pop_active m connection who routes borrowed most (subscribing.Receiving place ro
     let found' : slice_get m.links route.connection ≡ Some link = ap (slice_get m.links) here ∙ found in
     let same : mine.link ≡ link = some_is mine.link link (sym mine.found ∙ found') in
     let push_is : push_at m route.connection route.kind ≡ push_on route.connection link.kind (publisher_stage (slice_get m.publishers link.publisher)) =
-    ap (λ (at : Option Link). push_on route.connection route.kind (sender_stage m at)) found'
-    ∙ ap (λ (k' : RingKind). push_on route.connection k' (publisher_stage (slice_get m.publishers link.publisher))) (mine.kind ∙ ap (λ (l : Link). l.kind) same) in
+    ap (λ (at : Option LinkState). push_on route.connection route.kind (sender_stage m at)) found'
+    ∙ ap (λ (k' : RingKind). push_on route.connection k' (publisher_stage (slice_get m.publishers link.publisher))) (mine.kind ∙ ap (λ (l : LinkState). l.kind) same) in
     subst (λ (c : ℕ). IsKeptAt (after_shared m.table (subscriber_next (subscribing.Receiving place route p waits_too))) (successor m.moments) c link (order ++ at m.moments (pop_acts m (subscribing.Receiving place route p waits_too))) (publisher_stage (slice_get m.publishers link.publisher)) (subscriber_take routes borrowed most (subscribing.Receiving place route p waits_too) (shared_answer m.table (subscriber_next (subscribing.Receiving place route p waits_too))))) here
     (pop_core m.table m.moments m.links who routes borrowed most place route p waits_too link order (publisher_stage (slice_get m.publishers link.publisher)) route.submission_cells (push_at m route.connection route.kind)
-    (mine.cells ∙ ap (λ (l : Link). cells_of l.kind l.limit) same) push_is all found'
+    (mine.cells ∙ ap (λ (l : LinkState). cells_of l.kind l.limit) same) push_is all found'
     (subst (λ (c : ℕ). IsSeat m.table c (cells_of link.kind link.limit)) (sym here) st) bound
     (subst (λ (c : ℕ). IsKeptAt m.table m.moments c link order (publisher_stage (slice_get m.publishers link.publisher)) (subscribing.Receiving place route p waits_too)) (sym here) k))
 pop_active m connection who routes borrowed most (subscribing.Received receipt) link order e all h found st bound k = absurd (cc)

@@ -27,6 +27,10 @@ pub mod SubscriberUses
 pub mod UsesSteps
 pub mod RoomFinds
 pub mod RoomKept
+pub mod Fresh
+pub mod Findings
+pub mod FoundFresh
+pub mod FoundKept
 pub mod StartRooms
 pub mod StartUses
 pub mod Alone

@@ -17,12 +17,12 @@ use Rattle.iox_lanes_machine.specs.Kept.{IsKept}
 use Rattle.iox_lanes_machine.specs.Mailboxes.{OrderFollows, OrdersFollow, positions_of, PositionsNear}
 use Rattle.iox_lanes_machine.specs.Returns.{ReturnsNear}
 use Rattle.iox_lanes_machine.specs.World.{World}
-use Rattle.iox_lanes_machine.specs.declared.link.Link.{Link}
+use Rattle.iox_lanes_machine.specs.Links.{LinkState}
 
 pub orders_follow : (m : World) → IsKept m → OrdersFollow m
 orders_follow m k = λ connection order got few link found. ((k.rings few) connection link order found got).mailbox
 
-order_there : (m : World) (connection : ℕ) (link : Link) → IsKept m → slice_get m.links connection ≡ Some link → slice_get m.orders connection ≡ Some (get_or m.orders connection [])
+order_there : (m : World) (connection : ℕ) (link : LinkState) → IsKept m → slice_get m.links connection ≡ Some link → slice_get m.orders connection ≡ Some (get_or m.orders connection [])
 order_there m connection link k found = slice_get-get_or m.orders connection [] (omega (arith, slice_get_within m.links connection link found, k.within.orders))
 
 pub order_follows : (m : World) (connection : ℕ) → IsKept m → OrderFollows m connection (get_or m.orders connection [])
@@ -71,12 +71,12 @@ positions_near m connection k = λ few link found.
 -- a connection that there is has its words
 pub is_connection : (m : World) (connection : ℕ) → IsKept m → connection < length m.links → connection < m.table.sizes.connections
 is_connection m connection k below =
-    let d : Link = record { publisher = 0; subscriber = 0; kind = kind.Refusing; limit = 0 } in
+    let d : LinkState = record { publisher = 0; subscriber = 0; kind = kind.Refusing; limit = 0; found = [] } in
     (k.within.links connection (get_or m.links connection d) (slice_get-get_or m.links connection d below)).connection_is
 
 -- no more samples stand given back than there are cells
 pub returns_near : (m : World) (connection : ℕ) → IsKept m → connection < length m.links → ReturnsNear m (positions_of m.table connection)
 returns_near m connection k below = λ few.
-    let d : Link = record { publisher = 0; subscriber = 0; kind = kind.Refusing; limit = 0 } in
+    let d : LinkState = record { publisher = 0; subscriber = 0; kind = kind.Refusing; limit = 0; found = [] } in
     let is = ((k.returns).rings few) connection (get_or m.links connection d) (slice_get-get_or m.links connection d below) in
     record { behind = omega (arith, (is.shape).level); near = omega (arith, (is.shape).level, (is.shape).room) }

@@ -1,5 +1,5 @@
 -- Every step keeps the numbers of slots in the cells of rings.
-use Rattle.std.proofs.Common.{ℕ, ◌≡◌, ◌+◌, ◌-◌, ◌*◌, ◌<◌, ◌≤◌, ◌==◌, Bool, true, false, if◌then◌else◌, nat_lt, List, length, replicate, set, get_or, slice_get, slice_index, Option, Some, None, refl, sym, ◌∙◌, ap, subst, inl, inr, arith}
+use Rattle.std.proofs.Common.{ℕ, ◌≡◌, ◌+◌, ◌-◌, ◌<◌, ◌≤◌, ◌==◌, Bool, true, false, if◌then◌else◌, nat_lt, List, length, replicate, set, get_or, slice_get, slice_index, Option, Some, None, refl, sym, ◌∙◌, ap, subst, inl, inr, arith}
 use Rattle.std.proofs.lemmas.Bool.{cases_lt, ltb-false}
 use Rattle.std.proofs.lemmas.Bool.Decides.{eqb_tells}
 use Rattle.std.proofs.lemmas.List.{get_or_past, get_or-set_same, get_or-set_other, get_or-replicate}
@@ -62,13 +62,11 @@ use Rattle.iox_lanes_parties.proofs.Rings.{and_right, all_at}
 use Rattle.iox_lanes_parties.proofs.PublishersWithin.{publishers_stay_within}
 use Rattle.iox_lanes_parties.proofs.SubscribersWithin.{subscribers_stay_within}
 use Rattle.iox_lanes_machine.specs.Kept.{IsWithin}
-use Rattle.iox_lanes_machine.specs.Made.{table_sizes, link_at, publisher_at, subscriber_at, start}
+use Rattle.iox_lanes_machine.specs.Made.{table_sizes, start}
 use Rattle.iox_lanes_machine.specs.Opening.{cell_of, CellsNameSlots, OverPuts, LonePuts, Puts, SendsSlot, GivesSlot, SlotsNamed}
 use Rattle.iox_lanes_machine.specs.World.{World, placed, fits, happens, publisher_fits_at, publisher_begins, subscriber_begins, publisher_goes_on, subscriber_goes_on, publisher_given, subscriber_given}
-use Rattle.iox_lanes_machine.specs.declared.link.Link.{Link}
 use Rattle.iox_lanes_machine.specs.declared.sizes.LaneSizes.{LaneSizes}
 use Rattle.iox_lanes_machine.proofs.Calls.{set_is}
-use Rattle.iox_lanes_machine.proofs.Start.{listed_is}
 use Rattle.iox_lanes_machine.proofs.Within.{set_other, sizes_stay, changed_routes, placed_within}
 
 -- the access leaves the numbers of slots in the cells
@@ -450,15 +448,12 @@ happens_named m (Subscriber place) (Begin c) fit w k = begun_subscriber m place 
 happens_named m (Publisher place) GoOn fit w k = gone_publisher (placed m (Publisher place)) place (slice_get m.publishers place) refl (placed_within m (Publisher place) w) (placed_named m (Publisher place) k)
 happens_named m (Subscriber place) GoOn fit w k = gone_subscriber (placed m (Subscriber place)) place (slice_get m.subscribers place) refl (placed_within m (Subscriber place) w) (placed_named m (Subscriber place) k)
 
--- lanes that were just made
-pub start_named : (sizes : LaneSizes) → 0 < sizes.buffer → SlotsNamed (start sizes)
-start_named sizes some = record {
-  spare = get_or-replicate {A = ℕ} (words_of (table_sizes sizes)) 0 0 0 (omega arith);
-  cells = λ slots connection ring cell is.
-      let blank : get_or (replicate (words_of (table_sizes sizes)) 0) (number_of (table_sizes sizes) (cell_of connection ring cell)) 0 ≡ 0 =
-      get_or-replicate {A = ℕ} (words_of (table_sizes sizes)) (number_of (table_sizes sizes) (cell_of connection ring cell)) 0 0 ((within (table_sizes sizes) (cell_of connection ring cell) is).1) in
-      omega (arith, blank, slots);
-  publishers = λ place lane e. subst (λ (x : PublisherLaneState). SendsSlot (table_sizes sizes).slots x.port.call) (sym ((listed_is (publisher_at sizes) sizes.publishers place lane e).1)) tt;
-  subscribers = λ place lane e. subst (λ (x : SubscriberLaneState). GivesSlot (table_sizes sizes).slots x.port.call) (sym ((listed_is (subscriber_at sizes) sizes.subscribers place lane e).1)) tt;
-  room = λ connection link found. subst (λ (l : Link). 0 < l.limit) (sym ((listed_is (link_at sizes) (sizes.publishers * sizes.subscribers) connection link found).1)) some;
-}
+-- lanes that were just made: each word is 0
+pub start_spare : (sizes : LaneSizes) → slice_index (start sizes).table.words 0 ≡ 0
+start_spare sizes = get_or-replicate {A = ℕ} (words_of (table_sizes sizes)) 0 0 0 (omega arith)
+
+pub start_cells : (sizes : LaneSizes) → CellsNameSlots (start sizes).table
+start_cells sizes = λ slots connection ring cell is.
+    let blank : get_or (replicate (words_of (table_sizes sizes)) 0) (number_of (table_sizes sizes) (cell_of connection ring cell)) 0 ≡ 0 =
+    get_or-replicate {A = ℕ} (words_of (table_sizes sizes)) (number_of (table_sizes sizes) (cell_of connection ring cell)) 0 0 ((within (table_sizes sizes) (cell_of connection ring cell) is).1) in
+    omega (arith, blank, slots)

@@ -34,7 +34,10 @@ use Rattle.iox_lanes_machine.specs.Sends.{is_sender}
 use Rattle.iox_lanes_machine.specs.WholeReads.{CameTo}
 use Rattle.iox_lanes_machine.specs.World.{World, fits, happens, placed, publisher_fits_at, publisher_given, publisher_begins, publisher_goes_on, subscriber_begins, subscriber_goes_on, RunsTo}
 use Rattle.iox_lanes_machine.specs.declared.sizes.LaneSizes.{LaneSizes}
+use Rattle.iox_lanes_machine.specs.Findings.{AreFound, with_found}
+use Rattle.iox_lanes_machine.specs.declared.found.Found.{Found}
 use Rattle.iox_lanes_machine.proofs.Ends.{some_is}
+use Rattle.iox_lanes_machine.proofs.FoundKept.{all_found, found_routes}
 use Rattle.iox_lanes_machine.proofs.PublisherUses as publishers
 use Rattle.iox_lanes_machine.proofs.ReturnSteps.{happens_ends}
 use Rattle.iox_lanes_machine.proofs.SlotMoves.{told}
@@ -117,6 +120,16 @@ start_sized sizes = record {
   routes = λ place lane found. ap (λ (x : PublisherLaneState). length x.port.routes) ((listed_is (publisher_at sizes) sizes.publishers place lane found).1)
       ∙ listed_length (λ subscriber. route_to sizes (place * sizes.subscribers + subscriber)) sizes.subscribers;
 }
+
+-- so it is after what was found
+found_sized : (sizes : LaneSizes) (m : World) (fs : List Found) (n : World) → AreFound m fs n → IsSized sizes m → IsSized sizes n
+found_sized sizes m [] n h s = subst (IsSized sizes) (sym h) s
+found_sized sizes m (f ∷ fs) n h s =
+    let same = found_routes m f in
+    found_sized sizes (with_found m f) fs n h.1 (record {
+      table = same.sizes ∙ s.table;
+      routes = λ place lane found. let was = same.routes place lane found in ap (λ (rs : List Route). length rs) was.2 ∙ s.routes place was.0 was.1;
+    })
 
 run_sized : (sizes : LaneSizes) (m : World) (entries : List Entry) (made : ℕ) (n : World) → RunsTo m entries made n → IsKept m → IsSized sizes m → IsSized sizes n
 run_sized sizes m [] made n h k s = subst (IsSized sizes) (sym h.1) s
@@ -275,8 +288,8 @@ some_left cells connections words book (publishing.Dropping slot) busy = omega a
 -- what lanes that came from their start keep
 pub came_kept : (m : World) (came : CameTo m) → IsKept m × IsSized came.sizes m
 came_kept m came =
-    let first = start_kept came.sizes came.some came.ports came.small in
-    (run_keeps (start came.sizes) came.schedule came.made m came.runs first, run_sized came.sizes (start came.sizes) came.schedule came.made m came.runs first (start_sized came.sizes))
+    let first = all_found (start came.sizes) came.found came.begun came.finds (start_kept came.sizes came.some came.ports came.small) in
+    (run_keeps came.begun came.schedule came.made m came.runs first, run_sized came.sizes came.begun came.schedule came.made m came.runs first (found_sized came.sizes (start came.sizes) came.found came.begun came.finds (start_sized came.sizes)))
 
 -- a call from its begin on: it makes no more steps than were left at its begin
 ends_within : (m : World) (came : CameTo m) (place most : ℕ) (c : Call) (called : CallName) (entries : List Entry) → fits m (Publisher place) (Begin c) ≡ true → (led (happens m (Publisher place) (Begin c)) entries).moments ≤ 2 ^ 63

@@ -39,7 +39,7 @@ use Rattle.iox_lanes_machine.specs.Slots.{StandsAtLoan, LoansStand}
 use Rattle.iox_lanes_machine.specs.World.{World, publisher_stage, pushes_to, push_acts, added, publisher_given, publisher_begins, publisher_goes_on, publisher_fits_at}
 use Rattle.iox_lanes_machine.specs.Kept.{IsLinkOf, sender, IsWithin, AreKept}
 use Rattle.iox_lanes_machine.specs.Uses.{stands_at, IsBalanced, PublisherUses, SubscriberUses, UsesKept}
-use Rattle.iox_lanes_machine.specs.declared.link.Link.{Link}
+use Rattle.iox_lanes_machine.specs.Links.{LinkState}
 use Rattle.iox_lanes_machine.proofs.Calls.{set_is}
 use Rattle.iox_lanes_machine.proofs.Ends.{some_is, push_begins}
 use Rattle.iox_lanes_machine.proofs.InTable.{access_elsewhere}
@@ -53,19 +53,19 @@ use Rattle.iox_lanes_machine.proofs.Steps.{publisher_elsewhere, added_other, pus
 use Rattle.iox_lanes_machine.proofs.Within.{added_length, set_other, sizes_stay}
 
 -- a connection has an order
-pub order_there : (m : World) (connection : ℕ) (link : Link) → slice_get m.links connection ≡ Some link → IsWithin m → slice_get m.orders connection ≡ Some (get_or m.orders connection [])
+pub order_there : (m : World) (connection : ℕ) (link : LinkState) → slice_get m.links connection ≡ Some link → IsWithin m → slice_get m.orders connection ≡ Some (get_or m.orders connection [])
 order_there m connection link found w =
     let below : connection < length m.orders = omega (arith, slice_get_within m.links connection link found, w.orders) in
     slice_get-get_or m.orders connection [] below
 
-pub order_after : (m : World) (to : Option ℕ) (acts : List Act) (connection : ℕ) (link : Link) → slice_get m.links connection ≡ Some link → IsWithin m → slice_get (added m.orders to m.moments acts) connection ≡ Some (get_or (added m.orders to m.moments acts) connection [])
+pub order_after : (m : World) (to : Option ℕ) (acts : List Act) (connection : ℕ) (link : LinkState) → slice_get m.links connection ≡ Some link → IsWithin m → slice_get (added m.orders to m.moments acts) connection ≡ Some (get_or (added m.orders to m.moments acts) connection [])
 order_after m to acts connection link found w =
     let below : connection < length (added m.orders to m.moments acts) = omega (arith, slice_get_within m.links connection link found, w.orders, added_length m.orders to m.moments acts) in
     slice_get-get_or (added m.orders to m.moments acts) connection [] below
 
 -- what the record says of each connection
 abbrev pub Balanced : World → List Route → BookState → PublisherCall → Type 0
-Balanced m routes book call = (place : ℕ) (route : Route) (link : Link) (order : List Placed) → slice_get routes place ≡ Some route → slice_get m.links route.connection ≡ Some link → slice_get m.orders route.connection ≡ Some order
+Balanced m routes book call = (place : ℕ) (route : Route) (link : LinkState) (order : List Placed) → slice_get routes place ≡ Some route → slice_get m.links route.connection ≡ Some link → slice_get m.orders route.connection ≡ Some order
     → (slot : ℕ) → stands_at m.table route.connection link order call (slice_get m.subscribers link.subscriber) slot ≡ one_if (refers_to book place slot)
 
 -- the spot of a place

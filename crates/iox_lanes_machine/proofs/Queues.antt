@@ -45,7 +45,7 @@ use Rattle.iox_lanes_machine.specs.Queues.{QueueMoves, GivenBackInTurn}
 use Rattle.iox_lanes_machine.specs.Returns.{back_ring, reclaim_on, release_on, IsReturning}
 use Rattle.iox_lanes_machine.specs.Uses.{given_back}
 use Rattle.iox_lanes_machine.specs.World.{World, fits, happens, StepsTo, placed, publisher_stage, subscriber_stage, publisher_given, publisher_begins, publisher_goes_on, publisher_fits_at, subscriber_given, subscriber_begins, subscriber_goes_on, subscriber_fits_at}
-use Rattle.iox_lanes_machine.specs.declared.link.Link.{Link}
+use Rattle.iox_lanes_machine.specs.Links.{LinkState}
 use Rattle.iox_lanes_machine.proofs.Ends.{some_is}
 use Rattle.iox_lanes_machine.proofs.InBack.{IsBackSeat, back_after, back_stays}
 use Rattle.iox_lanes_machine.proofs.PublisherUses as publishers
@@ -113,7 +113,7 @@ eqb_here x = elim (eqb_tells x x) [
 ]
 
 -- what the step of a publisher that takes back does at its connection
-taking_moves : (m : World) (own place : ℕ) (lane : PublisherLaneState) (route : Route) (link : Link) (n : World) (p : Pop) → slice_get m.publishers own ≡ Some lane → slice_get n.publishers own ≡ Some (publisher_after (publisher_given m.table lane) lane) → link.publisher ≡ own
+taking_moves : (m : World) (own place : ℕ) (lane : PublisherLaneState) (route : Route) (link : LinkState) (n : World) (p : Pop) → slice_get m.publishers own ≡ Some lane → slice_get n.publishers own ≡ Some (publisher_after (publisher_given m.table lane) lane) → link.publisher ≡ own
     → slice_get lane.port.routes place ≡ Some route → UsesCounted (length lane.port.routes) lane.port.book
     → ((value next : ℕ) → p ≡ pop.SawCell next value → (publisher_change lane.port.call (told m lane.port.call) ≡ change.TakenBack place value))
     → ChangeFits (length lane.port.routes) lane.port.book (publisher_change lane.port.call (told m lane.port.call))
@@ -150,7 +150,7 @@ taking_moves m own place lane route link n (pop.LookRead seen) e now is here cou
 taking_moves m own place lane route link n (pop.Looked some) e now is here counted does fit list = inl (sym list)
 
 -- a publisher's step
-publisher_queue : (m : World) (own : ℕ) (lane : PublisherLaneState) (n : World) (connection : ℕ) (link : Link) → slice_get m.publishers own ≡ Some lane → m.moments < 2 ^ 63 → IsKept m → slice_get m.links connection ≡ Some link
+publisher_queue : (m : World) (own : ℕ) (lane : PublisherLaneState) (n : World) (connection : ℕ) (link : LinkState) → slice_get m.publishers own ≡ Some lane → m.moments < 2 ^ 63 → IsKept m → slice_get m.links connection ≡ Some link
     → slice_get n.publishers own ≡ Some (publisher_after (publisher_given m.table lane) lane) → n.table ≡ after_shared m.table (publisher_next lane.port.call) → QueueMoves m (Publisher own) n connection link
 publisher_queue m own lane n connection link e bound k found now table_is = by_call lane.port.call refl
   where
@@ -174,7 +174,7 @@ publisher_queue m own lane n connection link e bound k found now table_is = by_c
         ∙ ap between (back_stays m.table connection m.table.sizes.completion_cells (publisher_next lane.port.call) (back_seat m connection link found k.returns.some k.within) (publisher_off m.table connection lane.port.call off setting.access)))
 
     takes : (c : PublisherCall) (at : ℕ) (route : Route) (p : Pop) → lane.port.call ≡ c → reclaim_on route.connection c ≡ p → slice_get lane.port.routes at ≡ Some route → publisher_next c ≡ on_ring route.connection Completion route.completion_cells (refusing.pop_next p)
-        → ((value next : ℕ) → p ≡ pop.SawCell next value → publisher_change c (told m c) ≡ change.TakenBack at value) → (other : Link) → slice_get m.links route.connection ≡ Some other → QueueMoves m (Publisher own) n route.connection other
+        → ((value next : ℕ) → p ≡ pop.SawCell next value → publisher_change c (told m c) ≡ change.TakenBack at value) → (other : LinkState) → slice_get m.links route.connection ≡ Some other → QueueMoves m (Publisher own) n route.connection other
     takes c at route p stage is here next does other there =
         let mine : IsLinkOf m.links sender own route = all_at (IsLinkOf m.links sender own) lane.port.routes at route here setting.links in
         let same : mine.link ≡ other = some_is mine.link other (sym mine.found ∙ there) in
@@ -211,7 +211,7 @@ publisher_queue m own lane n connection link e bound k found now table_is = by_c
     by_call (publishing.Dropping slot) stage = elsewhere (λ h. absurd (cc (ap reclaims_at (sym stage) ∙ h)))
 
 -- what the step of a release does at its connection
-giving_moves : (m : World) (own at : ℕ) (lane after : SubscriberLaneState) (route : Route) (link : Link) (n : World) (p : Push) → slice_get m.subscribers own ≡ Some lane → slice_get n.subscribers own ≡ Some after → link.subscriber ≡ own → slice_get lane.port.routes at ≡ Some route
+giving_moves : (m : World) (own at : ℕ) (lane after : SubscriberLaneState) (route : Route) (link : LinkState) (n : World) (p : Push) → slice_get m.subscribers own ≡ Some lane → slice_get n.subscribers own ≡ Some after → link.subscriber ≡ own → slice_get lane.port.routes at ≡ Some route
     → ((value : ℕ) → one_if (borrows route.connection value (Some after)) + count value (storing_refusing p) ≡ one_if (borrows route.connection value (Some lane)) + 0)
     → given_back n.table route.connection ≡ given_back m.table route.connection ++ storing_refusing p → QueueMoves m (Subscriber own) n route.connection link
 giving_moves m own at lane after route link n push.Idle e now is here gone list = inl (list ∙ append-nil (given_back m.table route.connection))
@@ -230,7 +230,7 @@ giving_moves m own at lane after route link n (push.Filled value next) e now is 
 giving_moves m own at lane after route link n (push.Pushed value answered) e now is here gone list = inl (list ∙ append-nil (given_back m.table route.connection))
 
 -- a subscriber's step
-subscriber_queue : (m : World) (own : ℕ) (lane : SubscriberLaneState) (n : World) (connection : ℕ) (link : Link) → slice_get m.subscribers own ≡ Some lane → m.moments < 2 ^ 63 → IsKept m → slice_get m.links connection ≡ Some link
+subscriber_queue : (m : World) (own : ℕ) (lane : SubscriberLaneState) (n : World) (connection : ℕ) (link : LinkState) → slice_get m.subscribers own ≡ Some lane → m.moments < 2 ^ 63 → IsKept m → slice_get m.links connection ≡ Some link
     → slice_get n.subscribers own ≡ Some (subscriber_after (subscriber_given m.table lane) lane) → n.table ≡ after_shared m.table (subscriber_next lane.port.call) → QueueMoves m (Subscriber own) n connection link
 subscriber_queue m own lane n connection link e bound k found now table_is = by_call lane.port.call refl
   where
@@ -247,7 +247,7 @@ subscriber_queue m own lane n connection link e bound k found now table_is = by_
     elsewhere off = inl (ap (λ (t : TableWords). given_back t connection) table_is ∙ back_is m.table (subscriber_next lane.port.call) connection
         ∙ ap between (back_stays m.table connection m.table.sizes.completion_cells (subscriber_next lane.port.call) (back_seat m connection link found k.returns.some k.within) (subscriber_off m.table connection lane.port.call off setting.access)))
 
-    gives : (at : ℕ) (route : Route) (p : Push) → lane.port.call ≡ subscribing.Releasing at route p → (other : Link) → slice_get m.links route.connection ≡ Some other → QueueMoves m (Subscriber own) n route.connection other
+    gives : (at : ℕ) (route : Route) (p : Push) → lane.port.call ≡ subscribing.Releasing at route p → (other : LinkState) → slice_get m.links route.connection ≡ Some other → QueueMoves m (Subscriber own) n route.connection other
     gives at route p stage other there =
         let here : slice_get lane.port.routes at ≡ Some route = subst (IsSubscribing m.table.sizes lane.port.routes) stage setting.call_is in
         let mine : IsLinkOf m.links receiver own route = all_at (IsLinkOf m.links receiver own) lane.port.routes at route here setting.links in
@@ -279,25 +279,25 @@ subscriber_queue m own lane n connection link e bound k found now table_is = by_
     by_call (subscribing.Released done) stage = elsewhere (λ h. absurd (cc (ap releases_at (sym stage) ∙ h)))
 
 -- each step
-begin_queue : (m : World) (own : ℕ) (c : Call) (connection : ℕ) (link : Link) (at : Option PublisherLaneState) → QueueMoves m (Publisher own) (publisher_begins m own c at) connection link
+begin_queue : (m : World) (own : ℕ) (c : Call) (connection : ℕ) (link : LinkState) (at : Option PublisherLaneState) → QueueMoves m (Publisher own) (publisher_begins m own c at) connection link
 begin_queue m own c connection link None = inl refl
 begin_queue m own c connection link (Some lane) = inl refl
 
-subscriber_begin_queue : (m : World) (own : ℕ) (c : Call) (connection : ℕ) (link : Link) (at : Option SubscriberLaneState) → QueueMoves m (Subscriber own) (subscriber_begins m own c at) connection link
+subscriber_begin_queue : (m : World) (own : ℕ) (c : Call) (connection : ℕ) (link : LinkState) (at : Option SubscriberLaneState) → QueueMoves m (Subscriber own) (subscriber_begins m own c at) connection link
 subscriber_begin_queue m own c connection link None = inl refl
 subscriber_begin_queue m own c connection link (Some lane) = inl refl
 
-goes_queue : (m : World) (own connection : ℕ) (link : Link) (at : Option PublisherLaneState) → slice_get m.publishers own ≡ at → publisher_fits_at at GoOn ≡ true → m.moments < 2 ^ 63 → IsKept m → slice_get m.links connection ≡ Some link
+goes_queue : (m : World) (own connection : ℕ) (link : LinkState) (at : Option PublisherLaneState) → slice_get m.publishers own ≡ at → publisher_fits_at at GoOn ≡ true → m.moments < 2 ^ 63 → IsKept m → slice_get m.links connection ≡ Some link
     → QueueMoves m (Publisher own) (publisher_goes_on (placed m (Publisher own)) own at) connection link
 goes_queue m own connection link None e fit bound k found = absurd (cc)
 goes_queue m own connection link (Some lane) e fit bound k found = publisher_queue m own lane _ connection link e bound k found (set_same m.publishers own (publisher_after (publisher_given m.table lane) lane) lane e) refl
 
-subscriber_goes_queue : (m : World) (own connection : ℕ) (link : Link) (at : Option SubscriberLaneState) → slice_get m.subscribers own ≡ at → subscriber_fits_at at GoOn ≡ true → m.moments < 2 ^ 63 → IsKept m → slice_get m.links connection ≡ Some link
+subscriber_goes_queue : (m : World) (own connection : ℕ) (link : LinkState) (at : Option SubscriberLaneState) → slice_get m.subscribers own ≡ at → subscriber_fits_at at GoOn ≡ true → m.moments < 2 ^ 63 → IsKept m → slice_get m.links connection ≡ Some link
     → QueueMoves m (Subscriber own) (subscriber_goes_on (placed m (Subscriber own)) own at) connection link
 subscriber_goes_queue m own connection link None e fit bound k found = absurd (cc)
 subscriber_goes_queue m own connection link (Some lane) e fit bound k found = subscriber_queue m own lane _ connection link e bound k found (set_same m.subscribers own (subscriber_after (subscriber_given m.table lane) lane) lane e) refl
 
-happens_queue : (m : World) (party : Party) (step : Move) (connection : ℕ) (link : Link) → fits m party step ≡ true → m.moments < 2 ^ 63 → IsKept m → slice_get m.links connection ≡ Some link → QueueMoves m party (happens m party step) connection link
+happens_queue : (m : World) (party : Party) (step : Move) (connection : ℕ) (link : LinkState) → fits m party step ≡ true → m.moments < 2 ^ 63 → IsKept m → slice_get m.links connection ≡ Some link → QueueMoves m party (happens m party step) connection link
 happens_queue m (Publisher own) (Begin c) connection link fit bound k found = begin_queue m own c connection link (slice_get m.publishers own)
 happens_queue m (Subscriber own) (Begin c) connection link fit bound k found = subscriber_begin_queue m own c connection link (slice_get m.subscribers own)
 happens_queue m (Publisher own) GoOn connection link fit bound k found = goes_queue m own connection link (slice_get m.publishers own) refl fit bound k found

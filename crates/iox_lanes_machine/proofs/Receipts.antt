@@ -58,7 +58,7 @@ use Rattle.iox_lanes_machine.specs.Rings.{sent_word, ring_in, push_on, waiting}
 use Rattle.iox_lanes_machine.specs.World.{World, publisher_stage, subscriber_stage, sender_stage, push_at, pushes_to, pops_from, push_acts, pop_acts, added, ended, fits, happens, publisher_fits_at, subscriber_fits_at, publisher_begins, publisher_goes_on, publisher_ending, subscriber_begins, subscriber_goes_on, subscriber_given}
 use Rattle.iox_lanes_machine.specs.Kept.{IsLinkOf, receiver, IsWithin, IsKeptAt, AreKept}
 use Rattle.iox_lanes_machine.specs.Receipts.{slots_of, slots_taken, given_at, given_by, given_answer, is_receiver, given_calls, given_in_hand, routes_of, ReceivesGive, AllReceivesGive}
-use Rattle.iox_lanes_machine.specs.declared.link.Link.{Link}
+use Rattle.iox_lanes_machine.specs.Links.{LinkState}
 use Rattle.iox_lanes_machine.proofs.InTable.{IsSeat, access_answer}
 use Rattle.iox_lanes_machine.proofs.Ends.{some_is, choose_one, choose_other, pop_here}
 use Rattle.iox_lanes_machine.proofs.Kept.{seat}
@@ -196,7 +196,7 @@ take_given sizes routes borrowed most (subscribing.Releasing place route p) a co
 take_given sizes routes borrowed most (subscribing.Released done) a connection is off = refl
 
 -- what stands at a step of the pop or look at a connection gives what the receive then has in hand
-take_core : (table : TableWords) (moments : ℕ) (links : List Link) (routes : List Route) (borrowed : List ℕ) (most place : ℕ) (route : Route) (p : Pop) (waits : Bool) (link : Link) (order : List Placed) (sends : PublisherCall)
+take_core : (table : TableWords) (moments : ℕ) (links : List LinkState) (routes : List Route) (borrowed : List ℕ) (most place : ℕ) (route : Route) (p : Pop) (waits : Bool) (link : LinkState) (order : List Placed) (sends : PublisherCall)
     → (cells : ℕ) (push : Push) → cells ≡ cells_of link.kind link.limit → push ≡ push_on route.connection link.kind sends
     → IsAt routes place route → IsSeat table route.connection (cells_of link.kind link.limit) → moments < 2 ^ 63
     → IsKeptAt table moments route.connection link order sends (subscribing.Receiving place route p waits)
@@ -220,7 +220,7 @@ take_core table moments links routes borrowed most place route p waits link orde
         ap slots_of (sym g.ended ∙ ap (λ (a : ℕ). pop_ended (pop_take p a)) given ∙ pop_answers (pop_take p (shared_answer table (on_ring route.connection Submission (cells_of link.kind link.limit) (pop_next p)))))
         ∙ own_given routes borrowed most place route (pop_take p (shared_answer table (on_ring route.connection Submission (cells_of link.kind link.limit) (pop_next p)))) waits (pop_answer (pop_take p (shared_answer table (on_ring route.connection Submission (cells_of link.kind link.limit) (pop_next p))))) at
 
-pop_takes : (m : World) (connection who : ℕ) (routes : List Route) (borrowed : List ℕ) (most : ℕ) (c : SubscriberCall) (link : Link) (order : List Placed)
+pop_takes : (m : World) (connection who : ℕ) (routes : List Route) (borrowed : List ℕ) (most : ℕ) (c : SubscriberCall) (link : LinkState) (order : List Placed)
     → pops_from c ≡ Some connection → All (IsLinkOf m.links receiver who) routes → IsSubscribing m.table.sizes routes c → slice_get m.links connection ≡ Some link
     → IsSeat m.table connection (cells_of link.kind link.limit) → m.moments < 2 ^ 63 → IsKeptAt m.table m.moments connection link order (publisher_stage (slice_get m.publishers link.publisher)) c
     → slots_of (take_values (pop_acts m c)) ≡ given_in_hand routes connection (subscriber_take routes borrowed most c (shared_answer m.table (subscriber_next c)))
@@ -231,11 +231,11 @@ pop_takes m connection who routes borrowed most (subscribing.Receiving place rou
     let found' : slice_get m.links route.connection ≡ Some link = ap (slice_get m.links) here ∙ found in
     let same : mine.link ≡ link = some_is mine.link link (sym mine.found ∙ found') in
     let push_is : push_at m route.connection route.kind ≡ push_on route.connection link.kind (publisher_stage (slice_get m.publishers link.publisher)) =
-    ap (λ (at : Option Link). push_on route.connection route.kind (sender_stage m at)) found'
-    ∙ ap (λ (k' : RingKind). push_on route.connection k' (publisher_stage (slice_get m.publishers link.publisher))) (mine.kind ∙ ap (λ (l : Link). l.kind) same) in
+    ap (λ (at : Option LinkState). push_on route.connection route.kind (sender_stage m at)) found'
+    ∙ ap (λ (k' : RingKind). push_on route.connection k' (publisher_stage (slice_get m.publishers link.publisher))) (mine.kind ∙ ap (λ (l : LinkState). l.kind) same) in
     subst (λ (n : ℕ). slots_of (take_values (pop_acts m (subscribing.Receiving place route p waits))) ≡ given_in_hand routes n (subscriber_take routes borrowed most (subscribing.Receiving place route p waits) (shared_answer m.table (subscriber_next (subscribing.Receiving place route p waits))))) here
     (take_core m.table m.moments m.links routes borrowed most place route p waits link order (publisher_stage (slice_get m.publishers link.publisher)) route.submission_cells (push_at m route.connection route.kind)
-    (mine.cells ∙ ap (λ (l : Link). cells_of l.kind l.limit) same) push_is h
+    (mine.cells ∙ ap (λ (l : LinkState). cells_of l.kind l.limit) same) push_is h
     (subst (λ (c : ℕ). IsSeat m.table c (cells_of link.kind link.limit)) (sym here) st) bound
     (subst (λ (c : ℕ). IsKeptAt m.table m.moments c link order (publisher_stage (slice_get m.publishers link.publisher)) (subscribing.Receiving place route p waits)) (sym here) k))
 pop_takes m connection who routes borrowed most (subscribing.Received given) link order e all h found st bound k = absurd (cc)
@@ -268,7 +268,7 @@ own_ended routes connection who name first last from (subscribing.Releasing plac
 own_ended routes connection who name first last from (subscribing.Released done) = own_received routes connection who name first last (answer.Released done)
 
 -- calls and orders that say the same
-same_given : (finished finished' : List FinishedCall) (connection : ℕ) (link : Link) (order order' : List Placed) (lane : Option SubscriberLaneState) → slots_taken order' ≡ slots_taken order
+same_given : (finished finished' : List FinishedCall) (connection : ℕ) (link : LinkState) (order order' : List Placed) (lane : Option SubscriberLaneState) → slots_taken order' ≡ slots_taken order
     → given_calls (routes_of lane) connection link.subscriber finished' ≡ given_calls (routes_of lane) connection link.subscriber finished
     → ReceivesGive finished connection link order lane → ReceivesGive finished' connection link order' lane
 same_given finished finished' connection link order order' lane e f h = e ∙ h ∙ ap (λ (ss : List ℕ). ss ++ given_in_hand (routes_of lane) connection (subscriber_stage lane)) (sym f)
@@ -335,7 +335,7 @@ begun_hand routes connection moment (call.Read sample) lane h = read_given route
 begun_hand routes connection moment (call.Release sample) lane h = release_hand routes connection moment sample (place_of sample lane) (route_at (place_of sample lane) lane) lane h
 
 -- what a subscriber at a place gives is said of the lane there
-lane_here : (lanes : List SubscriberLaneState) (finished : List FinishedCall) (connection : ℕ) (link : Link) (order : List Placed) (place : ℕ) (lane after : SubscriberLaneState) → link.subscriber ≡ place → slice_get lanes place ≡ Some lane
+lane_here : (lanes : List SubscriberLaneState) (finished : List FinishedCall) (connection : ℕ) (link : LinkState) (order : List Placed) (place : ℕ) (lane after : SubscriberLaneState) → link.subscriber ≡ place → slice_get lanes place ≡ Some lane
     → ReceivesGive finished connection link order (Some after) → ReceivesGive finished connection link order (slice_get (set lanes place after) link.subscriber)
 lane_here lanes finished connection link order place lane after own found h =
     subst (ReceivesGive finished connection link order) (sym (ap (slice_get (set lanes place after)) own ∙ set_same lanes place after lane found)) h
@@ -356,7 +356,7 @@ begun_subscriber m place c (Some lane) e fit k = λ connection link order found 
     ]
 
 -- the order of a connection after a step of its subscriber
-subscriber_order : (m : World) (place : ℕ) (lane : SubscriberLaneState) (connection : ℕ) (link : Link) (order : List Placed) → slice_get m.subscribers place ≡ Some lane → m.moments < 2 ^ 63 → IsWithin m → AreKept m
+subscriber_order : (m : World) (place : ℕ) (lane : SubscriberLaneState) (connection : ℕ) (link : LinkState) (order : List Placed) → slice_get m.subscribers place ≡ Some lane → m.moments < 2 ^ 63 → IsWithin m → AreKept m
     → slice_get m.links connection ≡ Some link → link.subscriber ≡ place → slice_get (added m.orders (pops_from lane.port.call) m.moments (pop_acts m lane.port.call)) connection ≡ Some order
     → (before : List Placed) × (slice_get m.orders connection ≡ Some before) × (slots_taken order ≡ slots_taken before ++ given_in_hand lane.port.routes connection (subscriber_take lane.port.routes lane.port.borrowed lane.port.most_borrowed lane.port.call (subscriber_given m.table lane)))
 subscriber_order m place lane connection link order e bound w kept found mine got =
@@ -388,7 +388,7 @@ gone_subscriber m place (Some lane) e fit bound w kept k = λ connection link or
       | inr other ↦ foreign connection link order found got other.1
     ]
   where
-    own : (connection : ℕ) (link : Link) (order : List Placed) → slice_get m.links connection ≡ Some link → slice_get (added m.orders (pops_from lane.port.call) m.moments (pop_acts m lane.port.call)) connection ≡ Some order → link.subscriber ≡ place
+    own : (connection : ℕ) (link : LinkState) (order : List Placed) → slice_get m.links connection ≡ Some link → slice_get (added m.orders (pops_from lane.port.call) m.moments (pop_acts m lane.port.call)) connection ≡ Some order → link.subscriber ≡ place
         → ReceivesGive (m.finished ++ ended (Subscriber place) lane.call lane.first m.moments (subscriber_answer lane.port.call (length m.read))) connection link order (slice_get (set m.subscribers place (subscriber_after (subscriber_given m.table lane) lane)) link.subscriber)
     own connection link order found got mine =
         let before = subscriber_order m place lane connection link order e bound w kept found mine got in
@@ -405,7 +405,7 @@ gone_subscriber m place (Some lane) e fit bound w kept k = λ connection link or
         (subst (λ (c : SubscriberCall). slots_taken order ≡ given_calls lane.port.routes connection link.subscriber (m.finished ++ ended (Subscriber place) lane.call lane.first m.moments (subscriber_answer lane.port.call (length m.read))) ++ given_in_hand lane.port.routes connection c) (sym changed.1)
         (grown_given (slots_taken before.0) (slots_taken order) _ (given_calls lane.port.routes connection link.subscriber m.finished) _ (given_in_hand lane.port.routes connection lane.port.call) _ before.2 old more refl)))
 
-    foreign : (connection : ℕ) (link : Link) (order : List Placed) → slice_get m.links connection ≡ Some link → slice_get (added m.orders (pops_from lane.port.call) m.moments (pop_acts m lane.port.call)) connection ≡ Some order → (link.subscriber ≡ place → ⊥)
+    foreign : (connection : ℕ) (link : LinkState) (order : List Placed) → slice_get m.links connection ≡ Some link → slice_get (added m.orders (pops_from lane.port.call) m.moments (pop_acts m lane.port.call)) connection ≡ Some order → (link.subscriber ≡ place → ⊥)
         → ReceivesGive (m.finished ++ ended (Subscriber place) lane.call lane.first m.moments (subscriber_answer lane.port.call (length m.read))) connection link order (slice_get (set m.subscribers place (subscriber_after (subscriber_given m.table lane) lane)) link.subscriber)
     foreign connection link order found got other =
         let off : pops_from lane.port.call ≡ Some connection → ⊥ = λ here. other (pops_own m place lane connection link e w found here) in

@@ -35,7 +35,7 @@ use Rattle.iox_lanes_parties.proofs.SubscribersWithin.{subscribers_stay_within}
 use Rattle.iox_lanes_machine.specs.Kept.{IsLink, IsLinkOf, sender, receiver, IsWithin}
 use Rattle.iox_lanes_machine.specs.Returns.{back_ring, reclaim_on, release_on, IsReturning, AreReturning, GoesRound, ReturnsKept}
 use Rattle.iox_lanes_machine.specs.World.{World, fits, happens, publisher_stage, subscriber_stage, publisher_fits_at, subscriber_fits_at, publisher_begins, publisher_goes_on, publisher_given, subscriber_begins, subscriber_goes_on, subscriber_given}
-use Rattle.iox_lanes_machine.specs.declared.link.Link.{Link}
+use Rattle.iox_lanes_machine.specs.Links.{LinkState}
 use Rattle.iox_lanes_machine.proofs.Ends.{some_is}
 use Rattle.iox_lanes_machine.proofs.InBack.{IsBackSeat, back_stays}
 use Rattle.iox_lanes_machine.proofs.Returns.{reclaims_at, releases_at, IsFresh, fresh_shape, idle_shape, loan_here, send_here, release_here, loan_fresh, take_fresh, next_reclaim, next_sweep, receive_none, read_none, take_none, next_release, publisher_off, subscriber_off, pop_goes, push_goes}
@@ -45,7 +45,7 @@ use Rattle.iox_lanes_machine.proofs.Within.{set_same, at_each, sizes_stay, publi
 next_le : (n : ℕ) → n < 2 ^ 63 → n ≤ successor n
 next_le n h = omega arith
 
-pub back_seat : (m : World) (connection : ℕ) (link : Link) → slice_get m.links connection ≡ Some link → 0 < m.table.sizes.completion_cells → IsWithin m → IsBackSeat m.table connection m.table.sizes.completion_cells
+pub back_seat : (m : World) (connection : ℕ) (link : LinkState) → slice_get m.links connection ≡ Some link → 0 < m.table.sizes.completion_cells → IsWithin m → IsBackSeat m.table connection m.table.sizes.completion_cells
 back_seat m connection link found some w =
     let is : IsLink m.table.sizes connection link = w.links connection link found in
     record { there = is.connection_is; some = some; room = omega arith; words = w.words }
@@ -82,7 +82,7 @@ none_shape : (cells connection : ℕ) (words : RingWords) (q : List ℕ) (c : Po
 none_shape cells connection words q c receives e p s = subst (λ (x : Push). Shape cells words q x c) (sym e) (idle_shape cells words q p c s)
 
 -- the link of a connection where a publisher takes back is its own
-pub reclaims_own : (m : World) (place : ℕ) (lane : PublisherLaneState) (connection : ℕ) (link : Link) → slice_get m.publishers place ≡ Some lane → IsWithin m → slice_get m.links connection ≡ Some link → reclaims_at lane.port.call ≡ Some connection → link.publisher ≡ place
+pub reclaims_own : (m : World) (place : ℕ) (lane : PublisherLaneState) (connection : ℕ) (link : LinkState) → slice_get m.publishers place ≡ Some lane → IsWithin m → slice_get m.links connection ≡ Some link → reclaims_at lane.port.call ≡ Some connection → link.publisher ≡ place
 reclaims_own m place lane connection link e w found here =
     by_call lane.port.call here (all_at (IsPublisher m.table.sizes) m.publishers place lane e w.publishers).call
   where
@@ -105,7 +105,7 @@ reclaims_own m place lane connection link e w found here =
     by_call (publishing.Sent slot delivery) h is = absurd (cc)
     by_call (publishing.Dropping slot) h is = absurd (cc)
 
-pub releases_own : (m : World) (place : ℕ) (lane : SubscriberLaneState) (connection : ℕ) (link : Link) → slice_get m.subscribers place ≡ Some lane → IsWithin m → slice_get m.links connection ≡ Some link → releases_at lane.port.call ≡ Some connection → link.subscriber ≡ place
+pub releases_own : (m : World) (place : ℕ) (lane : SubscriberLaneState) (connection : ℕ) (link : LinkState) → slice_get m.subscribers place ≡ Some lane → IsWithin m → slice_get m.links connection ≡ Some link → releases_at lane.port.call ≡ Some connection → link.subscriber ≡ place
 releases_own m place lane connection link e w found here =
     by_call lane.port.call here (all_at (IsSubscriber m.table.sizes) m.subscribers place lane e w.subscribers).call
   where
@@ -290,7 +290,7 @@ gone_publisher m place orders (Some lane) e fit bound w r k = λ connection link
     is : IsPublisher m.table.sizes lane
     is = all_at (IsPublisher m.table.sizes) m.publishers place lane e w.publishers
 
-    active : (connection : ℕ) (link : Link) → slice_get m.links connection ≡ Some link → reclaims_at lane.port.call ≡ Some connection
+    active : (connection : ℕ) (link : LinkState) → slice_get m.links connection ≡ Some link → reclaims_at lane.port.call ≡ Some connection
         → IsReturning cells (after_shared m.table (publisher_next lane.port.call)) (successor m.moments) connection (publisher_stage (slice_get (set m.publishers place (publisher_after (publisher_given m.table lane) lane)) link.publisher)) (subscriber_stage (slice_get m.subscribers link.subscriber))
     active connection link found here =
         let mine : link.publisher ≡ place = reclaims_own m place lane connection link e w found here in
@@ -301,7 +301,7 @@ gone_publisher m place orders (Some lane) e fit bound w r k = λ connection link
         (publisher_active cells m.table m.moments connection m.table.sizes lane.port.routes (words_of lane.port) lane.port.call (subscriber_stage (slice_get m.subscribers link.subscriber)) (r.publishers place lane e) is.call here (back_seat m connection link found r.some w) bound
         (subst (λ (c : PublisherCall). IsReturning cells m.table m.moments connection c (subscriber_stage (slice_get m.subscribers link.subscriber))) before (k connection link found)))
 
-    quiet : (connection : ℕ) (link : Link) → slice_get m.links connection ≡ Some link → (reclaims_at lane.port.call ≡ Some connection → ⊥)
+    quiet : (connection : ℕ) (link : LinkState) → slice_get m.links connection ≡ Some link → (reclaims_at lane.port.call ≡ Some connection → ⊥)
         → IsReturning cells (after_shared m.table (publisher_next lane.port.call)) (successor m.moments) connection (publisher_stage (slice_get (set m.publishers place (publisher_after (publisher_given m.table lane) lane)) link.publisher)) (subscriber_stage (slice_get m.subscribers link.subscriber))
     quiet connection link found off =
         quiet_returning cells m.table (after_shared m.table (publisher_next lane.port.call)) m.moments (successor m.moments) connection _ _ _ _
@@ -329,7 +329,7 @@ gone_subscriber m place orders (Some lane) e fit bound w r k = λ connection lin
     taken : (subscriber_after (subscriber_given m.table lane) lane).port.call ≡ subscriber_take lane.port.routes lane.port.borrowed lane.port.most_borrowed lane.port.call (subscriber_given m.table lane)
     taken = (changed_routes (subscriber_change lane.port.call (subscriber_given m.table lane)) _).1
 
-    active : (connection : ℕ) (link : Link) → slice_get m.links connection ≡ Some link → releases_at lane.port.call ≡ Some connection
+    active : (connection : ℕ) (link : LinkState) → slice_get m.links connection ≡ Some link → releases_at lane.port.call ≡ Some connection
         → IsReturning cells (after_shared m.table (subscriber_next lane.port.call)) (successor m.moments) connection (publisher_stage (slice_get m.publishers link.publisher)) (subscriber_stage (slice_get (set m.subscribers place (subscriber_after (subscriber_given m.table lane) lane)) link.subscriber))
     active connection link found here =
         let mine : link.subscriber ≡ place = releases_own m place lane connection link e w found here in
@@ -340,7 +340,7 @@ gone_subscriber m place orders (Some lane) e fit bound w r k = λ connection lin
         (subscriber_active cells m.table m.moments connection m.table.sizes lane.port.routes lane.port.borrowed lane.port.most_borrowed lane.port.call (publisher_stage (slice_get m.publishers link.publisher)) (r.subscribers place lane e) is.call here (back_seat m connection link found r.some w) bound
         (subst (λ (c : SubscriberCall). IsReturning cells m.table m.moments connection (publisher_stage (slice_get m.publishers link.publisher)) c) before (k connection link found)))
 
-    quiet : (connection : ℕ) (link : Link) → slice_get m.links connection ≡ Some link → (releases_at lane.port.call ≡ Some connection → ⊥)
+    quiet : (connection : ℕ) (link : LinkState) → slice_get m.links connection ≡ Some link → (releases_at lane.port.call ≡ Some connection → ⊥)
         → IsReturning cells (after_shared m.table (subscriber_next lane.port.call)) (successor m.moments) connection (publisher_stage (slice_get m.publishers link.publisher)) (subscriber_stage (slice_get (set m.subscribers place (subscriber_after (subscriber_given m.table lane) lane)) link.subscriber))
     quiet connection link found off =
         quiet_returning cells m.table (after_shared m.table (subscriber_next lane.port.call)) m.moments (successor m.moments) connection _ _ _ _

@@ -262,12 +262,12 @@ subscriber_off table here (subscribing.Released done) off h = tt
 pub record Back (cells moments : ℕ) (words : RingWords) (p : Push) (c : Pop) : Type 0 where
   pub list : List ℕ
   pub shape : Shape cells words list p c
-  pub few : words.write ≤ moments
+  pub few : words.write ≤ moments + 2 ^ 62
 
 later : (n : ℕ) → n < 2 ^ 63 → successor n ≡ n + 1
 later n h = omega arith
 
-pub pop_goes : (cells : ℕ) (table : TableWords) (moments connection : ℕ) (q : List ℕ) (p : Push) (c : Pop) → IsBackSeat table connection cells → moments < 2 ^ 63 → (back_ring table connection cells).write ≤ moments → Shape cells (back_ring table connection cells) q p c
+pub pop_goes : (cells : ℕ) (table : TableWords) (moments connection : ℕ) (q : List ℕ) (p : Push) (c : Pop) → IsBackSeat table connection cells → moments < 2 ^ 63 → (back_ring table connection cells).write ≤ moments + 2 ^ 62 → Shape cells (back_ring table connection cells) q p c
     → Back cells (successor moments) (back_ring (after_shared table (on_ring connection Completion cells (refusing.pop_next c))) connection cells) p (refusing.pop_take c (shared_answer table (on_ring connection Completion cells (refusing.pop_next c))))
 pop_goes cells table moments connection q p c st bound few s =
     let words : RingWords = back_ring table connection cells in
@@ -281,7 +281,7 @@ pop_goes cells table moments connection q p c st bound few s =
       few = omega (arith, ap (λ (ws : RingWords). ws.write) after, refusing_steps.pop_grows words c, few, later moments bound);
     }
 
-pub push_goes : (cells : ℕ) (table : TableWords) (moments connection : ℕ) (q : List ℕ) (p : Push) (c : Pop) → IsBackSeat table connection cells → moments < 2 ^ 63 → (back_ring table connection cells).write ≤ moments → Shape cells (back_ring table connection cells) q p c
+pub push_goes : (cells : ℕ) (table : TableWords) (moments connection : ℕ) (q : List ℕ) (p : Push) (c : Pop) → IsBackSeat table connection cells → moments < 2 ^ 63 → (back_ring table connection cells).write ≤ moments + 2 ^ 62 → Shape cells (back_ring table connection cells) q p c
     → Back cells (successor moments) (back_ring (after_shared table (on_ring connection Completion cells (refusing.push_next p))) connection cells) (refusing.push_take p (shared_answer table (on_ring connection Completion cells (refusing.push_next p)))) c
 push_goes cells table moments connection q p c st bound few s =
     let words : RingWords = back_ring table connection cells in

@@ -45,7 +45,7 @@ use Rattle.iox_lanes_machine.specs.Rooms.{may_borrow, RoomsKept}
 use Rattle.iox_lanes_machine.specs.Sends.{IsAmong}
 use Rattle.iox_lanes_machine.specs.Uses.{aside_at, given_back, stands_at, UsesKept}
 use Rattle.iox_lanes_machine.specs.World.{World, publisher_stage, subscriber_stage}
-use Rattle.iox_lanes_machine.specs.declared.link.Link.{Link}
+use Rattle.iox_lanes_machine.specs.Links.{LinkState}
 use Rattle.iox_lanes_machine.proofs.InBack.{back_answer}
 use Rattle.iox_lanes_machine.proofs.PublisherUses.{Balanced, order_there}
 use Rattle.iox_lanes_machine.proofs.ReturnSteps.{back_seat}
@@ -66,7 +66,7 @@ few_wait kind.Refusing limit words q (ring_push.Refusing p) (ring_pop.Overflowin
 few_wait kind.Refusing limit words q (ring_push.Refusing p) (ring_pop.Refusing c) s = s.room
 
 -- nor are more samples borrowed of a connection
-pub few_borrowed : (m : World) (connection : ℕ) (link : Link) (at : Option SubscriberLaneState) → slice_get m.links connection ≡ Some link → slice_get m.subscribers link.subscriber ≡ at → UsesKept m → RoomsKept m
+pub few_borrowed : (m : World) (connection : ℕ) (link : LinkState) (at : Option SubscriberLaneState) → slice_get m.links connection ≡ Some link → slice_get m.subscribers link.subscriber ≡ at → UsesKept m → RoomsKept m
     → total (λ s. borrows connection s at) m.table.sizes.slots ≤ may_borrow at
 few_borrowed m connection link None found e u r = omega (arith, total_zero (λ s. borrows connection s None) m.table.sizes.slots (λ s. refl))
 few_borrowed m connection link (Some lane) found e u r =
@@ -86,7 +86,7 @@ reclaim_finds m who routes stored book c at route (pop.SawRead seen) k here is i
     mine : IsLinkOf m.links sender who route
     mine = all_at (IsLinkOf m.links sender who) routes at route here k.links
 
-    link : Link
+    link : LinkState
     link = mine.link
 
     order : List Placed
@@ -183,7 +183,7 @@ release_finds m who lane place route (push.SawWrite limit value write next) k r 
     mine : IsLinkOf m.links receiver who route
     mine = all_at (IsLinkOf m.links receiver who) lane.port.routes place route k.call_is k.links
 
-    link : Link
+    link : LinkState
     link = mine.link
 
     order : List Placed

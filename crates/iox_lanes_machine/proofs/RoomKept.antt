@@ -40,7 +40,7 @@ use Rattle.iox_lanes_machine.specs.Sends.{AllSendsPut}
 use Rattle.iox_lanes_machine.specs.Slots.{LoansStand}
 use Rattle.iox_lanes_machine.specs.Uses.{PublisherUses, UsesKept}
 use Rattle.iox_lanes_machine.specs.World.{World, fits, happens, ended, publisher_stage, subscriber_stage, pushes_to, push_acts, pops_from, pop_acts, added, publisher_given, publisher_begins, publisher_goes_on, publisher_ending, publisher_fits_at, subscriber_given, subscriber_begins, subscriber_goes_on, subscriber_fits_at}
-use Rattle.iox_lanes_machine.specs.declared.link.Link.{Link}
+use Rattle.iox_lanes_machine.specs.Links.{LinkState}
 use Rattle.iox_lanes_machine.proofs.Calls.{set_is}
 use Rattle.iox_lanes_machine.proofs.Ends.{some_is}
 use Rattle.iox_lanes_machine.proofs.PublisherUses as publishers
@@ -161,7 +161,7 @@ is_placed sizes routes (subscribing.Releasing place own p) h = h
 is_placed sizes routes (subscribing.Released done) h = tt
 
 -- a ring of samples given back has fewer than 2^62 cells, so a subscriber may borrow fewer samples
-few_cells : (m : World) (connection : ℕ) (link : Link) → slice_get m.links connection ≡ Some link → AreReturning m → m.table.sizes.completion_cells < 2 ^ 62
+few_cells : (m : World) (connection : ℕ) (link : LinkState) → slice_get m.links connection ≡ Some link → AreReturning m → m.table.sizes.completion_cells < 2 ^ 62
 few_cells m connection link found b = ((b connection link found).shape).small
 
 -- a subscriber's step

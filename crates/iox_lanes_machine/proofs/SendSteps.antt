@@ -50,7 +50,7 @@ use Rattle.iox_lanes_machine.specs.Kept.{IsLinkOf, sender, receiver, IsWithin, I
 use Rattle.iox_lanes_machine.specs.Rings.{sent_word, ring_in, push_on, pop_on, waiting}
 use Rattle.iox_lanes_machine.specs.Sends.{puts_at, IsSent, sends_of, read_at, PutSoFar, done_at, in_hand_at, HasConnections, SendsPut, AllSendsPut}
 use Rattle.iox_lanes_machine.specs.World.{World, publisher_stage, subscriber_stage, sender_stage, push_at, pushes_to, pops_from, push_acts, pop_acts, added, ended, fits, happens, publisher_fits_at, subscriber_fits_at, publisher_begins, publisher_goes_on, publisher_given, publisher_ending, subscriber_begins, subscriber_goes_on}
-use Rattle.iox_lanes_machine.specs.declared.link.Link.{Link}
+use Rattle.iox_lanes_machine.specs.Links.{LinkState}
 use Rattle.iox_lanes_machine.proofs.Calls.{set_is}
 use Rattle.iox_lanes_machine.proofs.Ends.{some_is, push_off, push_here, pop_here}
 use Rattle.iox_lanes_machine.proofs.InTable.{IsSeat, access_answer, access_after, access_elsewhere}
@@ -64,7 +64,7 @@ next_le : (n : ℕ) → n < 2 ^ 63 → n ≤ successor n
 next_le n h = omega arith
 
 -- the order of a connection that there is
-order_there : (m : World) (connection : ℕ) (link : Link) → slice_get m.links connection ≡ Some link → IsWithin m → slice_get m.orders connection ≡ Some (get_or m.orders connection [])
+order_there : (m : World) (connection : ℕ) (link : LinkState) → slice_get m.links connection ≡ Some link → IsWithin m → slice_get m.orders connection ≡ Some (get_or m.orders connection [])
 order_there m connection link found w = slice_get-get_or m.orders connection [] (omega (arith, slice_get_within m.links connection link found, w.orders))
 
 -- nothing happens at a connection
@@ -77,7 +77,7 @@ still moments orders orders' table table' call route e f = record {
 }
 
 -- a step of a publisher that pushes elsewhere
-off_push : (m : World) (c : PublisherCall) → IsOfTable m.table.sizes (publisher_next c) → IsWithin m → (call : PublisherCall) (route : Route) (link : Link) → slice_get m.links route.connection ≡ Some link → (pushes_to c ≡ Some route.connection → ⊥)
+off_push : (m : World) (c : PublisherCall) → IsOfTable m.table.sizes (publisher_next c) → IsWithin m → (call : PublisherCall) (route : Route) (link : LinkState) → slice_get m.links route.connection ≡ Some link → (pushes_to c ≡ Some route.connection → ⊥)
     → RouteGrows m.moments m.orders (added m.orders (pushes_to c) m.moments (push_acts m.table c)) m.table (after_shared m.table (publisher_next c)) call call route
 off_push m c touch w call route link found off =
     still m.moments m.orders (added m.orders (pushes_to c) m.moments (push_acts m.table c)) m.table (after_shared m.table (publisher_next c)) call route
@@ -85,7 +85,7 @@ off_push m c touch w call route link found off =
     (ap (λ (ws : RingWords). ws.read) (access_elsewhere m.table route.connection (cells_of link.kind link.limit) (publisher_next c) (seat m route.connection link found w) (publisher_elsewhere m.table route.connection c off touch)))
 
 -- what a push has in hand after its next access
-push_core : (table : TableWords) (moments slot place : ℕ) (route : Route) (p : Push) (delivery : Delivery) (link : Link) (order : List Placed) (receives : SubscriberCall) (cells limit : ℕ) → cells ≡ cells_of link.kind link.limit → limit ≡ link.limit
+push_core : (table : TableWords) (moments slot place : ℕ) (route : Route) (p : Push) (delivery : Delivery) (link : LinkState) (order : List Placed) (receives : SubscriberCall) (cells limit : ℕ) → cells ≡ cells_of link.kind link.limit → limit ≡ link.limit
     → IsSeat table route.connection (cells_of link.kind link.limit) → moments < 2 ^ 63 → push_answer p ≡ None → IsKeptAt table moments route.connection link order (publishing.Pushing slot place route p delivery) receives
     → put_in_hand (held_by (after_shared table (on_ring route.connection Submission cells (push_next p))) (sent_word route.connection Read)) (push_take p (shared_answer table (on_ring route.connection Submission cells (push_next p))))
     ≡ put_in_hand (held_by table (sent_word route.connection Read)) p ++ put_values (placed_by_push limit (held_by table (sent_word route.connection Read)) p)
@@ -111,7 +111,7 @@ push_core table moments slot place route p delivery link order receives cells li
         ∙ g.in_hand
 
 -- what a push has in hand after an access of the pop at its connection
-pop_core : (table : TableWords) (moments place : ℕ) (route : Route) (p : Pop) (waits : Bool) (link : Link) (order : List Placed) (sends : PublisherCall) (cells : ℕ) (push : Push) → cells ≡ cells_of link.kind link.limit → push ≡ push_on route.connection link.kind sends
+pop_core : (table : TableWords) (moments place : ℕ) (route : Route) (p : Pop) (waits : Bool) (link : LinkState) (order : List Placed) (sends : PublisherCall) (cells : ℕ) (push : Push) → cells ≡ cells_of link.kind link.limit → push ≡ push_on route.connection link.kind sends
     → IsSeat table route.connection (cells_of link.kind link.limit) → moments < 2 ^ 63 → IsKeptAt table moments route.connection link order sends (subscribing.Receiving place route p waits)
     → put_in_hand (held_by (after_shared table (on_ring route.connection Submission cells (pop_next p))) (sent_word route.connection Read)) push
     ≡ put_in_hand (held_by table (sent_word route.connection Read)) push ++ put_values (placed_by_pop (ring_in table route.connection cells) push p)
@@ -166,13 +166,13 @@ pop_route m place reader who lane i route es ep at w kept bound =
         let link_is : theirs.link ≡ own.link = some_is theirs.link own.link (sym theirs.found ∙ found) in
         let sends : publisher_stage (slice_get m.publishers (own.link).publisher) ≡ lane.port.call = ap publisher_stage (ap (slice_get m.publishers) own.own ∙ ep) in
         let push_is : push_at m from.connection from.kind ≡ push_on from.connection (own.link).kind lane.port.call =
-        ap (λ (at : Option Link). push_on from.connection from.kind (sender_stage m at)) found
-        ∙ ap (λ (k' : RingKind). push_on from.connection k' (publisher_stage (slice_get m.publishers (own.link).publisher))) (theirs.kind ∙ ap (λ (l : Link). l.kind) link_is)
+        ap (λ (at : Option LinkState). push_on from.connection from.kind (sender_stage m at)) found
+        ∙ ap (λ (k' : RingKind). push_on from.connection k' (publisher_stage (slice_get m.publishers (own.link).publisher))) (theirs.kind ∙ ap (λ (l : LinkState). l.kind) link_is)
         ∙ ap (push_on from.connection (own.link).kind) sends in
         let push_on_is : push_at m from.connection from.kind ≡ push_on route.connection route.kind lane.port.call =
         push_is ∙ ap (λ (n : ℕ). push_on n (own.link).kind lane.port.call) same ∙ ap (λ (k' : RingKind). push_on route.connection k' lane.port.call) (sym own.kind) in
         let core = pop_core m.table m.moments at' from p waits own.link order lane.port.call from.submission_cells (push_at m from.connection from.kind)
-        (theirs.cells ∙ ap (λ (l : Link). cells_of l.kind l.limit) link_is) push_is
+        (theirs.cells ∙ ap (λ (l : LinkState). cells_of l.kind l.limit) link_is) push_is
         (seat m from.connection own.link found w) bound
         (subst (λ (n : ℕ). IsKeptAt m.table m.moments n own.link order lane.port.call (subscribing.Receiving at' from p waits)) (sym same) k) in
         record {
@@ -278,7 +278,7 @@ module _ (m : World) (place : ℕ) (routes : List Route) (words : List ℕ) (cal
 
   -- one that pushes
   push_steps : (slot at : ℕ) (route : Route) (p : Push) (delivery : Delivery) → IsOfTable m.table.sizes (publisher_next (publishing.Pushing slot at route p delivery)) → first ≤ m.moments → push_answer p ≡ None
-      → ((link : Link) (order : List Placed) → slice_get m.links route.connection ≡ Some link → slice_get m.orders route.connection ≡ Some order → link.publisher ≡ place
+      → ((link : LinkState) (order : List Placed) → slice_get m.links route.connection ≡ Some link → slice_get m.orders route.connection ≡ Some order → link.publisher ≡ place
       → IsKeptAt m.table m.moments route.connection link order (publishing.Pushing slot at route p delivery) (subscriber_stage (slice_get m.subscribers link.subscriber)))
       → SendsPut m place routes first (publishing.Pushing slot at route p delivery)
       → SendsPut (gone m place (publishing.Pushing slot at route p delivery) call first loan) place routes first (publisher_take routes words (publishing.Pushing slot at route p delivery) (shared_answer m.table (publisher_next (publishing.Pushing slot at route p delivery))))
@@ -328,7 +328,7 @@ module _ (m : World) (place : ℕ) (routes : List Route) (words : List ℕ) (cal
 
   -- any of them
   own_steps : (c : PublisherCall) → IsOfTable m.table.sizes (publisher_next c) → (publisher_is_idle c ≡ false → first ≤ m.moments) → IsStageOf call c
-      → ((connection : ℕ) (link : Link) (order : List Placed) → slice_get m.links connection ≡ Some link → slice_get m.orders connection ≡ Some order → link.publisher ≡ place
+      → ((connection : ℕ) (link : LinkState) (order : List Placed) → slice_get m.links connection ≡ Some link → slice_get m.orders connection ≡ Some order → link.publisher ≡ place
       → IsKeptAt m.table m.moments connection link order c (subscriber_stage (slice_get m.subscribers link.subscriber)))
       → SendsPut m place routes first c → SendsPut (gone m place c call first loan) place routes first (publisher_take routes words c (shared_answer m.table (publisher_next c)))
   own_steps publishing.Idle touch begun stage kept h = quiet_goes publishing.Idle touch refl (λ n e. absurd (cc e)) refl h
@@ -369,7 +369,7 @@ module _ (m : World) (place : ℕ) (routes : List Route) (words : List ℕ) (cal
 -- worlds that differ in nothing that sends say
 same_world : (m n : World) (who : ℕ) (routes : List Route) (first : ℕ) (c : PublisherCall) → n.links ≡ m.links → n.finished ≡ m.finished → n.orders ≡ m.orders → n.table ≡ m.table → n.moments ≡ m.moments → SendsPut m who routes first c → SendsPut n who routes first c
 same_world m n who routes first c links finished orders table moments h = record {
-  connections = subst (λ (x : List Link). HasConnections x who routes) (sym links) h.connections;
+  connections = subst (λ (x : List LinkState). HasConnections x who routes) (sym links) h.connections;
   sent = subst (λ (x : List FinishedCall). (number : ℕ) (send : FinishedCall) → slice_get (sends_of who x) number ≡ Some send → IsSent n.orders routes number send) (sym finished)
       (subst (λ (x : List (List Placed)). (number : ℕ) (send : FinishedCall) → slice_get (sends_of who m.finished) number ≡ Some send → IsSent x routes number send) (sym orders) h.sent);
   so_far = subst (λ (x : List FinishedCall). PutSoFar n.table n.orders routes (length (sends_of who x)) first n.moments c) (sym finished)

@@ -28,7 +28,7 @@ use Rattle.iox_lanes_parties.specs.declared.call.Party.{Party}
 use Rattle.iox_lanes_parties.specs.declared.call.Party.TheVariants.{Publisher}
 use Rattle.iox_lanes_words.specs.Table.{TableWords}
 use Rattle.iox_lanes_machine.specs.Rings.{push_on}
-use Rattle.iox_lanes_machine.specs.declared.link.Link.{Link}
+use Rattle.iox_lanes_machine.specs.Links.{LinkState}
 use Rattle.iox_lanes_machine.specs.Sends.{puts_at, IsPutAt, ArePut, IsSent, is_sender, is_send, sends_of, read_at, IsPushing, PutSoFar, done_at, in_hand_at, HasConnections, SendsPut}
 use Rattle.iox_lanes_machine.specs.World.{World, ended}
 use Rattle.iox_lanes_machine.proofs.Ends.{some_is, choose_one, choose_other, push_off, push_here}
@@ -111,7 +111,7 @@ same_length xs ys e = ap (λ (zs : List FinishedCall). length zs) e
 pub grows : (m n : World) (who : ℕ) (routes : List Route) (first : ℕ) (call : PublisherCall) → n.links ≡ m.links → sends_of who n.finished ≡ sends_of who m.finished → Grow m.orders n.orders → m.moments ≤ n.moments
     → (is_quiet call ≡ false → first ≤ m.moments) → AllGrow m n routes call call → SendsPut m who routes first call → SendsPut n who routes first call
 grows m n who routes first call links sends grow later begun all h = record {
-  connections = subst (λ (ls : List Link). HasConnections ls who routes) (sym links) h.connections;
+  connections = subst (λ (ls : List LinkState). HasConnections ls who routes) (sym links) h.connections;
   sent = λ number send found. sent_stays m.orders n.orders routes number send grow (h.sent number send (ap (λ (xs : List FinishedCall). slice_get xs number) (sym sends) ∙ found));
   so_far = subst (λ (k : ℕ). PutSoFar n.table n.orders routes k first n.moments call) (sym (same_length _ _ sends))
       (so_far_grows m n routes (length (sends_of who m.finished)) first call grow later begun (λ place route found. omega (arith, h.no_more place route found)) all h.so_far);
@@ -124,7 +124,7 @@ pub push_moves : (m n : World) (who : ℕ) (routes : List Route) (first slot pla
     → first ≤ m.moments → push_value p' ≡ push_value p → AllGrow m n routes (publishing.Pushing slot place route p delivery) (publishing.Pushing slot place route p' delivery)
     → SendsPut m who routes first (publishing.Pushing slot place route p delivery) → SendsPut n who routes first (publishing.Pushing slot place route p' delivery)
 push_moves m n who routes first slot place route p p' delivery links sends grow later begun value all h = record {
-  connections = subst (λ (ls : List Link). HasConnections ls who routes) (sym links) h.connections;
+  connections = subst (λ (ls : List LinkState). HasConnections ls who routes) (sym links) h.connections;
   sent = λ number send found. sent_stays m.orders n.orders routes number send grow (h.sent number send (ap (λ (xs : List FinishedCall). slice_get xs number) (sym sends) ∙ found));
   so_far = subst (λ (k : ℕ). IsPushing n.orders routes k first n.moments slot place (read_at n.table route) route p' delivery) (sym (same_length _ _ sends))
       (pushing_grows m n routes (length (sends_of who m.finished)) first slot place route p p' delivery grow later begun (omega (arith, h.no_more place route (h.so_far).at)) value (all place route (h.so_far).at) h.so_far);

@@ -27,7 +27,7 @@ use Rattle.iox_lanes_machine.specs.Returns.{AreReturning, GoesRound, IsReturning
 use Rattle.iox_lanes_machine.specs.World.{World, publisher_stage, subscriber_stage, pushes_to, push_acts, added}
 use Rattle.iox_lanes_machine.specs.Kept.{IsLinkOf, sender, IsWithin, IsKeptAt, AreKept}
 use Rattle.iox_lanes_machine.specs.Uses.{aside_at, given_back, stands_at}
-use Rattle.iox_lanes_machine.specs.declared.link.Link.{Link}
+use Rattle.iox_lanes_machine.specs.Links.{LinkState}
 use Rattle.iox_lanes_machine.proofs.Ends.{some_is, push_off, fresh_take}
 use Rattle.iox_lanes_machine.proofs.InBack.{back_stays}
 use Rattle.iox_lanes_machine.proofs.Kept.{seat}
@@ -67,7 +67,7 @@ pub record Setting (m : World) (who : ℕ) (routes : List Route) (stored : List 
   pub stage : publisher_stage (slice_get m.publishers who) ≡ call
 
 -- the connection, and its order before and after
-pub record Spot (m : World) (who : ℕ) (routes : List Route) (call : PublisherCall) (place : ℕ) (route : Route) (link : Link) (order order' : List Placed) : Type 0 where
+pub record Spot (m : World) (who : ℕ) (routes : List Route) (call : PublisherCall) (place : ℕ) (route : Route) (link : LinkState) (order order' : List Placed) : Type 0 where
   pub here : slice_get routes place ≡ Some route
   pub found : slice_get m.links route.connection ≡ Some link
   pub sender_is : link.publisher ≡ who
@@ -78,20 +78,20 @@ pub record Spot (m : World) (who : ℕ) (routes : List Route) (call : PublisherC
 abbrev pub told : World → PublisherCall → ℕ
 told m call = shared_answer m.table (publisher_next call)
 
-pub kept_here : (m : World) (who : ℕ) (routes : List Route) (stored : List ℕ) (call : PublisherCall) (place : ℕ) (route : Route) (link : Link) (order order' : List Placed) → Setting m who routes stored call → Spot m who routes call place route link order order'
+pub kept_here : (m : World) (who : ℕ) (routes : List Route) (stored : List ℕ) (call : PublisherCall) (place : ℕ) (route : Route) (link : LinkState) (order order' : List Placed) → Setting m who routes stored call → Spot m who routes call place route link order order'
     → IsKeptAt m.table m.moments route.connection link order call (subscriber_stage (slice_get m.subscribers link.subscriber))
 kept_here m who routes stored call place route link order order' k p =
     subst (λ (c : PublisherCall). IsKeptAt m.table m.moments route.connection link order c (subscriber_stage (slice_get m.subscribers link.subscriber)))
     (ap (λ (i : ℕ). publisher_stage (slice_get m.publishers i)) p.sender_is ∙ k.stage) (k.kept route.connection link order p.found p.got)
 
-pub returning_here : (m : World) (who : ℕ) (routes : List Route) (stored : List ℕ) (call : PublisherCall) (place : ℕ) (route : Route) (link : Link) (order order' : List Placed) → Setting m who routes stored call → Spot m who routes call place route link order order'
+pub returning_here : (m : World) (who : ℕ) (routes : List Route) (stored : List ℕ) (call : PublisherCall) (place : ℕ) (route : Route) (link : LinkState) (order order' : List Placed) → Setting m who routes stored call → Spot m who routes call place route link order order'
     → IsReturning m.table.sizes.completion_cells m.table m.moments route.connection call (subscriber_stage (slice_get m.subscribers link.subscriber))
 returning_here m who routes stored call place route link order order' k p =
     subst (λ (c : PublisherCall). IsReturning m.table.sizes.completion_cells m.table m.moments route.connection c (subscriber_stage (slice_get m.subscribers link.subscriber)))
     (ap (λ (i : ℕ). publisher_stage (slice_get m.publishers i)) p.sender_is ∙ k.stage) (k.returning route.connection link p.found)
 
 -- a step that pushes elsewhere leaves what was sent there
-sent_same : (m : World) (who : ℕ) (routes : List Route) (stored : List ℕ) (call : PublisherCall) (place : ℕ) (route : Route) (link : Link) (order order' : List Placed) → Setting m who routes stored call → Spot m who routes call place route link order order'
+sent_same : (m : World) (who : ℕ) (routes : List Route) (stored : List ℕ) (call : PublisherCall) (place : ℕ) (route : Route) (link : LinkState) (order order' : List Placed) → Setting m who routes stored call → Spot m who routes call place route link order order'
     → (pushes_to call ≡ Some route.connection → ⊥) → (s : ℕ)
     → count s (waiting link order') + count s (aside_at (after_shared m.table (publisher_next call)) route.connection link (publisher_take routes stored call (told m call)))
     ≡ count s (waiting link order) + count s (aside_at m.table route.connection link call)
@@ -105,41 +105,41 @@ sent_same m who routes stored call place route link order order' k p off s =
     )
 
 -- a step that takes back elsewhere leaves what was given back there
-pub returned_same : (m : World) (who : ℕ) (routes : List Route) (stored : List ℕ) (call : PublisherCall) (place : ℕ) (route : Route) (link : Link) (order order' : List Placed) → Setting m who routes stored call → Spot m who routes call place route link order order'
+pub returned_same : (m : World) (who : ℕ) (routes : List Route) (stored : List ℕ) (call : PublisherCall) (place : ℕ) (route : Route) (link : LinkState) (order order' : List Placed) → Setting m who routes stored call → Spot m who routes call place route link order order'
     → (reclaims_at call ≡ Some route.connection → ⊥) → (s : ℕ) → count s (given_back (after_shared m.table (publisher_next call)) route.connection) ≡ count s (given_back m.table route.connection)
 returned_same m who routes stored call place route link order order' k p off s =
     back_same m.table (publisher_next call) route.connection
     (back_stays m.table route.connection m.table.sizes.completion_cells (publisher_next call) (back_seat m route.connection link p.found k.some k.within) (publisher_off m.table route.connection call off k.access)) s
 
 -- how often a slot stood at the connection before the step
-abbrev pub Before : World → PublisherCall → Route → Link → List Placed → Option SubscriberLaneState → ℕ → ℕ
+abbrev pub Before : World → PublisherCall → Route → LinkState → List Placed → Option SubscriberLaneState → ℕ → ℕ
 Before m call route link order receiver s = stands_at m.table route.connection link order call receiver s
 
 -- and how often after it
-abbrev pub After : World → List Route → List ℕ → PublisherCall → Route → Link → List Placed → Option SubscriberLaneState → ℕ → ℕ
+abbrev pub After : World → List Route → List ℕ → PublisherCall → Route → LinkState → List Placed → Option SubscriberLaneState → ℕ → ℕ
 After m routes stored call route link order' receiver s = stands_at (after_shared m.table (publisher_next call)) route.connection link order' (publisher_take routes stored call (told m call)) receiver s
 
 -- a step elsewhere
-all_same : (m : World) (who : ℕ) (routes : List Route) (stored : List ℕ) (call : PublisherCall) (place : ℕ) (route : Route) (link : Link) (order order' : List Placed) (receiver : Option SubscriberLaneState)
+all_same : (m : World) (who : ℕ) (routes : List Route) (stored : List ℕ) (call : PublisherCall) (place : ℕ) (route : Route) (link : LinkState) (order order' : List Placed) (receiver : Option SubscriberLaneState)
     → Setting m who routes stored call → Spot m who routes call place route link order order' → (pushes_to call ≡ Some route.connection → ⊥) → (reclaims_at call ≡ Some route.connection → ⊥)
     → (s : ℕ) → After m routes stored call route link order' receiver s ≡ Before m call route link order receiver s
 all_same m who routes stored call place route link order order' receiver k p off off' s =
     omega (arith, sent_same m who routes stored call place route link order order' k p off s, returned_same m who routes stored call place route link order order' k p off' s)
 
 -- what a step of a call does at a place
-abbrev Says : World → ℕ → List Route → List ℕ → ℕ → Route → Link → List Placed → List Placed → Option SubscriberLaneState → PublisherCall → Type 0
+abbrev Says : World → ℕ → List Route → List ℕ → ℕ → Route → LinkState → List Placed → List Placed → Option SubscriberLaneState → PublisherCall → Type 0
 Says m who routes stored place route link order order' receiver call =
     Setting m who routes stored call → Spot m who routes call place route link order order'
     → Moves place (publisher_change call (told m call)) (Before m call route link order receiver) (After m routes stored call route link order' receiver)
 
 -- what a step of a call that stands at the place does there
-abbrev SaysThere : World → ℕ → List Route → List ℕ → ℕ → Route → Link → List Placed → List Placed → Option SubscriberLaneState → PublisherCall → Type 0
+abbrev SaysThere : World → ℕ → List Route → List ℕ → ℕ → Route → LinkState → List Placed → List Placed → Option SubscriberLaneState → PublisherCall → Type 0
 SaysThere m who routes stored place route link order order' receiver call =
     Setting m who routes stored call → Spot m who routes call place route link order order'
     → MovesThere place (publisher_change call (told m call)) (Before m call route link order receiver) (After m routes stored call route link order' receiver)
 
 -- a step that takes back at the place
-pub loan_reclaims_here : (m : World) (who : ℕ) (routes : List Route) (stored : List ℕ) (place : ℕ) (route : Route) (link : Link) (order order' : List Placed) (receiver : Option SubscriberLaneState) (c : refusing_pop_type.Pop)
+pub loan_reclaims_here : (m : World) (who : ℕ) (routes : List Route) (stored : List ℕ) (place : ℕ) (route : Route) (link : LinkState) (order order' : List Placed) (receiver : Option SubscriberLaneState) (c : refusing_pop_type.Pop)
     → SaysThere m who routes stored place route link order order' receiver (publishing.LoanReclaims place route c)
 loan_reclaims_here m who routes stored place route link order order' receiver c k p = let follows = back_follows place (told m (publishing.LoanReclaims place route c)) c in (
   follows.at,
@@ -155,7 +155,7 @@ loan_reclaims_here m who routes stored place route link order order' receiver c 
     size : route.completion_cells ≡ m.table.sizes.completion_cells
     size = all_at (λ (r : Route). r.completion_cells ≡ m.table.sizes.completion_cells) routes place route p.here k.round
 
-pub send_reclaims_here : (m : World) (who : ℕ) (routes : List Route) (stored : List ℕ) (slot place : ℕ) (route : Route) (link : Link) (order order' : List Placed) (receiver : Option SubscriberLaneState) (c : refusing_pop_type.Pop)
+pub send_reclaims_here : (m : World) (who : ℕ) (routes : List Route) (stored : List ℕ) (slot place : ℕ) (route : Route) (link : LinkState) (order order' : List Placed) (receiver : Option SubscriberLaneState) (c : refusing_pop_type.Pop)
     → SaysThere m who routes stored place route link order order' receiver (publishing.SendReclaims slot place route c)
 send_reclaims_here m who routes stored slot place route link order order' receiver c k p = let follows = back_follows place (told m (publishing.SendReclaims slot place route c)) c in (
   follows.at,
@@ -172,7 +172,7 @@ send_reclaims_here m who routes stored slot place route link order order' receiv
     size = all_at (λ (r : Route). r.completion_cells ≡ m.table.sizes.completion_cells) routes place route p.here k.round
 
 -- a step that pushes at the place
-pub pushes_here : (m : World) (who : ℕ) (routes : List Route) (stored : List ℕ) (slot place : ℕ) (route : Route) (link : Link) (order order' : List Placed) (receiver : Option SubscriberLaneState) (push : Push) (delivery : Delivery)
+pub pushes_here : (m : World) (who : ℕ) (routes : List Route) (stored : List ℕ) (slot place : ℕ) (route : Route) (link : LinkState) (order order' : List Placed) (receiver : Option SubscriberLaneState) (push : Push) (delivery : Delivery)
     → SaysThere m who routes stored place route link order order' receiver (publishing.Pushing slot place route push delivery)
 pushes_here m who routes stored slot place route link order order' receiver push delivery k p =
     let before = added_here m.orders (Some route.connection) m.moments (push_acts m.table (publishing.Pushing slot place route push delivery)) route.connection order' refl p.after in
@@ -184,7 +184,7 @@ pushes_here m who routes stored slot place route link order order' receiver push
       λ s. omega (
         arith,
         push_moves m.table m.moments m.links who routes slot place route push delivery link order _ route.submission_cells route.limit
-            (mine.cells ∙ ap (λ (l : Link). cells_of l.kind l.limit) same) (mine.limit ∙ ap (λ (l : Link). l.limit) same) k.links p.found (seat m route.connection link p.found k.within) k.bound
+            (mine.cells ∙ ap (λ (l : LinkState). cells_of l.kind l.limit) same) (mine.limit ∙ ap (λ (l : LinkState). l.limit) same) k.links p.found (seat m route.connection link p.found k.within) k.bound
             (kept_here m who routes stored (publishing.Pushing slot place route push delivery) place route link order order' k p) s,
         ap (λ (o : List Placed). count s (waiting link o)) is,
         returned_same m who routes stored (publishing.Pushing slot place route push delivery) place route link order order' k p (λ e. cc e) s,
@@ -192,12 +192,12 @@ pushes_here m who routes stored slot place route link order order' receiver push
     )
 
 -- a step of a call that stands at no connection
-elsewhere : (m : World) (who : ℕ) (routes : List Route) (stored : List ℕ) (call : PublisherCall) (place : ℕ) (route : Route) (link : Link) (order order' : List Placed) (receiver : Option SubscriberLaneState)
+elsewhere : (m : World) (who : ℕ) (routes : List Route) (stored : List ℕ) (call : PublisherCall) (place : ℕ) (route : Route) (link : LinkState) (order order' : List Placed) (receiver : Option SubscriberLaneState)
     → (pushes_to call ≡ Some route.connection → ⊥) → (reclaims_at call ≡ Some route.connection → ⊥) → IsQuietAt place (publisher_change call (told m call))
     → Says m who routes stored place route link order order' receiver call
 elsewhere m who routes stored call place route link order order' receiver off off' quiet k p = inr (quiet, λ s. all_same m who routes stored call place route link order order' receiver k p off off' s)
 
-pub publisher_moves : (m : World) (who : ℕ) (routes : List Route) (stored : List ℕ) (call : PublisherCall) (place : ℕ) (route : Route) (link : Link) (order order' : List Placed) (receiver : Option SubscriberLaneState)
+pub publisher_moves : (m : World) (who : ℕ) (routes : List Route) (stored : List ℕ) (call : PublisherCall) (place : ℕ) (route : Route) (link : LinkState) (order order' : List Placed) (receiver : Option SubscriberLaneState)
     → Says m who routes stored place route link order order' receiver call
 publisher_moves m who routes stored publishing.Idle place route link order order' receiver k p = elsewhere m who routes stored publishing.Idle place route link order order' receiver (λ e. cc e) (λ e. cc e) (inl tt) k p
 publisher_moves m who routes stored (publishing.LoanReclaims at own c) place route link order order' receiver k p = elim (eqb_tells at place) [

@@ -37,7 +37,7 @@ use Rattle.iox_lanes_machine.specs.Rings.{sent_word, ring_in, waiting, push_on, 
 use Rattle.iox_lanes_machine.specs.Returns.{back_ring, reclaim_on, release_on, IsReturning}
 use Rattle.iox_lanes_machine.specs.Kept.{IsLinkOf, sender, IsKeptAt}
 use Rattle.iox_lanes_machine.specs.Uses.{aside_at, given_back}
-use Rattle.iox_lanes_machine.specs.declared.link.Link.{Link}
+use Rattle.iox_lanes_machine.specs.Links.{LinkState}
 use Rattle.iox_lanes_machine.proofs.Ends.{IsFreshPush, fresh_push_at, push_here, pop_here}
 use Rattle.iox_lanes_machine.proofs.InBack.{IsBackSeat, back_after}
 use Rattle.iox_lanes_machine.proofs.InTable.{IsSeat, access_answer, access_after}
@@ -50,14 +50,14 @@ fresh_aside read k limit p (inl e) = ap (aside read) e ∙ idle_aside read k
 fresh_aside read k limit p (inr h) = ap (aside read) h.1 ∙ begun_aside read k limit h.0
 
 -- what lies aside behind the step of a push
-next_aside : (read : ℕ) (links : List Link) (port : Link → ℕ) (who : ℕ) (routes : List Route) (slot place : ℕ) (route : Route) (p : Push) (delivery : Delivery) (link : Link) (answer : Option PushAnswer) → push_answer p ≡ answer
+next_aside : (read : ℕ) (links : List LinkState) (port : LinkState → ℕ) (who : ℕ) (routes : List Route) (slot place : ℕ) (route : Route) (p : Push) (delivery : Delivery) (link : LinkState) (answer : Option PushAnswer) → push_answer p ≡ answer
     → All (IsLinkOf links port who) routes → slice_get links route.connection ≡ Some link → aside read (push_on route.connection link.kind (pushed routes slot place route p delivery answer)) ≡ aside read p
 next_aside read links port who routes slot place route p delivery link None e all found = ap (aside read) (push_here slot place route link.kind p delivery)
 next_aside read links port who routes slot place route p delivery link (Some answer) e all found =
     fresh_aside read link.kind link.limit _ (fresh_push_at links port who routes slot (successor place) (counted delivery answer) route.connection link all found) ∙ sym (answered_aside read p answer e)
 
 -- what a step of a push moves, if its ring has so many cells
-abbrev PushMoves : TableWords → ℕ → List Route → ℕ → ℕ → Route → Push → Delivery → Link → List Placed → ℕ → ℕ → ℕ → Type 0
+abbrev PushMoves : TableWords → ℕ → List Route → ℕ → ℕ → Route → Push → Delivery → LinkState → List Placed → ℕ → ℕ → ℕ → Type 0
 PushMoves table moments routes slot place route p delivery link order s limit cells =
     count s (waiting link (order ++ at moments (placed_by_push limit (held_by table (sent_word route.connection Read)) p)))
     + count s (aside_at (after_shared table (on_ring route.connection Submission cells (push_next p))) route.connection link
@@ -66,7 +66,7 @@ PushMoves table moments routes slot place route p delivery link order s limit ce
     ≡ count s (waiting link order) + count s (aside_at table route.connection link (publishing.Pushing slot place route p delivery))
     + count s (put_by (push_change place p (shared_answer table (on_ring route.connection Submission cells (push_next p)))))
 
-pub push_moves : (table : TableWords) (moments : ℕ) (links : List Link) (who : ℕ) (routes : List Route) (slot place : ℕ) (route : Route) (p : Push) (delivery : Delivery) (link : Link) (order : List Placed) (receives : SubscriberCall) (cells limit : ℕ)
+pub push_moves : (table : TableWords) (moments : ℕ) (links : List LinkState) (who : ℕ) (routes : List Route) (slot place : ℕ) (route : Route) (p : Push) (delivery : Delivery) (link : LinkState) (order : List Placed) (receives : SubscriberCall) (cells limit : ℕ)
     → cells ≡ cells_of link.kind link.limit → limit ≡ link.limit → All (IsLinkOf links sender who) routes → slice_get links route.connection ≡ Some link → IsSeat table route.connection (cells_of link.kind link.limit) → moments < 2 ^ 63
     → IsKeptAt table moments route.connection link order (publishing.Pushing slot place route p delivery) receives → (s : ℕ) → PushMoves table moments routes slot place route p delivery link order s limit cells
 push_moves table moments links who routes slot place route p delivery link order receives cells limit size is all found st bound k s =
@@ -98,14 +98,14 @@ push_moves table moments links who routes slot place route p delivery link order
         )
 
 -- what a step of a pop moves
-abbrev PopMoves : TableWords → ℕ → ℕ → Route → Pop → Link → List Placed → PublisherCall → ℕ → Push → ℕ → Type 0
+abbrev PopMoves : TableWords → ℕ → ℕ → Route → Pop → LinkState → List Placed → PublisherCall → ℕ → Push → ℕ → Type 0
 PopMoves table moments place route c link order sends s push cells =
     count s (waiting link (order ++ at moments (placed_by_pop (ring_in table route.connection cells) push c)))
     + count s (aside_at (after_shared table (on_ring route.connection Submission cells (pop_next c))) route.connection link sends)
     + count s (borrowed_in (borrowed_by place (pop_answer (pop_take c (shared_answer table (on_ring route.connection Submission cells (pop_next c)))))))
     ≡ count s (waiting link order) + count s (aside_at table route.connection link sends)
 
-pub pop_moves : (table : TableWords) (moments place : ℕ) (route : Route) (c : Pop) (waits_there : Bool) (link : Link) (order : List Placed) (sends : PublisherCall) (push : Push) (cells : ℕ)
+pub pop_moves : (table : TableWords) (moments place : ℕ) (route : Route) (c : Pop) (waits_there : Bool) (link : LinkState) (order : List Placed) (sends : PublisherCall) (push : Push) (cells : ℕ)
     → cells ≡ cells_of link.kind link.limit → push ≡ push_on route.connection link.kind sends → IsSeat table route.connection (cells_of link.kind link.limit) → moments < 2 ^ 63
     → IsKeptAt table moments route.connection link order sends (subscribing.Receiving place route c waits_there) → (s : ℕ) → PopMoves table moments place route c link order sends s push cells
 pop_moves table moments place route c waits_there link order sends push cells size is st bound k s =

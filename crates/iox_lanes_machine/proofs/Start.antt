@@ -1,53 +1,36 @@
 -- Lanes as they are made keep what every step keeps.
-use Rattle.std.proofs.Common.{nat_lt, ℕ, zero, suc, ◌≡◌, ◌+◌, ◌-◌, ◌*◌, ◌/◌, ◌%◌, ◌<◌, ◌^◌, List, [], ◌∷◌, ◌++◌, length, take, get_or, replicate, slice_get, Option, Some, None, refl, sym, ◌∙◌, ap, subst, inl, inr, arith, length-append}
+use Rattle.std.proofs.Common.{nat_lt, ℕ, zero, suc, ◌≡◌, ◌+◌, ◌-◌, ◌*◌, ◌/◌, ◌%◌, ◌<◌, List, [], ◌∷◌, ◌++◌, length, take, get_or, replicate, slice_get, Option, Some, None, refl, sym, ◌∙◌, ap, subst, inl, inr, arith, length-append}
 use Rattle.std.specs.List.{All}
 use Rattle.std.proofs.lemmas.Bool.{cases_lt, lt-ltb}
 use Rattle.std.proofs.lemmas.Nat.{div-mul-add, mod-mul-add, mod_below, row_fits, div-add-mod'}
-use Rattle.std.proofs.lemmas.List.{get_or_past, length-replicate, drop-replicate, take-replicate, get_or-replicate}
-use Rattle.std.proofs.lemmas.List.Elements.{All-nil, All-from_get_or, All-replicate}
+use Rattle.std.proofs.lemmas.List.{length-replicate, drop-replicate, take-replicate, get_or-replicate}
+use Rattle.std.proofs.lemmas.List.Elements.{All-from_get_or, All-replicate}
 use Rattle.std.proofs.lemmas.Option.{slice_get_within, slice_get-get_or, get_or_from_slice_get}
 use Rattle.std.proofs.Math.ListN.{get_or-append}
 use Rattle.std.proofs.Math.Seq.{get_or-append_seam}
-use Rattle.iox_queues_steps.specs.Access.{RingWords}
 use Rattle.iox_queues_steps.specs.declared.access.Word.TheVariants.{Write, Read, Cell}
 use Rattle.iox_queues_steps.specs.declared.order.Placed.{Placed}
-use Rattle.iox_queues_steps.specs.Order.{puts, PutNow}
-use Rattle.iox_queues_steps.specs.declared.order.PushCall.{PushCall}
-use Rattle.iox_queues_refusing.specs.Refusing as refusing
-use Rattle.iox_queues_refusing.specs.declared.pop.Pop as refusing_pop_type
-use Rattle.iox_queues_refusing.specs.declared.pop.Pop.TheVariants as refusing_pop
-use Rattle.iox_queues_refusing.specs.declared.push.Push as refusing_push_type
-use Rattle.iox_queues_refusing.specs.declared.push.Push.TheVariants as refusing_push
-use Rattle.iox_queues_rings.specs.Ends.{Shape, cells_of, push_idle, pop_idle, put_in_hand}
+use Rattle.iox_queues_rings.specs.Ends.{cells_of}
 use Rattle.iox_queues_rings.specs.RingMachine.{first_words}
-use Rattle.iox_queues_rings.specs.declared.ends.RingKind.{RingKind}
 use Rattle.iox_queues_rings.specs.declared.ends.RingKind.TheVariants as kind
-use Rattle.iox_queues_rings.specs.declared.ends.Push.{Push}
-use Rattle.iox_queues_rings.specs.declared.ends.Pop.{Pop}
-use Rattle.iox_queues_rings.proofs.EitherRing.{start_overflowing, start_refusing}
 use Rattle.iox_lanes_words.specs.Numbers.{words_of, number_of}
 use Rattle.iox_lanes_calls.specs.declared.route.Route.{Route}
 use Rattle.iox_lanes_publisher.specs.declared.slot_book.LoanMark.{LoanMark}
 use Rattle.iox_lanes_publisher.specs.declared.slot_book.LoanMark.TheVariants as mark
 use Rattle.iox_lanes_parties.specs.Parties.{PublisherLaneState, SubscriberLaneState}
 use Rattle.iox_lanes_parties.specs.Within.{IsRoute, IsPublisher, IsSubscriber}
-use Rattle.iox_lanes_machine.specs.Rings.{sent_word, ring_in, push_on, pop_on}
-use Rattle.iox_lanes_machine.specs.World.{publisher_stage, subscriber_stage}
-use Rattle.iox_lanes_machine.specs.Kept.{IsLink, IsLinkOf, sender, receiver, IsWithin, IsKeptAt, AreKept}
-use Rattle.iox_lanes_machine.specs.Calls.{IsEnded, PublisherFollows, SubscriberFollows, CallsFollow}
-use Rattle.iox_lanes_machine.specs.Receipts.{ReceivesGive, ReceiptsFollow}
-use Rattle.iox_lanes_machine.specs.Sends.{puts_at, read_at, HasConnections, SendsPut, AllSendsPut}
-use Rattle.iox_lanes_machine.specs.Reads.{ReadsLie}
-use Rattle.iox_lanes_machine.specs.Returns.{back_word, back_ring, reclaim_on, release_on, AreReturning, GoesRound, ReturnsKept}
-use Rattle.iox_lanes_machine.specs.Slots.{StandsAtLoan, LoansStand}
-use Rattle.iox_lanes_machine.specs.Made.{listed, table_sizes, link_at, route_to, sending_routes, publisher_at, subscriber_at, first_head, start}
-use Rattle.iox_lanes_machine.specs.declared.link.Link.{Link}
+use Rattle.iox_lanes_machine.specs.Rings.{sent_word, ring_in}
+use Rattle.iox_lanes_machine.specs.Kept.{IsLink, IsLinkOf, sender, receiver, IsWithin}
+use Rattle.iox_lanes_machine.specs.Sends.{HasConnections}
+use Rattle.iox_lanes_machine.specs.Returns.{back_word, back_ring, GoesRound}
+use Rattle.iox_lanes_machine.specs.Slots.{SlotsInRows}
+use Rattle.iox_lanes_machine.specs.Made.{listed, cells_back, receiving_routes, table_sizes, link_at, route_to, sending_routes, publisher_at, subscriber_at, first_head, start}
+use Rattle.iox_lanes_machine.specs.Links.{LinkState}
 use Rattle.iox_lanes_machine.specs.declared.sizes.LaneSizes.{LaneSizes}
 use Rattle.iox_lanes_machine.proofs.Ends.{choose_one}
 use Rattle.iox_lanes_machine.proofs.InTable.{IsSeat, same_ring, ends_below, write_below, read_below}
 use Rattle.iox_lanes_machine.proofs.Kept.{cells_some}
 use Rattle.iox_lanes_machine.proofs.InBack.{IsBackSeat, ends_below as back_ends_below, write_below as back_write_below, read_below as back_read_below}
-use Rattle.iox_lanes_machine.proofs.Puts.{idle_hand}
 
 pub listed_length : {X : Type 0} (f : ℕ → X) (n : ℕ) → length (listed f n) ≡ n
 listed_length f zero = refl
@@ -110,7 +93,7 @@ start_subscriber sizes s h = record {
   extent = record { user_header = refl; payload = refl };
 }
 
-start_link : (sizes : LaneSizes) (port : Link → ℕ) (who connection : ℕ) → connection < sizes.publishers * sizes.subscribers → port (link_at sizes connection) ≡ who
+start_link : (sizes : LaneSizes) (port : LinkState → ℕ) (who connection : ℕ) → connection < sizes.publishers * sizes.subscribers → port (link_at sizes connection) ≡ who
     → IsLinkOf (listed (link_at sizes) (sizes.publishers * sizes.subscribers)) port who (route_to sizes connection)
 start_link sizes port who connection h own = record {
   link = link_at sizes connection;
@@ -140,7 +123,7 @@ start_within sizes = record {
 }
 
 -- the words of a new ring
-start_ring : (sizes : LaneSizes) (connection : ℕ) → connection < sizes.publishers * sizes.subscribers
+pub start_ring : (sizes : LaneSizes) (connection : ℕ) → connection < sizes.publishers * sizes.subscribers
     → ring_in (start sizes).table connection (cells_of sizes.kind sizes.buffer) ≡ first_words sizes.kind sizes.buffer []
 start_ring sizes connection h =
     let st : IsSeat (start sizes).table connection (cells_of sizes.kind sizes.buffer) =
@@ -155,72 +138,14 @@ start_ring sizes connection h =
     (get_or-replicate (words_of (table_sizes sizes)) (number_of (table_sizes sizes) (sent_word connection Write)) 0 0 (omega (arith, below, total, write_below (start sizes).table connection)))
     (get_or-replicate (words_of (table_sizes sizes)) (number_of (table_sizes sizes) (sent_word connection Read)) 0 0 (omega (arith, below, total, read_below (start sizes).table connection)))
 
-start_shape : (k : RingKind) (limit : ℕ) → 0 < limit → limit < 2 ^ 62 → Shape k limit (first_words k limit []) [] (push_idle k) (pop_idle k)
-start_shape kind.Overflowing limit some small = start_overflowing limit [] some small (omega arith)
-start_shape kind.Refusing limit some small = start_refusing limit [] small (omega arith)
-
--- no publisher pushes yet, and no subscriber pops
-idle_sender : (sizes : LaneSizes) (connection place : ℕ) (at : Option PublisherLaneState) → slice_get (start sizes).publishers place ≡ at → push_on connection sizes.kind (publisher_stage at) ≡ push_idle sizes.kind
-idle_sender sizes connection place None e = refl
-idle_sender sizes connection place (Some lane) e =
-    ap (λ (x : PublisherLaneState). push_on connection sizes.kind x.port.call) ((listed_is (publisher_at sizes) sizes.publishers place lane e).1)
-
-idle_receiver : (sizes : LaneSizes) (connection place : ℕ) (at : Option SubscriberLaneState) → slice_get (start sizes).subscribers place ≡ at → pop_on connection sizes.kind (subscriber_stage at) ≡ pop_idle sizes.kind
-idle_receiver sizes connection place None e = refl
-idle_receiver sizes connection place (Some lane) e =
-    ap (λ (x : SubscriberLaneState). pop_on connection sizes.kind x.port.call) ((listed_is (subscriber_at sizes) sizes.subscribers place lane e).1)
-
-start_at : (sizes : LaneSizes) (connection : ℕ) → connection < sizes.publishers * sizes.subscribers → 0 < sizes.buffer → sizes.buffer < 2 ^ 62
-    → IsKeptAt (start sizes).table 0 connection (link_at sizes connection) [] (publisher_stage (slice_get (start sizes).publishers (link_at sizes connection).publisher)) (subscriber_stage (slice_get (start sizes).subscribers (link_at sizes connection).subscriber))
-start_at sizes connection h some small = record {
-  mailbox = record { acts = tt; rises = omega arith };
-  shape = subst (λ (p : Push). Shape sizes.kind sizes.buffer (ring_in (start sizes).table connection (cells_of sizes.kind sizes.buffer)) [] p (pop_on connection sizes.kind (subscriber_stage (slice_get (start sizes).subscribers (link_at sizes connection).subscriber))))
-      (sym (idle_sender sizes connection (link_at sizes connection).publisher (slice_get (start sizes).publishers (link_at sizes connection).publisher) refl))
-      (subst (λ (p : Pop). Shape sizes.kind sizes.buffer (ring_in (start sizes).table connection (cells_of sizes.kind sizes.buffer)) [] (push_idle sizes.kind) p)
-      (sym (idle_receiver sizes connection (link_at sizes connection).subscriber (slice_get (start sizes).subscribers (link_at sizes connection).subscriber) refl))
-      (subst (λ (words : RingWords). Shape sizes.kind sizes.buffer words [] (push_idle sizes.kind) (pop_idle sizes.kind)) (sym (start_ring sizes connection h)) (start_shape sizes.kind sizes.buffer some small)));
-  few = omega (arith, ap (λ (words : RingWords). words.write) (start_ring sizes connection h));
-}
-
-pub start_rings : (sizes : LaneSizes) → 0 < sizes.buffer → sizes.buffer < 2 ^ 62 → AreKept (start sizes)
-start_rings sizes some small = λ connection link order found got.
-    let is = listed_is (link_at sizes) (sizes.publishers * sizes.subscribers) connection link found in
-    let none = listed_is {X = List Placed} (λ c. []) (sizes.publishers * sizes.subscribers) connection order got in
-    subst (λ (l : Link). IsKeptAt (start sizes).table 0 connection l order (publisher_stage (slice_get (start sizes).publishers l.publisher)) (subscriber_stage (slice_get (start sizes).subscribers l.subscriber))) (sym is.1)
-    (subst (λ (o : List Placed). IsKeptAt (start sizes).table 0 connection (link_at sizes connection) o (publisher_stage (slice_get (start sizes).publishers (link_at sizes connection).publisher)) (subscriber_stage (slice_get (start sizes).subscribers (link_at sizes connection).subscriber))) (sym none.1)
-    (start_at sizes connection is.0 some small))
-
--- no receive gave anything yet
-idle_receives : (sizes : LaneSizes) (connection place : ℕ) (link : Link) (at : Option SubscriberLaneState) → slice_get (start sizes).subscribers place ≡ at → ReceivesGive [] connection link [] at
-idle_receives sizes connection place link None e = refl
-idle_receives sizes connection place link (Some lane) e =
-    subst (λ (x : SubscriberLaneState). ReceivesGive [] connection link [] (Some x)) (sym ((listed_is (subscriber_at sizes) sizes.subscribers place lane e).1)) refl
-
-pub start_receipts : (sizes : LaneSizes) → ReceiptsFollow (start sizes)
-start_receipts sizes = λ few connection link order found got.
-    let none = listed_is {X = List Placed} (λ c. []) (sizes.publishers * sizes.subscribers) connection order got in
-    subst (λ (o : List Placed). ReceivesGive [] connection link o (slice_get (start sizes).subscribers link.subscriber)) (sym none.1)
-    (idle_receives sizes connection link.subscriber link (slice_get (start sizes).subscribers link.subscriber) refl)
-
--- no call began yet
-pub start_calls : (sizes : LaneSizes) → CallsFollow (start sizes)
-start_calls sizes = record {
-  ended = All-nil (IsEnded 0);
-  in_turn = tt;
-  publishers = λ place lane e. let is = (listed_is (publisher_at sizes) sizes.publishers place lane e).1 in
-      subst (λ (x : PublisherLaneState). PublisherFollows 0 [] place x) (sym is) (tt, λ busy. absurd (cc busy));
-  subscribers = λ place lane e. let is = (listed_is (subscriber_at sizes) sizes.subscribers place lane e).1 in
-      subst (λ (x : SubscriberLaneState). SubscriberFollows 0 [] place x) (sym is) (tt, λ busy. absurd (cc busy));
-}
-
 -- the connections of a publisher are numbered one behind the other
-start_connections : (sizes : LaneSizes) (who : ℕ) → who < sizes.publishers → HasConnections (listed (link_at sizes) (sizes.publishers * sizes.subscribers)) who (sending_routes sizes who sizes.subscribers)
+pub start_connections : (sizes : LaneSizes) (who : ℕ) → who < sizes.publishers → HasConnections (listed (link_at sizes) (sizes.publishers * sizes.subscribers)) who (sending_routes sizes who sizes.subscribers)
 start_connections sizes who h = record {
   each = λ connection link found own.
       let is = listed_is (link_at sizes) (sizes.publishers * sizes.subscribers) connection link found in
       let some : 0 < sizes.subscribers = some_columns sizes.publishers sizes.subscribers connection is.0 in
       let place : connection % sizes.subscribers < sizes.subscribers = mod_below connection sizes.subscribers some in
-      let row : connection / sizes.subscribers ≡ who = ap (λ (l : Link). l.publisher) (sym is.1) ∙ own in
+      let row : connection / sizes.subscribers ≡ who = ap (λ (l : LinkState). l.publisher) (sym is.1) ∙ own in
       record {
         place = connection % sizes.subscribers;
         route = route_to sizes (who * sizes.subscribers + connection % sizes.subscribers);
@@ -238,46 +163,19 @@ start_connections sizes who h = record {
     some_columns p zero c below = absurd (omega (arith, below))
     some_columns p (suc s) c below = omega arith
 
--- no send put anything yet
-no_puts : (sizes : LaneSizes) (route : Route) → puts_at (start sizes).orders route ≡ []
-no_puts sizes route = ap puts (empty (sizes.publishers * sizes.subscribers) route.connection)
-  where
-    empty : (n c : ℕ) → get_or {A = List Placed} (listed (λ connection. []) n) c [] ≡ []
-    empty n c = elim (cases_lt c n) [
-      | inl lt ↦ listed_get {X = List Placed} (λ connection. []) n c [] lt
-      | inr ge ↦ get_or_past {X = List Placed} (listed (λ connection. []) n) c [] (omega (arith, ge, listed_length {X = List Placed} (λ connection. []) n))
-    ]
-
-pub start_sends : (sizes : LaneSizes) → AllSendsPut (start sizes)
-start_sends sizes = λ who lane e.
-    let is = listed_is (publisher_at sizes) sizes.publishers who lane e in
-    subst (λ (x : PublisherLaneState). SendsPut (start sizes) who x.port.routes x.first x.port.call) (sym is.1)
-    (record {
-      connections = start_connections sizes who is.0;
-      sent = λ number send found. absurd (cc found);
-      so_far = tt;
-      no_more = λ place route found.
-          let hand : length (put_in_hand (read_at (start sizes).table route) (push_idle route.kind)) ≡ 0 = ap (λ (ps : List PutNow). length ps) (idle_hand (read_at (start sizes).table route) route.kind) in
-          omega (arith, ap (λ (ps : List PushCall). length ps) (no_puts sizes route), hand);
-    })
-
 -- each publisher's slots follow those of the one before it
-pub start_loans : (sizes : LaneSizes) → LoansStand (start sizes)
-start_loans sizes = record {
-  stages = λ place lane e. let is = (listed_is (publisher_at sizes) sizes.publishers place lane e).1 in
-      subst (λ (x : PublisherLaneState). StandsAtLoan x.port.book x.port.call) (sym is) tt;
-  rows = λ one other lane behind e f less.
-      let first = (listed_is (publisher_at sizes) sizes.publishers one lane e).1 in
-      let second = (listed_is (publisher_at sizes) sizes.publishers other behind f).1 in
-      omega (
-        arith,
-        ap (λ (x : PublisherLaneState). x.port.book.first) first,
-        ap (λ (x : PublisherLaneState). length x.port.book.loans) first,
-        ap (λ (x : PublisherLaneState). x.port.book.first) second,
-        length-replicate {A = LoanMark} sizes.slots mark.No,
-        row_fits one sizes.slots other sizes.slots less (omega arith),
-      );
-}
+pub start_rows : (sizes : LaneSizes) → SlotsInRows (start sizes)
+start_rows sizes = λ one other lane behind e f less.
+    let first = (listed_is (publisher_at sizes) sizes.publishers one lane e).1 in
+    let second = (listed_is (publisher_at sizes) sizes.publishers other behind f).1 in
+    omega (
+      arith,
+      ap (λ (x : PublisherLaneState). x.port.book.first) first,
+      ap (λ (x : PublisherLaneState). length x.port.book.loans) first,
+      ap (λ (x : PublisherLaneState). x.port.book.first) second,
+      length-replicate {A = LoanMark} sizes.slots mark.No,
+      row_fits one sizes.slots other sizes.slots less (omega arith),
+    )
 
 -- nothing was given back yet
 pub start_back : (sizes : LaneSizes) (connection : ℕ) → connection < sizes.publishers * sizes.subscribers
@@ -296,45 +194,9 @@ start_back sizes connection h =
     (get_or-replicate (words_of (table_sizes sizes)) (number_of (table_sizes sizes) (back_word connection Write)) 0 0 (omega (arith, below, total, back_write_below (start sizes).table connection)))
     (get_or-replicate (words_of (table_sizes sizes)) (number_of (table_sizes sizes) (back_word connection Read)) 0 0 (omega (arith, below, total, back_read_below (start sizes).table connection)))
 
-no_reclaim : (sizes : LaneSizes) (connection place : ℕ) (at : Option PublisherLaneState) → slice_get (start sizes).publishers place ≡ at → reclaim_on connection (publisher_stage at) ≡ refusing_pop.Idle
-no_reclaim sizes connection place None e = refl
-no_reclaim sizes connection place (Some lane) e = ap (λ (x : PublisherLaneState). reclaim_on connection x.port.call) ((listed_is (publisher_at sizes) sizes.publishers place lane e).1)
+-- both ends of a ring of samples given back go round all its cells
+pub start_sends_round : (sizes : LaneSizes) (place : ℕ) → GoesRound (cells_back sizes) (sending_routes sizes place sizes.subscribers)
+start_sends_round sizes place = all_listed (λ (r : Route). r.completion_cells ≡ cells_back sizes) (λ subscriber. route_to sizes (place * sizes.subscribers + subscriber)) sizes.subscribers (λ k below. refl)
 
-no_release : (sizes : LaneSizes) (connection place : ℕ) (at : Option SubscriberLaneState) → slice_get (start sizes).subscribers place ≡ at → release_on connection (subscriber_stage at) ≡ refusing_push.Idle
-no_release sizes connection place None e = refl
-no_release sizes connection place (Some lane) e = ap (λ (x : SubscriberLaneState). release_on connection x.port.call) ((listed_is (subscriber_at sizes) sizes.subscribers place lane e).1)
-
-start_returning : (sizes : LaneSizes) → sizes.buffer + sizes.most_borrowed + 1 < 2 ^ 62 → AreReturning (start sizes)
-start_returning sizes small = λ connection link found.
-    let cells : ℕ = sizes.buffer + sizes.most_borrowed + 1 in
-    let is = listed_is (link_at sizes) (sizes.publishers * sizes.subscribers) connection link found in
-    record {
-      list = [];
-      shape = subst (λ (p : refusing_push_type.Push). refusing.Shape cells (back_ring (start sizes).table connection cells) [] p (reclaim_on connection (publisher_stage (slice_get (start sizes).publishers link.publisher))))
-          (sym (no_release sizes connection link.subscriber (slice_get (start sizes).subscribers link.subscriber) refl))
-          (subst (λ (c : refusing_pop_type.Pop). refusing.Shape cells (back_ring (start sizes).table connection cells) [] refusing_push.Idle c)
-          (sym (no_reclaim sizes connection link.publisher (slice_get (start sizes).publishers link.publisher) refl))
-          (subst (λ (words : RingWords). refusing.Shape cells words [] refusing_push.Idle refusing_pop.Idle) (sym (start_back sizes connection is.0)) (start_refusing cells [] small (omega arith))));
-      few = omega (arith, ap (λ (words : RingWords). words.write) (start_back sizes connection is.0));
-    }
-
-pub start_returns : (sizes : LaneSizes) → sizes.buffer + sizes.most_borrowed + 1 < 2 ^ 62 → ReturnsKept (start sizes)
-start_returns sizes small = record {
-  some = omega arith;
-  publishers = λ place lane e. let is = (listed_is (publisher_at sizes) sizes.publishers place lane e).1 in
-      subst (λ (x : PublisherLaneState). GoesRound (sizes.buffer + sizes.most_borrowed + 1) x.port.routes) (sym is)
-      (all_listed (λ (r : Route). r.completion_cells ≡ sizes.buffer + sizes.most_borrowed + 1) (λ subscriber. route_to sizes (place * sizes.subscribers + subscriber)) sizes.subscribers (λ k below. refl));
-  subscribers = λ place lane e. let is = (listed_is (subscriber_at sizes) sizes.subscribers place lane e).1 in
-      subst (λ (x : SubscriberLaneState). GoesRound (sizes.buffer + sizes.most_borrowed + 1) x.port.routes) (sym is)
-      (all_listed (λ (r : Route). r.completion_cells ≡ sizes.buffer + sizes.most_borrowed + 1) (λ publisher. route_to sizes (publisher * sizes.subscribers + place)) sizes.publishers (λ k below. refl));
-  rings = λ few. start_returning sizes small;
-}
-
--- nothing was read yet, and each subscriber has room for the words of a slot
-pub start_reads : (sizes : LaneSizes) → ReadsLie (start sizes)
-start_reads sizes = record {
-  each = λ number call found. absurd (cc found);
-  all = omega arith;
-  rooms = λ place lane e. let is = (listed_is (subscriber_at sizes) sizes.subscribers place lane e).1 in
-      ap (λ (x : SubscriberLaneState). length x.port.words) is ∙ length-replicate {A = ℕ} (3 + sizes.user_header_words + sizes.payload_words) 0;
-}
+pub start_receives_round : (sizes : LaneSizes) (place : ℕ) → GoesRound (cells_back sizes) (receiving_routes sizes place sizes.publishers)
+start_receives_round sizes place = all_listed (λ (r : Route). r.completion_cells ≡ cells_back sizes) (λ publisher. route_to sizes (publisher * sizes.subscribers + place)) sizes.publishers (λ k below. refl)

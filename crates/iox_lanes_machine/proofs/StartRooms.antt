@@ -1,21 +1,17 @@
 -- Lanes that were just made have room at each connection.
-use Rattle.std.proofs.Common.{ℕ, zero, suc, ◌≡◌, ◌+◌, ◌*◌, ◌/◌, ◌%◌, ◌<◌, ◌≤◌, List, length, get_or, replicate, slice_get, Option, Some, None, refl, sym, ◌∙◌, ap, subst, arith}
+use Rattle.std.proofs.Common.{ℕ, zero, suc, ◌≡◌, ◌+◌, ◌*◌, ◌/◌, ◌%◌, ◌<◌, ◌≤◌, List, length, get_or, replicate, slice_get, Option, Some, None, sym, ◌∙◌, ap, arith}
 use Rattle.std.proofs.lemmas.List.{length-replicate, get_or-replicate}
-use Rattle.std.proofs.lemmas.List.Elements.{All-nil}
 use Rattle.std.proofs.lemmas.Nat.{div_below, div-add-mod', div-mul-add}
-use Rattle.std.proofs.lemmas.Option.{slice_get_within, slice_get-get_or}
-use Rattle.iox_lanes_calls.specs.declared.publisher.PublisherCall.TheVariants as publishing
+use Rattle.std.proofs.lemmas.Option.{slice_get-get_or}
 use Rattle.iox_lanes_calls.specs.declared.route.Route.{Route}
 use Rattle.iox_lanes_publisher.specs.declared.slot_book.LoanMark.{LoanMark}
 use Rattle.iox_lanes_publisher.specs.declared.slot_book.LoanMark.TheVariants as mark
-use Rattle.iox_lanes_parties.specs.Parties.{PublisherLaneState, SubscriberLaneState, is_out, route_at}
-use Rattle.iox_lanes_ledger.specs.Borrowing.{is_at, borrows}
-use Rattle.iox_lanes_ledger.specs.Rooms.{slots_at, loans_out, borrowed_of, HasRooms, CountsBorrowed}
-use Rattle.iox_lanes_ledger.specs.Uses.{refers_to}
-use Rattle.iox_lanes_ledger.proofs.Entries.{total_zero, refers_none, get_replicated}
+use Rattle.iox_lanes_parties.specs.Parties.{SubscriberLaneState, is_out}
+use Rattle.iox_lanes_ledger.specs.Rooms.{loans_out, CountsLoans}
+use Rattle.iox_lanes_ledger.proofs.Entries.{total_zero, get_replicated}
 use Rattle.iox_lanes_machine.specs.Made.{listed, link_at, route_to, receiving_routes, publisher_at, subscriber_at, start}
-use Rattle.iox_lanes_machine.specs.Rooms.{may_borrow, GaveBack, HasReceived, RoomsKept}
-use Rattle.iox_lanes_machine.specs.declared.link.Link.{Link}
+use Rattle.iox_lanes_machine.specs.Rooms.{may_borrow, HasReceived}
+use Rattle.iox_lanes_machine.specs.Links.{LinkState}
 use Rattle.iox_lanes_machine.specs.declared.sizes.LaneSizes.{LaneSizes}
 use Rattle.iox_lanes_machine.proofs.Start.{listed_is, listed_at}
 
@@ -23,45 +19,28 @@ some_columns : (p s c : ℕ) → c < p * s → 0 < s
 some_columns p zero c below = absurd (omega (arith, below))
 some_columns p (suc s) c below = omega arith
 
-start_publisher : (sizes : LaneSizes) (place : ℕ) → HasRooms (sizes.buffer + sizes.most_borrowed + 1) (length (publisher_at sizes place).port.routes) (publisher_at sizes place).port.book publishing.Idle
-start_publisher sizes place =
-    let none : (at : ℕ) → slots_at (publisher_at sizes place).port.book at ≡ 0 = λ at. total_zero (λ index. refers_to (publisher_at sizes place).port.book at ((publisher_at sizes place).port.book.first + index)) (length (publisher_at sizes place).port.book.uses)
-    (λ index. refers_none (place * sizes.slots) (length {A = ℕ} (replicate sizes.slots 0)) (sizes.subscribers * sizes.slots) at (place * sizes.slots + index)) in
+-- no loan is out, and no history is kept yet
+pub start_counts : (sizes : LaneSizes) (place : ℕ) → CountsLoans (publisher_at sizes place).port.book
+start_counts sizes place =
     let unlent : loans_out (publisher_at sizes place).port.book ≡ 0 = total_zero (λ index. is_out (get_or {A = LoanMark} (replicate sizes.slots mark.No) index mark.No)) (length {A = LoanMark} (replicate sizes.slots mark.No))
     (λ index. ap is_out (get_replicated {X = LoanMark} sizes.slots index mark.No)) in
-    record {
-      most = λ at below. omega (arith, none at);
-      swept = λ at below swept. absurd swept;
-      takes = tt;
-      counts = record { out = λ few. sym unlent; few = omega arith; kept = omega arith };
-    }
+    record { out = λ few. sym unlent; few = omega arith; kept = omega arith }
 
-nothing_borrowed : (sizes : LaneSizes) (place connection : ℕ) → borrowed_of connection (subscriber_at sizes place) ≡ 0
-nothing_borrowed sizes place connection = total_zero (λ slot. borrows connection slot (Some (subscriber_at sizes place))) (length (subscriber_at sizes place).port.samples)
-    (λ slot. ap (λ (o : Option ℕ). is_at connection (route_at o (subscriber_at sizes place))) (get_replicated {X = Option ℕ} (sizes.publishers * sizes.slots) slot None))
-
-start_subscriber : (sizes : LaneSizes) (place : ℕ) → CountsBorrowed (subscriber_at sizes place)
-start_subscriber sizes place = record {
-  numbers = λ at route found.
-      let routes : List Route = receiving_routes sizes place sizes.publishers in
-      let below : at < length routes = slice_get_within routes at route found in
-      let within : at < length {A = ℕ} (replicate (length routes) 0) = omega (arith, below, length-replicate {A = ℕ} (length routes) 0) in
-      let none = nothing_borrowed sizes place route.connection in (
-        slice_get-get_or (replicate (length routes) 0) at 0 within ∙ ap (λ (n : ℕ). Some n) (get_or-replicate {A = ℕ} (length routes) at 0 0 below ∙ sym none),
-        omega (arith, none),
-      );
-  may = tt;
-  ok = tt;
-}
+-- a subscriber borrows nothing of any connection
+pub start_borrowed : (sizes : LaneSizes) (place at : ℕ) → at < length (receiving_routes sizes place sizes.publishers) → slice_get (subscriber_at sizes place).port.borrowed at ≡ Some 0
+start_borrowed sizes place at below =
+    let routes : List Route = receiving_routes sizes place sizes.publishers in
+    let within : at < length {A = ℕ} (replicate (length routes) 0) = omega (arith, below, length-replicate {A = ℕ} (length routes) 0) in
+    slice_get-get_or (replicate (length routes) 0) at 0 within ∙ ap (λ (n : ℕ). Some n) (get_or-replicate {A = ℕ} (length routes) at 0 0 below)
 
 -- the connections of a subscriber are numbered in rows
-start_received : (sizes : LaneSizes) (who : ℕ) → who < sizes.subscribers → HasReceived (listed (link_at sizes) (sizes.publishers * sizes.subscribers)) who (receiving_routes sizes who sizes.publishers)
+pub start_received : (sizes : LaneSizes) (who : ℕ) → who < sizes.subscribers → HasReceived (listed (link_at sizes) (sizes.publishers * sizes.subscribers)) who (receiving_routes sizes who sizes.publishers)
 start_received sizes who below = record {
   each = λ connection link found own.
       let is = listed_is (link_at sizes) (sizes.publishers * sizes.subscribers) connection link found in
       let some : 0 < sizes.subscribers = some_columns sizes.publishers sizes.subscribers connection is.0 in
       let row : connection / sizes.subscribers < sizes.publishers = div_below connection sizes.subscribers sizes.publishers some is.0 in
-      let column : connection % sizes.subscribers ≡ who = ap (λ (l : Link). l.subscriber) (sym is.1) ∙ own in
+      let column : connection % sizes.subscribers ≡ who = ap (λ (l : LinkState). l.subscriber) (sym is.1) ∙ own in
       record {
         place = connection / sizes.subscribers;
         route = route_to sizes (connection / sizes.subscribers * sizes.subscribers + who);
@@ -75,19 +54,6 @@ start_received sizes who below = record {
       sym (div-mul-add i sizes.subscribers who below) ∙ ap (λ (n : ℕ). n / sizes.subscribers) e ∙ div-mul-add j sizes.subscribers who below;
 }
 
-may_at_start : (sizes : LaneSizes) (place : ℕ) (at : Option SubscriberLaneState) → slice_get (start sizes).subscribers place ≡ at → may_borrow at ≤ sizes.most_borrowed
+pub may_at_start : (sizes : LaneSizes) (place : ℕ) (at : Option SubscriberLaneState) → slice_get (start sizes).subscribers place ≡ at → may_borrow at ≤ sizes.most_borrowed
 may_at_start sizes place None e = omega arith
 may_at_start sizes place (Some lane) e = omega (arith, ap (λ (x : SubscriberLaneState). x.port.most_borrowed) ((listed_is (subscriber_at sizes) sizes.subscribers place lane e).1))
-
-pub start_rooms : (sizes : LaneSizes) → RoomsKept (start sizes)
-start_rooms sizes = record {
-  publishers = λ place lane e. subst (λ (x : PublisherLaneState). HasRooms (sizes.buffer + sizes.most_borrowed + 1) (length x.port.routes) x.port.book x.port.call) (sym ((listed_is (publisher_at sizes) sizes.publishers place lane e).1)) (start_publisher sizes place);
-  subscribers = λ place lane e. subst CountsBorrowed (sym ((listed_is (subscriber_at sizes) sizes.subscribers place lane e).1)) (start_subscriber sizes place);
-  receivers = λ place lane e.
-      let is = listed_is (subscriber_at sizes) sizes.subscribers place lane e in
-      subst (λ (x : SubscriberLaneState). HasReceived (listed (link_at sizes) (sizes.publishers * sizes.subscribers)) place x.port.routes) (sym is.1) (start_received sizes place is.0);
-  cells = λ connection link found.
-      let is = (listed_is (link_at sizes) (sizes.publishers * sizes.subscribers) connection link found).1 in
-      omega (arith, ap (λ (l : Link). l.limit) is, may_at_start sizes link.subscriber (slice_get (start sizes).subscribers link.subscriber) refl);
-  releases = All-nil (λ call. GaveBack call.answer);
-}

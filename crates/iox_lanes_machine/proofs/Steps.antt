@@ -33,7 +33,7 @@ use Rattle.iox_lanes_parties.proofs.SubscribersWithin.{subscribers_stay_within}
 use Rattle.iox_lanes_machine.specs.Rings.{push_on, pop_on, waiting}
 use Rattle.iox_lanes_machine.specs.World.{World, publisher_stage, subscriber_stage, pushes_to, pops_from, push_acts, pop_acts, added, added_to, placed, fits, happens, publisher_fits_at, subscriber_fits_at, publisher_begins, publisher_goes_on, publisher_given, subscriber_begins, subscriber_goes_on, subscriber_given}
 use Rattle.iox_lanes_machine.specs.Kept.{IsLinkOf, sender, receiver, IsWithin, IsKeptAt, AreKept}
-use Rattle.iox_lanes_machine.specs.declared.link.Link.{Link}
+use Rattle.iox_lanes_machine.specs.Links.{LinkState}
 use Rattle.iox_lanes_machine.proofs.InTable.{GoesElsewhere, access_elsewhere}
 use Rattle.iox_lanes_machine.proofs.Within.{set_other, set_same, changed_routes}
 use Rattle.iox_lanes_machine.proofs.Ends.{some_is, IsFreshPush, IsFreshPop, fresh_push_shape, fresh_pop_shape, push_off, pop_off, fresh_take, fresh_subscriber_take, push_begins, pop_begins}
@@ -123,7 +123,7 @@ receiver_now lanes place who lane after found = elim (eqb_tells who place) [
 ]
 
 -- a publisher that made no push at a connection, and makes none there or begins one
-push_again : (lanes : List PublisherLaneState) (place : ℕ) (lane after : PublisherLaneState) (connection : ℕ) (link : Link) (words : RingWords) (q : List ℕ) (pop : Pop) → slice_get lanes place ≡ Some lane
+push_again : (lanes : List PublisherLaneState) (place : ℕ) (lane after : PublisherLaneState) (connection : ℕ) (link : LinkState) (words : RingWords) (q : List ℕ) (pop : Pop) → slice_get lanes place ≡ Some lane
     → push_on connection link.kind lane.port.call ≡ push_idle link.kind → IsFreshPush link.kind link.limit (push_on connection link.kind after.port.call)
     → Shape link.kind link.limit words q (push_on connection link.kind (publisher_stage (slice_get lanes link.publisher))) pop
     → Shape link.kind link.limit words q (push_on connection link.kind (publisher_stage (slice_get (set lanes place after) link.publisher))) pop
@@ -134,7 +134,7 @@ push_again lanes place lane after connection link words q pop found idle fresh s
   | inr same ↦ subst (λ (c : PublisherCall). Shape link.kind link.limit words q (push_on connection link.kind c) pop) (sym same) s
 ]
 
-pop_again : (lanes : List SubscriberLaneState) (place : ℕ) (lane after : SubscriberLaneState) (connection : ℕ) (link : Link) (words : RingWords) (q : List ℕ) (push : Push) → slice_get lanes place ≡ Some lane
+pop_again : (lanes : List SubscriberLaneState) (place : ℕ) (lane after : SubscriberLaneState) (connection : ℕ) (link : LinkState) (words : RingWords) (q : List ℕ) (push : Push) → slice_get lanes place ≡ Some lane
     → pop_on connection link.kind lane.port.call ≡ pop_idle link.kind → IsFreshPop link.kind (pop_on connection link.kind after.port.call)
     → Shape link.kind link.limit words q push (pop_on connection link.kind (subscriber_stage (slice_get lanes link.subscriber)))
     → Shape link.kind link.limit words q push (pop_on connection link.kind (subscriber_stage (slice_get (set lanes place after) link.subscriber)))
@@ -165,7 +165,7 @@ begun_subscriber m place c (Some lane) e fit bound w k = λ connection link orde
     (pop_again m.subscribers place lane (subscriber_begun m.moments c lane) connection link _ (waiting link order) _ e fresh.0 fresh.1 was.shape) was
 
 -- the link of a connection where a publisher pushes is its own
-pub pushes_own : (m : World) (place : ℕ) (lane : PublisherLaneState) (connection : ℕ) (link : Link) → slice_get m.publishers place ≡ Some lane → IsWithin m → slice_get m.links connection ≡ Some link → pushes_to lane.port.call ≡ Some connection → link.publisher ≡ place
+pub pushes_own : (m : World) (place : ℕ) (lane : PublisherLaneState) (connection : ℕ) (link : LinkState) → slice_get m.publishers place ≡ Some lane → IsWithin m → slice_get m.links connection ≡ Some link → pushes_to lane.port.call ≡ Some connection → link.publisher ≡ place
 pushes_own m place lane connection link e w found here =
     by_call lane.port.call here (all_at (IsPublisher m.table.sizes) m.publishers place lane e w.publishers).call
   where
@@ -185,7 +185,7 @@ pushes_own m place lane connection link e w found here =
     by_call (publishing.Sent slot delivery) h is = absurd (cc)
     by_call (publishing.Dropping slot) h is = absurd (cc)
 
-pub pops_own : (m : World) (place : ℕ) (lane : SubscriberLaneState) (connection : ℕ) (link : Link) → slice_get m.subscribers place ≡ Some lane → IsWithin m → slice_get m.links connection ≡ Some link → pops_from lane.port.call ≡ Some connection → link.subscriber ≡ place
+pub pops_own : (m : World) (place : ℕ) (lane : SubscriberLaneState) (connection : ℕ) (link : LinkState) → slice_get m.subscribers place ≡ Some lane → IsWithin m → slice_get m.links connection ≡ Some link → pops_from lane.port.call ≡ Some connection → link.subscriber ≡ place
 pops_own m place lane connection link e w found here =
     by_call lane.port.call here (all_at (IsSubscriber m.table.sizes) m.subscribers place lane e w.subscribers).call
   where
@@ -212,7 +212,7 @@ gone_publisher m place lane e bound w k = λ connection link order found got. el
     is : IsPublisher m.table.sizes lane
     is = all_at (IsPublisher m.table.sizes) m.publishers place lane e w.publishers
 
-    active : (connection : ℕ) (link : Link) (order : List Placed) → slice_get m.links connection ≡ Some link → slice_get (added m.orders (pushes_to lane.port.call) m.moments (push_acts m.table lane.port.call)) connection ≡ Some order
+    active : (connection : ℕ) (link : LinkState) (order : List Placed) → slice_get m.links connection ≡ Some link → slice_get (added m.orders (pushes_to lane.port.call) m.moments (push_acts m.table lane.port.call)) connection ≡ Some order
         → pushes_to lane.port.call ≡ Some connection
         → IsKeptAt (after_shared m.table (publisher_next lane.port.call)) (successor m.moments) connection link order (publisher_stage (slice_get (set m.publishers place (publisher_after (publisher_given m.table lane) lane)) link.publisher)) (subscriber_stage (slice_get m.subscribers link.subscriber))
     active connection link order found got here =
@@ -227,7 +227,7 @@ gone_publisher m place lane e bound w k = λ connection link order found got. el
         (push_active m.table m.moments connection m.links place lane.port.routes (words_of lane.port) lane.port.call link before.0 (subscriber_stage (slice_get m.subscribers link.subscriber)) here (w.senders place lane e) is.call found (seat m connection link found w) bound
         (subst (λ (c : PublisherCall). IsKeptAt m.table m.moments connection link before.0 c (subscriber_stage (slice_get m.subscribers link.subscriber))) stage was)))
 
-    quiet : (connection : ℕ) (link : Link) (order : List Placed) → slice_get m.links connection ≡ Some link → slice_get (added m.orders (pushes_to lane.port.call) m.moments (push_acts m.table lane.port.call)) connection ≡ Some order
+    quiet : (connection : ℕ) (link : LinkState) (order : List Placed) → slice_get m.links connection ≡ Some link → slice_get (added m.orders (pushes_to lane.port.call) m.moments (push_acts m.table lane.port.call)) connection ≡ Some order
         → (pushes_to lane.port.call ≡ Some connection → ⊥)
         → IsKeptAt (after_shared m.table (publisher_next lane.port.call)) (successor m.moments) connection link order (publisher_stage (slice_get (set m.publishers place (publisher_after (publisher_given m.table lane) lane)) link.publisher)) (subscriber_stage (slice_get m.subscribers link.subscriber))
     quiet connection link order found got off =
@@ -252,7 +252,7 @@ gone_subscriber m place lane e bound w k = λ connection link order found got. e
     taken : (subscriber_after (subscriber_given m.table lane) lane).port.call ≡ subscriber_take lane.port.routes lane.port.borrowed lane.port.most_borrowed lane.port.call (subscriber_given m.table lane)
     taken = (changed_routes (subscriber_change lane.port.call (subscriber_given m.table lane)) _).1
 
-    active : (connection : ℕ) (link : Link) (order : List Placed) → slice_get m.links connection ≡ Some link → slice_get (added m.orders (pops_from lane.port.call) m.moments (pop_acts m lane.port.call)) connection ≡ Some order
+    active : (connection : ℕ) (link : LinkState) (order : List Placed) → slice_get m.links connection ≡ Some link → slice_get (added m.orders (pops_from lane.port.call) m.moments (pop_acts m lane.port.call)) connection ≡ Some order
         → pops_from lane.port.call ≡ Some connection
         → IsKeptAt (after_shared m.table (subscriber_next lane.port.call)) (successor m.moments) connection link order (publisher_stage (slice_get m.publishers link.publisher)) (subscriber_stage (slice_get (set m.subscribers place (subscriber_after (subscriber_given m.table lane) lane)) link.subscriber))
     active connection link order found got here =
@@ -267,7 +267,7 @@ gone_subscriber m place lane e bound w k = λ connection link order found got. e
         (pop_active m connection place lane.port.routes lane.port.borrowed lane.port.most_borrowed lane.port.call link before.0 here (w.receivers place lane e) is.call found (seat m connection link found w) bound
         (subst (λ (c : SubscriberCall). IsKeptAt m.table m.moments connection link before.0 (publisher_stage (slice_get m.publishers link.publisher)) c) stage was)))
 
-    quiet : (connection : ℕ) (link : Link) (order : List Placed) → slice_get m.links connection ≡ Some link → slice_get (added m.orders (pops_from lane.port.call) m.moments (pop_acts m lane.port.call)) connection ≡ Some order
+    quiet : (connection : ℕ) (link : LinkState) (order : List Placed) → slice_get m.links connection ≡ Some link → slice_get (added m.orders (pops_from lane.port.call) m.moments (pop_acts m lane.port.call)) connection ≡ Some order
         → (pops_from lane.port.call ≡ Some connection → ⊥)
         → IsKeptAt (after_shared m.table (subscriber_next lane.port.call)) (successor m.moments) connection link order (publisher_stage (slice_get m.publishers link.publisher)) (subscriber_stage (slice_get (set m.subscribers place (subscriber_after (subscriber_given m.table lane) lane)) link.subscriber))
     quiet connection link order found got off =

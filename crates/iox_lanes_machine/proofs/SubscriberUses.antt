@@ -40,7 +40,7 @@ use Rattle.iox_lanes_machine.specs.Slots.{LoansStand}
 use Rattle.iox_lanes_machine.specs.World.{World, publisher_stage, subscriber_stage, sender_stage, push_at, pops_from, pop_acts, added, subscriber_given, subscriber_begins, subscriber_goes_on, subscriber_fits_at}
 use Rattle.iox_lanes_machine.specs.Kept.{IsLinkOf, sender, receiver, IsWithin, IsKeptAt, AreKept}
 use Rattle.iox_lanes_machine.specs.Uses.{aside_at, given_back, stands_at, PublisherUses, SubscriberUses, UsesKept}
-use Rattle.iox_lanes_machine.specs.declared.link.Link.{Link}
+use Rattle.iox_lanes_machine.specs.Links.{LinkState}
 use Rattle.iox_lanes_machine.proofs.Calls.{set_is}
 use Rattle.iox_lanes_machine.proofs.Ends.{some_is}
 use Rattle.iox_lanes_machine.proofs.InTable.{access_elsewhere}
@@ -54,11 +54,11 @@ use Rattle.iox_lanes_machine.proofs.Steps.{subscriber_elsewhere, added_other, ad
 use Rattle.iox_lanes_machine.proofs.Within.{set_other, set_same, sizes_stay, changed_routes, subscriber_routes}
 
 -- how often a slot stands at a connection
-abbrev pub Standing : World → ℕ → Link → List Placed → ℕ → ℕ
+abbrev pub Standing : World → ℕ → LinkState → List Placed → ℕ → ℕ
 Standing m connection link order s = stands_at m.table connection link order (publisher_stage (slice_get m.publishers link.publisher)) (slice_get m.subscribers link.subscriber) s
 
 -- the publisher of a connection, and what its record says of a slot there
-pub record IsRecorded (m : World) (connection : ℕ) (link : Link) (order : List Placed) (s : ℕ) : Type 0 where
+pub record IsRecorded (m : World) (connection : ℕ) (link : LinkState) (order : List Placed) (s : ℕ) : Type 0 where
   pub lane : PublisherLaneState
   pub found : slice_get m.publishers link.publisher ≡ Some lane
   pub place : ℕ
@@ -75,7 +75,7 @@ lane_there lanes place None e below = absurd (none_below lanes place below e)
     none_below (x ∷ xs) i lt h = absurd (cc (sym (slice_get-get_or (x ∷ xs) i x lt) ∙ h))
 lane_there lanes place (Some lane) e below = (lane, e)
 
-pub recorded : (m : World) (connection : ℕ) (link : Link) (order : List Placed) → slice_get m.links connection ≡ Some link → slice_get m.orders connection ≡ Some order → AllSendsPut m → UsesKept m → (s : ℕ) → IsRecorded m connection link order s
+pub recorded : (m : World) (connection : ℕ) (link : LinkState) (order : List Placed) → slice_get m.links connection ≡ Some link → slice_get m.orders connection ≡ Some order → AllSendsPut m → UsesKept m → (s : ℕ) → IsRecorded m connection link order s
 recorded m connection link order found got sends u s =
     let there = lane_there m.publishers link.publisher (slice_get m.publishers link.publisher) refl (u.senders connection link found) in
     let among : IsAmong (there.0).port.routes connection = (sends link.publisher there.0 there.1).connections.each connection link found refl in
@@ -97,13 +97,13 @@ has_it true n e some = refl
 has_it false n e some = absurd (omega (arith, e, some))
 
 -- a slot that stands at a connection is one of its publisher's
-pub record IsOf (m : World) (link : Link) (s : ℕ) : Type 0 where
+pub record IsOf (m : World) (link : LinkState) (s : ℕ) : Type 0 where
   pub lane : PublisherLaneState
   pub found : slice_get m.publishers link.publisher ≡ Some lane
   pub above : lane.port.book.first ≤ s
   pub below : s < lane.port.book.first + length lane.port.book.loans
 
-pub of_publisher : (m : World) (connection : ℕ) (link : Link) (order : List Placed) → slice_get m.links connection ≡ Some link → slice_get m.orders connection ≡ Some order → AllSendsPut m → UsesKept m → (s : ℕ) → 0 < Standing m connection link order s → IsOf m link s
+pub of_publisher : (m : World) (connection : ℕ) (link : LinkState) (order : List Placed) → slice_get m.links connection ≡ Some link → slice_get m.orders connection ≡ Some order → AllSendsPut m → UsesKept m → (s : ℕ) → 0 < Standing m connection link order s → IsOf m link s
 of_publisher m connection link order found got sends u s some =
     let r = recorded m connection link order found got sends u s in
     let has : refers_to (r.lane).port.book r.place s ≡ true = has_it (refers_to (r.lane).port.book r.place s) (Standing m connection link order s) r.is some in
@@ -112,7 +112,7 @@ of_publisher m connection link order found got sends u s some =
     record { lane = r.lane; found = r.found; above = own.0; below = omega (arith, own.1, uses.counted.loans_each) }
 
 -- a slot stands at no two connections of one subscriber
-one_connection : (m : World) (one other : ℕ) (link behind : Link) (order order' : List Placed) → slice_get m.links one ≡ Some link → slice_get m.orders one ≡ Some order → slice_get m.links other ≡ Some behind → slice_get m.orders other ≡ Some order'
+one_connection : (m : World) (one other : ℕ) (link behind : LinkState) (order order' : List Placed) → slice_get m.links one ≡ Some link → slice_get m.orders one ≡ Some order → slice_get m.links other ≡ Some behind → slice_get m.orders other ≡ Some order'
     → AllSendsPut m → LoansStand m → UsesKept m → link.subscriber ≡ behind.subscriber → (s : ℕ) → 0 < Standing m one link order s → 0 < Standing m other behind order' s → one ≡ other
 one_connection m one other link behind order order' found got found' got' sends l u same s some some' =
     let x = of_publisher m one link order found got sends u s some in
@@ -126,7 +126,7 @@ one_connection m one other link behind order order' found got found' got' sends 
     ]
 
 -- a subscriber borrows nothing that waits or lies aside at a connection of its own
-unborrowed : (m : World) (who one other : ℕ) (link behind : Link) (order order' : List Placed) (lane : SubscriberLaneState) → slice_get m.subscribers who ≡ Some lane → slice_get m.links one ≡ Some link → slice_get m.orders one ≡ Some order → slice_get m.links other ≡ Some behind → slice_get m.orders other ≡ Some order'
+unborrowed : (m : World) (who one other : ℕ) (link behind : LinkState) (order order' : List Placed) (lane : SubscriberLaneState) → slice_get m.subscribers who ≡ Some lane → slice_get m.links one ≡ Some link → slice_get m.orders one ≡ Some order → slice_get m.links other ≡ Some behind → slice_get m.orders other ≡ Some order'
     → AllSendsPut m → LoansStand m → UsesKept m → link.subscriber ≡ who → behind.subscriber ≡ who → (s : ℕ) → 0 < count s (waiting link order) + count s (aside_at m.table one link (publisher_stage (slice_get m.publishers link.publisher)))
     → (b : Bool) → borrows other s (Some lane) ≡ b → b ≡ false
 unborrowed m who one other link behind order order' lane e found got found' got' sends l u is is' s some false h = refl
@@ -160,21 +160,21 @@ abbrev pub told : World → SubscriberCall → ℕ
 told m c = shared_answer m.table (subscriber_next c)
 
 -- the connection of a subscriber, and its order before and after
-pub record Spot (m : World) (who : ℕ) (c : SubscriberCall) (connection : ℕ) (link : Link) (order order' : List Placed) : Type 0 where
+pub record Spot (m : World) (who : ℕ) (c : SubscriberCall) (connection : ℕ) (link : LinkState) (order order' : List Placed) : Type 0 where
   pub found : slice_get m.links connection ≡ Some link
   pub receiver_is : link.subscriber ≡ who
   pub got : slice_get m.orders connection ≡ Some order
   pub after : slice_get (added m.orders (pops_from c) m.moments (pop_acts m c)) connection ≡ Some order'
 
-pub stage_here : (m : World) (who : ℕ) (lane : SubscriberLaneState) (c : SubscriberCall) (link : Link) → Setting m who lane c → link.subscriber ≡ who → subscriber_stage (slice_get m.subscribers link.subscriber) ≡ c
+pub stage_here : (m : World) (who : ℕ) (lane : SubscriberLaneState) (c : SubscriberCall) (link : LinkState) → Setting m who lane c → link.subscriber ≡ who → subscriber_stage (slice_get m.subscribers link.subscriber) ≡ c
 stage_here m who lane c link k is = ap (λ (i : ℕ). subscriber_stage (slice_get m.subscribers i)) is ∙ ap subscriber_stage k.found ∙ k.stage
 
 -- what a publisher's call is at a connection
-abbrev pub sends_at : World → Link → PublisherCall
+abbrev pub sends_at : World → LinkState → PublisherCall
 sends_at m link = publisher_stage (slice_get m.publishers link.publisher)
 
 -- a step that receives elsewhere leaves what was sent there
-sent_same : (m : World) (who : ℕ) (lane : SubscriberLaneState) (c : SubscriberCall) (connection : ℕ) (link : Link) (order order' : List Placed) → Setting m who lane c → Spot m who c connection link order order' → (pops_from c ≡ Some connection → ⊥) → (s : ℕ)
+sent_same : (m : World) (who : ℕ) (lane : SubscriberLaneState) (c : SubscriberCall) (connection : ℕ) (link : LinkState) (order order' : List Placed) → Setting m who lane c → Spot m who c connection link order order' → (pops_from c ≡ Some connection → ⊥) → (s : ℕ)
     → count s (waiting link order') + count s (aside_at (after_shared m.table (subscriber_next c)) connection link (sends_at m link)) ≡ count s (waiting link order) + count s (aside_at m.table connection link (sends_at m link))
 sent_same m who lane c connection link order order' k p off s =
     let same : order' ≡ order = some_is order' order (sym p.after ∙ added_other m.orders (pops_from c) m.moments (pop_acts m c) connection off ∙ p.got) in
@@ -186,22 +186,22 @@ sent_same m who lane c connection link order order' k p off s =
     )
 
 -- a step that gives back elsewhere leaves what was given back there
-pub returned_same : (m : World) (who : ℕ) (lane : SubscriberLaneState) (c : SubscriberCall) (connection : ℕ) (link : Link) (order order' : List Placed) → Setting m who lane c → Spot m who c connection link order order' → (releases_at c ≡ Some connection → ⊥) → (s : ℕ)
+pub returned_same : (m : World) (who : ℕ) (lane : SubscriberLaneState) (c : SubscriberCall) (connection : ℕ) (link : LinkState) (order order' : List Placed) → Setting m who lane c → Spot m who c connection link order order' → (releases_at c ≡ Some connection → ⊥) → (s : ℕ)
     → count s (given_back (after_shared m.table (subscriber_next c)) connection) ≡ count s (given_back m.table connection)
 returned_same m who lane c connection link order order' k p off s =
     back_same m.table (subscriber_next c) connection
     (back_stays m.table connection m.table.sizes.completion_cells (subscriber_next c) (back_seat m connection link p.found k.some k.within) (subscriber_off m.table connection c off k.access)) s
 
 -- how often a slot stands at a connection after a step
-abbrev After : World → SubscriberCall → SubscriberLaneState → ℕ → Link → List Placed → ℕ → ℕ
+abbrev After : World → SubscriberCall → SubscriberLaneState → ℕ → LinkState → List Placed → ℕ → ℕ
 After m c after connection link order' s = stands_at (after_shared m.table (subscriber_next c)) connection link order' (sends_at m link) (Some after) s
 
 -- and how often before it
-abbrev Before : World → SubscriberLaneState → ℕ → Link → List Placed → ℕ → ℕ
+abbrev Before : World → SubscriberLaneState → ℕ → LinkState → List Placed → ℕ → ℕ
 Before m lane connection link order s = stands_at m.table connection link order (sends_at m link) (Some lane) s
 
 -- a receive takes at its own connection
-taken_there : (m : World) (who : ℕ) (lane : SubscriberLaneState) (place : ℕ) (route : Route) (p : Pop) (waits : Bool) (link : Link) (order order' : List Placed) → Setting m who lane (subscribing.Receiving place route p waits) → Spot m who (subscribing.Receiving place route p waits) route.connection link order order'
+taken_there : (m : World) (who : ℕ) (lane : SubscriberLaneState) (place : ℕ) (route : Route) (p : Pop) (waits : Bool) (link : LinkState) (order order' : List Placed) → Setting m who lane (subscribing.Receiving place route p waits) → Spot m who (subscribing.Receiving place route p waits) route.connection link order order'
     → (s : ℕ) → count s (waiting link order') + count s (aside_at (after_shared m.table (subscriber_next (subscribing.Receiving place route p waits))) route.connection link (sends_at m link))
     + count s (borrowed_in (subscriber_change (subscribing.Receiving place route p waits) (told m (subscribing.Receiving place route p waits)))) ≡ count s (waiting link order) + count s (aside_at m.table route.connection link (sends_at m link))
 taken_there m who lane place route p waits link order order' k spot s =
@@ -211,18 +211,18 @@ taken_there m who lane place route p waits link order order' k spot s =
     let mine : IsLinkOf m.links receiver who route = all_at (IsLinkOf m.links receiver who) lane.port.routes place route k.call_is k.links in
     let same : mine.link ≡ link = some_is mine.link link (sym mine.found ∙ spot.found) in
     let push_is : push_at m route.connection route.kind ≡ push_on route.connection link.kind (sends_at m link) =
-    ap (λ (o : Option Link). push_on route.connection route.kind (sender_stage m o)) spot.found ∙ ap (λ (x : RingKind). push_on route.connection x (sends_at m link)) (mine.kind ∙ ap (λ (l : Link). l.kind) same) in
+    ap (λ (o : Option LinkState). push_on route.connection route.kind (sender_stage m o)) spot.found ∙ ap (λ (x : RingKind). push_on route.connection x (sends_at m link)) (mine.kind ∙ ap (λ (l : LinkState). l.kind) same) in
     let kept : IsKeptAt m.table m.moments route.connection link order (sends_at m link) (subscribing.Receiving place route p waits) =
     subst (λ (x : SubscriberCall). IsKeptAt m.table m.moments route.connection link order (sends_at m link) x) (stage_here m who lane (subscribing.Receiving place route p waits) link k spot.receiver_is) (k.kept route.connection link order spot.found spot.got) in
     omega (
       arith,
       pop_moves m.table m.moments place route p waits link order (sends_at m link) (push_at m route.connection route.kind) route.submission_cells
-          (mine.cells ∙ ap (λ (l : Link). cells_of l.kind l.limit) same) push_is (seat m route.connection link spot.found k.within) k.bound kept s,
+          (mine.cells ∙ ap (λ (l : LinkState). cells_of l.kind l.limit) same) push_is (seat m route.connection link spot.found k.within) k.bound kept s,
       ap (λ (o : List Placed). count s (waiting link o)) is,
     )
 
 -- what it takes is a slot of the service that the subscriber borrows of none of its connections
-pub takes_unborrowed : (m : World) (who : ℕ) (lane : SubscriberLaneState) (place : ℕ) (route : Route) (p : Pop) (waits : Bool) (connection : ℕ) (link : Link) (order order' : List Placed)
+pub takes_unborrowed : (m : World) (who : ℕ) (lane : SubscriberLaneState) (place : ℕ) (route : Route) (p : Pop) (waits : Bool) (connection : ℕ) (link : LinkState) (order order' : List Placed)
     → Setting m who lane (subscribing.Receiving place route p waits) → Spot m who (subscribing.Receiving place route p waits) connection link order order'
     → OwnFits lane connection place (subscriber_change (subscribing.Receiving place route p waits) (told m (subscribing.Receiving place route p waits)))
 takes_unborrowed m who lane place route p waits connection link order order' k spot =
@@ -268,7 +268,7 @@ none_returned place (Some (Got None)) = refl
 none_returned place (Some (Saw some)) = refl
 
 -- a release gives back at its own connection
-pub given_there : (m : World) (who : ℕ) (lane : SubscriberLaneState) (place : ℕ) (route : Route) (p : refusing_push_type.Push) (link : Link) (order order' : List Placed) → Setting m who lane (subscribing.Releasing place route p) → Spot m who (subscribing.Releasing place route p) route.connection link order order'
+pub given_there : (m : World) (who : ℕ) (lane : SubscriberLaneState) (place : ℕ) (route : Route) (p : refusing_push_type.Push) (link : LinkState) (order order' : List Placed) → Setting m who lane (subscribing.Releasing place route p) → Spot m who (subscribing.Releasing place route p) route.connection link order order'
     → (s : ℕ) → count s (given_back (after_shared m.table (subscriber_next (subscribing.Releasing place route p))) route.connection) ≡ count s (given_back m.table route.connection) + count s (returned_in (given_back_by place p))
 given_there m who lane place route p link order order' k spot s =
     let size : route.completion_cells ≡ m.table.sizes.completion_cells = all_at (λ (r : Route). r.completion_cells ≡ m.table.sizes.completion_cells) lane.port.routes place route k.call_is k.round in
@@ -281,7 +281,7 @@ given_there m who lane place route p link order order' k spot s =
     )
 
 -- a step of a call that stands elsewhere, and changes no sample
-still : (m : World) (who : ℕ) (lane after : SubscriberLaneState) (c : SubscriberCall) (connection : ℕ) (link : Link) (order order' : List Placed) → Setting m who lane c → Spot m who c connection link order order' → (pops_from c ≡ Some connection → ⊥) → (releases_at c ≡ Some connection → ⊥)
+still : (m : World) (who : ℕ) (lane after : SubscriberLaneState) (c : SubscriberCall) (connection : ℕ) (link : LinkState) (order order' : List Placed) → Setting m who lane c → Spot m who c connection link order order' → (pops_from c ≡ Some connection → ⊥) → (releases_at c ≡ Some connection → ⊥)
     → ((s : ℕ) → borrows connection s (Some after) ≡ borrows connection s (Some lane)) → (s : ℕ) → After m c after connection link order' s ≡ Before m lane connection link order s
 still m who lane after c connection link order order' k p off off' same s =
     omega (arith, sent_same m who lane c connection link order order' k p off s, returned_same m who lane c connection link order order' k p off' s, ap one_if (same s))
@@ -291,7 +291,7 @@ no_change : (lane after : SubscriberLaneState) (connection : ℕ) → after.port
 no_change lane after connection routes samples s = borrows_same lane after connection s routes (ap (λ (xs : List (Option ℕ)). get_or xs s None) samples)
 
 -- what stands at a connection of a subscriber stands there after its step
-keeps : (m : World) (who : ℕ) (lane after : SubscriberLaneState) (c : SubscriberCall) (connection : ℕ) (link : Link) (order order' : List Placed) → Changes lane after (subscriber_change c (told m c)) → Setting m who lane c → Spot m who c connection link order order'
+keeps : (m : World) (who : ℕ) (lane after : SubscriberLaneState) (c : SubscriberCall) (connection : ℕ) (link : LinkState) (order order' : List Placed) → Changes lane after (subscriber_change c (told m c)) → Setting m who lane c → Spot m who c connection link order order'
     → UsesBorrowed lane.port.samples c → (s : ℕ) → After m c after connection link order' s ≡ Before m lane connection link order s
 keeps m who lane after subscribing.Idle connection link order order' ch k p b = still m who lane after subscribing.Idle connection link order order' k p (λ e. cc e) (λ e. cc e) (no_change lane after connection ch.routes ch.samples)
 keeps m who lane after (subscribing.Receiving place route c waits) connection link order order' ch k p b =
@@ -332,7 +332,7 @@ keeps m who lane after (subscribing.Released done) connection link order order' 
 
 -- the publisher of a connection after a subscriber's step
 publisher_keeps : (m : World) (who : ℕ) (lane after : SubscriberLaneState) (place : ℕ) (z : PublisherLaneState) → Changes lane after (subscriber_change lane.port.call (told m lane.port.call)) → Setting m who lane lane.port.call → slice_get m.publishers place ≡ Some z
-    → (at : ℕ) (route : Route) (link : Link) (order' : List Placed) → slice_get z.port.routes at ≡ Some route → slice_get m.links route.connection ≡ Some link
+    → (at : ℕ) (route : Route) (link : LinkState) (order' : List Placed) → slice_get z.port.routes at ≡ Some route → slice_get m.links route.connection ≡ Some link
     → slice_get (added m.orders (pops_from lane.port.call) m.moments (pop_acts m lane.port.call)) route.connection ≡ Some order' → (s : ℕ)
     → stands_at (after_shared m.table (subscriber_next lane.port.call)) route.connection link order' z.port.call (slice_get (set m.subscribers who after) link.subscriber) s ≡ one_if (refers_to z.port.book at s)
 publisher_keeps m who lane after place z ch k e at route link order' here found got s =

@@ -59,6 +59,7 @@ happens_keeps m party step fit k = record {
       let apart = steps_apart m party step made.0 (happens m party step) made.1 k.within in
       happens_left m party step fit k.within k.loans (k.uses (omega (arith, bound))) (slots_stay m party step made.0 (happens m party step) k.loans apart) (k.left (omega (arith, bound)));
   named = happens_named m party step fit k.within k.named;
+  fresh = λ none. absurd (omega (arith, happens_moments m party step fit, none));
 }
 
 pub steps_keep : (m : World) (party : Party) (step : Move) (r : Stepped) (n : World) → StepsTo m party step r n → IsKept m → IsKept n

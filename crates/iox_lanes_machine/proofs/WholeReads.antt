@@ -20,6 +20,7 @@ use Rattle.iox_lanes_machine.specs.Reads.{width}
 use Rattle.iox_lanes_machine.specs.WholeReads.{UsedThrough, ReadsGiveWhatStood, UntouchedThrough, ReadsGiveWhatWasStored}
 use Rattle.iox_lanes_machine.specs.World.{World, ends, happens, RunsTo}
 use Rattle.iox_lanes_machine.proofs.Apart.{steps_apart}
+use Rattle.iox_lanes_machine.proofs.FoundKept.{all_found}
 use Rattle.iox_lanes_machine.proofs.Held.{word_is, reads_whole}
 use Rattle.iox_lanes_machine.proofs.Start.{listed_get}
 use Rattle.iox_lanes_machine.proofs.ReturnSteps.{happens_ends}
@@ -86,7 +87,7 @@ same_words m n slot h there =
 
 pub reads_give_what_stood : ReadsGiveWhatStood
 reads_give_what_stood m came slot entries n used few party step call fit more is =
-    let first : IsKept m = run_keeps (start came.sizes) came.schedule came.made m came.runs (start_kept came.sizes came.some came.ports came.small) in
+    let first : IsKept m = run_keeps came.begun came.schedule came.made m came.runs (all_found (start came.sizes) came.found came.begun came.finds (start_kept came.sizes came.some came.ports came.small)) in
     let h = through m slot entries n used few first in
     let made = step_made n party step fit (ends n party step) refl in
     let k : IsKept n = h.kept in
@@ -126,7 +127,7 @@ held_at sizes n slot place e below =
 
 pub reads_give_what_was_stored : ReadsGiveWhatWasStored
 reads_give_what_was_stored m came slot place below entries n steps few party step call fit more is =
-    let first : IsKept m = run_keeps (start came.sizes) came.schedule came.made m came.runs (start_kept came.sizes came.some came.ports came.small) in
+    let first : IsKept m = run_keeps came.begun came.schedule came.made m came.runs (all_found (start came.sizes) came.found came.begun came.finds (start_kept came.sizes came.some came.ports came.small)) in
     let h = untouched m (Slot slot (word_at (extent_of m.table.sizes) place)) entries n steps few first in
     let made = step_made n party step fit (ends n party step) refl in
     let k : IsKept n = h.kept in

@@ -33,7 +33,7 @@ use Rattle.iox_lanes_parties.proofs.PublishersWithin.{publishers_stay_within}
 use Rattle.iox_lanes_parties.proofs.SubscribersWithin.{subscribers_stay_within}
 use Rattle.iox_lanes_machine.specs.World.{World, added, added_to, placed, fits, party_ends, happens, publisher_begins, publisher_goes_on, subscriber_begins, subscriber_goes_on, publisher_given, subscriber_given, publisher_fits_at, subscriber_fits_at, subscriber_ends_at, words_ending, words_ending_at}
 use Rattle.iox_lanes_machine.specs.Kept.{IsLink, IsLinkOf, sender, receiver, IsWithin}
-use Rattle.iox_lanes_machine.specs.declared.link.Link.{Link}
+use Rattle.iox_lanes_machine.specs.Links.{LinkState}
 
 pub set_other : {X : Type 0} (xs : List X) (i j : ℕ) (x : X) → (j ≡ i → ⊥) → slice_get (set xs i x) j ≡ slice_get xs j
 set_other [] i j x h = refl
@@ -140,20 +140,20 @@ at_each {X} routes P xs place x y found same all i z e =
     some_is h = cc h
 
 -- a step of a publisher, at which it stays within the service and keeps its connections
-publisher_within : (m n : World) (place : ℕ) (lane after : PublisherLaneState) → slice_get m.publishers place ≡ Some lane → IsPublisher m.table.sizes after → after.port.routes ≡ lane.port.routes
+pub publisher_within : (m n : World) (place : ℕ) (lane after : PublisherLaneState) → slice_get m.publishers place ≡ Some lane → IsPublisher m.table.sizes after → after.port.routes ≡ lane.port.routes
     → n.publishers ≡ set m.publishers place after → n.subscribers ≡ m.subscribers → n.links ≡ m.links → length n.orders ≡ length m.orders
     → n.table.sizes ≡ m.table.sizes → length n.table.words ≡ length m.table.words → IsWithin m → IsWithin n
 publisher_within m n place lane after found is routes p s l o t w k = record {
   publishers = subst (λ (sizes : TableSizes). All (IsPublisher sizes) n.publishers) (sym t) (subst (All (IsPublisher m.table.sizes)) (sym p) (All-set (IsPublisher m.table.sizes) m.publishers place after is k.publishers));
   subscribers = subst (λ (sizes : TableSizes). All (IsSubscriber sizes) n.subscribers) (sym t) (subst (All (IsSubscriber m.table.sizes)) (sym s) k.subscribers);
-  senders = subst (λ (links : List Link). (i : ℕ) (z : PublisherLaneState) → slice_get n.publishers i ≡ Some z → All (IsLinkOf links sender i) z.port.routes) (sym l)
+  senders = subst (λ (links : List LinkState). (i : ℕ) (z : PublisherLaneState) → slice_get n.publishers i ≡ Some z → All (IsLinkOf links sender i) z.port.routes) (sym l)
       (subst (λ (xs : List PublisherLaneState). (i : ℕ) (z : PublisherLaneState) → slice_get xs i ≡ Some z → All (IsLinkOf m.links sender i) z.port.routes) (sym p)
       (at_each (λ (z : PublisherLaneState). z.port.routes) (λ i rs. All (IsLinkOf m.links sender i) rs) m.publishers place lane after found routes k.senders));
-  receivers = subst (λ (links : List Link). (i : ℕ) (z : SubscriberLaneState) → slice_get n.subscribers i ≡ Some z → All (IsLinkOf links receiver i) z.port.routes) (sym l)
+  receivers = subst (λ (links : List LinkState). (i : ℕ) (z : SubscriberLaneState) → slice_get n.subscribers i ≡ Some z → All (IsLinkOf links receiver i) z.port.routes) (sym l)
       (subst (λ (xs : List SubscriberLaneState). (i : ℕ) (z : SubscriberLaneState) → slice_get xs i ≡ Some z → All (IsLinkOf m.links receiver i) z.port.routes) (sym s) k.receivers);
-  links = subst (λ (sizes : TableSizes). (c : ℕ) (link : Link) → slice_get n.links c ≡ Some link → IsLink sizes c link) (sym t)
-      (subst (λ (links : List Link). (c : ℕ) (link : Link) → slice_get links c ≡ Some link → IsLink m.table.sizes c link) (sym l) k.links);
-  orders = o ∙ k.orders ∙ ap (λ (links : List Link). length links) (sym l);
+  links = subst (λ (sizes : TableSizes). (c : ℕ) (link : LinkState) → slice_get n.links c ≡ Some link → IsLink sizes c link) (sym t)
+      (subst (λ (links : List LinkState). (c : ℕ) (link : LinkState) → slice_get links c ≡ Some link → IsLink m.table.sizes c link) (sym l) k.links);
+  orders = o ∙ k.orders ∙ ap (λ (links : List LinkState). length links) (sym l);
   words = w ∙ k.words ∙ ap words_of (sym t);
 }
 
@@ -163,14 +163,14 @@ subscriber_within : (m n : World) (place : ℕ) (lane after : SubscriberLaneStat
 subscriber_within m n place lane after found is routes p s l o t w k = record {
   publishers = subst (λ (sizes : TableSizes). All (IsPublisher sizes) n.publishers) (sym t) (subst (All (IsPublisher m.table.sizes)) (sym s) k.publishers);
   subscribers = subst (λ (sizes : TableSizes). All (IsSubscriber sizes) n.subscribers) (sym t) (subst (All (IsSubscriber m.table.sizes)) (sym p) (All-set (IsSubscriber m.table.sizes) m.subscribers place after is k.subscribers));
-  senders = subst (λ (links : List Link). (i : ℕ) (z : PublisherLaneState) → slice_get n.publishers i ≡ Some z → All (IsLinkOf links sender i) z.port.routes) (sym l)
+  senders = subst (λ (links : List LinkState). (i : ℕ) (z : PublisherLaneState) → slice_get n.publishers i ≡ Some z → All (IsLinkOf links sender i) z.port.routes) (sym l)
       (subst (λ (xs : List PublisherLaneState). (i : ℕ) (z : PublisherLaneState) → slice_get xs i ≡ Some z → All (IsLinkOf m.links sender i) z.port.routes) (sym s) k.senders);
-  receivers = subst (λ (links : List Link). (i : ℕ) (z : SubscriberLaneState) → slice_get n.subscribers i ≡ Some z → All (IsLinkOf links receiver i) z.port.routes) (sym l)
+  receivers = subst (λ (links : List LinkState). (i : ℕ) (z : SubscriberLaneState) → slice_get n.subscribers i ≡ Some z → All (IsLinkOf links receiver i) z.port.routes) (sym l)
       (subst (λ (xs : List SubscriberLaneState). (i : ℕ) (z : SubscriberLaneState) → slice_get xs i ≡ Some z → All (IsLinkOf m.links receiver i) z.port.routes) (sym p)
       (at_each (λ (z : SubscriberLaneState). z.port.routes) (λ i rs. All (IsLinkOf m.links receiver i) rs) m.subscribers place lane after found routes k.receivers));
-  links = subst (λ (sizes : TableSizes). (c : ℕ) (link : Link) → slice_get n.links c ≡ Some link → IsLink sizes c link) (sym t)
-      (subst (λ (links : List Link). (c : ℕ) (link : Link) → slice_get links c ≡ Some link → IsLink m.table.sizes c link) (sym l) k.links);
-  orders = o ∙ k.orders ∙ ap (λ (links : List Link). length links) (sym l);
+  links = subst (λ (sizes : TableSizes). (c : ℕ) (link : LinkState) → slice_get n.links c ≡ Some link → IsLink sizes c link) (sym t)
+      (subst (λ (links : List LinkState). (c : ℕ) (link : LinkState) → slice_get links c ≡ Some link → IsLink m.table.sizes c link) (sym l) k.links);
+  orders = o ∙ k.orders ∙ ap (λ (links : List LinkState). length links) (sym l);
   words = w ∙ k.words ∙ ap words_of (sym t);
 }
 

@@ -12,14 +12,14 @@ use Rattle.iox_lanes_machine.specs.Rings.{waiting}
 use Rattle.iox_lanes_machine.specs.Slots.{IsLoanAt}
 use Rattle.iox_lanes_machine.specs.Uses.{aside_at, given_back, stands_at}
 use Rattle.iox_lanes_machine.specs.World.{World, publisher_stage}
-use Rattle.iox_lanes_machine.specs.declared.link.Link.{Link}
+use Rattle.iox_lanes_machine.specs.Links.{LinkState}
 
 -- a slot stands in no publisher's history
 abbrev pub InNoHistory : World → ℕ → Type 0
 InNoHistory m slot = (place : ℕ) (lane : PublisherLaneState) → slice_get m.publishers place ≡ Some lane → count slot lane.port.book.history ≡ 0
 
 -- a slot does not stand at a connection: it doesn't wait there, lies aside at none of its pushes, is not borrowed of it, and is not among the samples given back there
-pub record IsNotAt (m : World) (connection : ℕ) (link : Link) (order : List Placed) (slot : ℕ) : Type 0 where
+pub record IsNotAt (m : World) (connection : ℕ) (link : LinkState) (order : List Placed) (slot : ℕ) : Type 0 where
   pub waits : count slot (waiting link order) ≡ 0
   pub aside : count slot (aside_at m.table connection link (publisher_stage (slice_get m.publishers link.publisher))) ≡ 0
   pub borrowed : borrows connection slot (slice_get m.subscribers link.subscriber) ≡ false
@@ -27,7 +27,7 @@ pub record IsNotAt (m : World) (connection : ℕ) (link : Link) (order : List Pl
 
 -- a slot stands at no connection
 abbrev pub AtNoConnection : World → ℕ → Type 0
-AtNoConnection m slot = (connection : ℕ) (link : Link) (order : List Placed) → slice_get m.links connection ≡ Some link → slice_get m.orders connection ≡ Some order → IsNotAt m connection link order slot
+AtNoConnection m slot = (connection : ℕ) (link : LinkState) (order : List Placed) → slice_get m.links connection ≡ Some link → slice_get m.orders connection ≡ Some order → IsNotAt m connection link order slot
 
 -- each loan stands in no history and at no connection
 abbrev pub LoansAlone : World → Type 0
@@ -47,7 +47,7 @@ pub record IsRemembered (m : World) (slot : ℕ) : Type 0 where
 -- a slot stands at some connection: it waits there, lies aside, is borrowed or was given back
 pub record IsAtConnection (m : World) (slot : ℕ) : Type 0 where
   pub connection : ℕ
-  pub link : Link
+  pub link : LinkState
   pub order : List Placed
   pub found : slice_get m.links connection ≡ Some link
   pub got : slice_get m.orders connection ≡ Some order

@@ -5,7 +5,7 @@ use Rattle.iox_queues_steps.specs.declared.order.Placed.{Placed}
 use Rattle.iox_lanes_machine.specs.Rings.{waiting}
 use Rattle.iox_lanes_machine.specs.Receipts.{slots_taken}
 use Rattle.iox_lanes_machine.specs.World.{World}
-use Rattle.iox_lanes_machine.specs.declared.link.Link.{Link}
+use Rattle.iox_lanes_machine.specs.Links.{LinkState}
 
 -- the first list is what is left of the second if some of its values are taken out
 abbrev pub IsPartOf : List ℕ → List ℕ → Type 0
@@ -17,10 +17,10 @@ IsPartOf (x ∷ xs) (y ∷ ys) = ((x ≡ y) × IsPartOf xs ys) ⊎ IsPartOf (x �
 abbrev pub slots_put : List Placed → List ℕ
 slots_put order = map (λ put. put.value) (puts order)
 
--- the slots taken at a connection, and behind them those that wait there, are part of those that were put there
-abbrev pub SlotsArrive : Link → List Placed → Type 0
-SlotsArrive link order = IsPartOf (slots_taken order ++ waiting link order) (slots_put order)
+-- the slots taken at a connection, and behind them those that wait there, are part of those that waited before the first step, and behind them those that were put
+abbrev pub SlotsArrive : LinkState → List Placed → Type 0
+SlotsArrive link order = IsPartOf (slots_taken order ++ waiting link order) (link.found ++ slots_put order)
 
 -- so it is of an order of a connection, as long as at most 2^63 steps were made
 abbrev pub OrderArrives : World → ℕ → List Placed → Type 0
-OrderArrives m connection order = m.moments ≤ 2 ^ 63 → (link : Link) → slice_get m.links connection ≡ Some link → SlotsArrive link order
+OrderArrives m connection order = m.moments ≤ 2 ^ 63 → (link : LinkState) → slice_get m.links connection ≡ Some link → SlotsArrive link order

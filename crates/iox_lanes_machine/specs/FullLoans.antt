@@ -17,12 +17,12 @@ use Rattle.iox_lanes_machine.specs.Rings.{waiting}
 use Rattle.iox_lanes_machine.specs.Uses.{aside_at}
 use Rattle.iox_lanes_machine.specs.WholeReads.{CameTo}
 use Rattle.iox_lanes_machine.specs.World.{World, fits, happens, publisher_stage}
-use Rattle.iox_lanes_machine.specs.declared.link.Link.{Link}
+use Rattle.iox_lanes_machine.specs.Links.{LinkState}
 
 -- a slot waits at a connection, lies aside there, or is borrowed of it
 pub record IsHeld (m : World) (slot : ℕ) : Type 0 where
   pub connection : ℕ
-  pub link : Link
+  pub link : LinkState
   pub order : List Placed
   pub found : slice_get m.links connection ≡ Some link
   pub got : slice_get m.orders connection ≡ Some order

@@ -1,5 +1,5 @@
 -- What every step of lanes keeps.
-use Rattle.std.specs.Prelude.{ℕ, ◌≡◌, ◌<◌, ◌≤◌, ◌^◌, List, [], length, slice_get, Option, Some, None}
+use Rattle.std.specs.Prelude.{ℕ, ◌≡◌, ◌+◌, ◌<◌, ◌≤◌, ◌^◌, List, length, slice_get, Option, Some, None}
 use Rattle.std.specs.List.{All}
 use Rattle.iox_queues_steps.specs.Order.{Acts, acts_of, Rises}
 use Rattle.iox_queues_steps.specs.declared.order.Placed.{Placed}
@@ -14,6 +14,7 @@ use Rattle.iox_lanes_parties.specs.Parties.{PublisherLaneState, SubscriberLaneSt
 use Rattle.iox_lanes_parties.specs.Within.{IsPublisher, IsSubscriber}
 use Rattle.iox_lanes_machine.specs.Rings.{ring_in, waiting, push_on, pop_on}
 use Rattle.iox_lanes_machine.specs.Calls.{CallsKeepTime}
+use Rattle.iox_lanes_machine.specs.Fresh.{IsFresh}
 use Rattle.iox_lanes_machine.specs.Held.{ReadsFollow}
 use Rattle.iox_lanes_machine.specs.Left.{StoresFollow}
 use Rattle.iox_lanes_machine.specs.Opening.{SlotsNamed}
@@ -25,19 +26,19 @@ use Rattle.iox_lanes_machine.specs.Sends.{SendsFollow}
 use Rattle.iox_lanes_machine.specs.Slots.{LoansStand}
 use Rattle.iox_lanes_machine.specs.Uses.{UsesFollow}
 use Rattle.iox_lanes_machine.specs.World.{World, publisher_stage, subscriber_stage}
-use Rattle.iox_lanes_machine.specs.declared.link.Link.{Link}
+use Rattle.iox_lanes_machine.specs.Links.{LinkState}
 
 -- the port of a link that sends
-abbrev pub sender : Link → ℕ
+abbrev pub sender : LinkState → ℕ
 sender link = link.publisher
 
 -- the port of a link that receives
-abbrev pub receiver : Link → ℕ
+abbrev pub receiver : LinkState → ℕ
 receiver link = link.subscriber
 
 -- a connection that a port has is a link of it, whose ring has just the cells that it needs
-pub record IsLinkOf (links : List Link) (port : Link → ℕ) (place : ℕ) (route : Route) : Type 0 where
-  pub link : Link
+pub record IsLinkOf (links : List LinkState) (port : LinkState → ℕ) (place : ℕ) (route : Route) : Type 0 where
+  pub link : LinkState
   pub found : slice_get links route.connection ≡ Some link
   pub own : port link ≡ place
   pub kind : route.kind ≡ link.kind
@@ -45,7 +46,7 @@ pub record IsLinkOf (links : List Link) (port : Link → ℕ) (place : ℕ) (rou
   pub cells : route.submission_cells ≡ cells_of link.kind link.limit
 
 -- a link has its ring among the words of the service
-pub record IsLink (sizes : TableSizes) (connection : ℕ) (link : Link) : Type 0 where
+pub record IsLink (sizes : TableSizes) (connection : ℕ) (link : LinkState) : Type 0 where
   pub connection_is : connection < sizes.connections
   pub cells : cells_of link.kind link.limit ≤ sizes.submission_cells
 
@@ -60,27 +61,27 @@ pub record IsWithin (m : World) : Type 0 where
   pub subscribers : All (IsSubscriber m.table.sizes) m.subscribers
   pub senders : (place : ℕ) (lane : PublisherLaneState) → slice_get m.publishers place ≡ Some lane → All (IsLinkOf m.links sender place) lane.port.routes
   pub receivers : (place : ℕ) (lane : SubscriberLaneState) → slice_get m.subscribers place ≡ Some lane → All (IsLinkOf m.links receiver place) lane.port.routes
-  pub links : (connection : ℕ) (link : Link) → slice_get m.links connection ≡ Some link → IsLink m.table.sizes connection link
+  pub links : (connection : ℕ) (link : LinkState) → slice_get m.links connection ≡ Some link → IsLink m.table.sizes connection link
   pub orders : length m.orders ≡ length m.links
   pub words : length m.table.words ≡ words_of m.table.sizes
 
--- the order of a connection answers as its mailbox does, and its moments never fall
-pub record FollowsMailbox (link : Link) (order : List Placed) (moments : ℕ) : Type 0 where
-  pub acts : Acts (overflows link.kind) link.limit [] (acts_of order)
+-- the order of a connection answers as its mailbox does, from what waited before the first step on, and its moments never fall
+pub record FollowsMailbox (link : LinkState) (order : List Placed) (moments : ℕ) : Type 0 where
+  pub acts : Acts (overflows link.kind) link.limit link.found (acts_of order)
   pub rises : Rises 0 order moments
 
--- a connection has its order, and its ring holds what the order leaves; the calls are those of its two ports
-pub record IsKeptAt (table : TableWords) (moments connection : ℕ) (link : Link) (order : List Placed) (sends : PublisherCall) (receives : SubscriberCall) : Type 0 where
+-- a connection has its order, and its ring holds what the order leaves; the calls are those of its two ports; the write position is not so far beyond the steps made that it wraps
+pub record IsKeptAt (table : TableWords) (moments connection : ℕ) (link : LinkState) (order : List Placed) (sends : PublisherCall) (receives : SubscriberCall) : Type 0 where
   pub mailbox : FollowsMailbox link order moments
   pub shape : Shape link.kind link.limit (ring_in table connection (cells_of link.kind link.limit)) (waiting link order) (push_on connection link.kind sends) (pop_on connection link.kind receives)
-  pub few : (ring_in table connection (cells_of link.kind link.limit)).write ≤ moments
+  pub few : (ring_in table connection (cells_of link.kind link.limit)).write ≤ moments + 2 ^ 62
 
 -- so it is at each connection
 abbrev pub AreKept : World → Type 0
-AreKept m = (connection : ℕ) (link : Link) (order : List Placed) → slice_get m.links connection ≡ Some link → slice_get m.orders connection ≡ Some order
+AreKept m = (connection : ℕ) (link : LinkState) (order : List Placed) → slice_get m.links connection ≡ Some link → slice_get m.orders connection ≡ Some order
     → IsKeptAt m.table m.moments connection link order (publisher_stage (slice_get m.publishers link.publisher)) (subscriber_stage (slice_get m.subscribers link.subscriber))
 
--- all of this; a position may not have wrapped while no more than 2^63 steps were made
+-- all of this; a position may not have wrapped while no more than 2^63 steps were made; and before the first step the lanes are as they begin
 pub record IsKept (m : World) : Type 0 where
   pub within : IsWithin m
   pub rings : m.moments ≤ 2 ^ 63 → AreKept m
@@ -95,3 +96,4 @@ pub record IsKept (m : World) : Type 0 where
   pub left : StoresFollow m
   pub rooms : RoomsFollow m
   pub named : SlotsNamed m
+  pub fresh : m.moments ≡ 0 → IsFresh m

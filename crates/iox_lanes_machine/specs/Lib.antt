@@ -1,4 +1,5 @@
 -- The definitions that contracts about lanes cite.
+pub mod Links
 pub mod Rings
 pub mod World
 pub mod Kept
@@ -26,3 +27,5 @@ pub mod FullLoans
 pub mod Opening
 pub mod PermittedLoans
 pub mod Queues
+pub mod Fresh
+pub mod Findings

@@ -10,7 +10,7 @@ use Rattle.iox_lanes_subscriber.specs.Keeping.{new_subscriber}
 use Rattle.iox_lanes_parties.specs.Parties.{PublisherLaneState, SubscriberLaneState}
 use Rattle.iox_lanes_parties.specs.declared.call.CallName.TheVariants as name
 use Rattle.iox_lanes_machine.specs.World.{World}
-use Rattle.iox_lanes_machine.specs.declared.link.Link.{Link}
+use Rattle.iox_lanes_machine.specs.Links.{LinkState}
 use Rattle.iox_lanes_machine.specs.declared.sizes.LaneSizes.{LaneSizes}
 
 -- the values at 0, 1 and so on, so many of them
@@ -34,12 +34,13 @@ table_sizes sizes = record {
 }
 
 -- connections are numbered publisher by publisher, and for each subscriber by subscriber
-abbrev pub link_at : LaneSizes → ℕ → Link
+abbrev pub link_at : LaneSizes → ℕ → LinkState
 link_at sizes connection = record {
   publisher = connection / sizes.subscribers;
   subscriber = connection % sizes.subscribers;
   kind = sizes.kind;
   limit = sizes.buffer;
+  found = [];
 }
 
 -- a connection as its ports know it

@@ -9,11 +9,11 @@ use Rattle.iox_lanes_words.specs.declared.word.SharedWord.TheVariants.{Ring}
 use Rattle.iox_lanes_machine.specs.Kept.{FollowsMailbox}
 use Rattle.iox_lanes_machine.specs.World.{World}
 use Rattle.iox_lanes_machine.specs.declared.link.Positions.{Positions}
-use Rattle.iox_lanes_machine.specs.declared.link.Link.{Link}
+use Rattle.iox_lanes_machine.specs.Links.{LinkState}
 
 -- an order of a connection answers as the connection's mailbox does
 abbrev pub OrderFollows : World → ℕ → List Placed → Type 0
-OrderFollows m connection order = m.moments ≤ 2 ^ 63 → (link : Link) → slice_get m.links connection ≡ Some link → FollowsMailbox link order m.moments
+OrderFollows m connection order = m.moments ≤ 2 ^ 63 → (link : LinkState) → slice_get m.links connection ≡ Some link → FollowsMailbox link order m.moments
 
 -- so does the order of each connection
 abbrev pub OrdersFollow : World → Type 0
@@ -29,10 +29,10 @@ positions_of table connection = record {
 }
 
 -- no more messages stand between the two positions than may wait, and at most one more where the ring drops its oldest
-pub record AreNear (link : Link) (positions : Positions) : Type 0 where
+pub record AreNear (link : LinkState) (positions : Positions) : Type 0 where
   pub behind : positions.submission_read ≤ positions.submission_write
   pub near : positions.submission_write ≤ positions.submission_read + link.limit + (if overflows link.kind then 1 else 0)
 
 -- so it is at a connection
 abbrev pub PositionsNear : World → ℕ → Positions → Type 0
-PositionsNear m connection positions = m.moments ≤ 2 ^ 63 → (link : Link) → slice_get m.links connection ≡ Some link → AreNear link positions
+PositionsNear m connection positions = m.moments ≤ 2 ^ 63 → (link : LinkState) → slice_get m.links connection ≡ Some link → AreNear link positions

@@ -18,7 +18,7 @@ use Rattle.iox_lanes_calls.specs.declared.subscriber.SubscriberCall.{SubscriberC
 use Rattle.iox_lanes_calls.specs.declared.subscriber.SubscriberCall.TheVariants as subscribing
 use Rattle.iox_lanes_parties.specs.Parties.{PublisherLaneState, SubscriberLaneState}
 use Rattle.iox_lanes_machine.specs.World.{World}
-use Rattle.iox_lanes_machine.specs.declared.link.Link.{Link}
+use Rattle.iox_lanes_machine.specs.Links.{LinkState}
 
 -- a cell of a ring of a connection
 abbrev pub cell_of : ℕ → ConnectionRing → ℕ → SharedWord
@@ -84,4 +84,4 @@ pub record SlotsNamed (m : World) : Type 0 where
   pub cells : CellsNameSlots m.table
   pub publishers : (place : ℕ) (lane : PublisherLaneState) → slice_get m.publishers place ≡ Some lane → SendsSlot m.table.sizes.slots lane.port.call
   pub subscribers : (place : ℕ) (lane : SubscriberLaneState) → slice_get m.subscribers place ≡ Some lane → GivesSlot m.table.sizes.slots lane.port.call
-  pub room : (connection : ℕ) (link : Link) → slice_get m.links connection ≡ Some link → 0 < link.limit
+  pub room : (connection : ℕ) (link : LinkState) → slice_get m.links connection ≡ Some link → 0 < link.limit

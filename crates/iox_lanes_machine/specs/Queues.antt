@@ -8,7 +8,7 @@ use Rattle.iox_lanes_ledger.specs.Borrowing.{borrows}
 use Rattle.iox_lanes_ledger.specs.Uses.{refers_to}
 use Rattle.iox_lanes_machine.specs.Uses.{given_back}
 use Rattle.iox_lanes_machine.specs.World.{World}
-use Rattle.iox_lanes_machine.specs.declared.link.Link.{Link}
+use Rattle.iox_lanes_machine.specs.Links.{LinkState}
 
 -- a publisher's record says before a step that a connection has a slot, and behind it no longer
 pub record IsTakenBack (m n : World) (who connection slot : ℕ) : Type 0 where
@@ -24,7 +24,7 @@ pub record IsTakenBack (m n : World) (who connection slot : ℕ) : Type 0 where
   pub lacks : refers_to after.port.book place slot ≡ false
 
 -- a step leaves the samples given back at a connection; or its subscriber puts one behind them, which it borrowed until then; or its publisher takes the first
-abbrev pub QueueMoves : World → Party → World → ℕ → Link → Type 0
+abbrev pub QueueMoves : World → Party → World → ℕ → LinkState → Type 0
 QueueMoves m party n connection link =
     (given_back n.table connection ≡ given_back m.table connection)
     ⊎ (((sample : ℕ) × (party ≡ Subscriber link.subscriber) × (borrows connection sample (slice_get m.subscribers link.subscriber) ≡ true)
@@ -33,4 +33,4 @@ QueueMoves m party n connection link =
 
 -- so it is at each connection, as long as at most 2^63 steps were made
 abbrev pub GivenBackInTurn : World → Party → World → Type 0
-GivenBackInTurn m party n = n.moments ≤ 2 ^ 63 → (connection : ℕ) (link : Link) → slice_get m.links connection ≡ Some link → QueueMoves m party n connection link
+GivenBackInTurn m party n = n.moments ≤ 2 ^ 63 → (connection : ℕ) (link : LinkState) → slice_get m.links connection ≡ Some link → QueueMoves m party n connection link

@@ -16,7 +16,7 @@ use Rattle.iox_lanes_parties.specs.declared.call.FinishedCall.{FinishedCall}
 use Rattle.iox_lanes_parties.specs.declared.call.Party.{Party}
 use Rattle.iox_lanes_parties.specs.declared.call.Party.TheVariants.{Publisher, Subscriber}
 use Rattle.iox_lanes_machine.specs.World.{World, subscriber_stage}
-use Rattle.iox_lanes_machine.specs.declared.link.Link.{Link}
+use Rattle.iox_lanes_machine.specs.Links.{LinkState}
 
 -- the slots that some takes gave
 abbrev pub slots_of : List PopAnswer → List ℕ
@@ -77,13 +77,13 @@ routes_of None = []
 routes_of (Some lane) = lane.port.routes
 
 -- the receives of a connection's subscriber gave the slots taken there, and no other of it
-abbrev pub ReceivesGive : List FinishedCall → ℕ → Link → List Placed → Option SubscriberLaneState → Type 0
+abbrev pub ReceivesGive : List FinishedCall → ℕ → LinkState → List Placed → Option SubscriberLaneState → Type 0
 ReceivesGive finished connection link order lane =
     slots_taken order ≡ given_calls (routes_of lane) connection link.subscriber finished ++ given_in_hand (routes_of lane) connection (subscriber_stage lane)
 
 -- so it is at each connection
 abbrev pub AllReceivesGive : World → Type 0
-AllReceivesGive m = (connection : ℕ) (link : Link) (order : List Placed) → slice_get m.links connection ≡ Some link → slice_get m.orders connection ≡ Some order
+AllReceivesGive m = (connection : ℕ) (link : LinkState) (order : List Placed) → slice_get m.links connection ≡ Some link → slice_get m.orders connection ≡ Some order
     → ReceivesGive m.finished connection link order (slice_get m.subscribers link.subscriber)
 
 -- so it is as long as at most 2^63 steps were made

@@ -21,7 +21,7 @@ use Rattle.iox_lanes_calls.specs.declared.subscriber.SubscriberCall.{SubscriberC
 use Rattle.iox_lanes_calls.specs.declared.subscriber.SubscriberCall.TheVariants as subscribing
 use Rattle.iox_lanes_parties.specs.Parties.{PublisherLaneState, SubscriberLaneState}
 use Rattle.iox_lanes_machine.specs.World.{World, publisher_stage, subscriber_stage}
-use Rattle.iox_lanes_machine.specs.declared.link.Link.{Link}
+use Rattle.iox_lanes_machine.specs.Links.{LinkState}
 use Rattle.iox_lanes_machine.specs.declared.link.Positions.{Positions}
 
 -- a word of the ring of samples given back at a connection
@@ -68,11 +68,11 @@ release_on connection (subscribing.Released done) = push.Idle
 pub record IsReturning (cells : ℕ) (table : TableWords) (moments connection : ℕ) (sends : PublisherCall) (receives : SubscriberCall) : Type 0 where
   pub list : List ℕ
   pub shape : Shape cells (back_ring table connection cells) list (release_on connection receives) (reclaim_on connection sends)
-  pub few : (back_ring table connection cells).write ≤ moments
+  pub few : (back_ring table connection cells).write ≤ moments + 2 ^ 62
 
 -- so it is at each connection
 abbrev pub AreReturning : World → Type 0
-AreReturning m = (connection : ℕ) (link : Link) → slice_get m.links connection ≡ Some link
+AreReturning m = (connection : ℕ) (link : LinkState) → slice_get m.links connection ≡ Some link
     → IsReturning m.table.sizes.completion_cells m.table m.moments connection (publisher_stage (slice_get m.publishers link.publisher)) (subscriber_stage (slice_get m.subscribers link.subscriber))
 
 -- both ends go round as many cells as the ring has

@@ -1,5 +1,5 @@
 -- The ring of messages of a connection, as it lies in the table of all words, and the two ends that stand at it.
-use Rattle.std.specs.Prelude.{ℕ, ◌==◌, if◌then◌else◌, List, [], take, drop}
+use Rattle.std.specs.Prelude.{ℕ, ◌==◌, if◌then◌else◌, List, take, drop}
 use Rattle.iox_queues_steps.specs.Access.{RingWords}
 use Rattle.iox_queues_steps.specs.Order.{after_acts, acts_of}
 use Rattle.iox_queues_steps.specs.declared.access.Word.{Word}
@@ -18,7 +18,7 @@ use Rattle.iox_lanes_calls.specs.declared.publisher.PublisherCall.{PublisherCall
 use Rattle.iox_lanes_calls.specs.declared.publisher.PublisherCall.TheVariants as publishing
 use Rattle.iox_lanes_calls.specs.declared.subscriber.SubscriberCall.{SubscriberCall}
 use Rattle.iox_lanes_calls.specs.declared.subscriber.SubscriberCall.TheVariants as subscribing
-use Rattle.iox_lanes_machine.specs.declared.link.Link.{Link}
+use Rattle.iox_lanes_machine.specs.Links.{LinkState}
 
 -- a word of the ring of messages of a connection
 abbrev pub sent_word : ℕ → Word → SharedWord
@@ -36,9 +36,9 @@ ring_in table connection cells = record {
   read = held_by table (sent_word connection Read);
 }
 
--- what waits at a connection, by its order
-abbrev pub waiting : Link → List Placed → List ℕ
-waiting link order = after_acts (overflows link.kind) link.limit [] (acts_of order)
+-- what waits at a connection, by what waited before the first step and by its order
+abbrev pub waiting : LinkState → List Placed → List ℕ
+waiting link order = after_acts (overflows link.kind) link.limit link.found (acts_of order)
 
 -- the push of a call on a connection; a call that stands elsewhere makes none there
 abbrev pub push_on : ℕ → RingKind → PublisherCall → Push

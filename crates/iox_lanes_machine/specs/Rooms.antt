@@ -8,7 +8,7 @@ use Rattle.iox_lanes_parties.specs.declared.call.Answer.TheVariants as answer
 use Rattle.iox_lanes_ledger.specs.Rooms.{HasRooms, CountsBorrowed}
 use Rattle.iox_lanes_machine.specs.Sends.{IsAmong}
 use Rattle.iox_lanes_machine.specs.World.{World}
-use Rattle.iox_lanes_machine.specs.declared.link.Link.{Link}
+use Rattle.iox_lanes_machine.specs.Links.{LinkState}
 
 -- how many samples of a connection a subscriber may borrow; one that is not there borrows none
 abbrev pub may_borrow : Option SubscriberLaneState → ℕ
@@ -16,8 +16,8 @@ may_borrow None = 0
 may_borrow (Some lane) = lane.port.most_borrowed
 
 -- the list has each connection of a subscriber, and each but once
-pub record HasReceived (links : List Link) (who : ℕ) (routes : List Route) : Type 0 where
-  pub each : (connection : ℕ) (link : Link) → slice_get links connection ≡ Some link → link.subscriber ≡ who → IsAmong routes connection
+pub record HasReceived (links : List LinkState) (who : ℕ) (routes : List Route) : Type 0 where
+  pub each : (connection : ℕ) (link : LinkState) → slice_get links connection ≡ Some link → link.subscriber ≡ who → IsAmong routes connection
   pub once : (i j : ℕ) (one other : Route) → slice_get routes i ≡ Some one → slice_get routes j ≡ Some other → one.connection ≡ other.connection → i ≡ j
 
 -- a release gave its sample back
@@ -43,7 +43,7 @@ pub record RoomsKept (m : World) : Type 0 where
   pub publishers : (place : ℕ) (lane : PublisherLaneState) → slice_get m.publishers place ≡ Some lane → HasRooms m.table.sizes.completion_cells (length lane.port.routes) lane.port.book lane.port.call
   pub subscribers : (place : ℕ) (lane : SubscriberLaneState) → slice_get m.subscribers place ≡ Some lane → CountsBorrowed lane
   pub receivers : (place : ℕ) (lane : SubscriberLaneState) → slice_get m.subscribers place ≡ Some lane → HasReceived m.links place lane.port.routes
-  pub cells : (connection : ℕ) (link : Link) → slice_get m.links connection ≡ Some link → link.limit + may_borrow (slice_get m.subscribers link.subscriber) < m.table.sizes.completion_cells
+  pub cells : (connection : ℕ) (link : LinkState) → slice_get m.links connection ≡ Some link → link.limit + may_borrow (slice_get m.subscribers link.subscriber) < m.table.sizes.completion_cells
   pub releases : ReleasesGaveBack m
 
 -- so it is as long as at most 2^63 steps were made

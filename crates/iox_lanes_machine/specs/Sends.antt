@@ -23,7 +23,7 @@ use Rattle.iox_lanes_parties.specs.declared.call.Party.{Party}
 use Rattle.iox_lanes_parties.specs.declared.call.Party.TheVariants.{Publisher, Subscriber}
 use Rattle.iox_lanes_machine.specs.Rings.{sent_word, push_on}
 use Rattle.iox_lanes_machine.specs.World.{World}
-use Rattle.iox_lanes_machine.specs.declared.link.Link.{Link}
+use Rattle.iox_lanes_machine.specs.Links.{LinkState}
 
 -- how many of some puts were taken in
 abbrev pub taken_among : List PushAnswer → ℕ
@@ -151,8 +151,8 @@ pub record IsAmong (routes : List Route) (connection : ℕ) : Type 0 where
   pub same : route.connection ≡ connection
 
 -- the list has each connection of a publisher, and each but once
-pub record HasConnections (links : List Link) (who : ℕ) (routes : List Route) : Type 0 where
-  pub each : (connection : ℕ) (link : Link) → slice_get links connection ≡ Some link → link.publisher ≡ who → IsAmong routes connection
+pub record HasConnections (links : List LinkState) (who : ℕ) (routes : List Route) : Type 0 where
+  pub each : (connection : ℕ) (link : LinkState) → slice_get links connection ≡ Some link → link.publisher ≡ who → IsAmong routes connection
   pub once : (i j : ℕ) (one other : Route) → slice_get routes i ≡ Some one → slice_get routes j ≡ Some other → one.connection ≡ other.connection → i ≡ j
 
 -- the sends of a publisher, in their order, have put just the puts that stand at its connections, but for what the send that it is in has put so far

@@ -13,10 +13,10 @@ use Rattle.iox_lanes_ledger.specs.Uses.{one_if, count, refers_to, UsesCounted}
 use Rattle.iox_lanes_machine.specs.Returns.{back_ring}
 use Rattle.iox_lanes_machine.specs.Rings.{sent_word, push_on, waiting}
 use Rattle.iox_lanes_machine.specs.World.{World}
-use Rattle.iox_lanes_machine.specs.declared.link.Link.{Link}
+use Rattle.iox_lanes_machine.specs.Links.{LinkState}
 
 -- what lies aside at a connection, where its publisher's call stands
-abbrev pub aside_at : TableWords → ℕ → Link → PublisherCall → List ℕ
+abbrev pub aside_at : TableWords → ℕ → LinkState → PublisherCall → List ℕ
 aside_at table connection link call = aside (held_by table (sent_word connection Read)) (push_on connection link.kind call)
 
 -- the samples that were given back at a connection and not taken back
@@ -24,13 +24,13 @@ abbrev pub given_back : TableWords → ℕ → List ℕ
 given_back table connection = between (back_ring table connection table.sizes.completion_cells)
 
 -- how often a slot stands at a connection: among the messages that wait, aside, borrowed, and given back
-abbrev pub stands_at : TableWords → ℕ → Link → List Placed → PublisherCall → Option SubscriberLaneState → ℕ → ℕ
+abbrev pub stands_at : TableWords → ℕ → LinkState → List Placed → PublisherCall → Option SubscriberLaneState → ℕ → ℕ
 stands_at table connection link order call receiver slot =
     count slot (waiting link order) + count slot (aside_at table connection link call) + one_if (borrows connection slot receiver) + count slot (given_back table connection)
 
 -- what a publisher's record says of each of its connections stands there
 abbrev pub IsBalanced : World → PublisherLaneState → Type 0
-IsBalanced m lane = (place : ℕ) (route : Route) (link : Link) (order : List Placed) → slice_get lane.port.routes place ≡ Some route → slice_get m.links route.connection ≡ Some link → slice_get m.orders route.connection ≡ Some order
+IsBalanced m lane = (place : ℕ) (route : Route) (link : LinkState) (order : List Placed) → slice_get lane.port.routes place ≡ Some route → slice_get m.links route.connection ≡ Some link → slice_get m.orders route.connection ≡ Some order
     → (slot : ℕ) → stands_at m.table route.connection link order lane.port.call (slice_get m.subscribers link.subscriber) slot ≡ one_if (refers_to lane.port.book place slot)
 
 -- what every step keeps of a publisher's slots
@@ -49,8 +49,8 @@ pub record SubscriberUses (m : World) (lane : SubscriberLaneState) : Type 0 wher
 pub record UsesKept (m : World) : Type 0 where
   pub publishers : (place : ℕ) (lane : PublisherLaneState) → slice_get m.publishers place ≡ Some lane → PublisherUses m lane
   pub subscribers : (place : ℕ) (lane : SubscriberLaneState) → slice_get m.subscribers place ≡ Some lane → SubscriberUses m lane
-  pub senders : (connection : ℕ) (link : Link) → slice_get m.links connection ≡ Some link → link.publisher < length m.publishers
-  pub pairs : (one other : ℕ) (link behind : Link) → slice_get m.links one ≡ Some link → slice_get m.links other ≡ Some behind → link.publisher ≡ behind.publisher → link.subscriber ≡ behind.subscriber → one ≡ other
+  pub senders : (connection : ℕ) (link : LinkState) → slice_get m.links connection ≡ Some link → link.publisher < length m.publishers
+  pub pairs : (one other : ℕ) (link behind : LinkState) → slice_get m.links one ≡ Some link → slice_get m.links other ≡ Some behind → link.publisher ≡ behind.publisher → link.subscriber ≡ behind.subscriber → one ≡ other
 
 -- so it is as long as at most 2^63 steps were made
 abbrev pub UsesFollow : World → Type 0

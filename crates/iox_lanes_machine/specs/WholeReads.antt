@@ -11,21 +11,26 @@ use Rattle.iox_lanes_parties.specs.declared.call.Move.{Move}
 use Rattle.iox_lanes_parties.specs.declared.call.Party.{Party}
 use Rattle.iox_lanes_machine.specs.Alone.{IsRemembered, IsAtConnection}
 use Rattle.iox_lanes_machine.specs.Apart.{MayChange, access_of}
+use Rattle.iox_lanes_machine.specs.Findings.{AreFound}
 use Rattle.iox_lanes_machine.specs.Held.{extent_of, slot_held}
 use Rattle.iox_lanes_machine.specs.Made.{start}
 use Rattle.iox_lanes_machine.specs.Reads.{width}
 use Rattle.iox_lanes_machine.specs.World.{World, fits, happens, RunsTo}
+use Rattle.iox_lanes_machine.specs.declared.found.Found.{Found}
 use Rattle.iox_lanes_machine.specs.declared.sizes.LaneSizes.{LaneSizes}
 
--- lanes that were made, and where some steps brought them
+-- lanes that were made, what they found before their first step, and where some steps brought them
 pub record CameTo (m : World) : Type 0 where
   pub sizes : LaneSizes
   pub some : 0 < sizes.buffer
   pub ports : sizes.subscribers < 2 ^ 61
   pub small : sizes.buffer + sizes.most_borrowed + 1 < 2 ^ 62
+  pub found : List Found
+  pub begun : World
+  pub finds : AreFound (start sizes) found begun
   pub schedule : List Entry
   pub made : ℕ
-  pub runs : RunsTo (start sizes) schedule made m
+  pub runs : RunsTo begun schedule made m
 
 -- a list of steps leads from one place to another, and before each of them the slot stands in a history or at a connection
 abbrev pub UsedThrough : ℕ → World → List Entry → World → Type 0

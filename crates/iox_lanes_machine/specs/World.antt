@@ -28,13 +28,13 @@ use Rattle.iox_lanes_parties.specs.declared.call.Move.TheVariants.{Begin, GoOn}
 use Rattle.iox_lanes_parties.specs.declared.call.Party.{Party}
 use Rattle.iox_lanes_parties.specs.declared.call.Party.TheVariants.{Publisher, Subscriber}
 use Rattle.iox_lanes_machine.specs.Rings.{sent_word, ring_in, push_on}
-use Rattle.iox_lanes_machine.specs.declared.link.Link.{Link}
+use Rattle.iox_lanes_machine.specs.Links.{LinkState}
 
 -- The shared words, the links that the connections are, the parties, for each connection the order of its puts, takes and looks, how many steps were made,
 -- the calls that ended, and the words that all finished reads loaded, one read after the other.
 pub record World : Type 0 where
   pub table : TableWords
-  pub links : List Link
+  pub links : List LinkState
   pub publishers : List PublisherLaneState
   pub subscribers : List SubscriberLaneState
   pub orders : List (List Placed)
@@ -154,7 +154,7 @@ subscriber_stage None = subscribing.Idle
 subscriber_stage (Some lane) = lane.port.call
 
 -- where the call of a link's publisher stands
-abbrev pub sender_stage : World → Option Link → PublisherCall
+abbrev pub sender_stage : World → Option LinkState → PublisherCall
 sender_stage m None = publishing.Idle
 sender_stage m (Some link) = publisher_stage (slice_get m.publishers link.publisher)
 

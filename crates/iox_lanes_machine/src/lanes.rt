@@ -1,6 +1,7 @@
 //! Publishers and subscribers of one service that go one shared word at a time.
-ghost use Rattle.std.specs.Prelude.{◌≡◌, ◌<◌, [], IfOk, get_or, length};
+ghost use Rattle.std.specs.Prelude.{◌≡◌, ◌<◌, [], true, false, IfOk, OnErr, get_or, length};
 
+use crate::found::Found;
 use crate::link::{Link, Positions};
 use crate::sizes::LaneSizes;
 use crate::state::State;
@@ -38,6 +39,7 @@ impl Lanes {
     ghost use Rattle.iox_lanes_machine.specs.Alone.{LoansStandAlone, UsedSlotsStay};
     ghost use Rattle.iox_lanes_machine.specs.Arrivals.{OrderArrives};
     ghost use Rattle.iox_lanes_machine.specs.Calls.{CallsKeepTime};
+    ghost use Rattle.iox_lanes_machine.specs.Findings.{FindsTo};
     ghost use Rattle.iox_lanes_machine.specs.Held.{ReadsWhole};
     ghost use Rattle.iox_lanes_machine.specs.Left.{StoresLeft};
     ghost use Rattle.iox_lanes_machine.specs.Loans.{LoansLent};
@@ -71,6 +73,22 @@ impl Lanes {
         };
         let state = State::new(alloc, &sizes, &table)?;
         Ok(Lanes { state })
+    }
+
+    /// This is found before the first step: a message that waits, a sample that was given back, the newest of a history, or what a word of a slot holds. Answers
+    /// whether it was taken in; else nothing changes. It is taken in before the first step alone, and only if: of a message or a sample, the connection is there
+    /// and has not the slot yet, which is one of its publisher's; no more messages wait than may, and together with the samples given back no more than may be
+    /// given back; of a history, the slot is the publisher's, does not stand there yet, and fewer do than may; of a word, the slot has it. It fails, and nothing
+    /// changes, only where memory is wanting.
+    pub fn find(&mut self, found: Found) -> Result<bool, AllocError>
+        ensures finds { IfOk result (λ answer. FindsTo self.old found answer self.new) }
+        ensures same { OnErr result (self.new ≡ self.old) }
+    {
+        if !self.state.finds(found) {
+            return Ok(false);
+        }
+        self.state.find(found)?;
+        Ok(true)
     }
 
     /// Begins a call of a party, or goes on inside one. Answers whether the step was made, and whether it was the last of its call; where it doesn't fit, or

@@ -1,6 +1,7 @@
 //! Publishers and subscribers of one service that go one shared word at a time, in any order.
 //!
 //! - [`link`]: the connections.
+//! - [`found`]: what lanes find before their first step.
 //! - [`sizes`]: how many ports there are, and their sizes.
 //! - `made`: the ports as they are made.
 //! - `order`: the order of a connection.
@@ -20,6 +21,7 @@
 //! ```
 #![tactic(auto)]
 
+pub mod found;
 pub mod lanes;
 pub mod laws;
 pub mod link;
@@ -30,6 +32,7 @@ mod placing;
 pub mod sizes;
 mod state;
 
+pub use found::Found;
 pub use lanes::Lanes;
 pub use link::{Link, Positions};
 pub use sizes::LaneSizes;

@@ -1,17 +1,79 @@
 //! The connections of lanes.
-use iox_queues_rings::RingKind;
+ghost use Rattle.std.specs.Prelude.{◌≡◌, ◌++◌, ◌∷◌, [], OnOk, OnErr};
 
-/// A connection: which publisher sends to which subscriber, by their numbers, and what its ring of messages does.
-#[derive(Clone, Copy, Debug, PartialEq, Eq)]
+use iox_queues_rings::RingKind;
+use std::alloc::AllocError;
+use std::marker::Model;
+
+/// A connection: which publisher sends to which subscriber, by their numbers, what its ring of messages does, and what waited before the first step.
+#[derive(Drop)]
 pub struct Link {
+    pub(crate) publisher: u64,
+    pub(crate) subscriber: u64,
+    pub(crate) kind: RingKind,
+    pub(crate) limit: u64,
+    pub(crate) found: Vec<u64>,
+}
+
+impl Model for Link {
+    ghost use Rattle.iox_lanes_machine.specs.Links.{LinkState};
+
+    ghost Value = { LinkState };
+
+    ghost view = { λ l. record {
+      publisher = l.publisher;
+      subscriber = l.subscriber;
+      kind = l.kind;
+      limit = l.limit;
+      found = l.found.items;
+    } };
+}
+
+impl Link {
     /// The publisher's number.
-    pub publisher: u64,
+    pub fn publisher(&self) -> u64
+        ensures { result ≡ self.now.publisher }
+    {
+        self.publisher
+    }
+
     /// The subscriber's number.
-    pub subscriber: u64,
+    pub fn subscriber(&self) -> u64
+        ensures { result ≡ self.now.subscriber }
+    {
+        self.subscriber
+    }
+
     /// What its full ring of messages does with one more.
-    pub kind: RingKind,
+    pub fn kind(&self) -> RingKind
+        ensures { result ≡ self.now.kind }
+    {
+        self.kind
+    }
+
     /// How many messages may wait.
-    pub limit: u64,
+    pub fn limit(&self) -> u64
+        ensures { result ≡ self.now.limit }
+    {
+        self.limit
+    }
+
+    // One message more waited.
+    pub(crate) fn find(&mut self, slot: u64) -> Result<(), AllocError>
+        ensures found { OnOk result (self.new ≡ record self.old { found = self.old.found ++ slot ∷ [] }) }
+        ensures same { OnErr result (self.new ≡ self.old) }
+    {
+        self.found.reserve(1)?;
+        self.found.push_reserved(slot);
+        Ok(())
+    }
+
+    /// The slots of the messages that waited before the first step, the oldest first.
+    pub fn found(&self) -> &[u64]
+        ensures { result.now ≡ self.now.found }
+    {
+        &self.found
+    }
 }
 
 /// The four positions of a connection.

@@ -19,7 +19,7 @@ pub(crate) fn links(alloc: Global, sizes: &LaneSizes, count: u64) -> Result<Vec<
 {
     let mut list = Vec::new(alloc);
     for connection in 0..count {
-        let Some(link) = sizes.link(connection) else {
+        let Some(link) = sizes.link(alloc, connection) else {
             return Err(AllocError);
         };
         list.reserve(1)?;

@@ -7,6 +7,7 @@ use crate::link::Link;
 use iox_lanes_calls::Route;
 use iox_lanes_words::TableSizes;
 use iox_queues_rings::RingKind;
+use std::alloc::Global;
 
 /// How many ports lanes have, and their sizes. Each publisher has a connection to each subscriber.
 #[derive(Clone, Copy, Debug, PartialEq, Eq)]
@@ -49,7 +50,7 @@ impl LaneSizes {
     }
 
     /// The link that a connection is, if there are subscribers.
-    pub(crate) fn link(&self, connection: u64) -> Option<Link>
+    pub(crate) fn link(&self, alloc: Global, connection: u64) -> Option<Link>
         ensures { IfSome result (λ link. link ≡ link_at self.now connection) }
     {
         Some(Link {
@@ -57,6 +58,7 @@ impl LaneSizes {
             subscriber: connection.checked_rem(self.subscribers)?,
             kind: self.kind,
             limit: self.buffer,
+            found: Vec::new(alloc),
         })
     }
 

@@ -38,6 +38,14 @@ pub record SubscriberLaneState : Type 0 where
   pub call : CallName
   pub first : ℕ
 
+-- the connection at a place of a publisher was found to have a slot
+abbrev pub lane_found : ℕ → ℕ → PublisherLaneState → PublisherLaneState
+lane_found place slot lane = record lane { port = publishers.found_at place slot lane.port }
+
+-- a slot of a publisher was found to be the newest of its history
+abbrev pub lane_remembers : ℕ → PublisherLaneState → PublisherLaneState
+lane_remembers slot lane = record lane { port = publishers.found_last slot lane.port }
+
 -- a call without the words of a write
 abbrev pub name_of : Call → CallName
 name_of call.LoanUninit = name.LoanUninit

@@ -1,12 +1,13 @@
 //! A publisher, its call in hand, and the headers of its slots.
-ghost use Rattle.std.specs.Prelude.{◌≡◌, ◌+◌, ◌<◌, ◌&&◌, ◌==◌, true, false, [], length, IsSome, is_some};
+ghost use Rattle.std.specs.Prelude.{◌≡◌, ◌+◌, ◌<◌, ◌&&◌, ◌==◌, true, false, [], length, slice_get, IsSome, is_some};
 ghost use Rattle.std.specs.List.{All};
 ghost use Rattle.iox_lanes_calls.specs.Publishing.{publisher_next, publisher_is_idle, publisher_is_over};
-ghost use Rattle.iox_lanes_parties.specs.Parties.{name_of, is_out, is_written, publisher_may, publisher_fits, publisher_begun, publisher_after, publisher_answer, lent, index_of, head_of, kept, send_begun};
+ghost use Rattle.iox_lanes_publisher.specs.Keeping.{may_have, may_remember};
+ghost use Rattle.iox_lanes_parties.specs.Parties.{lane_found, lane_remembers, name_of, is_out, is_written, publisher_may, publisher_fits, publisher_begun, publisher_after, publisher_answer, lent, index_of, head_of, kept, send_begun};
 
 use crate::call::{Answer, Call, CallName, Move};
 use crate::head::Head;
-use iox_lanes_calls::PublisherCall;
+use iox_lanes_calls::{PublisherCall, Route};
 use iox_lanes_publisher::{LanePublisher, LoanAnswer, LoanMark};
 use iox_lanes_words::SharedAccess;
 use std::alloc::{AllocError, Global};
@@ -149,6 +150,42 @@ impl PublisherLane {
         let call = self.port.call();
         self.port.take(given);
         answer_of(call, self.port.answer())
+    }
+
+    /// The connection at a place, if there is one.
+    pub fn route(&self, place: u64) -> Option<Route>
+        ensures { result ≡ slice_get self.now.port.routes place }
+    {
+        self.port.route(place)
+    }
+
+    /// Whether the connection at a place may be found to have a slot.
+    pub fn may_have(&self, place: u64, slot: u64) -> bool
+        ensures { result ≡ may_have place slot self.now.port.book }
+    {
+        self.port.may_have(place, slot)
+    }
+
+    /// The connection at a place was found to have a slot.
+    pub fn find(&mut self, place: u64, slot: u64)
+        ensures { self.new ≡ lane_found place slot self.old }
+    {
+        self.port.find(place, slot);
+    }
+
+    /// Whether a slot may be found to be the newest of the history.
+    pub fn may_remember(&self, slot: u64) -> bool
+        ensures { result ≡ may_remember slot self.now.port.book }
+    {
+        self.port.may_remember(slot)
+    }
+
+    /// A slot was found to be the newest of the history.
+    pub fn find_newest(&mut self, slot: u64)
+        requires { may_remember slot self.old.port.book ≡ true }
+        ensures { self.new ≡ lane_remembers slot self.old }
+    {
+        self.port.find_newest(slot);
     }
 
     /// Where its call stands.

@@ -1,5 +1,5 @@
 -- What the slots of a publisher are used for, and what a step changes of it.
-use Rattle.std.specs.Prelude.{ℕ, ◌+◌, ◌-◌, ◌*◌, ◌^◌, min, List, [], ◌∷◌, ◌++◌, length, set, get_or, remove, replicate, Option, None, Some, Bool, true, false, if◌then◌else◌, ◌==◌, nat_lt}
+use Rattle.std.specs.Prelude.{ℕ, ◌+◌, ◌-◌, ◌*◌, ◌^◌, min, List, [], ◌∷◌, ◌++◌, length, set, get_or, remove, replicate, Option, None, Some, Bool, true, false, not, ◌&&◌, if◌then◌else◌, ◌==◌, nat_lt}
 use Rattle.iox_queues_steps.specs.Access.{successor}
 use Rattle.iox_lanes_calls.specs.declared.publisher.PublisherChange.{PublisherChange}
 use Rattle.iox_lanes_calls.specs.declared.publisher.PublisherChange.TheVariants.{Nothing, Lend, Mark, Remember, TakenBack, Put, LeftOut, DropLoan}
@@ -34,6 +34,23 @@ new_book first slots connections most_loans kept = record {
   uses = replicate slots 0;
   answer = None;
 }
+
+-- the slot is one of a publisher's
+abbrev pub is_own : ℕ → BookState → Bool
+is_own slot book = if nat_lt slot book.first then false else nat_lt (slot - book.first) (length book.uses)
+
+-- the connection at a place may be found to have a slot: it is the publisher's, and the connection has it not yet
+abbrev pub may_have : ℕ → ℕ → BookState → Bool
+may_have place slot book = is_own slot book && not (get_or book.referred (place * length book.uses + (slot - book.first)) false)
+
+-- the number stands in the list
+abbrev pub stands_in : ℕ → List ℕ → Bool
+stands_in slot [] = false
+stands_in slot (x ∷ xs) = if x == slot then true else stands_in slot xs
+
+-- a slot may be found to be the newest of the history: it is the publisher's, does not stand there yet, and fewer do than may
+abbrev pub may_remember : ℕ → BookState → Bool
+may_remember slot book = is_own slot book && not (stands_in slot book.history) && nat_lt (length book.history) book.kept
 
 -- another value at a place; beyond the end nothing happens
 abbrev pub put_at : {X : Type 0} → List X → ℕ → X → List X
@@ -81,6 +98,10 @@ marked slot book = record book { loans = put_at book.loans (slot - book.first) m
 -- a slot is no loan any longer
 abbrev pub unlent : ℕ → BookState → BookState
 unlent slot book = record book { loans = put_at book.loans (slot - book.first) mark.No; out = book.out - 1 }
+
+-- a slot was found to be the newest of the history
+abbrev pub found_newest : ℕ → BookState → BookState
+found_newest slot book = record book { history = book.history ++ slot ∷ []; uses = counted_up book.uses (slot - book.first) }
 
 -- one use fewer of a slot
 abbrev pub unused : ℕ → BookState → BookState

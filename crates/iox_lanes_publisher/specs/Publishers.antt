@@ -4,7 +4,7 @@ use Rattle.iox_lanes_calls.specs.Publishing.{publisher_take, publisher_change, l
 use Rattle.iox_lanes_calls.specs.declared.route.Route.{Route}
 use Rattle.iox_lanes_calls.specs.declared.publisher.PublisherCall.{PublisherCall}
 use Rattle.iox_lanes_calls.specs.declared.publisher.PublisherCall.TheVariants.{Idle, Dropping}
-use Rattle.iox_lanes_publisher.specs.Keeping.{BookState, changed}
+use Rattle.iox_lanes_publisher.specs.Keeping.{BookState, changed, referred_at, found_newest}
 
 -- A publisher. `routes` are its connections, `book` says what its slots are used for; a write stores `payload`, a send `head`.
 pub record PublisherState : Type 0 where
@@ -19,6 +19,14 @@ pub record PublisherState : Type 0 where
 abbrev pub new_publisher : List Route → BookState → ℕ → ℕ → PublisherState
 new_publisher routes book payload_words head_words =
     record { routes = routes; book = book; payload = replicate payload_words 0; head = replicate head_words 0; sends = false; call = Idle }
+
+-- the connection at a place was found to have a slot
+abbrev pub found_at : ℕ → ℕ → PublisherState → PublisherState
+found_at place slot state = record state { book = referred_at place slot state.book }
+
+-- a slot was found to be the newest of the history
+abbrev pub found_last : ℕ → PublisherState → PublisherState
+found_last slot state = record state { book = found_newest slot state.book }
 
 -- the words that the call in hand stores
 abbrev pub words_of : PublisherState → List ℕ

@@ -1,11 +1,11 @@
 //! A publisher, free of any words.
-ghost use Rattle.std.specs.Prelude.{◌≡◌, true, length, replicate, IfOk};
+ghost use Rattle.std.specs.Prelude.{◌≡◌, true, length, replicate, slice_get, IfOk};
 ghost use Rattle.iox_lanes_calls.specs.Publishing.{publisher_next, publisher_is_idle, publisher_is_over};
-ghost use Rattle.iox_lanes_publisher.specs.Keeping.{loan_of};
-ghost use Rattle.iox_lanes_publisher.specs.Publishers.{after_answer, begun_loan, begun_write, begun_send, begun_drop, new_publisher};
+ghost use Rattle.iox_lanes_publisher.specs.Keeping.{loan_of, may_have, may_remember};
+ghost use Rattle.iox_lanes_publisher.specs.Publishers.{after_answer, found_at, found_last, begun_loan, begun_write, begun_send, begun_drop, new_publisher};
 
 use crate::slot_book::{LoanAnswer, LoanMark, SlotBook};
-use iox_lanes_calls::{PublisherCall, Route};
+use iox_lanes_calls::{PublisherCall, PublisherChange, Route};
 use iox_lanes_words::SharedAccess;
 use std::alloc::{AllocError, Global};
 use std::marker::Model;
@@ -79,6 +79,42 @@ impl LanePublisher {
         ensures { result ≡ loan_of slot self.now.book }
     {
         self.book.loan(slot)
+    }
+
+    /// The connection at a place, if there is one.
+    pub fn route(&self, place: u64) -> Option<Route>
+        ensures { result ≡ slice_get self.now.routes place }
+    {
+        self.routes.get(place as usize).copied()
+    }
+
+    /// Whether the connection at a place may be found to have a slot.
+    pub fn may_have(&self, place: u64, slot: u64) -> bool
+        ensures { result ≡ may_have place slot self.now.book }
+    {
+        self.book.may_have(place, slot)
+    }
+
+    /// The connection at a place was found to have a slot.
+    pub fn find(&mut self, place: u64, slot: u64)
+        ensures { self.new ≡ found_at place slot self.old }
+    {
+        self.book.change(PublisherChange::Put { place, slot });
+    }
+
+    /// Whether a slot may be found to be the newest of the history.
+    pub fn may_remember(&self, slot: u64) -> bool
+        ensures { result ≡ may_remember slot self.now.book }
+    {
+        self.book.may_remember(slot)
+    }
+
+    /// A slot was found to be the newest of the history.
+    pub fn find_newest(&mut self, slot: u64)
+        requires { may_remember slot self.old.book ≡ true }
+        ensures { self.new ≡ found_last slot self.old }
+    {
+        self.book.find_newest(slot);
     }
 
     /// How many words a payload has.

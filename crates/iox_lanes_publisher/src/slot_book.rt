@@ -1,6 +1,6 @@
 //! What the slots of a publisher are used for.
-ghost use Rattle.std.specs.Prelude.{◌≡◌, ◌+◌, ◌-◌, ◌*◌, ◌<◌, ◌≤◌, ◌^◌, ◌++◌, ◌∷◌, [], None, length, remove, replicate, IfOk, vec_len, vec_capacity};
-ghost use Rattle.iox_lanes_publisher.specs.Keeping.{put_at, counted_up, counted_down, first_free, number_in, new_book, loan_of, changed, lent, remembered, dropped, marked, referred_at, unreferred_at, newest_of};
+ghost use Rattle.std.specs.Prelude.{◌≡◌, ◌+◌, ◌-◌, ◌*◌, ◌<◌, ◌≤◌, ◌^◌, ◌++◌, ◌∷◌, [], None, true, false, length, get_or, remove, replicate, IfOk, vec_len, vec_capacity};
+ghost use Rattle.iox_lanes_publisher.specs.Keeping.{put_at, counted_up, counted_down, first_free, number_in, new_book, loan_of, changed, lent, remembered, dropped, marked, referred_at, unreferred_at, newest_of, is_own, may_have, stands_in, may_remember, found_newest};
 
 use iox_lanes_calls::PublisherChange;
 use std::alloc::{AllocError, Global};
@@ -122,6 +122,42 @@ impl SlotBook {
         }
     }
 
+    // Whether a slot of the service is one of this publisher's.
+    fn owns(&self, slot: u64) -> bool
+        ensures { result ≡ is_own slot self.now }
+    {
+        slot >= self.first && slot - self.first < self.uses.len() as u64
+    }
+
+    /// Whether the connection at a place may be found to have a slot: it is one of this publisher's, and the connection has it not yet.
+    pub fn may_have(&self, place: u64, slot: u64) -> bool
+        ensures { result ≡ may_have place slot self.now }
+    {
+        self.owns(slot)
+            && !is_marked(
+                &self.referred,
+                place,
+                self.uses.len() as u64,
+                slot.saturating_sub(self.first),
+            )
+    }
+
+    /// Whether a slot may be found to be the newest of the history: it is one of this publisher's, does not stand there yet, and fewer do than may.
+    pub fn may_remember(&self, slot: u64) -> bool
+        ensures { result ≡ may_remember slot self.now }
+    {
+        self.owns(slot) && !stands_in(slot, &self.history) && self.history.len() < self.kept
+    }
+
+    /// A slot was found to be the newest of the history.
+    pub fn find_newest(&mut self, slot: u64)
+        requires { may_remember slot self.old ≡ true }
+        ensures { self.new ≡ found_newest slot self.old }
+    {
+        self.history.push_reserved(slot);
+        count_up(&mut self.uses, slot.saturating_sub(self.first));
+    }
+
     /// Keeps what a step changes.
     pub fn change(&mut self, change: PublisherChange)
         ensures { self.new ≡ changed change self.old }
@@ -234,6 +270,36 @@ fn first_free(uses: &[u64]) -> Option<u64>
         rest = tail;
     }
     None
+}
+
+// Whether a number stands in a list.
+fn stands_in(slot: u64, list: &[u64]) -> bool
+    ensures { result ≡ stands_in slot list.now }
+{
+    let mut rest = list;
+    while let Some((first, tail)) = rest.split_first() {
+        if *first == slot {
+            return true;
+        }
+        rest = tail;
+    }
+    false
+}
+
+// Whether a place of a row is marked; one that isn't there is not.
+fn is_marked(list: &[bool], row: u64, width: u64, place: u64) -> bool
+    ensures { result ≡ get_or list.now (row * width + place) false }
+{
+    let Some(start) = row.checked_mul(width) else {
+        return false;
+    };
+    let Some(at) = start.checked_add(place) else {
+        return false;
+    };
+    match list.get(at as usize) {
+        Some(mark) => *mark,
+        None => false,
+    }
 }
 
 // Marks a place of a row, where there is one.

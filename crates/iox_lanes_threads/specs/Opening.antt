@@ -6,7 +6,7 @@ use Rattle.iox_lanes_parties.specs.Parties.{PublisherLaneState, SubscriberLaneSt
 use Rattle.iox_lanes_parties.specs.declared.call.Party.{Party}
 use Rattle.iox_lanes_parties.specs.declared.call.Party.TheVariants.{Publisher, Subscriber}
 use Rattle.iox_lanes_machine.specs.World.{World}
-use Rattle.iox_lanes_machine.specs.declared.link.Link.{Link}
+use Rattle.iox_lanes_machine.specs.Links.{LinkState}
 use Rattle.iox_lanes_threads_rule.specs.Rule.{Fits, one}
 use Rattle.iox_lanes_threads_rule.specs.Acts.{first_port}
 use Rattle.iox_lanes_threads_rule.specs.declared.service.Line.{Line}
@@ -18,7 +18,7 @@ use Rattle.iox_lanes_threads_rule.specs.declared.view.PortParty.TheVariants as p
 use Rattle.iox_lanes_threads_rule.specs.declared.view.View.{View}
 
 -- a link as a connection of the service
-abbrev pub line_of : Link → Line
+abbrev pub line_of : LinkState → Line
 line_of link = record { publisher = link.publisher; subscriber = link.subscriber; kind = link.kind; limit = link.limit }
 
 -- the slots of a publisher

@@ -1,0 +1,131 @@
+-- What lanes may find before their first step, and what that makes of them: messages that wait, samples given back, histories, and what slots hold.
+use Rattle.std.specs.Prelude.{ℕ, ◌≡◌, ◌-◌, ◌==◌, ◌&&◌, Bool, true, false, nat_lt, List, [], ◌∷◌, ◌++◌, length, set, slice_get, Option, Some, None}
+use Rattle.iox_queues_steps.specs.Access.{successor}
+use Rattle.iox_queues_steps.specs.declared.access.Word.TheVariants.{Write, Cell}
+use Rattle.iox_lanes_words.specs.Table.{TableWords, held_by, stored_in}
+use Rattle.iox_lanes_words.specs.declared.sizes.TableSizes.{TableSizes}
+use Rattle.iox_lanes_words.specs.declared.word.ConnectionRing.{ConnectionRing}
+use Rattle.iox_lanes_words.specs.declared.word.ConnectionRing.TheVariants.{Submission, Completion}
+use Rattle.iox_lanes_words.specs.declared.word.SlotWord.{SlotWord}
+use Rattle.iox_lanes_words.specs.declared.word.SlotWord.TheVariants.{Header, UserHeader, Payload}
+use Rattle.iox_lanes_words.specs.declared.word.SharedWord.TheVariants.{Ring, Slot}
+use Rattle.iox_lanes_calls.specs.declared.route.Route.{Route}
+use Rattle.iox_lanes_publisher.specs.Keeping.{may_have, may_remember}
+use Rattle.iox_lanes_parties.specs.Parties.{PublisherLaneState, lane_found, lane_remembers}
+use Rattle.iox_lanes_machine.specs.Links.{LinkState}
+use Rattle.iox_lanes_machine.specs.World.{World}
+use Rattle.iox_lanes_machine.specs.declared.found.Found.{Found}
+use Rattle.iox_lanes_machine.specs.declared.found.Found.TheVariants as found
+
+-- how many samples were found given back at a connection: the write position of their ring
+abbrev pub back_found : TableWords → ℕ → ℕ
+back_found table connection = held_by table (Ring connection Completion Write)
+
+-- a connection takes one more: together with those given back there are fewer than may be given back
+abbrev pub takes_more : World → ℕ → LinkState → Bool
+takes_more m connection link = nat_lt (length link.found) (m.table.sizes.completion_cells - back_found m.table connection)
+
+-- one message more may wait at a connection
+abbrev pub may_wait : World → ℕ → Option LinkState → Bool
+may_wait m connection None = false
+may_wait m connection (Some link) = nat_lt (length link.found) link.limit && takes_more m connection link
+
+-- one sample more may have been given back at a connection
+abbrev pub may_be_back : World → ℕ → Option LinkState → Bool
+may_be_back m connection None = false
+may_be_back m connection (Some link) = takes_more m connection link
+
+-- a slot may be found to wait at the connection at a place of a publisher
+abbrev pub waits_at : World → ℕ → ℕ → PublisherLaneState → Option Route → Bool
+waits_at m place slot lane None = false
+waits_at m place slot lane (Some route) = may_have place slot lane.port.book && may_wait m route.connection (slice_get m.links route.connection)
+
+-- or to have been given back there
+abbrev pub back_at : World → ℕ → ℕ → PublisherLaneState → Option Route → Bool
+back_at m place slot lane None = false
+back_at m place slot lane (Some route) = may_have place slot lane.port.book && may_be_back m route.connection (slice_get m.links route.connection)
+
+-- of a publisher; one that is not there has no slots
+abbrev pub waits_of : World → ℕ → ℕ → Option PublisherLaneState → Bool
+waits_of m place slot None = false
+waits_of m place slot (Some lane) = waits_at m place slot lane (slice_get lane.port.routes place)
+
+abbrev pub back_of : World → ℕ → ℕ → Option PublisherLaneState → Bool
+back_of m place slot None = false
+back_of m place slot (Some lane) = back_at m place slot lane (slice_get lane.port.routes place)
+
+abbrev pub newest_of : ℕ → Option PublisherLaneState → Bool
+newest_of slot None = false
+newest_of slot (Some lane) = may_remember slot lane.port.book
+
+-- a slot has the word
+abbrev pub has_word : TableSizes → SlotWord → Bool
+has_word sizes (Header word) = nat_lt word 3
+has_word sizes (UserHeader word) = nat_lt word sizes.user_header_words
+has_word sizes (Payload word) = nat_lt word sizes.payload_words
+
+-- what may be found, if it is before the first step
+abbrev pub finds_now : World → Found → Bool
+finds_now m (found.Waiting publisher place slot) = waits_of m place slot (slice_get m.publishers publisher)
+finds_now m (found.GivenBack publisher place slot) = back_of m place slot (slice_get m.publishers publisher)
+finds_now m (found.Newest publisher slot) = newest_of slot (slice_get m.publishers publisher)
+finds_now m (found.Held slot word value) = nat_lt slot m.table.sizes.slots && has_word m.table.sizes word
+
+-- what may be found: before the first step alone
+abbrev pub finds : World → Found → Bool
+finds m f = (m.moments == 0) && finds_now m f
+
+-- a slot lies in a cell of a ring, and the write position is behind it
+abbrev pub laid : TableWords → ℕ → ConnectionRing → ℕ → ℕ → TableWords
+laid table connection ring cell slot = stored_in (stored_in table (Ring connection ring (Cell cell)) slot) (Ring connection ring Write) (successor cell)
+
+-- a message waits at a connection, behind those found there before
+abbrev pub waiting_in : World → ℕ → ℕ → ℕ → PublisherLaneState → ℕ → Option LinkState → World
+waiting_in m publisher place slot lane connection None = m
+waiting_in m publisher place slot lane connection (Some link) = record m {
+  table = laid m.table connection Submission (length link.found) slot;
+  links = set m.links connection (record link { found = link.found ++ slot ∷ [] });
+  publishers = set m.publishers publisher (lane_found place slot lane);
+}
+
+abbrev pub waiting_at : World → ℕ → ℕ → ℕ → PublisherLaneState → Option Route → World
+waiting_at m publisher place slot lane None = m
+waiting_at m publisher place slot lane (Some route) = waiting_in m publisher place slot lane route.connection (slice_get m.links route.connection)
+
+abbrev pub waiting_of : World → ℕ → ℕ → ℕ → Option PublisherLaneState → World
+waiting_of m publisher place slot None = m
+waiting_of m publisher place slot (Some lane) = waiting_at m publisher place slot lane (slice_get lane.port.routes place)
+
+-- a sample was given back at a connection, behind those found there before
+abbrev pub given_at : World → ℕ → ℕ → ℕ → PublisherLaneState → Option Route → World
+given_at m publisher place slot lane None = m
+given_at m publisher place slot lane (Some route) = record m {
+  table = laid m.table route.connection Completion (back_found m.table route.connection) slot;
+  publishers = set m.publishers publisher (lane_found place slot lane);
+}
+
+abbrev pub given_of : World → ℕ → ℕ → ℕ → Option PublisherLaneState → World
+given_of m publisher place slot None = m
+given_of m publisher place slot (Some lane) = given_at m publisher place slot lane (slice_get lane.port.routes place)
+
+-- a slot is the newest of its publisher's history
+abbrev pub remembered_of : World → ℕ → ℕ → Option PublisherLaneState → World
+remembered_of m publisher slot None = m
+remembered_of m publisher slot (Some lane) = record m { publishers = set m.publishers publisher (lane_remembers slot lane) }
+
+-- the lanes with what was found
+abbrev pub with_found : World → Found → World
+with_found m (found.Waiting publisher place slot) = waiting_of m publisher place slot (slice_get m.publishers publisher)
+with_found m (found.GivenBack publisher place slot) = given_of m publisher place slot (slice_get m.publishers publisher)
+with_found m (found.Newest publisher slot) = remembered_of m publisher slot (slice_get m.publishers publisher)
+with_found m (found.Held slot word value) = record m { table = stored_in m.table (Slot slot word) value }
+
+-- what a finding answers, and what it leaves
+abbrev pub FindsTo : World → Found → Bool → World → Type 0
+FindsTo m f true n = (finds m f ≡ true) × (n ≡ with_found m f)
+FindsTo m f false n = (finds m f ≡ false) × (n ≡ m)
+
+-- a list of findings, each of which may be found where it stands
+abbrev pub AreFound : World → List Found → World → Type 0
+AreFound m [] n = n ≡ m
+AreFound m (f ∷ fs) n = (finds m f ≡ true) × AreFound (with_found m f) fs n
