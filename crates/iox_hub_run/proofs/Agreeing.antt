@@ -1,5 +1,5 @@
 -- What is kept of factories and domains while others come and go.
-use Rattle.std.proofs.Common.{◌≡◌, ◌∙◌, ◌⊎◌, ◌++◌, ℕ, Bool, true, false, cond, List, [], ◌∷◌, Option, Some, refl, sym, ap, subst, inl, inr}
+use Rattle.std.proofs.Common.{◌≡◌, ◌∙◌, ◌⊎◌, ◌++◌, ℕ, Bool, true, false, cond, List, [], ◌∷◌, Some, refl, sym, ap, subst, inl, inr}
 use Rattle.std.specs.BTreeMap.{insert_entry, is_at}
 use Rattle.std.specs.List.{AllByRecursion}
 use Rattle.std.specs.Map.{lookup, set_value, remove_entry}
@@ -98,9 +98,11 @@ module _ {T U B D : Type 0} where
 
   set_there : (test : ℕ → Bool) (e : ℕ × Presence T U B D) (es : List (ℕ × Presence T U B D)) (presence found : Presence T U B D) (b : Bool) → cond b (Some e.1) (lookup test es) ≡ Some found → agreed_in presence ≡ agreed_in found
       → (lookup test es ≡ Some found → KeepsAgreed es (set_value test es presence)) → KeepsAgreed (e ∷ es) (cond b ((e.0, presence) ∷ es) (e ∷ set_value test es presence))
-  set_there test e es presence found true is same rest number other (inl here) =
-      (e.1, inl (ap (λ key. (key, e.1)) (key_is (e.0, presence) (number, other) here)),
-       ap agreed_in (sym (presence_is (e.0, presence) (number, other) here)) ∙ same ∙ ap agreed_in (sym (found_is e.1 found is)))
+  set_there test e es presence found true is same rest number other (inl here) = (
+    e.1,
+    inl (ap (λ key. (key, e.1)) (key_is (e.0, presence) (number, other) here)),
+    ap agreed_in (sym (presence_is (e.0, presence) (number, other) here)) ∙ same ∙ ap agreed_in (sym (found_is e.1 found is)),
+  )
   set_there test e es presence found true is same rest number other (inr later) = (other, inr later, refl)
   set_there test e es presence found false is same rest number other (inl here) = (other, inl here, refl)
   set_there test e es presence found false is same rest number other (inr later) =
@@ -108,7 +110,7 @@ module _ {T U B D : Type 0} where
 
   -- another for the same settings takes the place of one
   pub set_agreed : (test : ℕ → Bool) (domains : List (ℕ × Presence T U B D)) (presence found : Presence T U B D) → lookup test domains ≡ Some found → agreed_in presence ≡ agreed_in found → KeepsAgreed domains (set_value test domains presence)
-  set_agreed test [] presence found is same number other in_it = absurd in_it
+  set_agreed test [] presence found is same = λ number other in_it. absurd in_it
   set_agreed test (e ∷ es) presence found is same = set_there test e es presence found (test e.0) is same (λ later. set_agreed test es presence found later same)
 
   come_there : (number : ℕ) (presence : Presence T U B D) (e : ℕ × Presence T U B D) (es later : List (ℕ × Presence T U B D)) (order : Ordering) → nat_cmp number e.0 ≡ order → (other : ℕ) (what : Presence T U B D)

@@ -1,5 +1,5 @@
 -- Each command on services leaves each service of one agreement, where each was.
-use Rattle.std.proofs.Common.{◌≡◌, ◌∙◌, ◌⊎◌, ⊎_elim, ℕ, Bool, true, false, List, [], ◌∷◌, Option, None, Some, Result, Ok, Err, refl, sym, ap, subst, inl, inr, if◌then◌else◌, nat_eq}
+use Rattle.std.proofs.Common.{◌≡◌, ◌∙◌, ◌⊎◌, ⊎_elim, ℕ, Bool, true, false, List, [], Option, None, Some, Result, Ok, Err, refl, sym, ap, subst, inl, inr, if◌then◌else◌, nat_eq}
 use Rattle.std.specs.BTreeMap.{is_at}
 use Rattle.std.specs.List.{AllByRecursion}
 use Rattle.std.specs.Map.{remove_entry}
@@ -22,17 +22,16 @@ use Rattle.iox_describe_base.specs.declared.pattern.MessagingPattern.{MessagingP
 use Rattle.iox_describe_settings.specs.Agreement.{Agreement, AreWithinLimits}
 use Rattle.iox_describe_settings.specs.declared.static_config.Settings.{Settings}
 use Rattle.iox_describe_settings.specs.declared.static_config.Settings.TheVariants.{PublishSubscribe}
-use Rattle.iox_describe_settings.specs.declared.static_config.publish_subscribe.StaticConfig.{StaticConfig}
 use Rattle.iox_hub_factories.specs.Hub.{is_last, less_one}
-use Rattle.iox_hub_factories.specs.Hub.{Made, Enters, Settles, OpensInHub}
+use Rattle.iox_hub_factories.specs.Hub.{Made, Settles, OpensInHub}
 use Rattle.iox_hub_factories.specs.Hub.{Hub}
 use Rattle.iox_hub_factories.specs.Hub.{OpenServices, Opens as ServiceOpens, Presence, Here}
 use Rattle.iox_hub_factories.specs.Closing.{ClosesUnless, ClosesIfOf, ClosesNumbered}
-use Rattle.iox_hub_factories.specs.Creating.{CreatesAgreed, CreatesAs, CreatesPrepared, CreatesNumbered}
-use Rattle.iox_hub_factories.specs.Either.{EitherJudged, EitherAs, EitherPrepared, EitherNumbered}
+use Rattle.iox_hub_factories.specs.Creating.{CreatesAs, CreatesPrepared, CreatesNumbered}
+use Rattle.iox_hub_factories.specs.Either.{EitherAs, EitherPrepared, EitherNumbered}
 use Rattle.iox_hub_factories.specs.Foreign.{ActsNamed}
 use Rattle.iox_hub_factories.specs.Numbering.{Prepares, Numbers, GetsNumber}
-use Rattle.iox_hub_factories.specs.Opening.{OpensJudged, OpensAs, OpensPrepared, OpensNumbered}
+use Rattle.iox_hub_factories.specs.Opening.{OpensAs, OpensPrepared, OpensNumbered}
 use Rattle.iox_hub_factories.specs.Tables.{FactoryTable, parts_of}
 use Rattle.iox_hub_factories.specs.declared.asked.ServiceAsked.{ServiceAsked}
 use Rattle.iox_hub_factories.specs.declared.made.MadeFactory.{MadeFactory}
@@ -59,8 +58,7 @@ use Rattle.iox_negotiate_rounds.specs.declared.request.Opened.{Opened}
 use Rattle.iox_negotiate_table.specs.Contents.{Contents, empty_table}
 use Rattle.iox_negotiate_table.specs.Stepped.{Steps, SteppedSight}
 use Rattle.iox_negotiate_table.specs.declared.step.ForeignStep.{ForeignStep}
-use Rattle.iox_numbered.specs.NumberTable.{inserted, removed}
-use Rattle.iox_hub_run.specs.Agreements.{agreed_in, HoldsOfDomains, HoldsOfFactories, IsAgreement, AreOfOneAgreement}
+use Rattle.iox_hub_run.specs.Agreements.{agreed_in, IsAgreement, AreOfOneAgreement}
 use Rattle.iox_hub_run.proofs.Agreeing.{all_among, among_left, among_more, KeepsFactories, same_factories, factories_on, HadDomain, KeepsAgreed, same_agreed, domains_on, gone_agreed, come_agreed}
 
 -- ---- what a negotiation comes to
@@ -77,80 +75,84 @@ record IsNegotiated {E : Type 0} (old new : Contents) (answer : Result Membershi
 within_of : (agreed : Agreement) → HasForm agreed → AreWithinLimits agreed.settings → IsWithinLimits agreed
 within_of agreed form limits = record { name = form.name; service_hash = form.service_hash; settings = form.settings; limits = limits; attributes = form.attributes }
 
+abbrev start : List (List ForeignStep) → Contents → Steps
+start lists table = record { table = table; lists = lists }
+
+-- what goes well, and what doesn't
+abbrev good : {A : Type 0} (E : Type 0) → A → Result A E
+good E value = Ok value
+
+abbrev bad : {E : Type 0} (A : Type 0) → E → Result A E
+bad A error = Err error
+
+same-good : {A E : Type 0} (one other : A) → good E one ≡ good E other → one ≡ other
+same-good one other e = cc
+
+not-bad : {A E : Type 0} (value : A) (error : E) → good E value ≡ bad A error → ⊥
+not-bad value error e = cc
+
+not-refused : (failure : CreateFailure) → Some failure ≡ None → ⊥
+not-refused failure e = cc
+
+created_agrees : (node : ℕ) (lists : List (List ForeignStep)) (old : Contents) (new : Steps) (is_reached : IsReached old) (agreed : Agreement) (is_too_long : Type 0) (refusal : Option CreateFailure) (service : Opened)
+    → IsRefusal (AreWithinLimits agreed.settings) is_too_long refusal → Does SteppedSight (start lists old) (λ made. CreatesIf agreed.service_hash node agreed refusal made (Ok service)) new → HasForm service.description → Agrees old new.table service
+created_agrees node lists old new is_reached agreed is_too_long (Some failure) service refused does form = absurd (not-bad service failure does.told.1)
+created_agrees node lists old new is_reached agreed is_too_long None service refused does form =
+    let creation = creates-service agreed.service_hash node agreed None does.made service does.told in
+    agrees (λ kind. Unit {0}) (call.Creates node agreed None (Ok service)) old new.table service is_reached (lists, new, does, refl) refl
+    (within_of service.description form (subst (λ a. AreWithinLimits a.settings) (sym creation.1) refused.0))
+
+unrefused : (limits is_too_long : Type 0) (refusal : Option CreateFailure) → IsRefusal limits is_too_long refusal → refusal ≡ None → limits
+unrefused limits is_too_long None refused is = refused.0
+unrefused limits is_too_long (Some failure) refused is = absurd (not-refused failure is)
+
+member_is : {E F : Type 0} (storage node : ℕ) (error : F → E) (result : Result Opened F) (member : Membership) → result_map_both (membership storage node) error result ≡ Ok member → (service : Opened) × (result ≡ Ok service) × (service ≡ member.service)
+member_is {E} storage node error (Ok service) member is = (service, refl, ap (λ m. m.service) (same-good {E = E} (membership storage node service) member is))
+member_is {E} storage node error (Err failure) member is = absurd (not-bad member (error failure) (sym is))
+
 module _ {E : Type 0} (storage node : ℕ) (lists : List (List ForeignStep)) (old : Contents) (new : Steps) (is_reached : IsReached old) where
-  abbrev start : Steps
-  start = record { table = old; lists = lists }
-
-  member_is : {F : Type 0} (error : F → E) (result : Result Opened F) (member : Membership) → result_map_both (membership storage node) error result ≡ Ok member → (service : Opened) × (result ≡ Ok service) × (service ≡ member.service)
-  member_is error (Ok service) member is = (service, refl, ap (λ m. m.service) (same is))
-    where
-      same : Ok (membership storage node service) ≡ Ok member → membership storage node service ≡ member
-      same e = cc
-  member_is error (Err failure) member is = absurd (differ is)
-    where
-      differ : Err (error failure) ≡ Ok member → ⊥
-      differ e = cc
-
-  created_agrees : (agreed : Agreement) (is_too_long : Type 0) (refusal : Option CreateFailure) (service : Opened) → IsRefusal (AreWithinLimits agreed.settings) is_too_long refusal
-      → Does SteppedSight start (λ made. CreatesIf agreed.service_hash node agreed refusal made (Ok service)) new → HasForm service.description → Agrees old new.table service
-  created_agrees agreed is_too_long (Some failure) service refused does form = absurd (differ does.told.1)
-    where
-      differ : Ok service ≡ Err failure → ⊥
-      differ e = cc
-  created_agrees agreed is_too_long None service refused does form =
-      let creation = creates-service agreed.service_hash node agreed None does.made service does.told in
-      agrees (λ kind. Unit {0}) (call.Creates node agreed None (Ok service)) old new.table service is_reached (lists, new, does, refl) refl
-      (within_of service.description form (subst (λ a. AreWithinLimits a.settings) (sym creation.1) refused.0))
-
   creates_negotiated : (agreed : Agreement) (is_too_long : Type 0) (error : CreateFailure → E) (answer : Result Membership E)
-      → Creates SteppedSight storage agreed.service_hash node agreed (AreWithinLimits agreed.settings) is_too_long error start answer new → IsNegotiated old new.table answer
+      → Creates SteppedSight storage agreed.service_hash node agreed (AreWithinLimits agreed.settings) is_too_long error (start lists old) answer new → IsNegotiated old new.table answer
   creates_negotiated agreed is_too_long error answer creates = record {
-    past = stepped-went-past creates.negotiated.done.made start new creates.negotiated.done.went;
+    past = stepped-went-past creates.negotiated.done.made (start lists old) new creates.negotiated.done.went;
     goes_well = well;
   }
     where
       well : (member : Membership) → answer ≡ Ok member → HasForm member.service.description → Agrees old new.table member.service
       well member is form =
-          let (service, came, same) = member_is error creates.negotiated.answer member (sym creates.negotiated.told ∙ is) in
-          let does = subst (λ a. Does SteppedSight start (λ made. CreatesIf agreed.service_hash node agreed creates.refusal made a) new) came creates.negotiated.done in
-          subst (λ s. Agrees old new.table s) same (created_agrees agreed is_too_long creates.refusal service creates.refused does (subst (λ s. HasForm s.description) (sym same) form))
+          let (service, came, same) = member_is storage node error creates.negotiated.answer member (sym creates.negotiated.told ∙ is) in
+          let does = subst (λ a. Does SteppedSight (start lists old) (λ made. CreatesIf agreed.service_hash node agreed creates.refusal made a) new) came creates.negotiated.done in
+          subst (λ s. Agrees old new.table s) same (created_agrees node lists old new is_reached agreed is_too_long creates.refusal service creates.refused does (subst (λ s. HasForm s.description) (sym same) form))
 
   opens_negotiated : {V : Type 0} (hash : ServiceHash) (verdict : Agreement → Result (Unit {0}) V) (error : OpenFailure V → E) (answer : Result Membership E)
-      → Negotiates SteppedSight storage node error (λ made came. Opens hash node verdict made came) start answer new → IsNegotiated old new.table answer
+      → Negotiates SteppedSight storage node error (λ made came. Opens hash node verdict made came) (start lists old) answer new → IsNegotiated old new.table answer
   opens_negotiated {V} hash verdict error answer opens = record {
-    past = stepped-went-past opens.done.made start new opens.done.went;
+    past = stepped-went-past opens.done.made (start lists old) new opens.done.went;
     goes_well = well;
   }
     where
       well : (member : Membership) → answer ≡ Ok member → HasForm member.service.description → Agrees old new.table member.service
       well member is form =
-          let (service, came, same) = member_is error opens.answer member (sym opens.told ∙ is) in
-          let does = subst (λ a. Does SteppedSight start (λ made. Opens hash node verdict made a) new) came opens.done in
+          let (service, came, same) = member_is storage node error opens.answer member (sym opens.told ∙ is) in
+          let does = subst (λ a. Does SteppedSight (start lists old) (λ made. Opens hash node verdict made a) new) came opens.done in
           let met = opens-met V hash node verdict does.made service does.told in
           subst (λ s. Agrees old new.table s) same (agrees (λ kind. V) (call.Opening 0 hash node verdict (Ok service)) old new.table service is_reached (lists, new, does, refl) refl met.2)
 
   either_negotiated : {V : Type 0} (verdict : Agreement → Result (Unit {0}) V) (agreed : Agreement) (is_too_long : Type 0) (error : OpenOrCreateFailure V → E) (answer : Result Membership E)
-      → Either SteppedSight storage agreed.service_hash node verdict agreed (AreWithinLimits agreed.settings) is_too_long error start answer new → IsNegotiated old new.table answer
+      → Either SteppedSight storage agreed.service_hash node verdict agreed (AreWithinLimits agreed.settings) is_too_long error (start lists old) answer new → IsNegotiated old new.table answer
   either_negotiated {V} verdict agreed is_too_long error answer either = record {
-    past = stepped-went-past either.negotiated.done.made start new either.negotiated.done.went;
+    past = stepped-went-past either.negotiated.done.made (start lists old) new either.negotiated.done.went;
     goes_well = well;
   }
     where
-      unrefused : (refusal : Option CreateFailure) → IsRefusal (AreWithinLimits agreed.settings) is_too_long refusal → refusal ≡ None → AreWithinLimits agreed.settings
-      unrefused None refused is = refused.0
-      unrefused (Some failure) refused is = absurd (differ is)
-        where
-          differ : Some failure ≡ None → ⊥
-          differ e = cc
-
       well : (member : Membership) → answer ≡ Ok member → HasForm member.service.description → Agrees old new.table member.service
       well member is form =
-          let (service, came, same) = member_is error either.negotiated.answer member (sym either.negotiated.told ∙ is) in
-          let does = subst (λ a. Does SteppedSight start (λ made. OpensOrCreates agreed.service_hash node verdict agreed either.refusal made a) new) came either.negotiated.done in
+          let (service, came, same) = member_is storage node error either.negotiated.answer member (sym either.negotiated.told ∙ is) in
+          let does = subst (λ a. Does SteppedSight (start lists old) (λ made. OpensOrCreates agreed.service_hash node verdict agreed either.refusal made a) new) came either.negotiated.done in
           let within : IsWithinLimits service.description = ⊎_elim
-              (λ met. met.2)
-              (λ created. within_of service.description (subst (λ s. HasForm s.description) (sym same) form) (subst (λ a. AreWithinLimits a.settings) (sym created.0) (unrefused either.refusal either.refused created.1)))
-              (either-met V agreed.service_hash node verdict agreed either.refusal does.made service does.told) in
+          (λ met. met.2)
+          (λ created. within_of service.description (subst (λ s. HasForm s.description) (sym same) form) (subst (λ a. AreWithinLimits a.settings) (sym created.0) (unrefused (AreWithinLimits agreed.settings) is_too_long either.refusal either.refused created.1)))
+          (either-met V agreed.service_hash node verdict agreed either.refusal does.made service does.told) in
           subst (λ s. Agrees old new.table s) same (agrees (λ kind. V) (call.Either 0 node verdict agreed either.refusal (Ok service)) old new.table service is_reached (lists, new, does, refl) refl within)
 
 -- ---- what is of one agreement stays so
@@ -189,7 +191,7 @@ module _ {T U B D : Type 0} (table after : FactoryTable) (old new : Hub T U B D)
     carried_in made = (parts_of made).0.service.description
 
     module _ (serves : (number : ℕ) (presence : Presence T U B D) → Among (number, presence) new.services.domains
-            → HadDomain number presence old.services.domains ⊎ ((number ≡ number_in factory) × ((carried_in factory).settings ≡ PublishSubscribe (agreed_in presence))))
+        → HadDomain number presence old.services.domains ⊎ ((number ≡ number_in factory) × ((carried_in factory).settings ≡ PublishSubscribe (agreed_in presence))))
         (agrees_now : Agrees old.table new.table (parts_of factory).0.service) where
       -- what was agreed on of the same number
       as_before : (number : ℕ) (agreed : Agreement) → WasAgreed number agreed old.table → number ≡ number_in factory → agreed ≡ carried_in factory
@@ -274,32 +276,23 @@ module _ {T U B D : Type 0} where
       (are : AreOfOneAgreement table old) where
     -- a refusal: no factory gets a number
     refused_agrees : (result : Result Made E) (error : E) → result ≡ Err error → Numbers pattern refusal result table reply after → Past old.table new.table → new.services ≡ old.services → AreOfOneAgreement after new
-    refused_agrees (Ok parts) error is numbers past same = absurd (differ is)
-      where
-        differ : Ok parts ≡ Err error → ⊥
-        differ e = cc
+    refused_agrees (Ok parts) error is numbers past same = absurd (not-bad parts error is)
     refused_agrees (Err other) error is numbers past same =
         kept_agrees table after old new past (same_factories table after (ap (λ t. t.entries) numbers.1)) (same_agreed old.services.domains new.services.domains (ap (λ services. services.domains) same)) are
 
     made_agrees : (member : Membership) (owner : ℕ) (result : Result Made E) → result ≡ Ok (member, owner) → Numbers pattern refusal result table reply after
         → Past old.table new.table → ServiceOpens payload user_header old.expired_connection_buffer member.service.number member.service.description.settings old.services (Ok tt) new.services
         → (HasForm member.service.description → Agrees old.table new.table member.service) → AreOfOneAgreement after new
-    made_agrees member owner (Err error) is numbers past opens agrees_now = absurd (differ is)
-      where
-        differ : Err error ≡ Ok (member, owner) → ⊥
-        differ e = cc
+    made_agrees member owner (Err error) is numbers past opens agrees_now = absurd (not-bad (member, owner) error (sym is))
     made_agrees member owner (Ok parts) is (factory, is_pattern, is_parts, is_new, is_answer, form) past opens agrees_now =
-        let own : (parts_of factory).0 ≡ member = ap (λ p. p.0) (is_parts ∙ same is) in
+        let own : (parts_of factory).0 ≡ member = ap (λ p. p.0) (is_parts ∙ same-good {E = E} parts (member, owner) is) in
         came_agrees table after old new past factory more
         (subst (λ m. (number : ℕ) (presence : Presence T U B D) → Among (number, presence) new.services.domains
-            → HadDomain number presence old.services.domains ⊎ ((number ≡ m.service.number) × (m.service.description.settings ≡ PublishSubscribe (agreed_in presence)))) (sym own)
-            (opens_serve payload user_header old.expired_connection_buffer member.service.number member.service.description.settings old.services new.services opens))
-        (subst (λ m. Agrees old.table new.table m.service) (sym own) (agrees_now (subst (λ m. HasForm m.service.description) (ap (λ p. p.0) (same is)) form)))
+        → HadDomain number presence old.services.domains ⊎ ((number ≡ m.service.number) × (m.service.description.settings ≡ PublishSubscribe (agreed_in presence)))) (sym own)
+        (opens_serve payload user_header old.expired_connection_buffer member.service.number member.service.description.settings old.services new.services opens))
+        (subst (λ m. Agrees old.table new.table m.service) (sym own) (agrees_now (subst (λ m. HasForm m.service.description) (ap (λ p. p.0) (same-good {E = E} parts (member, owner) is)) form)))
         are
       where
-        same : Ok parts ≡ Ok (member, owner) → parts ≡ (member, owner)
-        same e = cc
-
         more : (one : ℕ × MadeFactory) → Among one after.entries → Among one table.entries ⊎ (one.1 ≡ factory)
         more one in_it = ⊎_elim
             (λ there. inl there)
@@ -349,7 +342,7 @@ module _ {T U B D : Type 0} where
   pub create_agrees : (is_node : Bool) (payload user_header : Detail) (types : MessageTypeDetails) (asked : ServiceAsked) (attributes : List Attribute) (steps : List StepBefore) (table after : FactoryTable) (old new : Hub T U B D) (answer : Option (Result ℕ Refusal))
       → CreatesNumbered is_node payload user_header types asked attributes steps table old answer after new → AreOfOneAgreement table old → AreOfOneAgreement after new
   create_agrees false payload user_header types asked attributes steps table after old new answer does = same_agrees table after old new (ap (λ t. t.entries) does.1) does.2
-  create_agrees true payload user_header types asked attributes steps table after old new answer (prepared, roomier, reply, prepares, does, is) are =
+  create_agrees true payload user_header types asked attributes steps table after old new answer (prepared, roomier, reply, prepares, does, is) = λ are.
       create_prepared prepared payload user_header types asked attributes roomier after old new reply does (prepared_agrees asked.name types steps table roomier prepared old prepares are)
 
   open_as : (named : ServiceOptions) (payload user_header : Detail) (types : MessageTypeDetails) (node : ℕ) (name : List ℕ) (attributes : Required) (lists : List (List ForeignStep)) (table after : FactoryTable) (old new : Hub T U B D) (answer : Result ℕ Refusal)
@@ -369,7 +362,7 @@ module _ {T U B D : Type 0} where
   pub open_agrees : (is_node : Bool) (payload user_header : Detail) (types : MessageTypeDetails) (asked : ServiceAsked) (attributes : Required) (steps : List StepBefore) (table after : FactoryTable) (old new : Hub T U B D) (answer : Option (Result ℕ Refusal))
       → OpensNumbered is_node payload user_header types asked attributes steps table old answer after new → AreOfOneAgreement table old → AreOfOneAgreement after new
   open_agrees false payload user_header types asked attributes steps table after old new answer does = same_agrees table after old new (ap (λ t. t.entries) does.1) does.2
-  open_agrees true payload user_header types asked attributes steps table after old new answer (prepared, roomier, reply, prepares, does, is) are =
+  open_agrees true payload user_header types asked attributes steps table after old new answer (prepared, roomier, reply, prepares, does, is) = λ are.
       open_prepared prepared payload user_header types asked attributes roomier after old new reply does (prepared_agrees asked.name types steps table roomier prepared old prepares are)
 
   either_as : (named : ServiceOptions) (payload user_header : Detail) (types : MessageTypeDetails) (node : ℕ) (name : List ℕ) (attributes : Required) (lists : List (List ForeignStep)) (table after : FactoryTable) (old new : Hub T U B D) (answer : Result ℕ Refusal)
@@ -389,7 +382,7 @@ module _ {T U B D : Type 0} where
   pub either_agrees : (is_node : Bool) (payload user_header : Detail) (types : MessageTypeDetails) (asked : ServiceAsked) (attributes : Required) (steps : List StepBefore) (table after : FactoryTable) (old new : Hub T U B D) (answer : Option (Result ℕ Refusal))
       → EitherNumbered is_node payload user_header types asked attributes steps table old answer after new → AreOfOneAgreement table old → AreOfOneAgreement after new
   either_agrees false payload user_header types asked attributes steps table after old new answer does = same_agrees table after old new (ap (λ t. t.entries) does.1) does.2
-  either_agrees true payload user_header types asked attributes steps table after old new answer (prepared, roomier, reply, prepares, does, is) are =
+  either_agrees true payload user_header types asked attributes steps table after old new answer (prepared, roomier, reply, prepares, does, is) = λ are.
       either_prepared prepared payload user_header types asked attributes roomier after old new reply does (prepared_agrees asked.name types steps table roomier prepared old prepares are)
 
   one_less_keeps_at : (number : ℕ) (hub : Hub T U B D) (last : Bool) (fewer gone : Hub T U B D) → gone.services.domains ≡ remove_entry (is_at (nat_cmp number)) hub.services.domains → fewer.services.domains ≡ hub.services.domains

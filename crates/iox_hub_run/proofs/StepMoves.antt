@@ -1,5 +1,5 @@
 -- Each command moves one domain at most, by calls of ports, and leaves each service of one agreement.
-use Rattle.std.proofs.Common.{◌≡◌, Option, None, Some, Result, Ok, Err, ap, refl, subst, sym}
+use Rattle.std.proofs.Common.{◌≡◌, Option, None, Some, Result, Ok, Err, ap}
 use Rattle.std.specs.declared.alloc.AllocError.{AllocError}
 use Rattle.iox_command.specs.declared.command.Command.{Command}
 use Rattle.iox_command.specs.declared.command.Command.TheVariants as command
@@ -20,14 +20,12 @@ use Rattle.iox_hub_commands.specs.Naming.{publisher_config, publisher_handlers, 
 use Rattle.iox_hub_run.specs.Services.{PublisherComes, SubscriberComes, domain_of_factory, owner_of_factory}
 use Rattle.iox_hub_run.specs.Steps.{IsReplied, Step, publisher_may_degrade, publisher_may_decide, subscriber_may_degrade}
 use Rattle.iox_hub_run.specs.declared.numbered_hub.NumberedHub.{NumberedHub}
-use Rattle.iox_hub_factories.specs.Tables.{FactoryTable}
-use Rattle.iox_hub_factories.specs.Hub.{Hub}
 use Rattle.iox_negotiate_laws.proofs.Agreements.{no-past}
 use Rattle.iox_hub_run.specs.Agreements.{AreOfOneAgreement}
 use Rattle.iox_hub_run.proofs.Agreeing.{same_factories, same_agreed}
 use Rattle.iox_hub_run.proofs.Grown.{MovesOne, Serves, none_moves, no_service_serves}
-use Rattle.iox_hub_run.proofs.PortsMove.{loan_moves, loan_uninit_moves, set_moves, fill_moves, drop_moves, send_moves, put_step_goes, retry_moves, give_up_moves, receive_moves, release_moves, update_moves, has_moves, leave_moves, publisher_moves, subscriber_moves}
-use Rattle.iox_hub_run.proofs.ServicesAgree.{kept_agrees, same_agrees, create_agrees, open_agrees, either_agrees, close_agrees, foreign_agrees}
+use Rattle.iox_hub_run.proofs.PortsMove.{loan_moves, loan_uninit_moves, set_moves, fill_moves, drop_moves, send_moves, put_step_moves, retry_moves, give_up_moves, receive_moves, release_moves, update_moves, has_moves, leave_moves, publisher_moves, subscriber_moves}
+use Rattle.iox_hub_run.proofs.ServicesAgree.{kept_agrees, create_agrees, open_agrees, either_agrees, close_agrees, foreign_agrees}
 use Rattle.iox_hub_run.proofs.ServicesMove.{create_moves, open_moves, either_moves, close_moves, foreign_moves}
 
 module _ {T U B D : Type 0} where
@@ -47,13 +45,13 @@ module _ {T U B D : Type 0} where
   replied does old new (Err lacking) moves done = absurd done
 
   publisher_comes : (is_default : U → Type 0) (fixed : BackpressureStrategy → Option BackpressureAction → DegradationAction → B) (degrades : B → DegradationCause → DegradationInfo → DegradationAction → Type 0) (opened : Option Opened) (options : PublisherOptions)
-      (old new : NumberedHub T U B D) (answer : Reply T) → PublisherComes is_default fixed degrades opened options old answer new → MovesOne old.hub new.hub
+      (old new : NumberedHub T U B D) (answer : Reply T) → PublisherComes is_default fixed degrades opened options old answer new → Goes old new
   publisher_comes is_default fixed degrades None options old new answer comes = ports_go old new (none_moves old.hub new.hub (ap (λ numbered. numbered.hub) comes.1)) (ap (λ numbered. numbered.factories) comes.1)
   publisher_comes is_default fixed degrades (Some opened) options old new answer (steps, same) =
       ports_go old new (publisher_moves degrades is_default (domain_of_factory opened) (publisher_config (owner_of_factory opened) options) options.preallocated_samples (publisher_handlers fixed options) old.made new.made old.hub new.hub answer steps) same
 
   subscriber_comes : (fixed : DegradationAction → D) (degrades : D → DegradationCause → DegradationInfo → DegradationAction → Type 0) (opened : Option Opened) (options : SubscriberOptions) (old new : NumberedHub T U B D) (answer : Reply T)
-      → SubscriberComes fixed degrades opened options old answer new → MovesOne old.hub new.hub
+      → SubscriberComes fixed degrades opened options old answer new → Goes old new
   subscriber_comes fixed degrades None options old new answer comes = ports_go old new (none_moves old.hub new.hub (ap (λ numbered. numbered.hub) comes.1)) (ap (λ numbered. numbered.factories) comes.1)
   subscriber_comes fixed degrades (Some opened) options old new answer (steps, same) =
       ports_go old new (subscriber_moves degrades (domain_of_factory opened) (subscriber_config (owner_of_factory opened) options) (subscriber_handler fixed options) old.made new.made old.hub new.hub answer steps) same
@@ -67,8 +65,8 @@ module _ {T U B D : Type 0} where
       replied _ old new answer (λ reply does. (
         no_service_serves old.hub new.hub (ap (λ numbered. numbered.hub.services) does.1),
         kept_agrees old.factories.made new.factories.made old.hub new.hub (no-past old.hub.table new.hub.table (ap (λ numbered. numbered.hub.table) does.1))
-        (same_factories old.factories.made new.factories.made (ap (λ numbered. numbered.factories.made.entries) does.1))
-        (same_agreed old.hub.services.domains new.hub.services.domains (ap (λ numbered. numbered.hub.services.domains) does.1)),
+            (same_factories old.factories.made new.factories.made (ap (λ numbered. numbered.factories.made.entries) does.1))
+            (same_agreed old.hub.services.domains new.hub.services.domains (ap (λ numbered. numbered.hub.services.domains) does.1)),
       )) step
   step_goes payload user_header types is_default is_default_header fixed degrades decides fixed_reader reader_degrades (command.Create node name options attributes steps) old new answer step =
       replied _ old new answer (λ reply does. let (made, opens, same, is) = does in (create_moves _ payload user_header types _ attributes steps old.factories.made new.factories.made old.hub new.hub made opens, create_agrees _ payload user_header types _ attributes steps old.factories.made new.factories.made old.hub new.hub made opens)) step
@@ -97,7 +95,7 @@ module _ {T U B D : Type 0} where
   step_goes payload user_header types is_default is_default_header fixed degrades decides fixed_reader reader_degrades (command.Send loan) old new answer step =
       replied _ old new answer (λ reply does. ports_go old new (send_moves (publisher_may_degrade degrades) (publisher_may_decide decides) loan old.made new.made old.hub new.hub reply does.0) does.1) step
   step_goes payload user_header types is_default is_default_header fixed degrades decides fixed_reader reader_degrades (command.Put publisher values) old new answer step =
-      replied _ old new answer (λ reply does. put_step_goes (publisher_may_degrade degrades) (publisher_may_decide decides) publisher values old.made old.hub new.hub reply does.0) step
+      replied _ old new answer (λ reply does. ports_go old new (put_step_moves (publisher_may_degrade degrades) (publisher_may_decide decides) publisher values old.made old.hub new.hub reply does.0) (ap (λ numbered. numbered.factories) does.1)) step
   step_goes payload user_header types is_default is_default_header fixed degrades decides fixed_reader reader_degrades (command.Retry publisher nanoseconds) old new answer step =
       replied _ old new answer (λ reply does. ports_go old new (retry_moves (publisher_may_degrade degrades) (publisher_may_decide decides) publisher nanoseconds old.made old.hub new.hub reply does.0) (ap (λ numbered. numbered.factories) does.1)) step
   step_goes payload user_header types is_default is_default_header fixed degrades decides fixed_reader reader_degrades (command.GiveUp publisher) old new answer step =
