@@ -50,10 +50,12 @@ abbrev pub waits_of : World → ℕ → ℕ → Option PublisherLaneState → Bo
 waits_of m place slot None = false
 waits_of m place slot (Some lane) = waits_at m place slot lane (slice_get lane.port.routes place)
 
+-- a slot may be found to have been given back to a publisher that is there
 abbrev pub back_of : World → ℕ → ℕ → Option PublisherLaneState → Bool
 back_of m place slot None = false
 back_of m place slot (Some lane) = back_at m place slot lane (slice_get lane.port.routes place)
 
+-- a slot may be found to be the newest of the history of a publisher that is there
 abbrev pub newest_of : ℕ → Option PublisherLaneState → Bool
 newest_of slot None = false
 newest_of slot (Some lane) = may_remember slot lane.port.book
@@ -88,10 +90,12 @@ waiting_in m publisher place slot lane connection (Some link) = record m {
   publishers = set m.publishers publisher (lane_found place slot lane);
 }
 
+-- a message waits at a place of a publisher, whose record then has the slot
 abbrev pub waiting_at : World → ℕ → ℕ → ℕ → PublisherLaneState → Option Route → World
 waiting_at m publisher place slot lane None = m
 waiting_at m publisher place slot lane (Some route) = waiting_in m publisher place slot lane route.connection (slice_get m.links route.connection)
 
+-- a message waits at a connection of a publisher that is there
 abbrev pub waiting_of : World → ℕ → ℕ → ℕ → Option PublisherLaneState → World
 waiting_of m publisher place slot None = m
 waiting_of m publisher place slot (Some lane) = waiting_at m publisher place slot lane (slice_get lane.port.routes place)
@@ -104,6 +108,7 @@ given_at m publisher place slot lane (Some route) = record m {
   publishers = set m.publishers publisher (lane_found place slot lane);
 }
 
+-- a sample was given back at a connection of a publisher that is there
 abbrev pub given_of : World → ℕ → ℕ → ℕ → Option PublisherLaneState → World
 given_of m publisher place slot None = m
 given_of m publisher place slot (Some lane) = given_at m publisher place slot lane (slice_get lane.port.routes place)
