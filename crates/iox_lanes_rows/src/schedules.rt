@@ -5,7 +5,7 @@ use crate::calls::{
     PUBLISHER, SUBSCRIBER, begin, go_on, last_answer, read, received, released, sent, written,
 };
 use iox_lanes_calls::Delivery;
-use iox_lanes_machine::{LaneSizes, Lanes};
+use iox_lanes_machine::{Found, LaneSizes, Lanes};
 use iox_lanes_parties::{Answer, Call, Move};
 use iox_queues_rings::RingKind;
 use iox_queues_steps::Stepped;
@@ -175,5 +175,26 @@ fn lanes_are_made_at_all_sizes(rt: HostRuntime) -> Result<(), Fail> {
     assert!(rt; begin(&mut lanes, PUBLISHER, Call::LoanUninit));
     assert!(rt; !begin(&mut lanes, PUBLISHER, Call::LoanUninit));
     assert_eq!(rt; lanes.moments(), 1);
+    Ok(())
+}
+
+// A message that waits in this slot of the first publisher at its first connection.
+fn waits(slot: u64) -> Found {
+    Found::Waiting {
+        publisher: 0,
+        place: 0,
+        slot,
+    }
+}
+
+#[test]
+fn a_message_that_was_found_is_received(rt: HostRuntime) -> Result<(), Fail> {
+    let alloc = rt.alloc();
+    let mut lanes = Lanes::new(alloc, sizes(RingKind::Overflowing, 2, 5))?;
+    assert!(rt; lanes.find(waits(3))?);
+    // One may wait, and it is there already; and after a step nothing is found.
+    assert!(rt; !lanes.find(waits(2))?);
+    assert_eq!(rt; received(&mut lanes), Some(3));
+    assert!(rt; !lanes.find(waits(1))?);
     Ok(())
 }
