@@ -12,8 +12,7 @@ use Rattle.iox_describe_base.specs.declared.attribute.Attribute.{Attribute}
 use Rattle.iox_describe_base.specs.declared.message_type.MessageTypeDetails.{MessageTypeDetails}
 use Rattle.iox_describe_base.specs.declared.pattern.MessagingPattern.{MessagingPattern}
 use Rattle.iox_describe_base.specs.declared.pattern.MessagingPattern.TheVariants as pattern
-use Rattle.iox_hub_factories.specs.Hub.{Made}
-use Rattle.iox_hub_factories.specs.Hub.{Hub}
+use Rattle.iox_hub_factories.specs.Hub.{Made, Hub}
 use Rattle.iox_hub_factories.specs.Closing.{ClosesUnless, ClosesIfOf, ClosesNumbered}
 use Rattle.iox_hub_factories.specs.Creating.{CreatesAs, CreatesPrepared, CreatesNumbered}
 use Rattle.iox_hub_factories.specs.Either.{EitherAs, EitherPrepared, EitherNumbered}

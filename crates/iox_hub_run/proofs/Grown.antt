@@ -7,7 +7,7 @@ use Rattle.std.specs.declared.cmp.Ordering.{Ordering}
 use Rattle.std.specs.declared.cmp.Ordering.TheVariants.{Less, Equal, Greater}
 use Rattle.iox_hub_commands.specs.Delivery.{changed_at}
 use Rattle.iox_hub_commands.specs.Slices.{each_written}
-use Rattle.iox_hub_factories.specs.Hub.{with_ports, Domain}
+use Rattle.iox_hub_factories.specs.Hub.{with_ports, Domain, hub_ports, with_hub_ports, with_services, Hub, domain_at, stepped_if, stepped, here_stands, stands_at, stepped_elsewhere, one_value, is_number, changed_found, changed_twice, same_unchanged, OpenServices, presence_of, Presence, Here}
 use Rattle.iox_domain_home.specs.Homes.{AtDomain, LeavesDomain, MakesAt}
 use Rattle.iox_domain_home.specs.declared.domain_id.DomainId.{DomainId}
 use Rattle.iox_domain_laws.specs.Calls.{PortCall, Writes, Happens}
@@ -22,9 +22,6 @@ use Rattle.iox_domain_values.specs.declared.backpressure.BackpressureDecision.{B
 use Rattle.iox_domain_values.specs.declared.backpressure.BackpressureInfo.{BackpressureInfo}
 use Rattle.iox_domain_values.specs.declared.degradation.DegradationAction.{DegradationAction}
 use Rattle.iox_domain_values.specs.declared.degradation.DegradationInfo.{DegradationInfo}
-use Rattle.iox_hub_factories.specs.Hub.{hub_ports, with_hub_ports, with_services}
-use Rattle.iox_hub_factories.specs.Hub.{Hub}
-use Rattle.iox_hub_factories.specs.Hub.{domain_at, stepped_if, stepped, here_stands, stands_at, stepped_elsewhere, one_value, is_number, changed_found, changed_twice, same_unchanged, OpenServices, presence_of, Presence, Here}
 use Rattle.iox_hub_run.specs.Grown.{AnySlots, AnyAction, AnyDecision, LeadsTo, HasGrown, HaveGrown, GrowsOn, OthersStay}
 use Rattle.iox_hub_run.proofs.Agreeing.{KeepsAgreed, same_agreed, agreed_on, set_agreed}
 use Rattle.iox_hub_run.proofs.Loosening.{loosened}

@@ -22,10 +22,7 @@ use Rattle.iox_describe_base.specs.declared.pattern.MessagingPattern.{MessagingP
 use Rattle.iox_describe_settings.specs.Agreement.{Agreement, AreWithinLimits}
 use Rattle.iox_describe_settings.specs.declared.static_config.Settings.{Settings}
 use Rattle.iox_describe_settings.specs.declared.static_config.Settings.TheVariants.{PublishSubscribe}
-use Rattle.iox_hub_factories.specs.Hub.{is_last, less_one}
-use Rattle.iox_hub_factories.specs.Hub.{Made, Settles, OpensInHub}
-use Rattle.iox_hub_factories.specs.Hub.{Hub}
-use Rattle.iox_hub_factories.specs.Hub.{OpenServices, Opens as ServiceOpens, Presence, Here}
+use Rattle.iox_hub_factories.specs.Hub.{is_last, less_one, Made, Settles, OpensInHub, Hub, OpenServices, Opens as ServiceOpens, Presence, Here}
 use Rattle.iox_hub_factories.specs.Closing.{ClosesUnless, ClosesIfOf, ClosesNumbered}
 use Rattle.iox_hub_factories.specs.Creating.{CreatesAs, CreatesPrepared, CreatesNumbered}
 use Rattle.iox_hub_factories.specs.Either.{EitherAs, EitherPrepared, EitherNumbered}

@@ -18,9 +18,7 @@ use Rattle.iox_describe_base.specs.declared.message_type.MessageTypeDetails.{Mes
 use Rattle.iox_describe_base.specs.declared.pattern.MessagingPattern.{MessagingPattern}
 use Rattle.iox_describe_settings.specs.declared.static_config.Settings.{Settings}
 use Rattle.iox_domain_home.specs.declared.domain_id.DomainId.{DomainId}
-use Rattle.iox_hub_factories.specs.Hub.{is_last, less_one}
-use Rattle.iox_hub_factories.specs.Hub.{Made, Enters, Settles, OpensInHub}
-use Rattle.iox_hub_factories.specs.Hub.{Hub}
+use Rattle.iox_hub_factories.specs.Hub.{is_last, less_one, Made, Enters, Settles, OpensInHub, Hub, domain_at, is_number, not_number, others_beside, OpenServices, here_if, presence_of, domain_of, Opens, Presence, Here}
 use Rattle.iox_hub_factories.specs.Closing.{ClosesUnless, ClosesIfOf, ClosesNumbered}
 use Rattle.iox_hub_factories.specs.Creating.{CreatesAs, CreatesPrepared, CreatesNumbered}
 use Rattle.iox_hub_factories.specs.Either.{EitherAs, EitherPrepared, EitherNumbered}
@@ -29,7 +27,6 @@ use Rattle.iox_hub_factories.specs.Opening.{OpensAs, OpensPrepared, OpensNumbere
 use Rattle.iox_hub_factories.specs.Tables.{FactoryTable, parts_of}
 use Rattle.iox_hub_factories.specs.declared.asked.ServiceAsked.{ServiceAsked}
 use Rattle.iox_hub_factories.specs.declared.made.MadeFactory.{MadeFactory}
-use Rattle.iox_hub_factories.specs.Hub.{domain_at, is_number, not_number, others_beside, OpenServices, here_if, presence_of, domain_of, Opens, Presence, Here}
 use Rattle.iox_negotiate.specs.declared.factory.Membership.{Membership}
 use Rattle.iox_negotiate_errors.specs.declared.close.CloseError.{CloseError}
 use Rattle.iox_negotiate_table.specs.Stepped.{Steps}

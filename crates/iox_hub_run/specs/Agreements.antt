@@ -4,8 +4,7 @@ use Rattle.std.specs.List.{AllByRecursion}
 use Rattle.iox_describe_settings.specs.Agreement.{Agreement}
 use Rattle.iox_describe_settings.specs.declared.static_config.Settings.TheVariants.{PublishSubscribe}
 use Rattle.iox_describe_settings.specs.declared.static_config.publish_subscribe.StaticConfig.{StaticConfig}
-use Rattle.iox_hub_factories.specs.Hub.{Hub}
-use Rattle.iox_hub_factories.specs.Hub.{Presence, Here, Out}
+use Rattle.iox_hub_factories.specs.Hub.{Hub, Presence, Here, Out}
 use Rattle.iox_hub_factories.specs.Tables.{FactoryTable, parts_of}
 use Rattle.iox_negotiate_laws.specs.Agreements.{WasAgreed}
 use Rattle.iox_negotiate_laws.specs.Histories.{IsReached}

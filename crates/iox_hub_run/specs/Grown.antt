@@ -13,8 +13,7 @@ use Rattle.iox_domain_values.specs.declared.backpressure.BackpressureDecision.{B
 use Rattle.iox_domain_values.specs.declared.backpressure.BackpressureInfo.{BackpressureInfo}
 use Rattle.iox_domain_values.specs.declared.degradation.DegradationAction.{DegradationAction}
 use Rattle.iox_domain_values.specs.declared.degradation.DegradationInfo.{DegradationInfo}
-use Rattle.iox_hub_factories.specs.Hub.{Hub}
-use Rattle.iox_hub_factories.specs.Hub.{domain_at, Presence, Here, Out}
+use Rattle.iox_hub_factories.specs.Hub.{Hub, domain_at, Presence, Here, Out}
 
 -- a publisher may be given any number of slots
 abbrev pub AnySlots : ℕ → ℕ → Type 0

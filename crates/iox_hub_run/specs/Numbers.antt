@@ -1,7 +1,6 @@
 -- How many numbers were given out.
 use Rattle.std.specs.Prelude.{ℕ, ◌≡◌, ◌+◌}
-use Rattle.iox_hub_factories.specs.Hub.{IsNewHub}
-use Rattle.iox_hub_factories.specs.Hub.{HubConfig}
+use Rattle.iox_hub_factories.specs.Hub.{IsNewHub, HubConfig}
 use Rattle.iox_hub_factories.specs.Tables.{no_factories}
 use Rattle.iox_hub_commands.specs.Ports.{IsEmpty}
 use Rattle.iox_hub_run.specs.declared.numbered_hub.NumberedHub.{NumberedHub}

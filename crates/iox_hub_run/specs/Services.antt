@@ -20,9 +20,7 @@ use Rattle.iox_domain_values.specs.declared.degradation.DegradationAction.{Degra
 use Rattle.iox_domain_values.specs.declared.degradation.DegradationCause.{DegradationCause}
 use Rattle.iox_domain_values.specs.declared.degradation.DegradationInfo.{DegradationInfo}
 use Rattle.iox_domain_values.specs.declared.port_owner.PortOwner.{PortOwner}
-use Rattle.iox_hub_factories.specs.Hub.{hub_ports, with_hub_ports, with_hub_publisher, with_hub_subscriber}
-use Rattle.iox_hub_factories.specs.Hub.{is_node, one_more}
-use Rattle.iox_hub_factories.specs.Hub.{Made as Opened}
+use Rattle.iox_hub_factories.specs.Hub.{hub_ports, with_hub_ports, with_hub_publisher, with_hub_subscriber, is_node, one_more, Made as Opened}
 use Rattle.iox_hub_commands.specs.Arriving.{PublisherStep, SubscriberStep}
 use Rattle.iox_hub_commands.specs.Naming.{publisher_config, publisher_handlers, subscriber_config, subscriber_handler}
 use Rattle.iox_hub_commands.specs.Replies.{factory_reply, foreign_reply, closed_reply}

@@ -6,7 +6,7 @@ use Rattle.iox_command.specs.declared.command.Command.TheVariants as command
 use Rattle.iox_command.specs.declared.reply.Reply.{Reply}
 use Rattle.iox_describe_base.specs.Detail.{Detail}
 use Rattle.iox_describe_base.specs.declared.message_type.MessageTypeDetails.{MessageTypeDetails}
-use Rattle.iox_hub_factories.specs.Hub.{kept_degrades, kept_decides}
+use Rattle.iox_hub_factories.specs.Hub.{kept_degrades, kept_decides, hub_ports, with_hub_ports, without_hub_publisher, without_hub_subscriber, Hub, domain_at, publisher_handlers_in, subscriber_handler_in}
 use Rattle.iox_domain_home.specs.declared.domain_id.DomainId.{DomainId}
 use Rattle.iox_domain_values.specs.declared.backpressure.BackpressureAction.{BackpressureAction}
 use Rattle.iox_domain_values.specs.declared.backpressure.BackpressureDecision.{BackpressureDecision}
@@ -15,13 +15,10 @@ use Rattle.iox_domain_values.specs.declared.backpressure_strategy.BackpressureSt
 use Rattle.iox_domain_values.specs.declared.degradation.DegradationAction.{DegradationAction}
 use Rattle.iox_domain_values.specs.declared.degradation.DegradationCause.{DegradationCause}
 use Rattle.iox_domain_values.specs.declared.degradation.DegradationInfo.{DegradationInfo}
-use Rattle.iox_hub_factories.specs.Hub.{hub_ports, with_hub_ports, without_hub_publisher, without_hub_subscriber}
-use Rattle.iox_hub_factories.specs.Hub.{Hub}
 use Rattle.iox_hub_commands.specs.Following.{UpdateStep, HasStep, LeaveStep}
 use Rattle.iox_hub_commands.specs.Lending.{LoanStep, LoanUninitStep, PutStep}
 use Rattle.iox_hub_commands.specs.Messages.{SetStep, FillStep, DropStep, SendStep, RetryStep, GiveUpStep, ReadStep, ReleaseStep}
 use Rattle.iox_hub_commands.specs.Receiving.{ReceiveStep}
-use Rattle.iox_hub_factories.specs.Hub.{domain_at, publisher_handlers_in, subscriber_handler_in}
 use Rattle.iox_hub_run.specs.Services.{NodeMakes, Creates, Opens, OpensOrCreates, Acts, Closes, MakesPublisher, MakesSubscriber}
 use Rattle.iox_hub_run.specs.declared.numbered_hub.NumberedHub.{NumberedHub}
 
