@@ -43,12 +43,23 @@ def names_of(text):
     return found
 
 
+# The name under which each crate's definitions are handed on: `DomainSlots` for `iox_domain_slots`.
+PASSED_ON = {"".join(word.capitalize() for word in it.name.removeprefix("iox_").split("_")): it.name for it in CRATES.iterdir()}
+
+
+def without_way(path):
+    """Returns a path to a definition by its own crate, where another crate hands the definitions of that crate on."""
+    way = re.fullmatch(r"Rattle\.\w+\.specs\.(\w+)(\.\w.*)", path)
+    return f"Rattle.{PASSED_ON[way[1]]}.specs{way[2]}" if way and way[1] in PASSED_ON else path
+
+
 class Uses:
     """What the `use` lines of a file bring in: definitions by their names, and modules of definitions by theirs."""
 
     def __init__(self, text):
         self.names, self.modules = {}, {}
         for path, names, alias in USE.findall(text):
+            path = without_way(path)
             module = re.fullmatch(r"Rattle\.((?:iox|example)\w*)\.specs\.(\w+)", path)
             if not module or module[2] == "declared":
                 continue

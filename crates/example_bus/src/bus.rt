@@ -1,15 +1,20 @@
 //! What a node of the bus does: it advertises or listens in a service, publishes and hears.
-ghost use Rattle.std.specs.Prelude.{◌≡◌, IfOk, option_map};
-ghost use Rattle.iox_domain_ports.specs.Reading.{sample_in};
-ghost use Rattle.example_bus.specs.Heard.{as_heard, as_sent};
+ghost use Rattle.std.specs.Prelude.{◌≡◌, ℕ, Option, true, Some, Ok, IfOk, option_map};
+ghost use Rattle.iox_delivery.specs.Holding.{holds_message, message_found};
+ghost use Rattle.iox_delivery_slices.specs.declared.sample.Sample.{Sample};
+ghost use Rattle.iox_delivery_slices.specs.Slices.{ReceivesSlice};
+ghost use Rattle.example_bus.specs.Heard.{as_heard, as_sent, as_received, LetsGo};
 
-use anyhow::{Context, Result, ensure};
+use anyhow::{Context, Result, bail, ensure};
+use iox_delivery::{PortId, Sent};
+use iox_delivery_slices::{Publisher, Sample, Subscriber};
 use iox_describe::ServiceName;
 use iox_domain::Nobody;
 use iox_domain_home::{DomainId, Home, MakesPorts};
-use iox_domain_ports::{PublisherConfig, ServicePorts, SubscriberConfig};
-use iox_domain_subscriber::Taken;
-use iox_domain_values::{AllocationStrategy, PortOwner, PreallocatedSamplesOverride};
+use iox_domain_ports::{PublisherConfig, SubscriberConfig};
+use iox_domain_values::{
+    AllocationStrategy, BackpressureStrategy, PortOwner, PreallocatedSamplesOverride,
+};
 use iox_hub_base::{Hub, HubBuilder, NodeHandle};
 use iox_negotiate::Slice;
 use std::alloc::{AllocError, Global};
@@ -17,13 +22,6 @@ use std::alloc::{AllocError, Global};
 /// All nodes and services of the robot. Messages are slices of numbers, and each has a time stamp as its user header. Nobody is asked at a full
 /// mailbox: it drops its oldest message.
 pub type Bus = Hub<u64, u64, Nobody, Nobody>;
-
-/// A publisher or a subscriber: of which service, and by which number there.
-#[derive(Clone, Copy)]
-pub struct Port {
-    pub service: DomainId,
-    pub number: u64,
-}
 
 /// What a node heard.
 #[derive(Drop)]
@@ -58,15 +56,15 @@ fn join(
     Ok((domain.id, owner))
 }
 
-/// A publisher of messages of at most so many values.
+/// Makes a publisher of messages of at most so many values.
 pub fn advertise(
     alloc: Global,
     bus: &mut Bus,
     node: &NodeHandle,
     name: &[u8],
     values: usize,
-) -> Result<Port> {
-    let (service, owner) = join(alloc, bus, node, name)?;
+) -> Result<PortId> {
+    let (domain, owner) = join(alloc, bus, node, name)?;
     let config = PublisherConfig {
         owner,
         max_loaned_samples: 1,
@@ -76,65 +74,91 @@ pub fn advertise(
     };
     let slots = PreallocatedSamplesOverride::WorstCase;
     let number = bus
-        .create_publisher(alloc, service, config, 0, &slots, Nobody)
+        .create_publisher(alloc, domain, config, 0, &slots, Nobody)
         .context("no service")??;
-    Ok(Port { service, number })
+    Ok(PortId { domain, number })
 }
 
-/// A subscriber.
-pub fn listen(alloc: Global, bus: &mut Bus, node: &NodeHandle, name: &[u8]) -> Result<Port> {
-    let (service, owner) = join(alloc, bus, node, name)?;
+/// Makes a subscriber.
+pub fn listen(alloc: Global, bus: &mut Bus, node: &NodeHandle, name: &[u8]) -> Result<PortId> {
+    let (domain, owner) = join(alloc, bus, node, name)?;
     let config = SubscriberConfig {
         owner,
         buffer_size: None,
     };
     let number = bus
-        .create_subscriber(alloc, service, config, Nobody)
+        .create_subscriber(alloc, domain, config, Nobody)
         .context("no service")??;
-    Ok(Port { service, number })
+    Ok(PortId { domain, number })
 }
 
-/// Sends these values with a time stamp.
-pub fn publish(alloc: Global, bus: &mut Bus, port: Port, stamp: u64, values: &[u64]) -> Result<()> {
-    let (len, elements) = (values.len(), values.len() as u64);
-    let slot = bus
-        .loan(alloc, port.service, port.number, len, elements)
-        .context("no publisher")??;
-    let ports = bus.ports_mut(port.service).context("no service")?;
-    ports.write_user_header(port.number, slot, stamp);
-    ports.write_from_slice(port.number, slot, values);
-    bus.send(alloc, port.service, port.number, slot)
-        .context("no loan")??;
-    Ok(())
-}
-
-/// The time stamp and the values of a sample, just as they were sent; None where no such sample is held.
-fn read(
+/// Sends these values with a time stamp; the answer is to how many subscribers.
+pub fn publish(
     alloc: Global,
-    ports: &ServicePorts<u64, u64>,
-    sample: Taken,
-) -> Result<Option<Heard>, AllocError>
-    ensures { IfOk result (λ heard. option_map as_heard heard ≡ option_map as_sent (sample_in sample ports.now)) }
-{
-    let (Some(sent), Some(stamp)) = (ports.payload(sample), ports.user_header(sample)) else {
-        return Ok(None);
-    };
-    let mut values = Vec::new(alloc);
-    values.extend_from_slice(sent)?;
-    Ok(Some(Heard {
-        stamp: *stamp,
-        values,
-    }))
+    bus: &mut Bus,
+    port: PortId,
+    stamp: u64,
+    values: &[u64],
+) -> Result<usize> {
+    let publisher = Publisher::of_port(port, BackpressureStrategy::DiscardData, values.len());
+    if !publisher.holds(bus) || publisher.is_blocked(bus) {
+        publisher.into_port();
+        bail!("no publisher");
+    }
+    let loan = publisher.loan_slice_uninit(alloc, bus, values.len());
+    publisher.into_port();
+    let mut loan = loan?;
+    loan.user_header_write(bus, stamp);
+    let sample = loan.write_from_slice(bus, values);
+    if !sample.holds(bus) || sample.is_blocked(bus) {
+        sample.drop_with(bus);
+        bail!("no loan");
+    }
+    match sample.send(alloc, bus)? {
+        Sent::Delivered(subscribers) => Ok(subscribers),
+        Sent::Blocked(waiting) => waiting.drop_with(bus).context("no send"),
+    }
 }
 
-/// Receives the next message, if one waits, and releases it.
-pub fn hear(alloc: Global, bus: &mut Bus, port: Port) -> Result<Option<Heard>> {
-    let received = bus.receive(alloc, port.service, port.number);
-    let Some(sample) = received.context("no subscriber")?? else {
+/// The time stamp and the values of a sample, just as they were sent.
+fn read<H: Home<u64, u64>>(
+    alloc: Global,
+    home: &H,
+    sample: &Sample<u64, u64>,
+) -> Result<Heard, AllocError>
+    requires { holds_message sample.now.port.number sample.now.taken (H.ports_of sample.now.port.domain home.now) ≡ true }
+    ensures { IfOk result (λ heard. Some (as_heard heard) ≡ option_map as_sent (message_found sample.now.taken (H.ports_of sample.now.port.domain home.now))) }
+{
+    let mut values = Vec::new(alloc);
+    values.extend_from_slice(sample.payload(home))?;
+    Ok(Heard {
+        stamp: *sample.user_header(home),
+        values,
+    })
+}
+
+/// Receives the next message, if one waits, and releases it: what is heard is the time stamp and the values of the message received.
+pub fn hear<H: Home<u64, u64>>(alloc: Global, home: &mut H, port: PortId) -> Result<Option<Heard>>
+    ensures { IfOk result (λ heard. (sample : Option (Sample ℕ ℕ)) × (received : H)
+        × ReceivesSlice H.ports_of H.with_ports H.subscriber_degrades port home.old (Ok sample) received
+        × (option_map as_heard heard ≡ as_received sample (H.ports_of port.domain received))
+        × LetsGo H.ports_of H.with_ports sample received home.new) }
+{
+    let subscriber = Subscriber::of_port(port, 4);
+    if !subscriber.holds(home) {
+        subscriber.into_port();
+        bail!("no subscriber");
+    }
+    let received = subscriber.receive(alloc, home);
+    subscriber.into_port();
+    let Some(sample) = received? else {
         return Ok(None);
     };
-    let ports = bus.ports_mut(port.service).context("no service")?;
-    let heard = read(alloc, ports, sample);
-    ports.release(port.number, sample);
-    Ok(heard?)
+    if !sample.holds(home) {
+        sample.drop_with(home);
+        bail!("no sample");
+    }
+    let heard = read(alloc, home, &sample);
+    sample.drop_with(home);
+    Ok(Some(heard?))
 }

@@ -4,14 +4,15 @@
 mod bus;
 
 use anyhow::{Context, Result};
-use bus::{Bus, Port, advertise, hear, listen, publish};
+use bus::{Bus, advertise, hear, listen, publish};
+use iox_delivery::PortId;
 use iox_domain_home::Home;
 use iox_hub_base::{Hub, HubConfig};
 use std::alloc::Global;
 use std::fmt::Write;
 
 /// Writes down all that waits at a port.
-fn note(out: &mut String, alloc: Global, bus: &mut Bus, who: &str, port: Port) -> Result<()> {
+fn note(out: &mut String, alloc: Global, bus: &mut Bus, who: &str, port: PortId) -> Result<()> {
     for _ in 0..8 {
         let Some(heard) = hear(alloc, bus, port)? else {
             return Ok(());
@@ -42,7 +43,7 @@ fn converse(out: &mut String, alloc: Global, bus: &mut Bus) -> Result<()> {
     publish(alloc, bus, commands, 20, &[2, 45])?;
     publish(alloc, bus, commands, 30, &[1, 5])?;
     let orders = listen(alloc, bus, &wheels, b"commands")?;
-    bus.update_publisher(alloc, commands.service, commands.number)
+    bus.update_publisher(alloc, commands.domain, commands.number)
         .context("no publisher")??;
 
     note(out, alloc, bus, "pilot, odometry", position)?;

@@ -79,8 +79,8 @@ impl<const SIZE: usize> ByteMachine<SIZE> {
         }
     }
 
-    /// Makes the steps one after another and returns their answers. It fails only where memory for the answers is
-    /// wanting, never for no steps, and then makes no step.
+    /// Makes the steps one after another and returns their answers. It fails only where the
+    /// allocation for the answers fails, never for no steps, and then makes no step.
     pub fn run(&mut self, alloc: Global, steps: &[ByteStep]) -> Result<Vec<ByteAnswer>, AllocError>
         ensures answers { IfOk result (λ answers. AnswersInTurn self.old steps.now answers.items) }
         ensures bytes { IfOk result (λ _. HoldsAfter self.old steps.now self.new) }

@@ -2,17 +2,20 @@
 //! each is run, and what it returns is printed.
 #![tactic(auto)]
 
-ghost use Rattle.std.specs.Prelude.{◌≡◌, ◌+◌, ◌<◌, Some, None, IfSome, IfNone, true};
+ghost use Rattle.std.specs.Prelude.{◌≡◌, ◌+◌, ◌<◌, Some, None, Err, IfSome, IfNone, IsOk, true, []};
 ghost use Rattle.iox_describe_base.specs.Hash.{service_hash_of};
 ghost use Rattle.iox_describe_base.specs.declared.pattern.MessagingPattern.TheVariants.{Event};
+ghost use Rattle.iox_describe_verdict.specs.EventClauses.{clauses};
+ghost use Rattle.iox_describe_verdict.specs.Verdict.{first_unmet};
 ghost use Rattle.iox_describe.specs.Within.{IsWithinLimits};
 ghost use Rattle.iox_index_base.specs.Container.{HasRoom, with_member};
 ghost use Rattle.iox_index_base.specs.Unique.{is_held, borrowed};
 
 use iox_describe::{
-    AttributeSpecifier, Description, MessagingPattern, ServiceHash, ServiceName, Settings, decode,
-    encode, event, is_within_limits, service_hash,
+    AttributeSpecifier, AttributeVerifier, Description, MessagingPattern, ServiceHash, ServiceName,
+    Settings, decode, encode, event, is_within_limits, service_hash,
 };
+use iox_describe_verdict::requirement::event::{ClauseError, Requirement};
 use iox_index::FixedSizeUniqueIndexSet;
 use iox_index_base::{Container, OwnerId};
 use std::alloc::{AllocError, Global};
@@ -26,7 +29,25 @@ fn hash_of(name: &[u8]) -> Option<ServiceHash>
     Some(service_hash(MessagingPattern::Event, &name))
 }
 
-/// `iox_describe`: a description that was written as one line, and read back; None where memory is wanting.
+/// `iox_describe_settings`: the description of an event service of this name for which nothing else is asked.
+fn described(name: ServiceName) -> Description
+    ensures named { result.name ≡ name }
+    ensures found { result.service_hash ≡ service_hash_of Event name }
+    ensures bare { result.attributes ≡ [] }
+{
+    let settings = Settings::Event(event::StaticConfig::new());
+    Description::new(name, settings, AttributeSpecifier::new())
+}
+
+/// `iox_describe_verdict`: the first clause of an opener that a description doesn't meet; None where it may be opened.
+fn objection(requirement: &Requirement, description: &Description) -> Option<ClauseError>
+    ensures first { IfSome result (λ clause. first_unmet (clauses requirement.now description.now) ≡ Err clause) }
+    ensures none { IfNone result (IsOk (first_unmet (clauses requirement.now description.now))) }
+{
+    requirement.verdict(description).err()
+}
+
+/// `iox_describe`: a description that was written as one line, and read back; None where an allocation fails.
 fn read_back(alloc: Global, description: &Description) -> Option<Description>
     requires { IsWithinLimits description.now }
     ensures { IfSome result (λ back. back ≡ description.now) }
@@ -56,13 +77,24 @@ fn joined(container: &mut Container<u64>, value: u64, owner: OwnerId) -> Option<
 
 /// The name of an event service once its description was written and read back.
 fn name_read_back(alloc: Global) -> Option<ServiceName> {
-    let name = ServiceName::new(b"lights").ok()?;
-    let settings = Settings::Event(event::StaticConfig::new());
-    let description = Description::new(name, settings, AttributeSpecifier::new());
+    let description = described(ServiceName::new(b"lights").ok()?);
     if !is_within_limits(&description) {
         return None;
     }
     Some(*read_back(alloc, &description)?.name())
+}
+
+/// The pattern of the service that is described.
+fn pattern_described() -> Option<MessagingPattern> {
+    Some(described(ServiceName::new(b"lights").ok()?).pattern())
+}
+
+/// What an opener that wants a deadline has against an event service for which nothing was asked.
+fn objection_to_none() -> Option<ClauseError> {
+    let description = described(ServiceName::new(b"lights").ok()?);
+    let mut requirement = Requirement::new(AttributeVerifier::new());
+    requirement.deadline = Some(Some(1_000_000));
+    objection(&requirement, &description)
 }
 
 /// The index of a second member.
@@ -82,6 +114,8 @@ fn second(alloc: Global) -> Result<Option<usize>, AllocError> {
 
 fn main(rt: HostRuntime) -> io::Result<()> {
     println!(rt; "iox_describe_base: {:?}", hash_of(b"lights"))?;
+    println!(rt; "iox_describe_settings: {:?}", pattern_described())?;
+    println!(rt; "iox_describe_verdict: {:?}", objection_to_none())?;
     println!(rt; "iox_describe: {:?}", name_read_back(rt.alloc()))?;
     let mut set = FixedSizeUniqueIndexSet::new(rt.alloc())?;
     println!(rt; "iox_index: {:?}", taken(&mut set))?;

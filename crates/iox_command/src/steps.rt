@@ -30,7 +30,7 @@ impl<T: Copy> Steps<T> {
         Steps { room: None }
     }
 
-    /// Appends a step. Refused only for want of memory, and then nothing changes.
+    /// Appends a step. Refused only where an allocation fails, and then nothing changes.
     pub fn push(&mut self, alloc: Global, step: T) -> Result<(), AllocError>
         ensures ok { OnOk result (self.new ≡ self.old ++ step ∷ []) }
         ensures err { OnErr result (self.new ≡ self.old) }

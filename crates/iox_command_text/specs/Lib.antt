@@ -6,3 +6,4 @@ pub mod Options
 pub mod Values
 pub mod Visible
 pub mod Memory
+pub use Rattle.iox_domain_values.specs as DomainValues

@@ -7,3 +7,4 @@ pub mod QueueLends
 pub mod RelocatableOptionLends
 pub mod RelocatableOptions
 pub mod Vectors
+pub use Rattle.iox_string.specs as String

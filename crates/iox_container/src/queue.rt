@@ -41,7 +41,7 @@ impl<T> Model for Queue<T> {
 impl<T> Queue<T> {
     ghost use Rattle.iox_container.specs.QueueLends.{LendsOldest};
 
-    /// An empty queue of this capacity. It fails only where memory is wanting, and never at capacity 0.
+    /// An empty queue of this capacity. It fails only where an allocation fails, and never at capacity 0.
     pub fn new(alloc: Global, capacity: usize) -> Result<Self, AllocError>
         ensures empty { IfOk result (λ q. q.items ≡ []) }
         ensures capacity { IfOk result (λ q. q.capacity ≡ capacity) }

@@ -198,7 +198,7 @@ impl<T> RelocatableOption<T> {
         self.to_option().unwrap_or_default()
     }
 
-    /// The value, which must be there; `is_some` tells.
+    /// The value, which must be there; `is_some` says so.
     pub fn unwrap(self) -> T
         requires { IsSome (option_of self) }
         ensures { option_of self ≡ Some result }
@@ -206,7 +206,7 @@ impl<T> RelocatableOption<T> {
         self.to_option().unwrap()
     }
 
-    /// The value, which must be there; `is_some` tells, and the message is for the reader of the code.
+    /// The value, which must be there; `is_some` says so, and the message is for the reader of the code.
     pub fn expect(self, _message: &str) -> T
         requires { IsSome (option_of self) }
         ensures { option_of self ≡ Some result }

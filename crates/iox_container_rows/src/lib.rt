@@ -2,7 +2,7 @@
 //!
 //! It has no items of its own, only tests: `strings`, `options`, `vectors`, `queues`, `semantic`, `byte_cells`,
 //! `slot_maps` and `flat_maps` hold the edits and what is printed, `text_forms` what is read and written as JSON,
-//! `memory` that ample memory is never wanting, `texts` the text of each error; `shown` is what they share.
+//! `memory` that ample memory is always enough, `texts` the text of each error; `shown` is what they share.
 #![tactic(auto)]
 
 #[cfg(test)]

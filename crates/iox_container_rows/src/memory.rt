@@ -1,4 +1,4 @@
-//! Ample memory is never wanting, at any capacity and again and again; and no more room is taken than there is.
+//! Ample memory is always enough, at any capacity and again and again; and no more room is taken than there is.
 use crate::shown::is_shown;
 use iox_byte_cells::{ByteMachine, ByteStep};
 use iox_container::queue::Queue;

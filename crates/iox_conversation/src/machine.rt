@@ -15,7 +15,7 @@ pub trait AnswersLines: Drop {
 
     /// Answers a line, of which at most its first 1,025 bytes are given, and appends the answer without a newline.
     ///
-    /// Fails only where no memory is found.
+    /// Fails only where an allocation fails.
     fn answer_line(
         &mut self,
         alloc: Global,

@@ -7,26 +7,26 @@ use Rattle.std.proofs.Math.Logic.{⊎_elim}
 use Rattle.std.proofs.Math.Dec.{eqb}
 use Rattle.std.proofs.lemmas.Bool.{cases_Bool}
 use Rattle.std.proofs.lemmas.Bool.Decides.{eqb_tells}
-use Rattle.iox_domain_values.specs.declared.data_segment.AllocationStrategy.{AllocationStrategy}
-use Rattle.iox_domain_values.specs.declared.port_error.LoanError.{LoanError}
-use Rattle.iox_domain_slots.specs.Counting.{times}
-use Rattle.iox_domain_slots.specs.Uses.{in_use, held}
-use Rattle.iox_domain_slots.proofs.Counts.{times_append, times_cons}
-use Rattle.iox_domain_sender.specs.Messages.{Loan, new_loan}
-use Rattle.iox_domain_sender.specs.Sending.{SenderState, slots_of, is_written_loan}
-use Rattle.iox_domain_publisher.proofs.Finding.{no_loan}
-use Rattle.iox_domain_publisher.proofs.Lent.{loan_tells}
-use Rattle.iox_domain_publisher.specs.Loaning as loaning
-use Rattle.iox_domain_publisher.specs.Lengths.{extent}
-use Rattle.iox_domain_publisher.specs.Loaning.{with_sender, first_refusal, LendsHere, LendsBeyond, LendsWhere, LendsUnless, Lends}
-use Rattle.iox_domain_publisher.specs.Writing.{loan_of, changed_there, changed_if}
-use Rattle.iox_domain_publisher.specs.declared.publisher_port.PublisherPort.{PublisherPort}
-use Rattle.iox_domain_subscriber.specs.Publishers.{port_of, with_port, changed_at_port, changed, is_over_port, is_over_in, settled}
+use Rattle.iox_domain_laws.specs.DomainValues.declared.data_segment.AllocationStrategy.{AllocationStrategy}
+use Rattle.iox_domain_laws.specs.DomainValues.declared.port_error.LoanError.{LoanError}
+use Rattle.iox_domain_laws.specs.DomainSlots.Counting.{times}
+use Rattle.iox_domain_laws.specs.DomainSlots.Uses.{in_use, held}
+use Rattle.iox_domain_laws.proofs.DomainSlots.Counts.{times_append, times_cons}
+use Rattle.iox_domain_laws.specs.DomainSender.Messages.{Loan, new_loan}
+use Rattle.iox_domain_laws.specs.DomainSender.Sending.{SenderState, slots_of, is_written_loan}
+use Rattle.iox_domain_laws.proofs.DomainPublisher.Finding.{no_loan}
+use Rattle.iox_domain_laws.proofs.DomainPublisher.Lent.{loan_tells}
+use Rattle.iox_domain_laws.specs.DomainPublisher.Loaning as loaning
+use Rattle.iox_domain_laws.specs.DomainPublisher.Lengths.{extent}
+use Rattle.iox_domain_laws.specs.DomainPublisher.Loaning.{with_sender, first_refusal, LendsHere, LendsBeyond, LendsWhere, LendsUnless, Lends}
+use Rattle.iox_domain_laws.specs.DomainPublisher.Writing.{loan_of, changed_there, changed_if}
+use Rattle.iox_domain_laws.specs.DomainPublisher.declared.publisher_port.PublisherPort.{PublisherPort}
+use Rattle.iox_domain_laws.specs.DomainSubscriber.Publishers.{port_of, with_port, changed_at_port, changed, is_over_port, is_over_in, settled}
 use Rattle.iox_domain_laws.proofs.Numbered.{same_set}
-use Rattle.iox_domain_ports.specs.Lending.{LoansIf, LoansOne, passes_port, passes, written_in, loan_at_port, loan_in, loan_header_at_port, header_of_loan}
-use Rattle.iox_domain_ports.specs.Ports.{AtPublisher, with_publisher}
-use Rattle.iox_domain_ports.specs.Publishing.{is_blocked}
-use Rattle.iox_domain_ports.specs.declared.service_ports.ServicePorts.{ServicePorts}
+use Rattle.iox_domain_laws.specs.DomainPorts.Lending.{LoansIf, LoansOne, passes_port, passes, written_in, loan_at_port, loan_in, loan_header_at_port, header_of_loan}
+use Rattle.iox_domain_laws.specs.DomainPorts.Ports.{AtPublisher, with_publisher}
+use Rattle.iox_domain_laws.specs.DomainPorts.Publishing.{is_blocked}
+use Rattle.iox_domain_laws.specs.DomainPorts.declared.service_ports.ServicePorts.{ServicePorts}
 use Rattle.iox_domain_home.specs.Homes.{AtDomain}
 use Rattle.iox_domain_home.specs.Steps.{LoansBy}
 use Rattle.iox_delivery.specs.Holding.{publisher_blocked, loan_found, is_sample}

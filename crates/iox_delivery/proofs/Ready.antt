@@ -1,30 +1,30 @@
 -- What is held may be sent, and released.
 use Rattle.std.proofs.Common.{◌≡◌, ◌&&◌, ◌||◌, ◌==◌, ◌∙◌, ℕ, Bool, true, false, not, cond, List, [], is_some, option_map, slice_get, unwrap_or, Option, None, Some, Result, Ok, Err, refl, sym, ap, position}
-use Rattle.iox_index_base.specs.declared.container.Member.{Member}
-use Rattle.iox_domain_values.specs.declared.backpressure.BackpressureDecision.{BackpressureDecision}
-use Rattle.iox_domain_values.specs.declared.backpressure.BackpressureInfo.{BackpressureInfo}
-use Rattle.iox_domain_values.specs.declared.connection_failure.ConnectionFailure.{ConnectionFailure}
-use Rattle.iox_domain_values.specs.declared.degradation.DegradationAction.{DegradationAction}
-use Rattle.iox_domain_values.specs.declared.degradation.DegradationInfo.{DegradationInfo}
-use Rattle.iox_domain_sender.specs.Messages.{Loan, Message}
-use Rattle.iox_domain_sender.specs.Sending.{is_written_loan}
-use Rattle.iox_domain_publisher.proofs.Finding.{at_place, at_none}
-use Rattle.iox_domain_publisher.specs.Ports.{connection_of}
-use Rattle.iox_domain_publisher.specs.Sending.{ready_at, Sends, SendsIf, SendsAfter}
-use Rattle.iox_domain_publisher.specs.Writing.{loan_of}
-use Rattle.iox_domain_publisher.specs.declared.publisher_port.PublisherPort.{PublisherPort}
-use Rattle.iox_domain_publisher.specs.declared.subscriber_entry.SubscriberEntry.{SubscriberEntry}
-use Rattle.iox_domain_subscriber.specs.Publishers.{port_of, connection_in, connection_at_port}
-use Rattle.iox_domain_subscriber.specs.Reading.{place_of}
-use Rattle.iox_domain_subscriber.specs.declared.attached.Taken.{Taken}
-use Rattle.iox_domain_subscriber.specs.declared.subscriber_port.SubscriberPort.{SubscriberPort}
-use Rattle.iox_domain_ports.specs.Lending.{passes_port, loan_at_port}
-use Rattle.iox_domain_ports.specs.Ports.{AtPublisher}
-use Rattle.iox_domain_ports.specs.Publishing.{is_blocked, SendsOne}
-use Rattle.iox_domain_ports.specs.Reading.{sample_at_port, sample_in}
-use Rattle.iox_domain_ports.specs.Subscribers.{subscriber_of}
-use Rattle.iox_domain_ports.specs.Subscribing.{Releases, ReleasesAt, ReleasesOf}
-use Rattle.iox_domain_ports.specs.declared.service_ports.ServicePorts.{ServicePorts}
+use Rattle.iox_domain_laws.specs.IndexBase.declared.container.Member.{Member}
+use Rattle.iox_domain_laws.specs.DomainValues.declared.backpressure.BackpressureDecision.{BackpressureDecision}
+use Rattle.iox_domain_laws.specs.DomainValues.declared.backpressure.BackpressureInfo.{BackpressureInfo}
+use Rattle.iox_domain_laws.specs.DomainValues.declared.connection_failure.ConnectionFailure.{ConnectionFailure}
+use Rattle.iox_domain_laws.specs.DomainValues.declared.degradation.DegradationAction.{DegradationAction}
+use Rattle.iox_domain_laws.specs.DomainValues.declared.degradation.DegradationInfo.{DegradationInfo}
+use Rattle.iox_domain_laws.specs.DomainSender.Messages.{Loan, Message}
+use Rattle.iox_domain_laws.specs.DomainSender.Sending.{is_written_loan}
+use Rattle.iox_domain_laws.proofs.DomainPublisher.Finding.{at_place, at_none}
+use Rattle.iox_domain_laws.specs.DomainPublisher.Ports.{connection_of}
+use Rattle.iox_domain_laws.specs.DomainPublisher.Sending.{ready_at, Sends, SendsIf, SendsAfter}
+use Rattle.iox_domain_laws.specs.DomainPublisher.Writing.{loan_of}
+use Rattle.iox_domain_laws.specs.DomainPublisher.declared.publisher_port.PublisherPort.{PublisherPort}
+use Rattle.iox_domain_laws.specs.DomainPublisher.declared.subscriber_entry.SubscriberEntry.{SubscriberEntry}
+use Rattle.iox_domain_laws.specs.DomainSubscriber.Publishers.{port_of, connection_in, connection_at_port}
+use Rattle.iox_domain_laws.specs.DomainSubscriber.Reading.{place_of}
+use Rattle.iox_domain_laws.specs.DomainSubscriber.declared.attached.Taken.{Taken}
+use Rattle.iox_domain_laws.specs.DomainSubscriber.declared.subscriber_port.SubscriberPort.{SubscriberPort}
+use Rattle.iox_domain_laws.specs.DomainPorts.Lending.{passes_port, loan_at_port}
+use Rattle.iox_domain_laws.specs.DomainPorts.Ports.{AtPublisher}
+use Rattle.iox_domain_laws.specs.DomainPorts.Publishing.{is_blocked, SendsOne}
+use Rattle.iox_domain_laws.specs.DomainPorts.Reading.{sample_at_port, sample_in}
+use Rattle.iox_domain_laws.specs.DomainPorts.Subscribers.{subscriber_of}
+use Rattle.iox_domain_laws.specs.DomainPorts.Subscribing.{Releases, ReleasesAt, ReleasesOf}
+use Rattle.iox_domain_laws.specs.DomainPorts.declared.service_ports.ServicePorts.{ServicePorts}
 use Rattle.iox_domain_home.specs.Homes.{AtDomain}
 use Rattle.iox_domain_home.specs.Steps.{SendsBy}
 use Rattle.iox_delivery.specs.Holding.{publisher_blocked, loan_found, is_sample, value_found, message_found, subscriber_found, holds_sample, holds_message}

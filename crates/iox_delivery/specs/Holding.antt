@@ -1,17 +1,17 @@
 -- What a home has of a port, a loan or a sample: the conditions of its calls. `ports` are the ports of its domain, if the home has them.
 use Rattle.std.specs.Prelude.{ℕ, ◌&&◌, Bool, false, is_some, slice_get, Option, None, Some}
-use Rattle.iox_domain_sender.specs.Messages.{Loan, Message}
-use Rattle.iox_domain_sender.specs.Sending.{is_written_loan}
-use Rattle.iox_domain_publisher.specs.Writing.{value_at}
-use Rattle.iox_domain_publisher.specs.declared.publisher_port.PublisherPort.{PublisherPort}
-use Rattle.iox_domain_subscriber.specs.Publishers.{port_of}
-use Rattle.iox_domain_subscriber.specs.declared.attached.Taken.{Taken}
-use Rattle.iox_domain_subscriber.specs.declared.subscriber_port.SubscriberPort.{SubscriberPort}
-use Rattle.iox_domain_ports.specs.Lending.{passes_port, loan_at_port}
-use Rattle.iox_domain_ports.specs.Publishing.{is_blocked}
-use Rattle.iox_domain_ports.specs.Reading.{sample_in}
-use Rattle.iox_domain_ports.specs.Subscribers.{subscriber_of}
-use Rattle.iox_domain_ports.specs.declared.service_ports.ServicePorts.{ServicePorts}
+use Rattle.iox_domain_laws.specs.DomainSender.Messages.{Loan, Message}
+use Rattle.iox_domain_laws.specs.DomainSender.Sending.{is_written_loan}
+use Rattle.iox_domain_laws.specs.DomainPublisher.Writing.{value_at}
+use Rattle.iox_domain_laws.specs.DomainPublisher.declared.publisher_port.PublisherPort.{PublisherPort}
+use Rattle.iox_domain_laws.specs.DomainSubscriber.Publishers.{port_of}
+use Rattle.iox_domain_laws.specs.DomainSubscriber.declared.attached.Taken.{Taken}
+use Rattle.iox_domain_laws.specs.DomainSubscriber.declared.subscriber_port.SubscriberPort.{SubscriberPort}
+use Rattle.iox_domain_laws.specs.DomainPorts.Lending.{passes_port, loan_at_port}
+use Rattle.iox_domain_laws.specs.DomainPorts.Publishing.{is_blocked}
+use Rattle.iox_domain_laws.specs.DomainPorts.Reading.{sample_in}
+use Rattle.iox_domain_laws.specs.DomainPorts.Subscribers.{subscriber_of}
+use Rattle.iox_domain_laws.specs.DomainPorts.declared.service_ports.ServicePorts.{ServicePorts}
 
 -- the publisher of a number
 abbrev pub publisher_found : {T U : Type 0} → ℕ → Option (ServicePorts T U) → Option (PublisherPort T U)

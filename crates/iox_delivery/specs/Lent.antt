@@ -1,11 +1,11 @@
 -- What a loan comes to that was just made.
 use Rattle.std.specs.Prelude.{ℕ, ◌≡◌, true, false, List, map, Option, Some, Ok}
-use Rattle.iox_domain_sender.specs.Messages.{new_loan}
-use Rattle.iox_domain_publisher.specs.declared.publisher_port.PublisherPort.{PublisherPort}
-use Rattle.iox_domain_ports.specs.Lending.{loan_in, loan_header_in, passes}
-use Rattle.iox_domain_ports.specs.Publishing.{is_blocked}
-use Rattle.iox_domain_ports.specs.declared.service_ports.ServicePorts.{ServicePorts}
-use Rattle.iox_domain_subscriber.specs.Publishers.{port_of}
+use Rattle.iox_domain_laws.specs.DomainSender.Messages.{new_loan}
+use Rattle.iox_domain_laws.specs.DomainPublisher.declared.publisher_port.PublisherPort.{PublisherPort}
+use Rattle.iox_domain_laws.specs.DomainPorts.Lending.{loan_in, loan_header_in, passes}
+use Rattle.iox_domain_laws.specs.DomainPorts.Publishing.{is_blocked}
+use Rattle.iox_domain_laws.specs.DomainPorts.declared.service_ports.ServicePorts.{ServicePorts}
+use Rattle.iox_domain_laws.specs.DomainSubscriber.Publishers.{port_of}
 use Rattle.iox_domain_home.specs.Steps.{LoansBy}
 use Rattle.iox_delivery.specs.Holding.{loan_found, publisher_blocked}
 

@@ -1,21 +1,21 @@
 -- What the calls of a publisher and of its loans do to their home. `ports_of` finds the ports of a domain in a home, `with_ports` puts
 -- others there.
-use Rattle.std.specs.Prelude.{ℕ, ◌≡◌, true, Option, None, Some, Result, Ok, Err}
-use Rattle.iox_describe_base.specs.declared.header.Header.{Header}
-use Rattle.iox_domain_values.specs.declared.backpressure.BackpressureDecision.{BackpressureDecision}
-use Rattle.iox_domain_values.specs.declared.backpressure.BackpressureInfo.{BackpressureInfo}
-use Rattle.iox_domain_values.specs.declared.connection_failure.ConnectionFailure.{ConnectionFailure}
-use Rattle.iox_domain_values.specs.declared.degradation.DegradationAction.{DegradationAction}
-use Rattle.iox_domain_values.specs.declared.degradation.DegradationInfo.{DegradationInfo}
-use Rattle.iox_domain_values.specs.declared.port_error.LoanError.{LoanError}
-use Rattle.iox_domain_values.specs.declared.port_error.SendError.{SendError}
-use Rattle.iox_domain_values.specs.declared.port_error.SendError.TheVariants as refusal
-use Rattle.iox_domain_sender.specs.Messages.{Loan, write_value, write_user_header}
-use Rattle.iox_domain_sender.specs.Sending.{has_loan, has_length}
-use Rattle.iox_domain_publisher.specs.declared.meeting.Sent.{Sent as Sending}
-use Rattle.iox_domain_publisher.specs.declared.meeting.Sent.TheVariants as sending
-use Rattle.iox_domain_ports.specs.Lending.{written_in, loan_changed_in, loan_header_in, gave_up_in}
-use Rattle.iox_domain_ports.specs.declared.service_ports.ServicePorts.{ServicePorts}
+use Rattle.std.specs.Prelude.{ℕ, ◌≡◌, Bool, true, Option, None, Some, Result, Ok, Err}
+use Rattle.iox_domain_laws.specs.DescribeBase.declared.header.Header.{Header}
+use Rattle.iox_domain_laws.specs.DomainValues.declared.backpressure.BackpressureDecision.{BackpressureDecision}
+use Rattle.iox_domain_laws.specs.DomainValues.declared.backpressure.BackpressureInfo.{BackpressureInfo}
+use Rattle.iox_domain_laws.specs.DomainValues.declared.connection_failure.ConnectionFailure.{ConnectionFailure}
+use Rattle.iox_domain_laws.specs.DomainValues.declared.degradation.DegradationAction.{DegradationAction}
+use Rattle.iox_domain_laws.specs.DomainValues.declared.degradation.DegradationInfo.{DegradationInfo}
+use Rattle.iox_domain_laws.specs.DomainValues.declared.port_error.LoanError.{LoanError}
+use Rattle.iox_domain_laws.specs.DomainValues.declared.port_error.SendError.{SendError}
+use Rattle.iox_domain_laws.specs.DomainValues.declared.port_error.SendError.TheVariants as refusal
+use Rattle.iox_domain_laws.specs.DomainSender.Messages.{Loan, write_value, write_user_header}
+use Rattle.iox_domain_laws.specs.DomainSender.Sending.{has_loan, has_length}
+use Rattle.iox_domain_laws.specs.DomainPublisher.declared.meeting.Sent.{Sent as Sending}
+use Rattle.iox_domain_laws.specs.DomainPublisher.declared.meeting.Sent.TheVariants as sending
+use Rattle.iox_domain_laws.specs.DomainPorts.Lending.{written_in, loan_changed_in, loan_header_in, gave_up_in}
+use Rattle.iox_domain_laws.specs.DomainPorts.declared.service_ports.ServicePorts.{ServicePorts}
 use Rattle.iox_domain_home.specs.Homes.{AtDomain, LeavesDomain}
 use Rattle.iox_domain_home.specs.Steps.{LoansBy, UpdatesBy, SendsBy, RetriesBy, GivesUpBy, PublisherLeaves}
 use Rattle.iox_domain_home.specs.declared.domain_id.DomainId.{DomainId}
@@ -84,6 +84,11 @@ abbrev pub PublisherGoes : {T U H : Type 0} → (DomainId → H → Option (Serv
 PublisherGoes ports_of with_ports without port old new =
     LeavesDomain (λ after. with_ports port.domain after old) (without port.domain port.number) (PublisherLeaves port.number) (ports_of port.domain old) old true new
 
+-- A publisher that is let go leaves; nothing happens where it can't.
+abbrev pub EndsPublisher : {T U H : Type 0} → (DomainId → H → Option (ServicePorts T U)) → (DomainId → ServicePorts T U → H → H) → (DomainId → ℕ → H → H) → PortId → H → Bool → H → Type 0
+EndsPublisher ports_of with_ports without port old left new =
+    LeavesDomain (λ after. with_ports port.domain after old) (without port.domain port.number) (PublisherLeaves port.number) (ports_of port.domain old) old left new
+
 -- The value of a loan of one value is written.
 abbrev pub WritesPayload : {T U H : Type 0} → (DomainId → H → Option (ServicePorts T U)) → (DomainId → ServicePorts T U → H → H) → PortId → ℕ → T → H → H → Type 0
 WritesPayload ports_of with_ports port slot value old new =
@@ -143,3 +148,8 @@ RetriesSend ports_of with_ports decides port elapsed old answer new =
 abbrev pub GivesUpSend : {T U H : Type 0} → (DomainId → H → Option (ServicePorts T U)) → (DomainId → ServicePorts T U → H → H) → PortId → H → ℕ → H → Type 0
 GivesUpSend ports_of with_ports port old answer new =
     AtDomain (λ after. with_ports port.domain after old) (GivesUpBy port.number) (ports_of port.domain old) old (Some answer) new
+
+-- A send that is let go ends, if it waits.
+abbrev pub EndsSend : {T U H : Type 0} → (DomainId → H → Option (ServicePorts T U)) → (DomainId → ServicePorts T U → H → H) → PortId → H → Option ℕ → H → Type 0
+EndsSend ports_of with_ports port old answer new =
+    AtDomain (λ after. with_ports port.domain after old) (GivesUpBy port.number) (ports_of port.domain old) old answer new

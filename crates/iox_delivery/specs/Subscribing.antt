@@ -1,15 +1,15 @@
 -- What the calls of a subscriber and of its samples do to their home. `ports_of` finds the ports of a domain in a home, `with_ports` puts
 -- others there.
-use Rattle.std.specs.Prelude.{ℕ, ◌≡◌, Bool, true, Option, None, Some, Result, Ok, Err}
-use Rattle.iox_describe_base.specs.declared.header.Header.{Header}
-use Rattle.iox_domain_values.specs.declared.connection_failure.ConnectionFailure.{ConnectionFailure}
-use Rattle.iox_domain_values.specs.declared.degradation.DegradationAction.{DegradationAction}
-use Rattle.iox_domain_values.specs.declared.degradation.DegradationInfo.{DegradationInfo}
-use Rattle.iox_domain_values.specs.declared.port_error.ReceiveError.{ReceiveError}
-use Rattle.iox_domain_subscriber.specs.declared.attached.Taken.{Taken}
-use Rattle.iox_domain_ports.specs.Reading.{header_in}
-use Rattle.iox_domain_ports.specs.Subscribing.{Releases}
-use Rattle.iox_domain_ports.specs.declared.service_ports.ServicePorts.{ServicePorts}
+use Rattle.std.specs.Prelude.{ℕ, ◌≡◌, Bool, true, false, Option, None, Some, Result, Ok, Err}
+use Rattle.iox_domain_laws.specs.DescribeBase.declared.header.Header.{Header}
+use Rattle.iox_domain_laws.specs.DomainValues.declared.connection_failure.ConnectionFailure.{ConnectionFailure}
+use Rattle.iox_domain_laws.specs.DomainValues.declared.degradation.DegradationAction.{DegradationAction}
+use Rattle.iox_domain_laws.specs.DomainValues.declared.degradation.DegradationInfo.{DegradationInfo}
+use Rattle.iox_domain_laws.specs.DomainValues.declared.port_error.ReceiveError.{ReceiveError}
+use Rattle.iox_domain_laws.specs.DomainSubscriber.declared.attached.Taken.{Taken}
+use Rattle.iox_domain_laws.specs.DomainPorts.Reading.{header_in}
+use Rattle.iox_domain_laws.specs.DomainPorts.Subscribing.{Releases}
+use Rattle.iox_domain_laws.specs.DomainPorts.declared.service_ports.ServicePorts.{ServicePorts}
 use Rattle.iox_domain_home.specs.Homes.{AtDomain, LeavesDomain}
 use Rattle.iox_domain_home.specs.Steps.{FollowsBy, TellsBy, ReceivesBy, SubscriberLeaves}
 use Rattle.iox_domain_home.specs.declared.domain_id.DomainId.{DomainId}
@@ -56,6 +56,11 @@ abbrev pub SubscriberGoes : {T U H : Type 0} → (DomainId → H → Option (Ser
 SubscriberGoes ports_of with_ports without port old new =
     LeavesDomain (λ after. with_ports port.domain after old) (without port.domain port.number) (SubscriberLeaves port.number) (ports_of port.domain old) old true new
 
+-- A subscriber that is let go leaves; nothing happens where it can't.
+abbrev pub EndsSubscriber : {T U H : Type 0} → (DomainId → H → Option (ServicePorts T U)) → (DomainId → ServicePorts T U → H → H) → (DomainId → ℕ → H → H) → PortId → H → Bool → H → Type 0
+EndsSubscriber ports_of with_ports without port old left new =
+    LeavesDomain (λ after. with_ports port.domain after old) (without port.domain port.number) (SubscriberLeaves port.number) (ports_of port.domain old) old left new
+
 -- what a sample's release answers
 abbrev pub ReleasesOne : {T U : Type 0} → ℕ → Taken → ServicePorts T U → Option (Unit {0}) → ServicePorts T U → Type 0
 ReleasesOne number taken old answer new = Releases number taken old true new
@@ -64,3 +69,12 @@ ReleasesOne number taken old answer new = Releases number taken old true new
 abbrev pub ReleasesSample : {T U H : Type 0} → (DomainId → H → Option (ServicePorts T U)) → (DomainId → ServicePorts T U → H → H) → PortId → Taken → H → H → Type 0
 ReleasesSample ports_of with_ports port taken old new =
     AtDomain (λ after. with_ports port.domain after old) (ReleasesOne port.number taken) (ports_of port.domain old) old (Some tt) new
+
+-- A sample of a domain is released, if it is held; nothing happens where the domain isn't here.
+abbrev pub DropsAt : {T U H : Type 0} → (ServicePorts T U → H) → ℕ → Taken → Option (ServicePorts T U) → H → Bool → H → Type 0
+DropsAt with_ports number taken None old answer new = (answer ≡ false) × (new ≡ old)
+DropsAt {T} {U} with_ports number taken (Some ports) old answer new = (after : ServicePorts T U) × Releases number taken ports answer after × (new ≡ with_ports after)
+
+-- A sample that is let go is released, if it is held.
+abbrev pub DropsSample : {T U H : Type 0} → (DomainId → H → Option (ServicePorts T U)) → (DomainId → ServicePorts T U → H → H) → PortId → Taken → H → Bool → H → Type 0
+DropsSample ports_of with_ports port taken old answer new = DropsAt (λ after. with_ports port.domain after old) port.number taken (ports_of port.domain old) old answer new

@@ -1,8 +1,8 @@
 //! A publisher of single values.
-ghost use Rattle.std.specs.Prelude.{◌≡◌, ◌∷◌, [], true, false, IfOk};
+ghost use Rattle.std.specs.Prelude.{◌≡◌, ◌&&◌, ◌∷◌, [], true, false, not, IfOk};
 ghost use Rattle.iox_delivery.specs.Lent.{IsReady};
 ghost use Rattle.iox_delivery.specs.Holding.{publisher_stands, publisher_blocked};
-ghost use Rattle.iox_delivery.specs.Publishing.{LendsUninit, LendsDefault, SendsCopy, FollowsSubscribers, PublisherGoes};
+ghost use Rattle.iox_delivery.specs.Publishing.{LendsUninit, LendsDefault, SendsCopy, FollowsSubscribers, PublisherGoes, EndsPublisher};
 
 use crate::port_id::PortId;
 use crate::sample_mut::SampleMut;
@@ -148,6 +148,30 @@ impl<T: Copy, U: Copy> Publisher<T, U> {
         publishing::update(self.port, alloc, home)
     }
 
+    /// Its port, of which `of_port` makes a value again. The publisher stays.
+    ///
+    /// This port's own.
+    pub fn into_port(self) -> PortId
+        ensures { result ≡ self.port }
+    {
+        let Publisher {
+            port,
+            strategy: _,
+            of: _,
+        } = self;
+        port
+    }
+
+    /// Lets it go: it leaves as by `leave`, if it exists and no send of it waits; else nothing happens. Whether it left is the answer.
+    ///
+    /// Ported from dropping an `iceoryx2::port::publisher::Publisher`.
+    pub fn drop_with<H: Home<T, U>>(self, home: &mut H) -> bool
+        ensures ends { EndsPublisher H.ports_of H.with_ports H.without_publisher self.port home.old result home.new }
+        ensures left { result ≡ (publisher_stands self.port.number (H.ports_of self.port.domain home.old) && not (publisher_blocked self.port.number (H.ports_of self.port.domain home.old))) }
+    {
+        publishing::drop_port(self.into_port(), home)
+    }
+
     /// Leaves: what was sent stays to be read, and what is lent can't be sent any longer. Its handlers are dropped.
     ///
     /// Ported from dropping an `iceoryx2::port::publisher::Publisher`.
@@ -156,11 +180,6 @@ impl<T: Copy, U: Copy> Publisher<T, U> {
         requires free { publisher_blocked self.port.number (H.ports_of self.port.domain home.old) ≡ false }
         ensures { PublisherGoes H.ports_of H.with_ports H.without_publisher self.port home.old home.new }
     {
-        let Publisher {
-            port,
-            strategy: _,
-            of: _,
-        } = self;
-        publishing::leave(port, home);
+        publishing::leave(self.into_port(), home);
     }
 }

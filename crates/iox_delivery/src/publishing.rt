@@ -1,8 +1,8 @@
 //! What a publisher of values and one of slices have in common: their calls, by port.
-ghost use Rattle.std.specs.Prelude.{◌≡◌, ◌∷◌, [], true, false, IfOk};
+ghost use Rattle.std.specs.Prelude.{◌≡◌, ◌&&◌, ◌∷◌, [], true, false, not, IfOk};
 ghost use Rattle.iox_delivery.specs.Lent.{IsReady};
 ghost use Rattle.iox_delivery.specs.Holding.{publisher_stands, publisher_blocked};
-ghost use Rattle.iox_delivery.specs.Publishing.{LendsSlot, LendsValue, FollowsSubscribers, PublisherGoes};
+ghost use Rattle.iox_delivery.specs.Publishing.{LendsSlot, LendsValue, FollowsSubscribers, PublisherGoes, EndsPublisher};
 
 use crate::port_id::PortId;
 use crate::sample_mut_uninit::write;
@@ -40,7 +40,7 @@ pub fn is_blocked<T: Copy, U: Copy, H: Home<T, U>>(port: PortId, home: &H) -> bo
     }
 }
 
-/// A publisher lends a slot for so many values; the header of the message tells so many elements. It is refused as `ServicePorts::loan` says:
+/// A publisher lends a slot for so many values; the header of the message says so many elements. It is refused as `ServicePorts::loan` says:
 /// with `ExceedsMaxLoanSize` where that is more than its room allows and the room doesn't grow, else with `ExceedsMaxLoans` where as many
 /// loans are out as it may have, else with `OutOfMemory` where each slot is in use or a new segment isn't made.
 ///
@@ -95,6 +95,18 @@ pub fn update<T: Copy, U: Copy, H: Home<T, U>>(
         Some(outcome) => outcome,
         None => unreachable!(),
     }
+}
+
+/// A publisher that is let go leaves, and its handlers are dropped, if it exists and no send of it waits; else nothing happens. Whether it left is the
+/// answer.
+///
+/// Ported from dropping an `iceoryx2::port::publisher::Publisher`.
+#[tactic(auto, using(crate::proofs::Ending::publisher_end_tells))]
+pub fn drop_port<T: Copy, U: Copy, H: Home<T, U>>(port: PortId, home: &mut H) -> bool
+    ensures ends { EndsPublisher H.ports_of H.with_ports H.without_publisher port home.old result home.new }
+    ensures left { result ≡ (publisher_stands port.number (H.ports_of port.domain home.old) && not (publisher_blocked port.number (H.ports_of port.domain home.old))) }
+{
+    home.leave_publisher(port.domain, port.number)
 }
 
 /// A publisher leaves, and its handlers are dropped.

@@ -1,7 +1,7 @@
 //! A message that was received.
 ghost use Rattle.std.specs.Prelude.{◌≡◌, true, Some, option_map};
 ghost use Rattle.iox_delivery.specs.Holding.{message_found, value_found, holds_sample};
-ghost use Rattle.iox_delivery.specs.Subscribing.{sample_of, header_found, ReleasesSample};
+ghost use Rattle.iox_delivery.specs.Subscribing.{sample_of, header_found, ReleasesSample, DropsSample};
 
 use crate::port_id::PortId;
 use crate::subscribing;
@@ -97,6 +97,16 @@ impl<T: Copy, U: Copy> Sample<T, U> {
         ensures { Some result ≡ option_map (λ header. header.publisher_id) (header_found self.now.taken (H.ports_of self.now.port.domain home.now)) }
     {
         self.header(home).publisher_id
+    }
+
+    /// Lets it go: the message is released, if it is held; else nothing happens. Whether it was released is the answer.
+    ///
+    /// Ported from dropping an `iceoryx2::sample::Sample`.
+    pub fn drop_with<H: Home<T, U>>(self, home: &mut H) -> bool
+        ensures { DropsSample H.ports_of H.with_ports self.port self.taken home.old result home.new }
+    {
+        let Sample { port, taken, of: _ } = self;
+        subscribing::drop_sample(port, taken, home)
     }
 
     /// Releases the message: its slot may be lent again once nothing else refers to it.

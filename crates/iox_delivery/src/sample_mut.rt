@@ -2,8 +2,8 @@
 ghost use Rattle.std.specs.Prelude.{◌≡◌, true, false, Some, option_map};
 ghost use Rattle.std.specs.Borrow.{sem, LendsIf};
 ghost use Rattle.std.specs.Option.{option_copied_mut};
-ghost use Rattle.iox_domain_sender.specs.Messages.{write_value, write_user_header};
-ghost use Rattle.iox_domain_publisher.specs.Writing.{value_at};
+ghost use Rattle.iox_domain_laws.specs.DomainSender.Messages.{write_value, write_user_header};
+ghost use Rattle.iox_domain_laws.specs.DomainPublisher.Writing.{value_at};
 ghost use Rattle.iox_delivery.specs.Holding.{loan_found, is_sample, publisher_blocked};
 ghost use Rattle.iox_delivery.specs.Publishing.{sample_mut_of, loan_changed, loan_header_found, SendsSample, WritesUserHeader, GivesUpLoan};
 

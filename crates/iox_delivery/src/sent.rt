@@ -1,7 +1,7 @@
 //! What a send came to, and a send that waits.
 ghost use Rattle.std.specs.Prelude.{◌≡◌, true};
 ghost use Rattle.iox_delivery.specs.Holding.{publisher_blocked};
-ghost use Rattle.iox_delivery.specs.Publishing.{sent_of, RetriesSend, GivesUpSend};
+ghost use Rattle.iox_delivery.specs.Publishing.{sent_of, RetriesSend, GivesUpSend, EndsSend};
 
 use crate::port_id::PortId;
 use crate::publishing;
@@ -53,6 +53,17 @@ impl<T: Copy, U: Copy> BlockedSend<T, U> {
             Some(sent) => sent_of(port, sent),
             None => unreachable!(),
         }
+    }
+
+    /// Lets it go: the send ends as by `give_up`, if it waits, and how many connections took the message is the answer. None, and nothing happens, where
+    /// it doesn't wait.
+    ///
+    /// This port's own.
+    pub fn drop_with<H: Home<T, U>>(self, home: &mut H) -> Option<usize>
+        ensures { EndsSend H.ports_of H.with_ports self.port home.old result home.new }
+    {
+        let BlockedSend { port, of: _ } = self;
+        home.ports_mut(port.domain)?.give_up(port.number)
     }
 
     /// Ends the send, and answers how many connections took the message.

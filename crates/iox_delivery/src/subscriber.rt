@@ -1,7 +1,7 @@
 //! A subscriber of single values.
 ghost use Rattle.std.specs.Prelude.{◌≡◌, true};
 ghost use Rattle.iox_delivery.specs.Holding.{subscriber_stands};
-ghost use Rattle.iox_delivery.specs.Subscribing.{FollowsPublishers, TellsSamples, ReceivesSample, SubscriberGoes};
+ghost use Rattle.iox_delivery.specs.Subscribing.{FollowsPublishers, TellsSamples, ReceivesSample, SubscriberGoes, EndsSubscriber};
 
 use crate::port_id::PortId;
 use crate::sample::Sample;
@@ -113,6 +113,30 @@ impl<T: Copy, U: Copy> Subscriber<T, U> {
         subscribing::update(self.port, alloc, home)
     }
 
+    /// Its port, of which `of_port` makes a value again. The subscriber stays.
+    ///
+    /// This port's own.
+    pub fn into_port(self) -> PortId
+        ensures { result ≡ self.port }
+    {
+        let Subscriber {
+            port,
+            buffer_size: _,
+            of: _,
+        } = self;
+        port
+    }
+
+    /// Lets it go: it leaves as by `leave`, if it exists; else nothing happens. Whether it left is the answer.
+    ///
+    /// Ported from dropping an `iceoryx2::port::subscriber::Subscriber`.
+    pub fn drop_with<H: Home<T, U>>(self, home: &mut H) -> bool
+        ensures ends { EndsSubscriber H.ports_of H.with_ports H.without_subscriber self.port home.old result home.new }
+        ensures left { result ≡ subscriber_stands self.port.number (H.ports_of self.port.domain home.old) }
+    {
+        subscribing::drop_port(self.into_port(), home)
+    }
+
     /// Leaves: the samples that it holds stay to be read and released. Its handler is dropped.
     ///
     /// Ported from dropping an `iceoryx2::port::subscriber::Subscriber`.
@@ -120,11 +144,6 @@ impl<T: Copy, U: Copy> Subscriber<T, U> {
         requires { subscriber_stands self.port.number (H.ports_of self.port.domain home.old) ≡ true }
         ensures { SubscriberGoes H.ports_of H.with_ports H.without_subscriber self.port home.old home.new }
     {
-        let Subscriber {
-            port,
-            buffer_size: _,
-            of: _,
-        } = self;
-        subscribing::leave(port, home);
+        subscribing::leave(self.into_port(), home);
     }
 }

@@ -1,7 +1,7 @@
 //! What a subscriber of values and one of slices have in common, and what their samples have: their calls, by port and message.
 ghost use Rattle.std.specs.Prelude.{◌≡◌, true, Some, option_map};
 ghost use Rattle.iox_delivery.specs.Holding.{subscriber_stands, message_found, holds_message};
-ghost use Rattle.iox_delivery.specs.Subscribing.{header_found, FollowsPublishers, TellsSamples, TakesMessage, SubscriberGoes, ReleasesSample};
+ghost use Rattle.iox_delivery.specs.Subscribing.{header_found, FollowsPublishers, TellsSamples, TakesMessage, SubscriberGoes, EndsSubscriber, ReleasesSample, DropsSample};
 
 use crate::port_id::PortId;
 use iox_describe_base::Header;
@@ -74,6 +74,17 @@ pub fn update<T: Copy, U: Copy, H: Home<T, U>>(
         Some(outcome) => outcome,
         None => unreachable!(),
     }
+}
+
+/// A subscriber that is let go leaves, and its handler is dropped, if it exists; else nothing happens. Whether it left is the answer.
+///
+/// Ported from dropping an `iceoryx2::port::subscriber::Subscriber`.
+#[tactic(auto, using(crate::proofs::Ending::subscriber_end_tells))]
+pub fn drop_port<T: Copy, U: Copy, H: Home<T, U>>(port: PortId, home: &mut H) -> bool
+    ensures ends { EndsSubscriber H.ports_of H.with_ports H.without_subscriber port home.old result home.new }
+    ensures left { result ≡ subscriber_stands port.number (H.ports_of port.domain home.old) }
+{
+    home.leave_subscriber(port.domain, port.number)
 }
 
 /// A subscriber leaves, and its handler is dropped.
@@ -162,6 +173,22 @@ pub fn release<T: Copy, U: Copy, H: Home<T, U>>(port: PortId, taken: Taken, home
     };
     if !ports.release(port.number, taken) {
         unreachable!();
+    }
+}
+
+/// A message that is let go is released, if it is held; else nothing happens. Whether it was released is the answer.
+///
+/// Ported from dropping an `iceoryx2::sample::Sample`.
+pub fn drop_sample<T: Copy, U: Copy, H: Home<T, U>>(
+    port: PortId,
+    taken: Taken,
+    home: &mut H,
+) -> bool
+    ensures { DropsSample H.ports_of H.with_ports port taken home.old result home.new }
+{
+    match home.ports_mut(port.domain) {
+        Some(ports) => ports.release(port.number, taken),
+        None => false,
     }
 }
 

@@ -1,9 +1,9 @@
 -- How many values the elements of a service have.
 use Rattle.std.specs.Prelude.{ℕ, ◌/◌, ◌-◌, ◌^◌, ◌≡◌, ◌≢◌, ◌==◌, min, if◌then◌else◌}
-use Rattle.iox_describe_base.specs.Detail.{Detail}
-use Rattle.iox_describe_base.specs.declared.message_type.MessageTypeDetails.{MessageTypeDetails}
-use Rattle.iox_domain_settings.specs.Fitting.{any_payload, FitTypes}
-use Rattle.iox_domain_publisher.specs.Lengths.{span}
+use Rattle.iox_domain.specs.DescribeBase.Detail.{Detail}
+use Rattle.iox_domain.specs.DescribeBase.declared.message_type.MessageTypeDetails.{MessageTypeDetails}
+use Rattle.iox_domain.specs.DomainSettings.Fitting.{any_payload, FitTypes}
+use Rattle.iox_domain.specs.DomainPublisher.Lengths.{span}
 
 -- how many values of this size an element of a size has; values without a size are an element each
 abbrev pub values_each : ℕ → ℕ → ℕ

@@ -1,27 +1,28 @@
 -- How ports are made by builders.
 use Rattle.std.specs.Prelude.{ℕ, Option, None, Some, Result, Ok, Err}
-use Rattle.iox_domain_values.specs.Sizes.{buffer_of}
-use Rattle.iox_domain_values.specs.declared.backpressure_handler.BackpressureHandler.{BackpressureHandler}
-use Rattle.iox_domain_values.specs.declared.backpressure_strategy.BackpressureStrategy.{BackpressureStrategy}
-use Rattle.iox_domain_values.specs.declared.backpressure_strategy.BackpressureStrategy.TheVariants.{RetryUntilDelivered}
-use Rattle.iox_domain_values.specs.declared.create_error.PublisherCreateError.{PublisherCreateError}
-use Rattle.iox_domain_values.specs.declared.create_error.SubscriberCreateError.{SubscriberCreateError}
-use Rattle.iox_domain_values.specs.declared.data_segment.AllocationStrategy.TheVariants.{Static}
-use Rattle.iox_domain_values.specs.declared.degradation.DegradationAction.TheVariants.{Warn}
-use Rattle.iox_domain_values.specs.declared.degradation_handler.DegradationHandler.{DegradationHandler}
-use Rattle.iox_domain_values.specs.declared.degradation_handler.DegradationHandler.TheVariants.{Fixed}
-use Rattle.iox_domain_values.specs.declared.handlers.Handlers.{Handlers}
-use Rattle.iox_domain_values.specs.declared.port_owner.PortOwner.{PortOwner}
-use Rattle.iox_domain_values.specs.declared.samples_override.PreallocatedSamplesOverride.{PreallocatedSamplesOverride}
-use Rattle.iox_domain_values.specs.declared.samples_override.PreallocatedSamplesOverride.TheVariants.{WorstCase}
-use Rattle.iox_domain_settings.specs.PortSettings.{publisher_defaults, subscriber_defaults}
-use Rattle.iox_domain_settings.specs.declared.publisher_settings.PublisherSettings.{PublisherSettings}
-use Rattle.iox_domain_settings.specs.declared.subscriber_settings.SubscriberSettings.{SubscriberSettings}
-use Rattle.iox_domain_ports.specs.declared.making.PublisherConfig.{PublisherConfig}
-use Rattle.iox_domain_ports.specs.declared.making.SubscriberConfig.{SubscriberConfig}
-use Rattle.iox_domain_ports.specs.declared.service_ports.ServicePorts.{ServicePorts}
-use Rattle.iox_domain_home.specs.declared.domain_id.DomainId.{DomainId}
-use Rattle.iox_delivery_slices.specs.Delivery.{Publisher, Subscriber}
+use Rattle.iox_domain.specs.DomainValues.Sizes.{buffer_of}
+use Rattle.iox_domain.specs.DomainValues.declared.backpressure_handler.BackpressureHandler.{BackpressureHandler}
+use Rattle.iox_domain.specs.DomainValues.declared.backpressure_strategy.BackpressureStrategy.{BackpressureStrategy}
+use Rattle.iox_domain.specs.DomainValues.declared.backpressure_strategy.BackpressureStrategy.TheVariants.{RetryUntilDelivered}
+use Rattle.iox_domain.specs.DomainValues.declared.create_error.PublisherCreateError.{PublisherCreateError}
+use Rattle.iox_domain.specs.DomainValues.declared.create_error.SubscriberCreateError.{SubscriberCreateError}
+use Rattle.iox_domain.specs.DomainValues.declared.data_segment.AllocationStrategy.TheVariants.{Static}
+use Rattle.iox_domain.specs.DomainValues.declared.degradation.DegradationAction.TheVariants.{Warn}
+use Rattle.iox_domain.specs.DomainValues.declared.degradation_handler.DegradationHandler.{DegradationHandler}
+use Rattle.iox_domain.specs.DomainValues.declared.degradation_handler.DegradationHandler.TheVariants.{Fixed}
+use Rattle.iox_domain.specs.DomainValues.declared.handlers.Handlers.{Handlers}
+use Rattle.iox_domain.specs.DomainValues.declared.port_owner.PortOwner.{PortOwner}
+use Rattle.iox_domain.specs.DomainValues.declared.samples_override.PreallocatedSamplesOverride.{PreallocatedSamplesOverride}
+use Rattle.iox_domain.specs.DomainValues.declared.samples_override.PreallocatedSamplesOverride.TheVariants.{WorstCase}
+use Rattle.iox_domain.specs.DomainSettings.PortSettings.{publisher_defaults, subscriber_defaults}
+use Rattle.iox_domain.specs.DomainSettings.declared.publisher_settings.PublisherSettings.{PublisherSettings}
+use Rattle.iox_domain.specs.DomainSettings.declared.subscriber_settings.SubscriberSettings.{SubscriberSettings}
+use Rattle.iox_domain.specs.DomainPorts.declared.making.PublisherConfig.{PublisherConfig}
+use Rattle.iox_domain.specs.DomainPorts.declared.making.SubscriberConfig.{SubscriberConfig}
+use Rattle.iox_domain.specs.DomainPorts.declared.service_ports.ServicePorts.{ServicePorts}
+use Rattle.iox_domain.specs.DomainHome.declared.domain_id.DomainId.{DomainId}
+use Rattle.iox_delivery_slices.specs.Delivery.declared.publisher.Publisher.{Publisher}
+use Rattle.iox_delivery_slices.specs.Delivery.declared.subscriber.Subscriber.{Subscriber}
 use Rattle.iox_delivery_slices.specs.declared.publisher.Publisher.{Publisher as SlicePublisher}
 use Rattle.iox_delivery_slices.specs.declared.subscriber.Subscriber.{Subscriber as SliceSubscriber}
 use Rattle.iox_delivery_factories.specs.Elements.{room_of}

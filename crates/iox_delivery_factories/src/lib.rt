@@ -21,8 +21,5 @@ pub mod publisher;
 pub mod subscriber;
 
 pub use builders::{publisher_builder, subscriber_builder};
-pub use iox_delivery_slices;
-pub use iox_delivery_slices::iox_delivery;
-pub use iox_domain;
 pub use publisher::PortFactoryPublisher;
 pub use subscriber::PortFactorySubscriber;

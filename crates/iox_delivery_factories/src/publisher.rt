@@ -1,14 +1,14 @@
 //! What makes a publisher.
 ghost use Rattle.std.specs.Prelude.{◌≡◌, ℕ, IsSome, Some, Result};
-ghost use Rattle.iox_domain_values.specs.declared.degradation.DegradationCause.TheVariants.{FailedToEstablishConnection};
-ghost use Rattle.iox_domain_home.specs.Homes.{MakesAt};
-ghost use Rattle.iox_domain_home.specs.Steps.{PublisherComes, why_no_publisher};
-ghost use Rattle.iox_domain_values.specs.declared.create_error.PublisherCreateError.{PublisherCreateError};
+ghost use Rattle.iox_domain.specs.DomainValues.declared.degradation.DegradationCause.TheVariants.{FailedToEstablishConnection};
+ghost use Rattle.iox_domain.specs.DomainHome.Homes.{MakesAt};
+ghost use Rattle.iox_domain.specs.DomainHome.Steps.{PublisherComes, why_no_publisher};
+ghost use Rattle.iox_domain.specs.DomainValues.declared.create_error.PublisherCreateError.{PublisherCreateError};
 ghost use Rattle.iox_delivery_factories.specs.Elements.{room_of};
 ghost use Rattle.iox_delivery_factories.specs.Factories.{single_config, slice_config, publisher_of, slice_publisher_of, with_strategy, with_degradation, with_backpressure, cloned};
 
+use iox_delivery::{PortId, Publisher};
 use iox_delivery_slices as slice;
-use iox_delivery_slices::iox_delivery::{PortId, Publisher};
 use iox_domain_home::{DomainId, MakesPorts};
 use iox_domain_ports::PublisherConfig;
 use iox_domain_publisher::lengths::span;
@@ -30,7 +30,7 @@ pub struct PortFactoryPublisher<T, U, B = Handlers, O = PreallocatedSamplesOverr
     pub domain: DomainId,
     /// Who it belongs to.
     pub owner: PortOwner,
-    /// How many values an element has: 1, but where the values are the bytes of a payload that only the description tells.
+    /// How many values an element has: 1, but where the values are the bytes of a payload that only the description says.
     pub unit: usize,
     /// What it is to have.
     pub settings: PublisherSettings,
@@ -143,7 +143,7 @@ impl<T: Copy, U: Copy + Default, B: Degrades, O: Overrides> PortFactoryPublisher
     /// comes nevertheless.
     ///
     /// Refused with `UnableToCreateDataSegment` if the slots of the worst case are 2^32 or more; else with
-    /// `ExceedsMaxSupportedPublishers` if no place is free; else with `UnableToCreateDataSegment` where memory is wanting. Then nothing
+    /// `ExceedsMaxSupportedPublishers` if no place is free; else with `UnableToCreateDataSegment` where an allocation fails. Then nothing
     /// has changed.
     ///
     /// Ported from `PortFactoryPublisher::create`.

@@ -1,13 +1,13 @@
 //! What makes a subscriber.
 ghost use Rattle.std.specs.Prelude.{◌≡◌, ℕ, IsSome, Some, Result};
-ghost use Rattle.iox_domain_values.specs.declared.create_error.SubscriberCreateError.{SubscriberCreateError};
-ghost use Rattle.iox_domain_values.specs.declared.degradation.DegradationCause.TheVariants.{FailedToEstablishConnection};
-ghost use Rattle.iox_domain_home.specs.Homes.{MakesAt};
-ghost use Rattle.iox_domain_home.specs.Steps.{SubscriberComes, why_no_subscriber};
+ghost use Rattle.iox_domain.specs.DomainValues.declared.create_error.SubscriberCreateError.{SubscriberCreateError};
+ghost use Rattle.iox_domain.specs.DomainValues.declared.degradation.DegradationCause.TheVariants.{FailedToEstablishConnection};
+ghost use Rattle.iox_domain.specs.DomainHome.Homes.{MakesAt};
+ghost use Rattle.iox_domain.specs.DomainHome.Steps.{SubscriberComes, why_no_subscriber};
 ghost use Rattle.iox_delivery_factories.specs.Factories.{subscriber_config, buffer_at, subscriber_of, slice_subscriber_of, subscriber_cloned};
 
+use iox_delivery::{PortId, Subscriber};
 use iox_delivery_slices as slice;
-use iox_delivery_slices::iox_delivery::{PortId, Subscriber};
 use iox_domain_home::{DomainId, MakesPorts};
 use iox_domain_ports::SubscriberConfig;
 use iox_domain_settings::SubscriberSettings;
@@ -76,7 +76,7 @@ impl<T: Copy, U: Copy, D: Degrades> PortFactorySubscriber<T, U, D> {
     /// connection isn't made its handler is asked, and it comes nevertheless.
     ///
     /// Refused with `BufferSizeExceedsMaxSupportedBufferSizeOfService` if more messages are to wait than the service allows; else with
-    /// `ExceedsMaxSupportedSubscribers` if no place is free; else with `OutOfMemory` where memory is wanting. Then nothing has changed.
+    /// `ExceedsMaxSupportedSubscribers` if no place is free; else with `OutOfMemory` where an allocation fails. Then nothing has changed.
     ///
     /// Ported from `PortFactorySubscriber::create`.
     pub fn create<B: Degrades, H: MakesPorts<T, U, B, D>>(

@@ -1,12 +1,12 @@
 //! Ports that builders make in a domain.
-use iox_delivery_factories::iox_delivery::{Publisher, Sent, Subscriber};
-use iox_delivery_factories::iox_domain::{Domain, DomainId};
+use iox_delivery::{Publisher, Sent, Subscriber};
 use iox_delivery_factories::{
     PortFactoryPublisher, PortFactorySubscriber, publisher_builder, subscriber_builder,
 };
 use iox_describe_base::{AttributeSpecifier, Header, MessageTypeDetails, ServiceName, TypeVariant};
 use iox_describe_settings::publish_subscribe::StaticConfig;
 use iox_describe_settings::{Description, Settings};
+use iox_domain::{Domain, DomainId};
 use iox_domain_home::Home;
 use iox_domain_values::{
     BackpressureStrategy, DegradationAction, DegradationHandler, PreallocatedSamplesOverride,

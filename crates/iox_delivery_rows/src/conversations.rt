@@ -1,6 +1,6 @@
 //! Conversations between ports as values.
 use crate::plain_home::{PlainHome, plain_home};
-use iox_delivery_factories::iox_delivery::{PortId, Publisher, Sent, Subscriber};
+use iox_delivery::{PortId, Publisher, Sent, Subscriber};
 use iox_domain_home::DomainId;
 use iox_domain_ports::{PublisherConfig, SubscriberConfig};
 use iox_domain_values::{

@@ -1,17 +1,15 @@
-//! Ports of a payload that only the description tells.
-use iox_delivery_factories::iox_delivery::Sent;
-use iox_delivery_factories::iox_delivery_slices::{
-    Publisher, Sample, SampleMut, SampleMutUninit, Subscriber,
-};
-use iox_delivery_factories::iox_domain::{Domain, DomainId};
+//! Ports of a payload that only the description says.
+use iox_delivery::Sent;
 use iox_delivery_factories::{
     PortFactoryPublisher, PortFactorySubscriber, publisher_builder, subscriber_builder,
 };
+use iox_delivery_slices::{Publisher, Sample, SampleMut, SampleMutUninit, Subscriber};
 use iox_describe_base::{
     AttributeSpecifier, Header, MessageTypeDetails, ServiceName, TypeDetail, TypeVariant,
 };
 use iox_describe_settings::publish_subscribe::StaticConfig;
 use iox_describe_settings::{Description, Settings};
+use iox_domain::{Domain, DomainId};
 use iox_domain_home::Home;
 use iox_domain_settings::{CustomHeaderMarker, CustomPayloadMarker};
 use iox_domain_values::{

@@ -1,8 +1,8 @@
 //! One service with who decides for its ports.
-use iox_delivery_factories::iox_domain::{Domain, DomainId};
 use iox_describe_base::{AttributeSpecifier, Header, MessageTypeDetails, ServiceName, TypeVariant};
 use iox_describe_settings::publish_subscribe::StaticConfig;
 use iox_describe_settings::{Description, Settings};
+use iox_domain::{Domain, DomainId};
 use iox_domain_ports::{PublisherConfig, SubscriberConfig};
 use iox_domain_publisher::Sent;
 use iox_domain_values::{

@@ -3,7 +3,7 @@
 //! - `plain_home`: a domain whose ports ask nobody.
 //! - `conversations`: what is said.
 //! - `builders`: ports that builders make.
-//! - `custom`: ports of a payload that only the description tells.
+//! - `custom`: ports of a payload that only the description says.
 //! - `domains`: one service with who decides for its ports.
 //! - `typed_calls`: each call of ports of single values.
 //! - `slices`: each call of ports of slices.

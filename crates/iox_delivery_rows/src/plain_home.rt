@@ -1,7 +1,7 @@
 //! A domain whose ports ask nobody.
-use iox_delivery_factories::iox_domain::{Domain, DomainId, Kept, Nobody};
 use iox_describe_base::{Header, MessageTypeDetails, TypeVariant};
 use iox_describe_settings::publish_subscribe::StaticConfig;
+use iox_domain::{Domain, DomainId, Kept, Nobody};
 use iox_domain_ports::ServicePorts;
 use iox_domain_values::ServiceSizes;
 use std::alloc::{AllocError, Global};

@@ -1,9 +1,7 @@
 //! Typed calls of ports of slices, each with ample memory.
 use crate::plain_home::{PlainHome, plain_home};
-use iox_delivery_factories::iox_delivery::{PortId, Sent};
-use iox_delivery_factories::iox_delivery_slices::{
-    Publisher, Sample, SampleMut, SampleMutUninit, Subscriber,
-};
+use iox_delivery::{PortId, Sent};
+use iox_delivery_slices::{Publisher, Sample, SampleMut, SampleMutUninit, Subscriber};
 use iox_domain_home::DomainId;
 use iox_domain_ports::{PublisherConfig, SubscriberConfig};
 use iox_domain_values::{

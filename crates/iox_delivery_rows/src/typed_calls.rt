@@ -1,8 +1,6 @@
 //! Typed calls of ports of single values, each with ample memory.
 use crate::plain_home::{PlainHome, plain_home};
-use iox_delivery_factories::iox_delivery::{
-    BlockedSend, PortId, Publisher, SampleMut, SampleMutUninit, Sent, Subscriber,
-};
+use iox_delivery::{BlockedSend, PortId, Publisher, SampleMut, SampleMutUninit, Sent, Subscriber};
 use iox_domain_home::DomainId;
 use iox_domain_ports::{PublisherConfig, SubscriberConfig};
 use iox_domain_values::{

@@ -3,16 +3,16 @@ use Rattle.std.proofs.Common.{arith, ◌≡◌, ◌+◌, ◌<◌, ◌∙◌, ◌
 use Rattle.std.proofs.Math.Logic.{⊎_elim}
 use Rattle.std.proofs.lemmas.Bool.Decides.{eqb_tells}
 use Rattle.std.proofs.lemmas.List.{append-nil, append_assoc, length-replicate, length-set, take_all, take_more_set, replicate_more}
-use Rattle.iox_domain_sender.specs.Messages.{Loan, write_value, write_all, new_loan}
-use Rattle.iox_domain_sender.specs.Sending.{has_place, has_length}
-use Rattle.iox_domain_publisher.specs.Writing.{loan_of, changed_if}
-use Rattle.iox_domain_publisher.specs.declared.publisher_port.PublisherPort.{PublisherPort}
-use Rattle.iox_domain_subscriber.specs.Publishers.{port_of, with_port, changed_at_port, changed}
-use Rattle.iox_domain_ports.specs.Lending.{loan_at_port, loan_in, passes, passes_port, written_in}
-use Rattle.iox_domain_ports.specs.Publishing.{is_blocked}
-use Rattle.iox_domain_ports.specs.declared.service_ports.ServicePorts.{ServicePorts}
-use Rattle.iox_domain_home.specs.Homes.{AtDomain}
-use Rattle.iox_domain_home.specs.Steps.{LoansBy}
+use Rattle.iox_delivery.specs.DomainSender.Messages.{Loan, write_value, write_all, new_loan}
+use Rattle.iox_delivery.specs.DomainSender.Sending.{has_place, has_length}
+use Rattle.iox_delivery.specs.DomainPublisher.Writing.{loan_of, changed_if}
+use Rattle.iox_delivery.specs.DomainPublisher.declared.publisher_port.PublisherPort.{PublisherPort}
+use Rattle.iox_delivery.specs.DomainSubscriber.Publishers.{port_of, with_port, changed_at_port, changed}
+use Rattle.iox_delivery.specs.DomainPorts.Lending.{loan_at_port, loan_in, passes, passes_port, written_in}
+use Rattle.iox_delivery.specs.DomainPorts.Publishing.{is_blocked}
+use Rattle.iox_delivery.specs.DomainPorts.declared.service_ports.ServicePorts.{ServicePorts}
+use Rattle.iox_delivery.specs.DomainHome.Homes.{AtDomain}
+use Rattle.iox_delivery.specs.DomainHome.Steps.{LoansBy}
 use Rattle.iox_delivery.specs.Holding.{loan_found, publisher_blocked}
 use Rattle.iox_delivery.specs.Lent.{IsReady}
 use Rattle.iox_delivery.specs.Publishing.{changed_at}

@@ -1,9 +1,9 @@
 -- What the calls of ports do to their home whose values are the bytes of a payload: only the description tells how many an element has.
 use Rattle.std.specs.Prelude.{ℕ, ◌*◌, ◌-◌, ◌^◌, ◌≡◌, min, Option, None, Some, Result}
-use Rattle.iox_domain_values.specs.declared.port_error.LoanError.{LoanError}
-use Rattle.iox_domain_publisher.specs.declared.publisher_port.PublisherPort.{PublisherPort}
-use Rattle.iox_domain_ports.specs.declared.service_ports.ServicePorts.{ServicePorts}
-use Rattle.iox_domain_home.specs.declared.domain_id.DomainId.{DomainId}
+use Rattle.iox_domain_settings.specs.DomainValues.declared.port_error.LoanError.{LoanError}
+use Rattle.iox_delivery.specs.DomainPublisher.declared.publisher_port.PublisherPort.{PublisherPort}
+use Rattle.iox_delivery.specs.DomainPorts.declared.service_ports.ServicePorts.{ServicePorts}
+use Rattle.iox_delivery.specs.DomainHome.declared.domain_id.DomainId.{DomainId}
 use Rattle.iox_delivery.specs.Holding.{publisher_found}
 use Rattle.iox_delivery.specs.Publishing.{LendsSlot}
 use Rattle.iox_delivery.specs.declared.port_id.PortId.{PortId}

@@ -1,25 +1,25 @@
 -- What the calls of ports of slices do to their home, where they differ from those of single values.
 use Rattle.std.specs.Prelude.{ℕ, ◌+◌, ◌≡◌, length, replicate, List, [], ◌∷◌, Option, None, Some, Result, Ok, Err}
-use Rattle.iox_domain_values.specs.declared.backpressure.BackpressureDecision.{BackpressureDecision}
-use Rattle.iox_domain_values.specs.declared.backpressure.BackpressureInfo.{BackpressureInfo}
-use Rattle.iox_domain_values.specs.declared.degradation.DegradationAction.{DegradationAction}
-use Rattle.iox_domain_values.specs.declared.degradation.DegradationInfo.{DegradationInfo}
-use Rattle.iox_domain_values.specs.declared.port_error.LoanError.{LoanError}
-use Rattle.iox_domain_values.specs.declared.port_error.ReceiveError.{ReceiveError}
-use Rattle.iox_domain_values.specs.declared.port_error.SendError.{SendError}
-use Rattle.iox_domain_values.specs.declared.port_error.SendError.TheVariants as refusal
-use Rattle.iox_domain_sender.specs.Messages.{Loan, write_value, write_all}
-use Rattle.iox_domain_sender.specs.Sending.{has_place, has_length}
-use Rattle.iox_domain_publisher.specs.Writing.{changed_if}
-use Rattle.iox_domain_publisher.specs.declared.meeting.Sent.{Sent as Sending}
-use Rattle.iox_domain_publisher.specs.declared.publisher_port.PublisherPort.{PublisherPort}
-use Rattle.iox_domain_subscriber.specs.Publishers.{changed}
-use Rattle.iox_domain_subscriber.specs.declared.attached.Taken.{Taken}
-use Rattle.iox_domain_ports.specs.Lending.{written_in}
-use Rattle.iox_domain_ports.specs.declared.service_ports.ServicePorts.{ServicePorts}
-use Rattle.iox_domain_home.specs.Homes.{AtDomain}
-use Rattle.iox_domain_home.specs.Steps.{SendsBy}
-use Rattle.iox_domain_home.specs.declared.domain_id.DomainId.{DomainId}
+use Rattle.iox_domain_settings.specs.DomainValues.declared.backpressure.BackpressureDecision.{BackpressureDecision}
+use Rattle.iox_domain_settings.specs.DomainValues.declared.backpressure.BackpressureInfo.{BackpressureInfo}
+use Rattle.iox_domain_settings.specs.DomainValues.declared.degradation.DegradationAction.{DegradationAction}
+use Rattle.iox_domain_settings.specs.DomainValues.declared.degradation.DegradationInfo.{DegradationInfo}
+use Rattle.iox_domain_settings.specs.DomainValues.declared.port_error.LoanError.{LoanError}
+use Rattle.iox_domain_settings.specs.DomainValues.declared.port_error.ReceiveError.{ReceiveError}
+use Rattle.iox_domain_settings.specs.DomainValues.declared.port_error.SendError.{SendError}
+use Rattle.iox_domain_settings.specs.DomainValues.declared.port_error.SendError.TheVariants as refusal
+use Rattle.iox_delivery.specs.DomainSender.Messages.{Loan, write_value, write_all}
+use Rattle.iox_delivery.specs.DomainSender.Sending.{has_place, has_length}
+use Rattle.iox_delivery.specs.DomainPublisher.Writing.{changed_if}
+use Rattle.iox_delivery.specs.DomainPublisher.declared.meeting.Sent.{Sent as Sending}
+use Rattle.iox_delivery.specs.DomainPublisher.declared.publisher_port.PublisherPort.{PublisherPort}
+use Rattle.iox_delivery.specs.DomainSubscriber.Publishers.{changed}
+use Rattle.iox_delivery.specs.DomainSubscriber.declared.attached.Taken.{Taken}
+use Rattle.iox_delivery.specs.DomainPorts.Lending.{written_in}
+use Rattle.iox_delivery.specs.DomainPorts.declared.service_ports.ServicePorts.{ServicePorts}
+use Rattle.iox_delivery.specs.DomainHome.Homes.{AtDomain}
+use Rattle.iox_delivery.specs.DomainHome.Steps.{SendsBy}
+use Rattle.iox_delivery.specs.DomainHome.declared.domain_id.DomainId.{DomainId}
 use Rattle.iox_delivery.specs.Holding.{loan_found}
 use Rattle.iox_delivery.specs.Lent.{IsReady}
 use Rattle.iox_delivery.specs.Publishing.{changed_at, LendsSlot, AfterLoan, SendsSample}

@@ -1,6 +1,6 @@
 //! How the values of a slice that is lent are written, by port: what ports under numbers call.
 ghost use Rattle.std.specs.Prelude.{◌≡◌, ◌∷◌, [], true, false, List, length, replicate, is_some, IfOk, Err};
-ghost use Rattle.iox_container.specs.Vectors.{MakesInTurn};
+ghost use Rattle.iox_delivery.specs.Container.Vectors.{MakesInTurn};
 ghost use Rattle.iox_delivery.specs.Holding.{loan_found, publisher_stands, publisher_blocked};
 ghost use Rattle.iox_delivery.specs.Lent.{IsReady};
 ghost use Rattle.iox_delivery.specs.Publishing.{LendsSlot, AfterLoan};

@@ -24,7 +24,6 @@ pub mod sample_mut;
 pub mod sample_mut_uninit;
 pub mod subscriber;
 
-pub use iox_delivery;
 pub use publisher::Publisher;
 pub use sample::Sample;
 pub use sample_mut::SampleMut;

@@ -1,8 +1,8 @@
 //! A publisher of slices.
-ghost use Rattle.std.specs.Prelude.{◌≡◌, true, false, replicate, IfOk};
+ghost use Rattle.std.specs.Prelude.{◌≡◌, ◌&&◌, true, false, not, replicate, IfOk};
 ghost use Rattle.iox_delivery.specs.Lent.{IsReady};
 ghost use Rattle.iox_delivery.specs.Holding.{publisher_stands, publisher_blocked};
-ghost use Rattle.iox_delivery.specs.Publishing.{FollowsSubscribers, PublisherGoes};
+ghost use Rattle.iox_delivery.specs.Publishing.{FollowsSubscribers, PublisherGoes, EndsPublisher};
 ghost use Rattle.iox_delivery_slices.specs.Custom.{LendsElements, values_of};
 ghost use Rattle.iox_delivery_slices.specs.Slices.{LendsSlice, LendsDefaults, SendsSlice};
 
@@ -171,6 +171,31 @@ impl<T: Copy, U: Copy> Publisher<T, U> {
         publishing::update(self.port, alloc, home)
     }
 
+    /// Its port, of which `of_port` makes a value again. The publisher stays.
+    ///
+    /// This port's own.
+    pub fn into_port(self) -> PortId
+        ensures { result ≡ self.port }
+    {
+        let Publisher {
+            port,
+            strategy: _,
+            initial_max_slice_len: _,
+            of: _,
+        } = self;
+        port
+    }
+
+    /// Lets it go: it leaves as by `leave`, if it exists and no send of it waits; else nothing happens. Whether it left is the answer.
+    ///
+    /// Ported from dropping an `iceoryx2::port::publisher::Publisher`.
+    pub fn drop_with<H: Home<T, U>>(self, home: &mut H) -> bool
+        ensures ends { EndsPublisher H.ports_of H.with_ports H.without_publisher self.port home.old result home.new }
+        ensures left { result ≡ (publisher_stands self.port.number (H.ports_of self.port.domain home.old) && not (publisher_blocked self.port.number (H.ports_of self.port.domain home.old))) }
+    {
+        publishing::drop_port(self.into_port(), home)
+    }
+
     /// Leaves: what was sent stays to be read, and what is lent can't be sent any longer. Its handlers are dropped.
     ///
     /// Ported from dropping an `iceoryx2::port::publisher::Publisher`.
@@ -179,18 +204,12 @@ impl<T: Copy, U: Copy> Publisher<T, U> {
         requires free { publisher_blocked self.port.number (H.ports_of self.port.domain home.old) ≡ false }
         ensures { PublisherGoes H.ports_of H.with_ports H.without_publisher self.port home.old home.new }
     {
-        let Publisher {
-            port,
-            strategy: _,
-            initial_max_slice_len: _,
-            of: _,
-        } = self;
-        publishing::leave(port, home);
+        publishing::leave(self.into_port(), home);
     }
 }
 
 impl<U: Copy> Publisher<CustomPayloadMarker, U> {
-    /// Lends so many elements of a payload that only the description tells: all of their bytes, to be written. The header of the message tells
+    /// Lends so many elements of a payload that only the description says: all of their bytes, to be written. The header of the message tells
     /// so many elements. It is refused as `loan_slice_uninit` is, and there lengths are counted in elements.
     ///
     /// Ported from `iceoryx2::port::publisher::Publisher::loan_custom_payload`, which is unsafe and asks for one element where the payload

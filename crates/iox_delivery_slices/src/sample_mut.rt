@@ -2,9 +2,9 @@
 ghost use Rattle.std.specs.Prelude.{◌≡◌, true, false, Some, option_map};
 ghost use Rattle.std.specs.Borrow.{sem, LendsIf};
 ghost use Rattle.std.specs.Option.{option_copied_mut};
-ghost use Rattle.iox_domain_sender.specs.Messages.{write_value, write_user_header};
-ghost use Rattle.iox_domain_publisher.specs.Writing.{value_at, values_at};
-ghost use Rattle.iox_domain_sender.specs.Sending.{is_written_loan};
+ghost use Rattle.iox_delivery.specs.DomainSender.Messages.{write_value, write_user_header};
+ghost use Rattle.iox_delivery.specs.DomainPublisher.Writing.{value_at, values_at};
+ghost use Rattle.iox_delivery.specs.DomainSender.Sending.{is_written_loan};
 ghost use Rattle.iox_delivery.specs.Holding.{loan_found, publisher_blocked};
 ghost use Rattle.iox_delivery.specs.Publishing.{loan_changed, loan_header_found, SendsSample, WritesUserHeader, GivesUpLoan};
 ghost use Rattle.iox_delivery_slices.specs.Slices.{sample_mut_of};

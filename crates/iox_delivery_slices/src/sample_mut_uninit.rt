@@ -2,10 +2,10 @@
 ghost use Rattle.std.specs.Prelude.{◌≡◌, ◌==◌, ◌<◌, true, Some, List, length, is_some, option_copied, option_map};
 ghost use Rattle.std.specs.Borrow.{sem, LendsIf};
 ghost use Rattle.std.specs.Option.{option_copied_mut};
-ghost use Rattle.iox_container.specs.Vectors.{MakesInTurn};
-ghost use Rattle.iox_domain_sender.specs.Messages.{write_user_header};
-ghost use Rattle.iox_domain_publisher.specs.Writing.{value_at};
-ghost use Rattle.iox_domain_sender.specs.Sending.{is_written_loan};
+ghost use Rattle.iox_delivery.specs.Container.Vectors.{MakesInTurn};
+ghost use Rattle.iox_delivery.specs.DomainSender.Messages.{write_user_header};
+ghost use Rattle.iox_delivery.specs.DomainPublisher.Writing.{value_at};
+ghost use Rattle.iox_delivery.specs.DomainSender.Sending.{is_written_loan};
 ghost use Rattle.iox_delivery.specs.Holding.{loan_found};
 ghost use Rattle.iox_delivery.specs.Publishing.{loan_changed, loan_header_found, WritesUserHeader, GivesUpLoan};
 ghost use Rattle.iox_delivery_slices.specs.Slices.{loan_of, sample_mut_of, WritesAt, WritesAll, WritesEach};

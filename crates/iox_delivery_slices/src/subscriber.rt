@@ -1,7 +1,7 @@
 //! A subscriber of slices.
 ghost use Rattle.std.specs.Prelude.{◌≡◌, true};
 ghost use Rattle.iox_delivery.specs.Holding.{subscriber_stands};
-ghost use Rattle.iox_delivery.specs.Subscribing.{FollowsPublishers, TellsSamples, SubscriberGoes};
+ghost use Rattle.iox_delivery.specs.Subscribing.{FollowsPublishers, TellsSamples, SubscriberGoes, EndsSubscriber};
 ghost use Rattle.iox_delivery_slices.specs.Slices.{ReceivesSlice};
 
 use crate::sample::Sample;
@@ -114,6 +114,30 @@ impl<T: Copy, U: Copy> Subscriber<T, U> {
         subscribing::update(self.port, alloc, home)
     }
 
+    /// Its port, of which `of_port` makes a value again. The subscriber stays.
+    ///
+    /// This port's own.
+    pub fn into_port(self) -> PortId
+        ensures { result ≡ self.port }
+    {
+        let Subscriber {
+            port,
+            buffer_size: _,
+            of: _,
+        } = self;
+        port
+    }
+
+    /// Lets it go: it leaves as by `leave`, if it exists; else nothing happens. Whether it left is the answer.
+    ///
+    /// Ported from dropping an `iceoryx2::port::subscriber::Subscriber`.
+    pub fn drop_with<H: Home<T, U>>(self, home: &mut H) -> bool
+        ensures ends { EndsSubscriber H.ports_of H.with_ports H.without_subscriber self.port home.old result home.new }
+        ensures left { result ≡ subscriber_stands self.port.number (H.ports_of self.port.domain home.old) }
+    {
+        subscribing::drop_port(self.into_port(), home)
+    }
+
     /// Leaves: the samples that it holds stay to be read and released. Its handler is dropped.
     ///
     /// Ported from dropping an `iceoryx2::port::subscriber::Subscriber`.
@@ -121,17 +145,12 @@ impl<T: Copy, U: Copy> Subscriber<T, U> {
         requires { subscriber_stands self.port.number (H.ports_of self.port.domain home.old) ≡ true }
         ensures { SubscriberGoes H.ports_of H.with_ports H.without_subscriber self.port home.old home.new }
     {
-        let Subscriber {
-            port,
-            buffer_size: _,
-            of: _,
-        } = self;
-        subscribing::leave(port, home);
+        subscribing::leave(self.into_port(), home);
     }
 }
 
 impl<U: Copy> Subscriber<CustomPayloadMarker, U> {
-    /// Receives the next message of a payload that only the description tells, as `receive` does: all bytes of its elements.
+    /// Receives the next message of a payload that only the description says, as `receive` does: all bytes of its elements.
     ///
     /// Ported from `iceoryx2::port::subscriber::Subscriber::receive_custom_payload`, which is unsafe.
     pub fn receive_custom_payload<H: Home<CustomPayloadMarker, U>>(

@@ -5,15 +5,15 @@ use Rattle.hex.specs.Hex.{lower_digits}
 use Rattle.hex.proofs.HexLemmas.{length-encode_with}
 use Rattle.serde_json.specs.View.{items_of}
 use Rattle.iox_json.proofs.Length.{bound, items_bound, text_bound}
-use Rattle.iox_describe_base.specs.declared.attribute.Attribute.{Attribute}
-use Rattle.iox_describe_base.specs.declared.message_type.MessageTypeDetails.{MessageTypeDetails}
-use Rattle.iox_describe_base.specs.declared.type_detail.TypeVariant.{TypeVariant}
-use Rattle.iox_describe_base.specs.declared.type_detail.TypeVariant.TheVariants.{FixedSize, Dynamic}
-use Rattle.iox_describe_base.specs.Attributes.{IsAttribute}
-use Rattle.iox_describe_base.specs.Detail.{Detail}
-use Rattle.iox_describe_settings.specs.Agreement.{Agreement, pattern_of}
-use Rattle.iox_describe_settings.specs.declared.static_config.Settings.{Settings}
-use Rattle.iox_describe_settings.specs.declared.static_config.Settings.TheVariants.{RequestResponse, PublishSubscribe, Event}
+use Rattle.iox_describe_verdict.specs.DescribeBase.declared.attribute.Attribute.{Attribute}
+use Rattle.iox_describe_verdict.specs.DescribeBase.declared.message_type.MessageTypeDetails.{MessageTypeDetails}
+use Rattle.iox_describe_verdict.specs.DescribeBase.declared.type_detail.TypeVariant.{TypeVariant}
+use Rattle.iox_describe_verdict.specs.DescribeBase.declared.type_detail.TypeVariant.TheVariants.{FixedSize, Dynamic}
+use Rattle.iox_describe_verdict.specs.DescribeBase.Attributes.{IsAttribute}
+use Rattle.iox_describe_verdict.specs.DescribeBase.Detail.{Detail}
+use Rattle.iox_describe_verdict.specs.DescribeSettings.Agreement.{Agreement, pattern_of}
+use Rattle.iox_describe_verdict.specs.DescribeSettings.declared.static_config.Settings.{Settings}
+use Rattle.iox_describe_verdict.specs.DescribeSettings.declared.static_config.Settings.TheVariants.{RequestResponse, PublishSubscribe, Event}
 use Rattle.iox_describe.specs.Line.{attribute_tree, detail_tree, line, option_tree, pattern_word, settings_tree, tree, types_tree, variant_word}
 use Rattle.iox_describe.specs.Within.{AreSettings, AreTypes, IsTypeDetail, IsWithinLimits}
 use Rattle.iox_describe.proofs.Plain.{plain}

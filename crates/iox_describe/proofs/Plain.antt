@@ -11,23 +11,23 @@ use Rattle.iox_json.proofs.ReadBack.{IsUtf8-are_ascii, are_ascii}
 use Rattle.serde_json.specs.View.{items_of}
 use Rattle.serde_json.specs.Read.{read}
 use Rattle.serde_json.specs.Written.{has_float, items_have_float}
-use Rattle.iox_string.specs.StringBytes.{IsStringBytes}
+use Rattle.iox_describe_verdict.specs.String.StringBytes.{IsStringBytes}
 use Rattle.iox_json.specs.Plain.{IsPlain, AreItems, AreMembers}
 use Rattle.iox_json.proofs.ReadBack.{plain-read, plain-utf8}
-use Rattle.iox_describe_base.specs.declared.attribute.Attribute.{Attribute}
-use Rattle.iox_describe_base.specs.declared.message_type.MessageTypeDetails.{MessageTypeDetails}
-use Rattle.iox_describe_base.specs.declared.type_detail.TypeVariant.{TypeVariant}
-use Rattle.iox_describe_base.specs.declared.type_detail.TypeVariant.TheVariants.{FixedSize, Dynamic}
-use Rattle.iox_describe_base.specs.Attributes.{IsAttribute}
-use Rattle.iox_describe_base.specs.Detail.{Detail}
-use Rattle.iox_describe_settings.specs.Agreement.{Agreement, pattern_of}
-use Rattle.iox_describe_settings.specs.declared.setting.SettingValue.{SettingValue}
-use Rattle.iox_describe_settings.specs.declared.setting.SettingValue.TheVariants.{Switch, Number, OptionalNumber, Types}
-use Rattle.iox_describe_settings.specs.declared.static_config.Settings.{Settings}
-use Rattle.iox_describe_settings.specs.declared.static_config.Settings.TheVariants.{RequestResponse, PublishSubscribe, Event}
-use Rattle.iox_describe_settings.specs.RequestResponseSettings as request_response
-use Rattle.iox_describe_settings.specs.PublishSubscribeSettings as publish_subscribe
-use Rattle.iox_describe_settings.specs.EventSettings as event
+use Rattle.iox_describe_verdict.specs.DescribeBase.declared.attribute.Attribute.{Attribute}
+use Rattle.iox_describe_verdict.specs.DescribeBase.declared.message_type.MessageTypeDetails.{MessageTypeDetails}
+use Rattle.iox_describe_verdict.specs.DescribeBase.declared.type_detail.TypeVariant.{TypeVariant}
+use Rattle.iox_describe_verdict.specs.DescribeBase.declared.type_detail.TypeVariant.TheVariants.{FixedSize, Dynamic}
+use Rattle.iox_describe_verdict.specs.DescribeBase.Attributes.{IsAttribute}
+use Rattle.iox_describe_verdict.specs.DescribeBase.Detail.{Detail}
+use Rattle.iox_describe_verdict.specs.DescribeSettings.Agreement.{Agreement, pattern_of}
+use Rattle.iox_describe_verdict.specs.DescribeSettings.declared.setting.SettingValue.{SettingValue}
+use Rattle.iox_describe_verdict.specs.DescribeSettings.declared.setting.SettingValue.TheVariants.{Switch, Number, OptionalNumber, Types}
+use Rattle.iox_describe_verdict.specs.DescribeSettings.declared.static_config.Settings.{Settings}
+use Rattle.iox_describe_verdict.specs.DescribeSettings.declared.static_config.Settings.TheVariants.{RequestResponse, PublishSubscribe, Event}
+use Rattle.iox_describe_verdict.specs.DescribeSettings.RequestResponseSettings as request_response
+use Rattle.iox_describe_verdict.specs.DescribeSettings.PublishSubscribeSettings as publish_subscribe
+use Rattle.iox_describe_verdict.specs.DescribeSettings.EventSettings as event
 use Rattle.iox_describe.specs.Line.{attribute_tree, detail_tree, line, option_tree, pattern_word, settings_members, settings_tree, tree, types_tree, value_tree, variant_word}
 use Rattle.iox_describe.specs.Within.{AreSettings, AreTypes, AreValues, IsTypeDetail, IsValue, IsWithinLimits, IsOption}
 

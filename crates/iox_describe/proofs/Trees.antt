@@ -5,11 +5,12 @@ use Rattle.serde_json.specs.Data.{Data}
 use Rattle.serde_json.specs.Find.{as_array}
 use Rattle.serde_json.specs.View.{items_of, items_view, view}
 use Rattle.serde_json.specs.declared.value.Value.{Value}
-use Rattle.iox_describe_base.specs.declared.attribute.Attribute.{Attribute}
-use Rattle.iox_describe_base.specs.Attributes.{attribute, AreAttributes, IsAttribute}
+use Rattle.iox_describe_verdict.specs.DescribeBase.declared.attribute.Attribute.{Attribute}
+use Rattle.iox_describe_verdict.specs.DescribeBase.Attributes.{attribute, AreAttributes, IsAttribute}
 use Rattle.iox_describe.specs.Line.{attribute_tree, attributes_tree}
 
-same_items : (xs ys : List Data) → items_of xs ≡ items_of ys → xs ≡ ys
+-- lists of equal items are equal
+pub same_items : (xs ys : List Data) → items_of xs ≡ items_of ys → xs ≡ ys
 same_items [] [] e = refl
 same_items [] (y ∷ ys) e = absurd cc
 same_items (x ∷ xs) [] e = absurd cc

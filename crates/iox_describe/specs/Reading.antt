@@ -2,9 +2,9 @@
 use Rattle.std.specs.Prelude.{◌≡◌, ℕ, List, [], ◌∷◌, Some}
 use Rattle.serde_json.specs.Data.{Data}
 use Rattle.serde_json.specs.Find.{get}
-use Rattle.iox_describe_base.specs.declared.attribute.AttributeError.{AttributeError}
-use Rattle.iox_describe_base.specs.declared.attribute.AttributeError.TheVariants as refusal
-use Rattle.iox_describe_settings.specs.declared.setting.SettingValue.{SettingValue}
+use Rattle.iox_describe_verdict.specs.DescribeBase.declared.attribute.AttributeError.{AttributeError}
+use Rattle.iox_describe_verdict.specs.DescribeBase.declared.attribute.AttributeError.TheVariants as refusal
+use Rattle.iox_describe_verdict.specs.DescribeSettings.declared.setting.SettingValue.{SettingValue}
 use Rattle.iox_describe.specs.declared.error.DescriptionError.{DescriptionError}
 use Rattle.iox_describe.specs.declared.error.DescriptionError.TheVariants.{Invalid, OutOfMemory}
 use Rattle.iox_describe.specs.Line.{value_tree}

@@ -1,19 +1,19 @@
 -- What a description may be: texts, types and attributes within their limits, numbers of 64 bits, and
 -- the settings' numbers within those of the pattern.
 use Rattle.std.specs.Prelude.{◌≡◌, ℕ, ◌<◌, ◌^◌, List, [], ◌∷◌, length, slice_index, Option, IfSome}
-use Rattle.iox_describe_base.specs.declared.hash.ServiceHash.{ServiceHash}
-use Rattle.iox_describe_base.specs.declared.message_type.MessageTypeDetails.{MessageTypeDetails}
-use Rattle.iox_describe_settings.specs.declared.setting.SettingValue.{SettingValue}
-use Rattle.iox_describe_settings.specs.declared.setting.SettingValue.TheVariants.{Switch, Number, OptionalNumber, Types}
-use Rattle.iox_describe_settings.specs.declared.static_config.Settings.{Settings}
-use Rattle.iox_describe_settings.specs.declared.static_config.Settings.TheVariants.{RequestResponse, PublishSubscribe, Event}
-use Rattle.iox_describe_settings.specs.EventSettings as event
-use Rattle.iox_describe_settings.specs.PublishSubscribeSettings as publish_subscribe
-use Rattle.iox_describe_settings.specs.RequestResponseSettings as request_response
-use Rattle.iox_describe_settings.specs.Agreement.{Agreement, AreWithinLimits}
-use Rattle.iox_describe_base.specs.Attributes.{AreAttributes}
-use Rattle.iox_describe_base.specs.Detail.{Detail, IsDetail}
-use Rattle.iox_describe_base.specs.Limits.{IsText}
+use Rattle.iox_describe_verdict.specs.DescribeBase.declared.hash.ServiceHash.{ServiceHash}
+use Rattle.iox_describe_verdict.specs.DescribeBase.declared.message_type.MessageTypeDetails.{MessageTypeDetails}
+use Rattle.iox_describe_verdict.specs.DescribeSettings.declared.setting.SettingValue.{SettingValue}
+use Rattle.iox_describe_verdict.specs.DescribeSettings.declared.setting.SettingValue.TheVariants.{Switch, Number, OptionalNumber, Types}
+use Rattle.iox_describe_verdict.specs.DescribeSettings.declared.static_config.Settings.{Settings}
+use Rattle.iox_describe_verdict.specs.DescribeSettings.declared.static_config.Settings.TheVariants.{RequestResponse, PublishSubscribe, Event}
+use Rattle.iox_describe_verdict.specs.DescribeSettings.EventSettings as event
+use Rattle.iox_describe_verdict.specs.DescribeSettings.PublishSubscribeSettings as publish_subscribe
+use Rattle.iox_describe_verdict.specs.DescribeSettings.RequestResponseSettings as request_response
+use Rattle.iox_describe_verdict.specs.DescribeSettings.Agreement.{Agreement, AreWithinLimits}
+use Rattle.iox_describe_verdict.specs.DescribeBase.Attributes.{AreAttributes}
+use Rattle.iox_describe_verdict.specs.DescribeBase.Detail.{Detail, IsDetail}
+use Rattle.iox_describe_verdict.specs.DescribeBase.Limits.{IsText}
 
 -- a number of 64 bits
 abbrev pub IsNumber : ℕ → Type 0

@@ -6,13 +6,13 @@
 //! | `reader` | the description of a line, if the line is spelled as `encode` spells it |
 //! | `error` | why a line was not read |
 //!
-//! Names, types and attributes stand in `iox_describe_base`, settings and the description in `iox_describe_settings`,
+//! Names, types and attributes are in `iox_describe_base`, settings and the description in `iox_describe_settings`,
 //! what an opener requires of one in `iox_describe_verdict`; their items are named again here.
 //!
 //! A first call, which `iox_callers_pantry` proves and runs:
 //!
 //! ```
-//! /// `iox_describe`: a description that was written as one line, and read back; None where memory is wanting.
+//! /// `iox_describe`: a description that was written as one line, and read back; None where an allocation fails.
 //! fn read_back(alloc: Global, description: &Description) -> Option<Description>
 //!     requires { IsWithinLimits description.now }
 //!     ensures { IfSome result (λ back. back ≡ description.now) }

@@ -14,7 +14,7 @@ use serde_json::{Map, Value, json};
 use std::alloc::{AllocError, Global};
 
 /// The one line that spells a description: compact JSON whose keys stand in rising order of their
-/// bytes. Refused only for want of memory.
+/// bytes. Refused only where an allocation fails.
 pub fn encode(alloc: Global, description: &Description) -> Result<Vec<u8>, AllocError>
     ensures { IfOk result (λ text. text.items ≡ line description.now) }
 {

@@ -96,7 +96,7 @@ impl AttributeSpecifier {
     ///
     /// Refused, and nothing changes, with `LimitError::OutsideLimits` if there are 8 pairs, if the key has no bytes or more
     /// than 64, the value more than 256, or if a byte of either lies outside 1..=127; else with `OutOfMemory` if it is the
-    /// first pair and memory is wanting.
+    /// first pair and an allocation fails.
     pub fn define(&mut self, alloc: Global, key: &[u8], value: &[u8]) -> Result<(), AttributeError>
         ensures answer { AnswersOneMore ((length self.old < 8) × IsText 1 64 key.now × IsText 0 256 value.now) (self.old ≡ []) result }
         ensures ok { OnOk result (self.new ≡ self.old ++ attribute key.now value.now ∷ []) }
@@ -110,7 +110,7 @@ impl AttributeSpecifier {
         Ok(())
     }
 
-    /// The same attributes, in memory of their own. Refused only for want of memory, which no attributes take none of.
+    /// The same attributes, in memory of their own. Refused only where an allocation fails; for no attributes there is none.
     pub fn try_clone(&self, alloc: Global) -> Result<Self, AllocError>
         ensures same { IfOk result (λ attributes. attributes ≡ self.now) }
         ensures empty { self.now ≡ [] → IsOk result }

@@ -42,7 +42,7 @@ impl<T: Copy> Few<T> {
         }
     }
 
-    /// Appends a value. Refused only for want of memory, which the first value alone takes.
+    /// Appends a value. Refused only where an allocation fails; the first value alone makes one.
     pub(crate) fn push(&mut self, alloc: Global, value: T) -> Result<(), AllocError>
         requires { length self.old < 8 }
         ensures ok { OnOk result (self.new ≡ self.old ++ value ∷ []) }
@@ -58,7 +58,7 @@ impl<T: Copy> Few<T> {
         Ok(())
     }
 
-    /// The same values, in memory of their own, which no values take none of. Refused only for want of memory.
+    /// The same values, in memory of their own, which no values take none of. Refused only where an allocation fails.
     pub(crate) fn try_clone(&self, alloc: Global) -> Result<Self, AllocError>
         ensures same { IfOk result (λ copy. copy ≡ self.now) }
         ensures empty { self.now ≡ [] → IsOk result }

@@ -46,7 +46,7 @@ impl AttributeVerifier {
     ///
     /// Refused, and nothing changes, with `LimitError::OutsideLimits` if 8 pairs are required, if the key has no bytes or
     /// more than 64, the value more than 256, or if a byte of either lies outside 1..=127; else with `OutOfMemory` if it is
-    /// the first pair and memory is wanting.
+    /// the first pair and an allocation fails.
     pub fn require(&mut self, alloc: Global, key: &[u8], value: &[u8]) -> Result<(), AttributeError>
         ensures answer { AnswersOneMore ((length self.old.pairs < 8) × IsText 1 64 key.now × IsText 0 256 value.now) (self.old.pairs ≡ []) result }
         ensures ok { OnOk result (self.new ≡ required (self.old.pairs ++ attribute key.now value.now ∷ []) self.old.keys) }
@@ -58,7 +58,7 @@ impl AttributeVerifier {
     /// Requires that some pair has this key. The first one takes the room for all that may be required.
     ///
     /// Refused, and nothing changes, with `LimitError::OutsideLimits` if 8 keys are required, if the key has no bytes or
-    /// more than 64, or if one lies outside 1..=127; else with `OutOfMemory` if it is the first key and memory is wanting.
+    /// more than 64, or if one lies outside 1..=127; else with `OutOfMemory` if it is the first key and an allocation fails.
     pub fn require_key(&mut self, alloc: Global, key: &[u8]) -> Result<(), AttributeError>
         ensures answer { AnswersOneMore ((length self.old.keys < 8) × IsText 1 64 key.now) (self.old.keys ≡ []) result }
         ensures ok { OnOk result (self.new ≡ required self.old.pairs (self.old.keys ++ key.now ∷ [])) }
@@ -72,7 +72,7 @@ impl AttributeVerifier {
         Ok(())
     }
 
-    /// The same requirements, in memory of their own. Refused only for want of memory, which nothing required takes none of.
+    /// The same requirements, in memory of their own. Refused only where an allocation fails; with nothing required there is none.
     pub fn try_clone(&self, alloc: Global) -> Result<Self, AllocError>
         ensures same { IfOk result (λ verifier. verifier ≡ self.now) }
         ensures empty { self.now ≡ required [] [] → IsOk result }

@@ -67,7 +67,7 @@ impl Description {
         }
     }
 
-    /// The same description, in memory of its own. Refused only for want of memory, which one without attributes takes none of.
+    /// The same description, in memory of its own. Refused only where an allocation fails; without attributes there is none.
     pub fn try_clone(&self, alloc: Global) -> Result<Self, AllocError>
         ensures same { IfOk result (λ description. description ≡ self.now) }
         ensures empty { self.now.attributes ≡ [] → IsOk result }
@@ -94,7 +94,7 @@ impl Description {
         self.settings.pattern()
     }
 
-    /// The hash that the description tells, under which the service is to be found.
+    /// The hash that the description states, under which the service is to be found.
     pub fn service_hash(&self) -> &ServiceHash
         ensures { result.now ≡ self.now.service_hash }
     {

@@ -6,11 +6,18 @@
 //! | `static_config` | the settings of each pattern: defaults, adjusting, limits, and the list of them all |
 //! | `description` | all that is agreed |
 //!
-//! First calls. Tests in `iox_describe_rows` make them.
+//! A first call, which `iox_callers_pantry` proves and runs:
 //!
 //! ```
-//! let config = publish_subscribe::StaticConfig::new(types).adjusted();
-//! let description = Description::new(name, Settings::PublishSubscribe(config), attributes);
+//! /// `iox_describe_settings`: the description of an event service of this name for which nothing else is asked.
+//! fn described(name: ServiceName) -> Description
+//!     ensures named { result.name ≡ name }
+//!     ensures found { result.service_hash ≡ service_hash_of Event name }
+//!     ensures bare { result.attributes ≡ [] }
+//! {
+//!     let settings = Settings::Event(event::StaticConfig::new());
+//!     Description::new(name, settings, AttributeSpecifier::new())
+//! }
 //! ```
 #![tactic(auto)]
 

@@ -5,8 +5,8 @@ use Rattle.std.specs.declared.cmp.Ordering.TheVariants.{Less, Equal, Greater}
 use Rattle.std.specs.Cmp.{IsTotalOrder}
 use Rattle.std.proofs.lemmas.Bool.{cases_Bool}
 use Rattle.std.specs.Ordering.{is_eq, is_lt, ord_min, ordering_reverse}
-use Rattle.iox_describe_base.specs.Attributes.{result_of}
-use Rattle.iox_describe_base.proofs.CompatibleLemmas.{both}
+use Rattle.iox_describe_settings.specs.DescribeBase.Attributes.{result_of}
+use Rattle.iox_describe_settings.proofs.DescribeBase.CompatibleLemmas.{both}
 use Rattle.iox_describe_verdict.specs.Earliest.{AreAmong, AreSame, clause_with, earliest, rise}
 use Rattle.iox_describe_verdict.specs.Verdict.{first_unmet, unmet_clause}
 

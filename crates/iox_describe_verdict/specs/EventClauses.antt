@@ -8,9 +8,9 @@ use Rattle.iox_describe_settings.specs.declared.static_config.event.Setting.TheV
 use Rattle.iox_describe_settings.specs.declared.static_config.event.StaticConfig.{StaticConfig}
 use Rattle.iox_describe_settings.specs.declared.static_config.Settings.{Settings}
 use Rattle.iox_describe_settings.specs.declared.static_config.Settings.TheVariants.{RequestResponse, PublishSubscribe, Event}
-use Rattle.iox_describe_base.specs.declared.attribute.Attribute.{Attribute}
+use Rattle.iox_describe_settings.specs.DescribeBase.declared.attribute.Attribute.{Attribute}
 use Rattle.iox_describe_settings.specs.Agreement.{Agreement}
-use Rattle.iox_describe_base.specs.Attributes.{Required, has_required, IsFewer}
+use Rattle.iox_describe_settings.specs.DescribeBase.Attributes.{Required, has_required, IsFewer}
 use Rattle.iox_describe_settings.specs.declared.setting.SettingValue.{SettingValue}
 use Rattle.iox_describe_settings.specs.declared.setting.SettingValue.TheVariants as value
 use Rattle.iox_describe_settings.specs.EventSettings as settings

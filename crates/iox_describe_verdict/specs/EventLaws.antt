@@ -2,7 +2,7 @@
 use Rattle.std.proofs.Common.{◌≡◌, List, refl}
 use Rattle.std.specs.Prelude.{IsSome}
 use Rattle.iox_describe_verdict.specs.Patterns.{event_of}
-use Rattle.iox_describe_base.specs.declared.attribute.Attribute.{Attribute}
+use Rattle.iox_describe_settings.specs.DescribeBase.declared.attribute.Attribute.{Attribute}
 use Rattle.iox_describe_verdict.specs.declared.requirement.event.Requirement.{Requirement}
 use Rattle.iox_describe_settings.specs.declared.static_config.event.StaticConfig.{StaticConfig}
 use Rattle.iox_describe_settings.specs.declared.static_config.Settings.{Settings}

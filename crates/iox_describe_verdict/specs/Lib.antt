@@ -9,3 +9,6 @@ pub mod PublishSubscribeLaws
 pub mod EventLaws
 pub mod RequestResponseLaws
 pub mod Patterns
+pub use Rattle.iox_describe_settings.specs.DescribeBase as DescribeBase
+pub use Rattle.iox_describe_settings.specs as DescribeSettings
+pub use Rattle.iox_describe_settings.specs.String as String

@@ -1,6 +1,6 @@
 -- What an opener requires of a request-response service, clause by clause.
 use Rattle.std.specs.Prelude.{◌∷◌, [], List, Bool, true, false, Option, Some, None, option_map, unwrap_or}
-use Rattle.iox_describe_base.specs.declared.message_type.MessageTypeDetails.{MessageTypeDetails}
+use Rattle.iox_describe_settings.specs.DescribeBase.declared.message_type.MessageTypeDetails.{MessageTypeDetails}
 use Rattle.iox_describe_verdict.specs.declared.requirement.request_response.Requirement.{Requirement}
 use Rattle.iox_describe_verdict.specs.declared.requirement.request_response.ClauseError.{ClauseError}
 use Rattle.iox_describe_verdict.specs.declared.requirement.request_response.ClauseError.TheVariants as error
@@ -9,9 +9,9 @@ use Rattle.iox_describe_settings.specs.declared.static_config.request_response.S
 use Rattle.iox_describe_settings.specs.declared.static_config.request_response.StaticConfig.{StaticConfig}
 use Rattle.iox_describe_settings.specs.declared.static_config.Settings.{Settings}
 use Rattle.iox_describe_settings.specs.declared.static_config.Settings.TheVariants.{RequestResponse, PublishSubscribe, Event}
-use Rattle.iox_describe_base.specs.declared.attribute.Attribute.{Attribute}
+use Rattle.iox_describe_settings.specs.DescribeBase.declared.attribute.Attribute.{Attribute}
 use Rattle.iox_describe_settings.specs.Agreement.{Agreement}
-use Rattle.iox_describe_base.specs.Attributes.{Required, has_required, IsFewer}
+use Rattle.iox_describe_settings.specs.DescribeBase.Attributes.{Required, has_required, IsFewer}
 use Rattle.iox_describe_settings.specs.declared.setting.SettingValue.{SettingValue}
 use Rattle.iox_describe_settings.specs.declared.setting.SettingValue.TheVariants as value
 use Rattle.iox_describe_settings.specs.RequestResponseSettings as settings

@@ -1,7 +1,7 @@
 -- The verdict of a list of clauses, and what single clauses ask.
 use Rattle.std.specs.Prelude.{ℕ, ◌≡◌, ◌≤◌, List, [], ◌∷◌, Bool, true, false, not, nat_le, Option, Some, None, option_map, IfSome, Result, Ok, Err}
 use Rattle.std.specs.List.{find}
-use Rattle.iox_describe_base.specs.Compatible.{is_compatible}
+use Rattle.iox_describe_settings.specs.DescribeBase.Compatible.{is_compatible}
 use Rattle.iox_describe_settings.specs.declared.setting.Rule.{Rule}
 use Rattle.iox_describe_settings.specs.declared.setting.Rule.TheVariants as rule
 use Rattle.iox_describe_settings.specs.declared.setting.SettingValue.{SettingValue}

@@ -6,13 +6,15 @@
 //! | `pattern` | a messaging pattern, with all that making and opening a service needs of it |
 //! | `laws` | what holds of weaker requirements |
 //!
-//! First calls. Tests in `iox_describe_rows` make them.
+//! A first call, which `iox_callers_pantry` proves and runs:
 //!
 //! ```
-//! let requirement = requirement::publish_subscribe::Requirement::new(types, attributes);
-//! match requirement.verdict(&description) {
-//!     Ok(()) => {}             // it may be opened
-//!     Err(unmet) => return Err(unmet),
+//! /// `iox_describe_verdict`: the first clause of an opener that a description doesn't meet; None where it may be opened.
+//! fn objection(requirement: &Requirement, description: &Description) -> Option<ClauseError>
+//!     ensures first { IfSome result (λ clause. first_unmet (clauses requirement.now description.now) ≡ Err clause) }
+//!     ensures none { IfNone result (IsOk (first_unmet (clauses requirement.now description.now))) }
+//! {
+//!     requirement.verdict(description).err()
 //! }
 //! ```
 #![tactic(auto)]

@@ -1,8 +1,8 @@
 //! A messaging pattern, with all that making and opening a service needs of it.
 ghost use Rattle.std.specs.Prelude.{◌≡◌, ◌≤◌, ◌<◌, ◌^◌, ◌↔◌, List, [], Option, Result, Ok, Some, IsOk, IfOk, IsSome, IsTrue};
-ghost use Rattle.iox_describe_base.specs.declared.pattern.MessagingPattern.{MessagingPattern};
-ghost use Rattle.iox_describe_base.specs.Attributes.{Required, required};
-ghost use Rattle.iox_describe_base.specs.Hash.{service_hash_of};
+ghost use Rattle.iox_describe_settings.specs.DescribeBase.declared.pattern.MessagingPattern.{MessagingPattern};
+ghost use Rattle.iox_describe_settings.specs.DescribeBase.Attributes.{Required, required};
+ghost use Rattle.iox_describe_settings.specs.DescribeBase.Hash.{service_hash_of};
 ghost use Rattle.iox_describe_settings.specs.declared.static_config.Settings.{Settings};
 ghost use Rattle.iox_describe_settings.specs.Agreement.{Agreement, agreement, max_nodes_of, pattern_of, AreWithinLimits};
 
@@ -98,7 +98,7 @@ pub trait Pattern {
     ) -> Result<(), Self::ClauseError>
         ensures { result ≡ verdict requirement.now description.now };
 
-    /// The same requirement, in memory of its own. Refused only for want of memory, which one of no attributes takes none of.
+    /// The same requirement, in memory of its own. Refused only where an allocation fails; for no attributes there is none.
     fn try_clone(
         requirement: &Self::Requirement,
         alloc: Global,
@@ -153,7 +153,7 @@ pub struct PublishSubscribe;
 impl Pattern for PublishSubscribe {
     ghost use Rattle.std.specs.Prelude.{refl};
     ghost use Rattle.std.proofs.Common.{arith};
-    ghost use Rattle.iox_describe_base.specs.declared.pattern.MessagingPattern.TheVariants as messaging_pattern;
+    ghost use Rattle.iox_describe_settings.specs.DescribeBase.declared.pattern.MessagingPattern.TheVariants as messaging_pattern;
     ghost use Rattle.iox_describe_settings.specs.declared.static_config.publish_subscribe.Setting.TheVariants.{MaxNodes};
     ghost use Rattle.iox_describe_settings.specs.declared.static_config.Settings.TheVariants as settings_of;
     ghost use Rattle.iox_describe_settings.specs.PublishSubscribeSettings as config_of;
@@ -259,7 +259,7 @@ pub struct Event;
 impl Pattern for Event {
     ghost use Rattle.std.specs.Prelude.{refl};
     ghost use Rattle.std.proofs.Common.{arith};
-    ghost use Rattle.iox_describe_base.specs.declared.pattern.MessagingPattern.TheVariants as messaging_pattern;
+    ghost use Rattle.iox_describe_settings.specs.DescribeBase.declared.pattern.MessagingPattern.TheVariants as messaging_pattern;
     ghost use Rattle.iox_describe_settings.specs.declared.static_config.event.Setting.TheVariants.{MaxNodes};
     ghost use Rattle.iox_describe_settings.specs.declared.static_config.Settings.TheVariants as settings_of;
     ghost use Rattle.iox_describe_settings.specs.EventSettings as config_of;
@@ -365,7 +365,7 @@ pub struct RequestResponse;
 impl Pattern for RequestResponse {
     ghost use Rattle.std.specs.Prelude.{refl};
     ghost use Rattle.std.proofs.Common.{arith};
-    ghost use Rattle.iox_describe_base.specs.declared.pattern.MessagingPattern.TheVariants as messaging_pattern;
+    ghost use Rattle.iox_describe_settings.specs.DescribeBase.declared.pattern.MessagingPattern.TheVariants as messaging_pattern;
     ghost use Rattle.iox_describe_settings.specs.declared.static_config.request_response.Setting.TheVariants.{MaxNodes};
     ghost use Rattle.iox_describe_settings.specs.declared.static_config.Settings.TheVariants as settings_of;
     ghost use Rattle.iox_describe_settings.specs.RequestResponseSettings as config_of;

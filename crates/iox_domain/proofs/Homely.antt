@@ -1,18 +1,18 @@
 -- A call of a port is one of its domain as a home.
 use Rattle.std.proofs.Common.{rules, ℕ, ◌≡◌, Bool, true, false, Option, None, Some, Result, Ok, Err, refl, sym, ap, subst, ◌∙◌, cond}
-use Rattle.iox_domain_values.specs.Sizes.{buffer_of}
-use Rattle.iox_domain_values.specs.declared.create_error.PublisherCreateError.{PublisherCreateError}
-use Rattle.iox_domain_values.specs.declared.create_error.SubscriberCreateError.{SubscriberCreateError}
-use Rattle.iox_domain_values.specs.declared.degradation.DegradationAction.{DegradationAction}
-use Rattle.iox_domain_values.specs.declared.degradation.DegradationInfo.{DegradationInfo}
-use Rattle.iox_domain_values.specs.declared.port_owner.PortOwner.{PortOwner}
+use Rattle.iox_domain_settings.specs.DomainValues.Sizes.{buffer_of}
+use Rattle.iox_domain_settings.specs.DomainValues.declared.create_error.PublisherCreateError.{PublisherCreateError}
+use Rattle.iox_domain_settings.specs.DomainValues.declared.create_error.SubscriberCreateError.{SubscriberCreateError}
+use Rattle.iox_domain_settings.specs.DomainValues.declared.degradation.DegradationAction.{DegradationAction}
+use Rattle.iox_domain_settings.specs.DomainValues.declared.degradation.DegradationInfo.{DegradationInfo}
+use Rattle.iox_domain_settings.specs.DomainValues.declared.port_owner.PortOwner.{PortOwner}
 use Rattle.iox_domain_home.specs.Homes.{AtDomain, LeavesDomain, MakesAt, dropped_if}
 use Rattle.iox_domain_home.specs.Steps.{PublisherComes, SubscriberComes, why_no_publisher, why_no_subscriber}
 use Rattle.iox_domain_home.specs.declared.domain_id.DomainId.{DomainId}
-use Rattle.iox_domain_ports.specs.Making.{slots_needed, publisher_place, CreatesPublisher, subscriber_place, CreatesSubscriber}
-use Rattle.iox_domain_ports.specs.declared.making.PublisherConfig.{PublisherConfig}
-use Rattle.iox_domain_ports.specs.declared.making.SubscriberConfig.{SubscriberConfig}
-use Rattle.iox_domain_ports.specs.declared.service_ports.ServicePorts.{ServicePorts}
+use Rattle.iox_domain_laws.specs.DomainPorts.Making.{slots_needed, publisher_place, CreatesPublisher, subscriber_place, CreatesSubscriber}
+use Rattle.iox_domain_laws.specs.DomainPorts.declared.making.PublisherConfig.{PublisherConfig}
+use Rattle.iox_domain_laws.specs.DomainPorts.declared.making.SubscriberConfig.{SubscriberConfig}
+use Rattle.iox_domain_laws.specs.DomainPorts.declared.service_ports.ServicePorts.{ServicePorts}
 use Rattle.iox_domain.specs.AsHome.{same_id, own_ports, with_own_ports, with_own_publisher, with_own_subscriber, without_own_publisher, without_own_subscriber}
 use Rattle.iox_domain.specs.Domains.{with_ports}
 use Rattle.iox_domain.specs.Kept.{kept, forgotten}

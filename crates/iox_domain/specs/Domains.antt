@@ -1,10 +1,10 @@
 -- One publish-subscribe service with its ports.
 use Rattle.std.specs.Prelude.{ℕ, ◌≡◌, []}
-use Rattle.iox_describe_settings.specs.declared.static_config.Settings.{Settings}
-use Rattle.iox_describe_settings.specs.declared.static_config.Settings.TheVariants.{PublishSubscribe}
+use Rattle.iox_domain_settings.specs.DescribeSettings.declared.static_config.Settings.{Settings}
+use Rattle.iox_domain_settings.specs.DescribeSettings.declared.static_config.Settings.TheVariants.{PublishSubscribe}
 use Rattle.iox_domain_settings.specs.Sizes.{sizes}
-use Rattle.iox_domain_ports.specs.Ports.{no_ports}
-use Rattle.iox_domain_ports.specs.declared.service_ports.ServicePorts.{ServicePorts}
+use Rattle.iox_domain_laws.specs.DomainPorts.Ports.{no_ports}
+use Rattle.iox_domain_laws.specs.DomainPorts.declared.service_ports.ServicePorts.{ServicePorts}
 use Rattle.iox_domain.specs.declared.domain.Domain.{Domain}
 use Rattle.iox_domain_home.specs.declared.domain_id.DomainId.{DomainId}
 

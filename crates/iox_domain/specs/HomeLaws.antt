@@ -2,13 +2,13 @@
 use Rattle.std.proofs.Common.{rules, ℕ, ◌≡◌, Bool, true, false, List, None, Some, refl, sym, ap, subst, ◌∙◌, cond}
 use Rattle.std.proofs.lemmas.Bool.{eqb-true}
 use Rattle.std.specs.Prelude.{◌==◌, ◌&&◌, IsSome}
-use Rattle.iox_domain_values.specs.declared.backpressure.BackpressureDecision.{BackpressureDecision}
-use Rattle.iox_domain_values.specs.declared.backpressure.BackpressureInfo.{BackpressureInfo}
-use Rattle.iox_domain_values.specs.declared.degradation.DegradationAction.{DegradationAction}
-use Rattle.iox_domain_values.specs.declared.degradation.DegradationCause.{DegradationCause}
-use Rattle.iox_domain_values.specs.declared.degradation.DegradationInfo.{DegradationInfo}
+use Rattle.iox_domain_settings.specs.DomainValues.declared.backpressure.BackpressureDecision.{BackpressureDecision}
+use Rattle.iox_domain_settings.specs.DomainValues.declared.backpressure.BackpressureInfo.{BackpressureInfo}
+use Rattle.iox_domain_settings.specs.DomainValues.declared.degradation.DegradationAction.{DegradationAction}
+use Rattle.iox_domain_settings.specs.DomainValues.declared.degradation.DegradationCause.{DegradationCause}
+use Rattle.iox_domain_settings.specs.DomainValues.declared.degradation.DegradationInfo.{DegradationInfo}
 use Rattle.iox_domain_home.specs.declared.domain_id.DomainId.{DomainId}
-use Rattle.iox_domain_ports.specs.declared.service_ports.ServicePorts.{ServicePorts}
+use Rattle.iox_domain_laws.specs.DomainPorts.declared.service_ports.ServicePorts.{ServicePorts}
 use Rattle.iox_domain.specs.AsHome.{same_id, own_ports, with_own_ports, with_own_publisher, with_own_subscriber, without_own_publisher, without_own_subscriber}
 use Rattle.iox_domain.specs.Domains.{with_ports}
 use Rattle.iox_domain.specs.Handling.{kept_degrades, kept_decides}

@@ -1,10 +1,10 @@
 -- That the parts of a domain agree.
 use Rattle.std.specs.Prelude.{ℕ, ◌≡◌, true}
-use Rattle.iox_describe_settings.specs.declared.static_config.Settings.{Settings}
-use Rattle.iox_domain_values.specs.declared.backpressure.BackpressureDecision.{BackpressureDecision}
-use Rattle.iox_domain_values.specs.declared.backpressure.BackpressureInfo.{BackpressureInfo}
-use Rattle.iox_domain_values.specs.declared.degradation.DegradationAction.{DegradationAction}
-use Rattle.iox_domain_values.specs.declared.degradation.DegradationInfo.{DegradationInfo}
+use Rattle.iox_domain_settings.specs.DescribeSettings.declared.static_config.Settings.{Settings}
+use Rattle.iox_domain_settings.specs.DomainValues.declared.backpressure.BackpressureDecision.{BackpressureDecision}
+use Rattle.iox_domain_settings.specs.DomainValues.declared.backpressure.BackpressureInfo.{BackpressureInfo}
+use Rattle.iox_domain_settings.specs.DomainValues.declared.degradation.DegradationAction.{DegradationAction}
+use Rattle.iox_domain_settings.specs.DomainValues.declared.degradation.DegradationInfo.{DegradationInfo}
 use Rattle.iox_domain_laws.specs.Calls.{PortCall, Happens}
 use Rattle.iox_domain_home.specs.declared.domain_id.DomainId.{DomainId}
 use Rattle.iox_domain.specs.Domains.{IsNewDomain}

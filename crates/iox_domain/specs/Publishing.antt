@@ -1,10 +1,10 @@
 -- A publisher comes, and leaves.
 use Rattle.std.specs.Prelude.{ℕ, ◌≡◌, Bool, true, false, List, Result, Ok, Err}
-use Rattle.iox_domain_values.specs.declared.create_error.PublisherCreateError.{PublisherCreateError}
-use Rattle.iox_domain_values.specs.declared.degradation.DegradationAction.{DegradationAction}
-use Rattle.iox_domain_values.specs.declared.degradation.DegradationInfo.{DegradationInfo}
-use Rattle.iox_domain_ports.specs.Making.{slots_needed, publisher_place, publisher_refusal, CreatesPublisher}
-use Rattle.iox_domain_ports.specs.declared.making.PublisherConfig.{PublisherConfig}
+use Rattle.iox_domain_settings.specs.DomainValues.declared.create_error.PublisherCreateError.{PublisherCreateError}
+use Rattle.iox_domain_settings.specs.DomainValues.declared.degradation.DegradationAction.{DegradationAction}
+use Rattle.iox_domain_settings.specs.DomainValues.declared.degradation.DegradationInfo.{DegradationInfo}
+use Rattle.iox_domain_laws.specs.DomainPorts.Making.{slots_needed, publisher_place, publisher_refusal, CreatesPublisher}
+use Rattle.iox_domain_laws.specs.DomainPorts.declared.making.PublisherConfig.{PublisherConfig}
 use Rattle.iox_domain.specs.Domains.{with_ports}
 use Rattle.iox_domain.specs.Kept.{kept, forgotten}
 use Rattle.iox_domain.specs.declared.domain.Domain.{Domain}

@@ -1,11 +1,11 @@
 -- A subscriber comes.
 use Rattle.std.specs.Prelude.{ℕ, ◌≡◌, Result, Ok, Err}
-use Rattle.iox_domain_values.specs.declared.create_error.SubscriberCreateError.{SubscriberCreateError}
-use Rattle.iox_domain_values.specs.declared.degradation.DegradationAction.{DegradationAction}
-use Rattle.iox_domain_values.specs.declared.degradation.DegradationInfo.{DegradationInfo}
-use Rattle.iox_domain_values.specs.Sizes.{buffer_of}
-use Rattle.iox_domain_ports.specs.Making.{subscriber_place, subscriber_refusal, CreatesSubscriber}
-use Rattle.iox_domain_ports.specs.declared.making.SubscriberConfig.{SubscriberConfig}
+use Rattle.iox_domain_settings.specs.DomainValues.declared.create_error.SubscriberCreateError.{SubscriberCreateError}
+use Rattle.iox_domain_settings.specs.DomainValues.declared.degradation.DegradationAction.{DegradationAction}
+use Rattle.iox_domain_settings.specs.DomainValues.declared.degradation.DegradationInfo.{DegradationInfo}
+use Rattle.iox_domain_settings.specs.DomainValues.Sizes.{buffer_of}
+use Rattle.iox_domain_laws.specs.DomainPorts.Making.{subscriber_place, subscriber_refusal, CreatesSubscriber}
+use Rattle.iox_domain_laws.specs.DomainPorts.declared.making.SubscriberConfig.{SubscriberConfig}
 use Rattle.iox_domain.specs.Domains.{with_ports}
 use Rattle.iox_domain.specs.Kept.{kept}
 use Rattle.iox_domain.specs.declared.domain.Domain.{Domain}

@@ -1,7 +1,7 @@
 //! One publish-subscribe service with its ports.
 ghost use Rattle.std.specs.Prelude.{◌≡◌, ◌↔◌, IsTrue, IfOk};
-ghost use Rattle.iox_describe_base.specs.Detail.{detail};
-ghost use Rattle.iox_describe_base.specs.declared.type_detail.TypeVariant.TheVariants.{FixedSize};
+ghost use Rattle.iox_domain_laws.specs.DescribeBase.Detail.{detail};
+ghost use Rattle.iox_domain_laws.specs.DescribeBase.declared.type_detail.TypeVariant.TheVariants.{FixedSize};
 ghost use Rattle.iox_domain_settings.specs.Fitting.{Fits};
 
 use crate::kept::Kept;

@@ -1,5 +1,5 @@
 //! Laws of a domain, in other words than its calls. They are the contracts of functions that do nothing.
-ghost use Rattle.iox_domain_values.specs.declared.degradation.DegradationCause.TheVariants as cause;
+ghost use Rattle.iox_domain_settings.specs.DomainValues.declared.degradation.DegradationCause.TheVariants as cause;
 ghost use Rattle.iox_domain.specs.PartsLaws.{PartsAgree};
 
 use iox_domain_values::{Decides, Degrades, Overrides};

@@ -1,6 +1,6 @@
 //! How many ports, loans and samples live.
 ghost use Rattle.std.specs.Prelude.{◌≡◌, ◌-◌, ◌^◌, min, None, Some};
-ghost use Rattle.iox_domain_ports.specs.Living.{living};
+ghost use Rattle.iox_domain_laws.specs.DomainPorts.Living.{living};
 
 use crate::domain::Domain;
 

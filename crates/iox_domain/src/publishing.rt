@@ -1,10 +1,10 @@
 //! A publisher comes, follows the subscribers, sends and leaves.
 ghost use Rattle.std.specs.Prelude.{◌≡◌};
-ghost use Rattle.iox_domain_values.specs.declared.degradation.DegradationCause.TheVariants as cause;
-ghost use Rattle.iox_domain_subscriber.specs.Publishers.{port_of};
-ghost use Rattle.iox_domain_ports.specs.Lending.{LoansOne};
-ghost use Rattle.iox_domain_ports.specs.Ports.{AtPublisher};
-ghost use Rattle.iox_domain_ports.specs.Publishing.{UpdatesOne, SendsOne, RetriesOne, LeavesAt};
+ghost use Rattle.iox_domain_settings.specs.DomainValues.declared.degradation.DegradationCause.TheVariants as cause;
+ghost use Rattle.iox_domain_laws.specs.DomainSubscriber.Publishers.{port_of};
+ghost use Rattle.iox_domain_laws.specs.DomainPorts.Lending.{LoansOne};
+ghost use Rattle.iox_domain_laws.specs.DomainPorts.Ports.{AtPublisher};
+ghost use Rattle.iox_domain_laws.specs.DomainPorts.Publishing.{UpdatesOne, SendsOne, RetriesOne, LeavesAt};
 ghost use Rattle.iox_domain.specs.Domains.{with_ports};
 ghost use Rattle.iox_domain.specs.Handling.{kept_degrades, kept_decides};
 ghost use Rattle.iox_domain.specs.Kept.{kept_under};

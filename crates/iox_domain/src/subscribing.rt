@@ -1,9 +1,9 @@
 //! A subscriber comes, follows the publishers, receives and leaves.
 ghost use Rattle.std.specs.Prelude.{◌≡◌};
-ghost use Rattle.iox_domain_values.specs.declared.degradation.DegradationCause.TheVariants as cause;
-ghost use Rattle.iox_domain_ports.specs.Ports.{AtSubscriber};
-ghost use Rattle.iox_domain_ports.specs.Subscribers.{subscriber_of};
-ghost use Rattle.iox_domain_ports.specs.Subscribing.{UpdatesOne, HasSamplesOne, ReceivesOne, LeavesAt};
+ghost use Rattle.iox_domain_settings.specs.DomainValues.declared.degradation.DegradationCause.TheVariants as cause;
+ghost use Rattle.iox_domain_laws.specs.DomainPorts.Ports.{AtSubscriber};
+ghost use Rattle.iox_domain_laws.specs.DomainPorts.Subscribers.{subscriber_of};
+ghost use Rattle.iox_domain_laws.specs.DomainPorts.Subscribing.{UpdatesOne, HasSamplesOne, ReceivesOne, LeavesAt};
 ghost use Rattle.iox_domain.specs.Domains.{with_ports};
 ghost use Rattle.iox_domain.specs.Handling.{kept_degrades};
 ghost use Rattle.iox_domain.specs.Kept.{kept_under};

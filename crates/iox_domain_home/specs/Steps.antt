@@ -1,19 +1,19 @@
 -- What each call of a port does to the ports of its service, by the port's number.
 use Rattle.std.specs.Prelude.{ℕ, Bool, Option, Result, Ok}
-use Rattle.iox_domain_values.specs.declared.backpressure.BackpressureDecision.{BackpressureDecision}
-use Rattle.iox_domain_values.specs.declared.backpressure.BackpressureInfo.{BackpressureInfo}
-use Rattle.iox_domain_values.specs.Sizes.{buffer_of}
-use Rattle.iox_domain_values.specs.declared.connection_failure.ConnectionFailure.{ConnectionFailure}
-use Rattle.iox_domain_values.specs.declared.create_error.PublisherCreateError.{PublisherCreateError}
-use Rattle.iox_domain_values.specs.declared.create_error.SubscriberCreateError.{SubscriberCreateError}
-use Rattle.iox_domain_values.specs.declared.degradation.DegradationAction.{DegradationAction}
-use Rattle.iox_domain_values.specs.declared.degradation.DegradationInfo.{DegradationInfo}
-use Rattle.iox_domain_values.specs.declared.port_error.LoanError.{LoanError}
-use Rattle.iox_domain_values.specs.declared.port_error.ReceiveError.{ReceiveError}
-use Rattle.iox_domain_values.specs.declared.port_error.SendError.{SendError}
-use Rattle.iox_domain_publisher.specs.declared.meeting.Sent.{Sent}
-use Rattle.iox_domain_subscriber.specs.Publishers.{port_of}
-use Rattle.iox_domain_subscriber.specs.declared.attached.Taken.{Taken}
+use Rattle.iox_domain_ports.specs.DomainValues.declared.backpressure.BackpressureDecision.{BackpressureDecision}
+use Rattle.iox_domain_ports.specs.DomainValues.declared.backpressure.BackpressureInfo.{BackpressureInfo}
+use Rattle.iox_domain_ports.specs.DomainValues.Sizes.{buffer_of}
+use Rattle.iox_domain_ports.specs.DomainValues.declared.connection_failure.ConnectionFailure.{ConnectionFailure}
+use Rattle.iox_domain_ports.specs.DomainValues.declared.create_error.PublisherCreateError.{PublisherCreateError}
+use Rattle.iox_domain_ports.specs.DomainValues.declared.create_error.SubscriberCreateError.{SubscriberCreateError}
+use Rattle.iox_domain_ports.specs.DomainValues.declared.degradation.DegradationAction.{DegradationAction}
+use Rattle.iox_domain_ports.specs.DomainValues.declared.degradation.DegradationInfo.{DegradationInfo}
+use Rattle.iox_domain_ports.specs.DomainValues.declared.port_error.LoanError.{LoanError}
+use Rattle.iox_domain_ports.specs.DomainValues.declared.port_error.ReceiveError.{ReceiveError}
+use Rattle.iox_domain_ports.specs.DomainValues.declared.port_error.SendError.{SendError}
+use Rattle.iox_domain_ports.specs.DomainPublisher.declared.meeting.Sent.{Sent}
+use Rattle.iox_domain_ports.specs.DomainSubscriber.Publishers.{port_of}
+use Rattle.iox_domain_ports.specs.DomainSubscriber.declared.attached.Taken.{Taken}
 use Rattle.iox_domain_ports.specs.Lending.{LoansOne}
 use Rattle.iox_domain_ports.specs.Making.{slots_needed, publisher_place, publisher_refusal, CreatesPublisher, subscriber_place, subscriber_refusal, CreatesSubscriber}
 use Rattle.iox_domain_ports.specs.Ports.{AtPublisher, AtSubscriber}

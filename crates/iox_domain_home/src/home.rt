@@ -2,10 +2,10 @@
 ghost use Rattle.std.specs.Prelude.{◌≡◌, ℕ, Bool, Option, Some, IsSome, option_copied};
 ghost use Rattle.std.specs.Borrow.{sem, LendsIf};
 ghost use Rattle.std.specs.Option.{option_copied_mut};
-ghost use Rattle.iox_domain_values.specs.declared.backpressure.BackpressureDecision.{BackpressureDecision};
-ghost use Rattle.iox_domain_values.specs.declared.backpressure.BackpressureInfo.{BackpressureInfo};
-ghost use Rattle.iox_domain_values.specs.declared.degradation.DegradationAction.{DegradationAction};
-ghost use Rattle.iox_domain_values.specs.declared.degradation.DegradationInfo.{DegradationInfo};
+ghost use Rattle.iox_domain_ports.specs.DomainValues.declared.backpressure.BackpressureDecision.{BackpressureDecision};
+ghost use Rattle.iox_domain_ports.specs.DomainValues.declared.backpressure.BackpressureInfo.{BackpressureInfo};
+ghost use Rattle.iox_domain_ports.specs.DomainValues.declared.degradation.DegradationAction.{DegradationAction};
+ghost use Rattle.iox_domain_ports.specs.DomainValues.declared.degradation.DegradationInfo.{DegradationInfo};
 ghost use Rattle.iox_domain_ports.specs.contracts.service_ports.ServicePorts as service_ports;
 ghost use Rattle.iox_domain_ports.specs.declared.service_ports.ServicePorts.{ServicePorts};
 ghost use Rattle.iox_domain_home.specs.Homes.{AtDomain, LeavesDomain};
@@ -13,9 +13,7 @@ ghost use Rattle.iox_domain_home.specs.Steps.{LoansBy, UpdatesBy, SendsBy, Retri
 ghost use Rattle.iox_domain_home.specs.declared.domain_id.DomainId.{DomainId};
 
 use crate::domain_id::DomainId;
-use iox_domain_ports::ServicePorts;
-use iox_domain_publisher::Sent;
-use iox_domain_subscriber::Taken;
+use iox_domain_ports::{Sent, ServicePorts, Taken};
 use iox_domain_values::{ConnectionFailure, LoanError, ReceiveError, SendError};
 use std::alloc::Global;
 

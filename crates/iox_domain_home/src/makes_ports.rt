@@ -1,6 +1,6 @@
 //! A home in which ports are made.
 ghost use Rattle.std.specs.Prelude.{◌≡◌, ℕ};
-ghost use Rattle.iox_domain_values.specs.declared.degradation.DegradationCause.TheVariants.{FailedToEstablishConnection};
+ghost use Rattle.iox_domain_ports.specs.DomainValues.declared.degradation.DegradationCause.TheVariants.{FailedToEstablishConnection};
 ghost use Rattle.iox_domain_home.specs.Homes.{MakesAt};
 ghost use Rattle.iox_domain_home.specs.Steps.{PublisherComes, SubscriberComes, why_no_publisher, why_no_subscriber};
 ghost use Rattle.iox_domain_home.specs.declared.domain_id.DomainId.{DomainId};

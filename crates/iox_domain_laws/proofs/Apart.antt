@@ -4,31 +4,31 @@ use Rattle.std.proofs.lemmas.Bool.{cases_eq, cases_lt}
 use Rattle.std.proofs.lemmas.List.{get_or-set_other, get_or-set_same, get_or_past, length-set, length-replicate}
 use Rattle.std.proofs.lemmas.List.Elements.{All-nil}
 use Rattle.std.specs.declared.alloc.AllocError.{AllocError}
-use Rattle.iox_index_base.specs.declared.container.Member.{Member}
-use Rattle.iox_domain_values.specs.declared.backpressure.BackpressureDecision.{BackpressureDecision}
-use Rattle.iox_domain_values.specs.declared.backpressure.BackpressureInfo.{BackpressureInfo}
-use Rattle.iox_domain_values.specs.declared.connection_failure.ConnectionFailure.{ConnectionFailure}
-use Rattle.iox_domain_values.specs.declared.create_error.PublisherCreateError.{PublisherCreateError}
-use Rattle.iox_domain_values.specs.declared.create_error.SubscriberCreateError.{SubscriberCreateError}
-use Rattle.iox_domain_values.specs.declared.degradation.DegradationAction.{DegradationAction}
-use Rattle.iox_domain_values.specs.declared.degradation.DegradationInfo.{DegradationInfo}
-use Rattle.iox_domain_values.specs.declared.port_error.ReceiveError.{ReceiveError}
-use Rattle.iox_domain_values.specs.declared.port_owner.PortOwner.{PortOwner}
-use Rattle.iox_domain_values.specs.declared.service_sizes.ServiceSizes.{ServiceSizes}
-use Rattle.iox_domain_publisher.specs.Leaving.{new_port, departed}
-use Rattle.iox_domain_publisher.specs.Updating.{is_tie_to}
-use Rattle.iox_domain_publisher.specs.Writing.{changed_if, given_up}
-use Rattle.iox_domain_publisher.specs.declared.publisher_port.PublisherPort.{PublisherPort}
-use Rattle.iox_domain_publisher.specs.declared.subscriber_entry.SubscriberEntry.{SubscriberEntry}
-use Rattle.iox_domain_subscriber.specs.Arriving.{new_subscriber}
-use Rattle.iox_domain_subscriber.specs.Publishers.{port_of, with_port, changed, connection_in}
-use Rattle.iox_domain_subscriber.specs.Reading.{place_of}
-use Rattle.iox_domain_subscriber.specs.declared.attached.Taken.{Taken}
-use Rattle.iox_domain_subscriber.specs.declared.publisher_entry.PublisherEntry.{PublisherEntry}
-use Rattle.iox_domain_subscriber.specs.declared.subscriber_port.SubscriberPort.{SubscriberPort}
+use Rattle.iox_domain_ports.specs.IndexBase.declared.container.Member.{Member}
+use Rattle.iox_domain_ports.specs.DomainValues.declared.backpressure.BackpressureDecision.{BackpressureDecision}
+use Rattle.iox_domain_ports.specs.DomainValues.declared.backpressure.BackpressureInfo.{BackpressureInfo}
+use Rattle.iox_domain_ports.specs.DomainValues.declared.connection_failure.ConnectionFailure.{ConnectionFailure}
+use Rattle.iox_domain_ports.specs.DomainValues.declared.create_error.PublisherCreateError.{PublisherCreateError}
+use Rattle.iox_domain_ports.specs.DomainValues.declared.create_error.SubscriberCreateError.{SubscriberCreateError}
+use Rattle.iox_domain_ports.specs.DomainValues.declared.degradation.DegradationAction.{DegradationAction}
+use Rattle.iox_domain_ports.specs.DomainValues.declared.degradation.DegradationInfo.{DegradationInfo}
+use Rattle.iox_domain_ports.specs.DomainValues.declared.port_error.ReceiveError.{ReceiveError}
+use Rattle.iox_domain_ports.specs.DomainValues.declared.port_owner.PortOwner.{PortOwner}
+use Rattle.iox_domain_ports.specs.DomainValues.declared.service_sizes.ServiceSizes.{ServiceSizes}
+use Rattle.iox_domain_ports.specs.DomainPublisher.Leaving.{new_port, departed}
+use Rattle.iox_domain_ports.specs.DomainPublisher.Updating.{is_tie_to}
+use Rattle.iox_domain_ports.specs.DomainPublisher.Writing.{changed_if, given_up}
+use Rattle.iox_domain_ports.specs.DomainPublisher.declared.publisher_port.PublisherPort.{PublisherPort}
+use Rattle.iox_domain_ports.specs.DomainPublisher.declared.subscriber_entry.SubscriberEntry.{SubscriberEntry}
+use Rattle.iox_domain_ports.specs.DomainSubscriber.Arriving.{new_subscriber}
+use Rattle.iox_domain_ports.specs.DomainSubscriber.Publishers.{port_of, with_port, changed, connection_in}
+use Rattle.iox_domain_ports.specs.DomainSubscriber.Reading.{place_of}
+use Rattle.iox_domain_ports.specs.DomainSubscriber.declared.attached.Taken.{Taken}
+use Rattle.iox_domain_ports.specs.DomainSubscriber.declared.publisher_entry.PublisherEntry.{PublisherEntry}
+use Rattle.iox_domain_ports.specs.DomainSubscriber.declared.subscriber_port.SubscriberPort.{SubscriberPort}
 use Rattle.iox_domain_laws.specs.Calls.{PortCall, PublisherComes, SubscriberComes, Lends, Writes, GivesLoanUp, PublisherUpdates, Sends, Retries, GivesSendUp, PublisherLeaves, SubscriberUpdates, AsksForSamples, Receives, Releases, SubscriberLeaves, Happens}
 use Rattle.iox_domain_laws.specs.Laws.{IsListApart, IsTiedWell, IsWellEntry, IsApart}
-use Rattle.iox_domain_values.specs.Sizes.{buffer_of}
+use Rattle.iox_domain_ports.specs.DomainValues.Sizes.{buffer_of}
 use Rattle.iox_domain_ports.specs.Making.{slots_needed, publisher_place, subscriber_place, identity_of, sender_config, AddsPublisher, CreatesPublisher, AddsSubscriber, CreatesSubscriber}
 use Rattle.iox_domain_ports.specs.Ports.{AtPublisher, AtSubscriber, no_ports, with_publisher}
 use Rattle.iox_domain_ports.specs.Publishing.{is_free}

@@ -7,35 +7,35 @@ use Rattle.std.proofs.lemmas.List.Folds.{position_or_len-set}
 use Rattle.std.proofs.lemmas.List.Quantifiers.{position-Some}
 use Rattle.std.specs.List.{position, position_or_len, range_with_len}
 use Rattle.std.specs.declared.alloc.AllocError.{AllocError}
-use Rattle.iox_index_base.specs.declared.container.Member.{Member}
-use Rattle.iox_domain_values.specs.declared.connection_failure.ConnectionFailure.{ConnectionFailure}
-use Rattle.iox_domain_values.specs.declared.connection_failure.ConnectionFailure.TheVariants.{FailedToEstablishConnection}
-use Rattle.iox_domain_values.specs.declared.connection_failure.ZeroCopyCreationError.{ZeroCopyCreationError}
-use Rattle.iox_domain_values.specs.declared.connection_failure.ZeroCopyCreationError.TheVariants as creation
-use Rattle.iox_domain_values.specs.declared.degradation.DegradationAction.{DegradationAction}
-use Rattle.iox_domain_values.specs.declared.degradation.DegradationAction.TheVariants as action
-use Rattle.iox_domain_values.specs.declared.degradation.DegradationInfo.{DegradationInfo}
-use Rattle.iox_domain_values.specs.declared.port_error.ReceiveError.{ReceiveError}
-use Rattle.iox_domain_values.specs.declared.port_error.ReceiveError.TheVariants as receiving
-use Rattle.iox_domain_values.specs.declared.port_owner.PortIdentity.{PortIdentity}
-use Rattle.iox_maps.specs.SlotTable.{value_at}
-use Rattle.iox_domain_publisher.specs.Places.{leads_to, left}
-use Rattle.iox_domain_publisher.specs.Ports.{connection_to, ended_at, detached_at, attached_at, Joins}
-use Rattle.iox_domain_publisher.specs.Updating.{first_failure, no_memory, update_answer}
-use Rattle.iox_domain_publisher.specs.declared.publisher_port.PublisherPort.{PublisherPort}
-use Rattle.iox_domain_publisher.specs.declared.reader.Reader.{Reader}
-use Rattle.iox_domain_subscriber.specs.Arriving.{new_subscriber}
-use Rattle.iox_domain_subscriber.proofs.Lacking.{attaches_at_once}
-use Rattle.iox_domain_subscriber.specs.Following.{is_of, lacks_connection, unplaced, FollowsFreed, FollowsKey, FollowsAt, FollowsListed}
-use Rattle.iox_domain_subscriber.specs.Publishers.{port_of, port_stands, stands_in, with_port, changed, changed_at_port, ended_if_left, is_over_in, is_over_port, removed, AttachesAtPort}
-use Rattle.iox_domain_subscriber.specs.Reading.{is_over}
-use Rattle.iox_domain_subscriber.specs.Receiving.{given_ports, IsReceiveAnswer, nothing_taken, Receives}
-use Rattle.iox_domain_subscriber.specs.Subscribing as subscribed
-use Rattle.iox_domain_subscriber.specs.Updating.{FollowsOne, AsksOf, FollowsFrom, FollowsNoneIf, FollowsNones, is_listed, UpdatesIf, Updates, HasSamplesAfter, ReceivesAfter}
-use Rattle.iox_domain_subscriber.specs.declared.attached.Attached.{Attached}
-use Rattle.iox_domain_subscriber.specs.declared.attached.Taken.{Taken}
-use Rattle.iox_domain_subscriber.specs.declared.publisher_entry.PublisherEntry.{PublisherEntry}
-use Rattle.iox_domain_subscriber.specs.declared.subscriber_port.SubscriberPort.{SubscriberPort}
+use Rattle.iox_domain_ports.specs.IndexBase.declared.container.Member.{Member}
+use Rattle.iox_domain_ports.specs.DomainValues.declared.connection_failure.ConnectionFailure.{ConnectionFailure}
+use Rattle.iox_domain_ports.specs.DomainValues.declared.connection_failure.ConnectionFailure.TheVariants.{FailedToEstablishConnection}
+use Rattle.iox_domain_ports.specs.DomainValues.declared.connection_failure.ZeroCopyCreationError.{ZeroCopyCreationError}
+use Rattle.iox_domain_ports.specs.DomainValues.declared.connection_failure.ZeroCopyCreationError.TheVariants as creation
+use Rattle.iox_domain_ports.specs.DomainValues.declared.degradation.DegradationAction.{DegradationAction}
+use Rattle.iox_domain_ports.specs.DomainValues.declared.degradation.DegradationAction.TheVariants as action
+use Rattle.iox_domain_ports.specs.DomainValues.declared.degradation.DegradationInfo.{DegradationInfo}
+use Rattle.iox_domain_ports.specs.DomainValues.declared.port_error.ReceiveError.{ReceiveError}
+use Rattle.iox_domain_ports.specs.DomainValues.declared.port_error.ReceiveError.TheVariants as receiving
+use Rattle.iox_domain_ports.specs.DomainValues.declared.port_owner.PortIdentity.{PortIdentity}
+use Rattle.iox_domain_ports.specs.Maps.SlotTable.{value_at}
+use Rattle.iox_domain_ports.specs.DomainPublisher.Places.{leads_to, left}
+use Rattle.iox_domain_ports.specs.DomainPublisher.Ports.{connection_to, ended_at, detached_at, attached_at, Joins}
+use Rattle.iox_domain_ports.specs.DomainPublisher.Updating.{first_failure, no_memory, update_answer}
+use Rattle.iox_domain_ports.specs.DomainPublisher.declared.publisher_port.PublisherPort.{PublisherPort}
+use Rattle.iox_domain_ports.specs.DomainPublisher.declared.reader.Reader.{Reader}
+use Rattle.iox_domain_ports.specs.DomainSubscriber.Arriving.{new_subscriber}
+use Rattle.iox_domain_ports.proofs.DomainSubscriber.Lacking.{attaches_at_once}
+use Rattle.iox_domain_ports.specs.DomainSubscriber.Following.{is_of, lacks_connection, unplaced, FollowsFreed, FollowsKey, FollowsAt, FollowsListed}
+use Rattle.iox_domain_ports.specs.DomainSubscriber.Publishers.{port_of, port_stands, stands_in, with_port, changed, changed_at_port, ended_if_left, is_over_in, is_over_port, removed, AttachesAtPort}
+use Rattle.iox_domain_ports.specs.DomainSubscriber.Reading.{is_over}
+use Rattle.iox_domain_ports.specs.DomainSubscriber.Receiving.{given_ports, IsReceiveAnswer, nothing_taken, Receives}
+use Rattle.iox_domain_ports.specs.DomainSubscriber.Subscribing as subscribed
+use Rattle.iox_domain_ports.specs.DomainSubscriber.Updating.{FollowsOne, AsksOf, FollowsFrom, FollowsNoneIf, FollowsNones, is_listed, UpdatesIf, Updates, HasSamplesAfter, ReceivesAfter}
+use Rattle.iox_domain_ports.specs.DomainSubscriber.declared.attached.Attached.{Attached}
+use Rattle.iox_domain_ports.specs.DomainSubscriber.declared.attached.Taken.{Taken}
+use Rattle.iox_domain_ports.specs.DomainSubscriber.declared.publisher_entry.PublisherEntry.{PublisherEntry}
+use Rattle.iox_domain_ports.specs.DomainSubscriber.declared.subscriber_port.SubscriberPort.{SubscriberPort}
 use Rattle.iox_domain_laws.specs.Attaching.{KeysFit, ConnectsListed, AttachesWithoutMemory}
 use Rattle.iox_domain_laws.specs.Tries.{how_often}
 use Rattle.iox_domain_laws.proofs.Keys.{adds_same, adds_other}

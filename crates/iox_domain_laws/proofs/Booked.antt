@@ -4,16 +4,16 @@ use Rattle.std.proofs.lemmas.Bool.{cases_eq, cases_lt, eqb-true}
 use Rattle.std.proofs.lemmas.List.{get_or-set_other, get_or-set_same, get_or_past, length-set}
 use Rattle.std.proofs.lemmas.List.Quantifiers.{position-Some}
 use Rattle.std.specs.List.{remove}
-use Rattle.iox_domain_slots.specs.Uses.{Connection, nobody, given_back, ended, settled}
-use Rattle.iox_domain_slots.specs.declared.stage.Stage.{Stage}
-use Rattle.iox_domain_slots.specs.declared.stage.Stage.TheVariants as stage
-use Rattle.iox_domain_sender.specs.Messages.{Message}
-use Rattle.iox_domain_publisher.specs.Leaving.{parted_at, parted_from, departed}
-use Rattle.iox_domain_publisher.specs.Places.{leads_to, left, is_attached}
-use Rattle.iox_domain_publisher.specs.Ports.{connection_of, connection_to, goes_on, is_live, with_connection_of, detached_at, ended_at, Joins, attached_at}
-use Rattle.iox_domain_publisher.specs.declared.publisher_port.PublisherPort.{PublisherPort}
-use Rattle.iox_domain_publisher.specs.declared.reader.Reader.{Reader}
-use Rattle.iox_domain_subscriber.specs.Reading.{given_back_at}
+use Rattle.iox_domain_ports.specs.DomainSlots.Uses.{Connection, nobody, given_back, ended, settled}
+use Rattle.iox_domain_ports.specs.DomainSlots.declared.stage.Stage.{Stage}
+use Rattle.iox_domain_ports.specs.DomainSlots.declared.stage.Stage.TheVariants as stage
+use Rattle.iox_domain_ports.specs.DomainSender.Messages.{Message}
+use Rattle.iox_domain_ports.specs.DomainPublisher.Leaving.{parted_at, parted_from, departed}
+use Rattle.iox_domain_ports.specs.DomainPublisher.Places.{leads_to, left, is_attached}
+use Rattle.iox_domain_ports.specs.DomainPublisher.Ports.{connection_of, connection_to, goes_on, is_live, with_connection_of, detached_at, ended_at, Joins, attached_at}
+use Rattle.iox_domain_ports.specs.DomainPublisher.declared.publisher_port.PublisherPort.{PublisherPort}
+use Rattle.iox_domain_ports.specs.DomainPublisher.declared.reader.Reader.{Reader}
+use Rattle.iox_domain_ports.specs.DomainSubscriber.Reading.{given_back_at}
 use Rattle.iox_domain_laws.specs.Order.{IsPartOf, leads_at}
 use Rattle.iox_domain_laws.proofs.Books.{Books, Missing}
 use Rattle.iox_domain_laws.proofs.Parts.{part_first, part_nothing}

@@ -2,12 +2,12 @@
 use Rattle.std.proofs.Common.{◌≡◌, ◌≢◌, ◌⊎◌, [], ℕ, Bool, true, false, List, Option, None, Some, Result, Ok, Err, refl, sym, ap, ◌∙◌, subst, if◌then◌else◌, inl, inr}
 use Rattle.std.proofs.lemmas.Bool.{cases_eq}
 use Rattle.std.specs.declared.alloc.AllocError.{AllocError}
-use Rattle.iox_domain_sender.specs.Messages.{Message}
-use Rattle.iox_domain_publisher.specs.Ports.{connection_of, connection_to, detached_at}
-use Rattle.iox_domain_publisher.specs.declared.publisher_port.PublisherPort.{PublisherPort}
-use Rattle.iox_domain_subscriber.specs.Publishers as publishers
-use Rattle.iox_domain_subscriber.specs.Publishers.{port_of, port_stands, with_port, changed, changed_at_port, connection_in, connection_at_port, is_over_in, removed, ended_if_left, released, AttachesAtPort}
-use Rattle.iox_domain_subscriber.specs.Reading.{given_back_at}
+use Rattle.iox_domain_ports.specs.DomainSender.Messages.{Message}
+use Rattle.iox_domain_ports.specs.DomainPublisher.Ports.{connection_of, connection_to, detached_at}
+use Rattle.iox_domain_ports.specs.DomainPublisher.declared.publisher_port.PublisherPort.{PublisherPort}
+use Rattle.iox_domain_ports.specs.DomainSubscriber.Publishers as publishers
+use Rattle.iox_domain_ports.specs.DomainSubscriber.Publishers.{port_of, port_stands, with_port, changed, changed_at_port, connection_in, connection_at_port, is_over_in, removed, ended_if_left, released, AttachesAtPort}
+use Rattle.iox_domain_ports.specs.DomainSubscriber.Reading.{given_back_at}
 use Rattle.iox_domain_laws.specs.Order.{leads_at, leads_at_port}
 use Rattle.iox_domain_laws.proofs.Booked.{PortBooks, steady_port, attaches_steady, detached_steady, if_left_steady, given_back_steady}
 use Rattle.iox_domain_laws.proofs.Books.{Books, Missing}

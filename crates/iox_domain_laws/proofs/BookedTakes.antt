@@ -2,22 +2,22 @@
 use Rattle.std.proofs.Common.{arith, ◌≡◌, ◌≢◌, ◌<◌, ◌&&◌, ◌==◌, ◌⊎◌, ◌∷◌, [], ◌++◌, append-nil, append_assoc, take-append-drop, ℕ, zero, suc, Bool, true, false, List, get_or, set, length, take, drop, nat_lt, slice_get, map, Option, None, Some, Result, Ok, Err, refl, sym, ap, ◌∙◌, subst, if◌then◌else◌, inl, inr}
 use Rattle.std.proofs.lemmas.Bool.{cases_eq, eqb-true, eq-eqb}
 use Rattle.std.proofs.lemmas.List.{get_or-set_other}
-use Rattle.iox_domain_values.specs.declared.connection_failure.ConnectionFailure.{ConnectionFailure}
-use Rattle.iox_domain_values.specs.declared.degradation.DegradationAction.{DegradationAction}
-use Rattle.iox_domain_values.specs.declared.degradation.DegradationInfo.{DegradationInfo}
-use Rattle.iox_domain_values.specs.declared.port_error.ReceiveError.{ReceiveError}
-use Rattle.iox_domain_slots.specs.Uses.{Connection, nobody, taken}
-use Rattle.iox_domain_sender.specs.Messages.{Message}
-use Rattle.iox_domain_publisher.specs.Ports.{connection_of, goes_on}
-use Rattle.iox_domain_publisher.specs.declared.publisher_port.PublisherPort.{PublisherPort}
-use Rattle.iox_domain_subscriber.specs.Publishers.{port_of, port_stands, with_port, changed, changed_at_port, connection_in, connection_at_port}
-use Rattle.iox_domain_subscriber.specs.Reading.{taken_at}
-use Rattle.iox_domain_subscriber.specs.Receiving.{IsFirst, IsMet, IsGiver, given, given_ports, IsReceiveAnswer, nothing_taken}
-use Rattle.iox_domain_subscriber.specs.Subscribing.{attached_at, connection_by, has_data, is_below, gives, taken_of, taken_ports}
-use Rattle.iox_domain_subscriber.specs.Updating.{ReceivesAfter, ReceivesNext}
-use Rattle.iox_domain_subscriber.specs.declared.attached.Attached.{Attached}
-use Rattle.iox_domain_subscriber.specs.declared.attached.Taken.{Taken}
-use Rattle.iox_domain_subscriber.specs.declared.subscriber_port.SubscriberPort.{SubscriberPort}
+use Rattle.iox_domain_ports.specs.DomainValues.declared.connection_failure.ConnectionFailure.{ConnectionFailure}
+use Rattle.iox_domain_ports.specs.DomainValues.declared.degradation.DegradationAction.{DegradationAction}
+use Rattle.iox_domain_ports.specs.DomainValues.declared.degradation.DegradationInfo.{DegradationInfo}
+use Rattle.iox_domain_ports.specs.DomainValues.declared.port_error.ReceiveError.{ReceiveError}
+use Rattle.iox_domain_ports.specs.DomainSlots.Uses.{Connection, nobody, taken}
+use Rattle.iox_domain_ports.specs.DomainSender.Messages.{Message}
+use Rattle.iox_domain_ports.specs.DomainPublisher.Ports.{connection_of, goes_on}
+use Rattle.iox_domain_ports.specs.DomainPublisher.declared.publisher_port.PublisherPort.{PublisherPort}
+use Rattle.iox_domain_ports.specs.DomainSubscriber.Publishers.{port_of, port_stands, with_port, changed, changed_at_port, connection_in, connection_at_port}
+use Rattle.iox_domain_ports.specs.DomainSubscriber.Reading.{taken_at}
+use Rattle.iox_domain_ports.specs.DomainSubscriber.Receiving.{IsFirst, IsMet, IsGiver, given, given_ports, IsReceiveAnswer, nothing_taken}
+use Rattle.iox_domain_ports.specs.DomainSubscriber.Subscribing.{attached_at, connection_by, has_data, is_below, gives, taken_of, taken_ports}
+use Rattle.iox_domain_ports.specs.DomainSubscriber.Updating.{ReceivesAfter, ReceivesNext}
+use Rattle.iox_domain_ports.specs.DomainSubscriber.declared.attached.Attached.{Attached}
+use Rattle.iox_domain_ports.specs.DomainSubscriber.declared.attached.Taken.{Taken}
+use Rattle.iox_domain_ports.specs.DomainSubscriber.declared.subscriber_port.SubscriberPort.{SubscriberPort}
 use Rattle.iox_domain_laws.specs.Order.{IsPartOf, leads_at, leads_at_port, is_named}
 use Rattle.iox_domain_laws.proofs.Booked.{by_parts, steady_alike, steady_port}
 use Rattle.iox_domain_laws.proofs.BookedLists.{Booked, ListBooks, lists_stay, lists_changed, lists_other, book_walks}

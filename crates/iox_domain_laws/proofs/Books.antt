@@ -1,15 +1,15 @@
 -- What a publisher and one of its connections keep of what was sent and taken.
 use Rattle.std.proofs.Common.{arith, ◌≡◌, ◌≢◌, ◌≤◌, ◌&&◌, ◌-◌, ◌⊎◌, ◌∷◌, [], ◌++◌, append_assoc, ℕ, Bool, true, false, List, get_or, length, drop, nat_lt, None, Some, Result, refl, sym, ap, ◌∙◌, subst, if◌then◌else◌, inl, inr}
-use Rattle.iox_domain_values.specs.declared.backpressure.BackpressureDecision.{BackpressureDecision}
-use Rattle.iox_domain_values.specs.declared.backpressure.BackpressureInfo.{BackpressureInfo}
-use Rattle.iox_domain_values.specs.declared.port_error.SendError.{SendError}
-use Rattle.iox_domain_slots.specs.Uses.{Connection, nobody, offered}
-use Rattle.iox_domain_sender.specs.Messages.{Message, Loan, sent_as}
-use Rattle.iox_domain_publisher.specs.Places.{leads_to}
-use Rattle.iox_domain_publisher.specs.Ports.{connection_of, goes_on}
-use Rattle.iox_domain_publisher.specs.Sending.{concluded, Finishes, begun_by}
-use Rattle.iox_domain_publisher.specs.declared.meeting.Sent.{Sent}
-use Rattle.iox_domain_publisher.specs.declared.publisher_port.PublisherPort.{PublisherPort}
+use Rattle.iox_domain_ports.specs.DomainValues.declared.backpressure.BackpressureDecision.{BackpressureDecision}
+use Rattle.iox_domain_ports.specs.DomainValues.declared.backpressure.BackpressureInfo.{BackpressureInfo}
+use Rattle.iox_domain_ports.specs.DomainValues.declared.port_error.SendError.{SendError}
+use Rattle.iox_domain_ports.specs.DomainSlots.Uses.{Connection, nobody, offered}
+use Rattle.iox_domain_ports.specs.DomainSender.Messages.{Message, Loan, sent_as}
+use Rattle.iox_domain_ports.specs.DomainPublisher.Places.{leads_to}
+use Rattle.iox_domain_ports.specs.DomainPublisher.Ports.{connection_of, goes_on}
+use Rattle.iox_domain_ports.specs.DomainPublisher.Sending.{concluded, Finishes, begun_by}
+use Rattle.iox_domain_ports.specs.DomainPublisher.declared.meeting.Sent.{Sent}
+use Rattle.iox_domain_ports.specs.DomainPublisher.declared.publisher_port.PublisherPort.{PublisherPort}
 use Rattle.iox_domain_laws.specs.Laws.{AreTiesApart, GotAtMostOnce}
 use Rattle.iox_domain_laws.specs.Order.{IsPartOf, leads_at}
 use Rattle.iox_domain_laws.proofs.Once.{Gone, delivers_got}

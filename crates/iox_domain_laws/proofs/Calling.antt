@@ -8,27 +8,27 @@ use Rattle.std.proofs.lemmas.List.Edits.{length-remove}
 use Rattle.std.proofs.lemmas.List.Quantifiers.{position-Some}
 use Rattle.std.proofs.lemmas.Map.Entries.{sum_by-set_value}
 use Rattle.std.proofs.lemmas.Option.{none-some, slice_get_cases}
-use Rattle.iox_index_base.specs.declared.container.Member.{Member}
-use Rattle.iox_domain_values.specs.declared.backpressure.BackpressureDecision.{BackpressureDecision}
-use Rattle.iox_domain_values.specs.declared.backpressure.BackpressureInfo.{BackpressureInfo}
-use Rattle.iox_domain_values.specs.declared.connection_failure.ConnectionFailure.{ConnectionFailure}
-use Rattle.iox_domain_values.specs.declared.degradation.DegradationAction.{DegradationAction}
-use Rattle.iox_domain_values.specs.declared.degradation.DegradationInfo.{DegradationInfo}
-use Rattle.iox_domain_values.specs.declared.port_error.LoanError.{LoanError}
-use Rattle.iox_domain_values.specs.declared.port_error.SendError.{SendError}
-use Rattle.iox_domain_sender.specs.Messages.{Loan}
-use Rattle.iox_domain_sender.specs.Sending.{is_written_at}
-use Rattle.iox_domain_publisher.specs.Leaving.{departed}
-use Rattle.iox_domain_publisher.specs.Loaning as lending
-use Rattle.iox_domain_publisher.specs.Progress.{tried_again}
-use Rattle.iox_domain_publisher.specs.Sending.{ready_at, ready_loan, begun_at, begun_by, dropped_at, with_progress, SendsAfter, SendsIf, Sends}
-use Rattle.iox_domain_publisher.specs.Writing.{place_of, changed_if, given_up, given_up_at}
-use Rattle.iox_domain_publisher.specs.declared.meeting.Sent.{Sent}
-use Rattle.iox_domain_publisher.specs.declared.meeting.Sent.TheVariants as sent
-use Rattle.iox_domain_publisher.specs.declared.publisher_port.PublisherPort.{PublisherPort}
-use Rattle.iox_domain_publisher.specs.declared.subscriber_entry.SubscriberEntry.{SubscriberEntry}
-use Rattle.iox_domain_subscriber.specs.Living.{living_of_publisher, counted}
-use Rattle.iox_domain_subscriber.specs.Publishers.{port_of, changed_at_port, settled}
+use Rattle.iox_domain_ports.specs.IndexBase.declared.container.Member.{Member}
+use Rattle.iox_domain_ports.specs.DomainValues.declared.backpressure.BackpressureDecision.{BackpressureDecision}
+use Rattle.iox_domain_ports.specs.DomainValues.declared.backpressure.BackpressureInfo.{BackpressureInfo}
+use Rattle.iox_domain_ports.specs.DomainValues.declared.connection_failure.ConnectionFailure.{ConnectionFailure}
+use Rattle.iox_domain_ports.specs.DomainValues.declared.degradation.DegradationAction.{DegradationAction}
+use Rattle.iox_domain_ports.specs.DomainValues.declared.degradation.DegradationInfo.{DegradationInfo}
+use Rattle.iox_domain_ports.specs.DomainValues.declared.port_error.LoanError.{LoanError}
+use Rattle.iox_domain_ports.specs.DomainValues.declared.port_error.SendError.{SendError}
+use Rattle.iox_domain_ports.specs.DomainSender.Messages.{Loan}
+use Rattle.iox_domain_ports.specs.DomainSender.Sending.{is_written_at}
+use Rattle.iox_domain_ports.specs.DomainPublisher.Leaving.{departed}
+use Rattle.iox_domain_ports.specs.DomainPublisher.Loaning as lending
+use Rattle.iox_domain_ports.specs.DomainPublisher.Progress.{tried_again}
+use Rattle.iox_domain_ports.specs.DomainPublisher.Sending.{ready_at, ready_loan, begun_at, begun_by, dropped_at, with_progress, SendsAfter, SendsIf, Sends}
+use Rattle.iox_domain_ports.specs.DomainPublisher.Writing.{place_of, changed_if, given_up, given_up_at}
+use Rattle.iox_domain_ports.specs.DomainPublisher.declared.meeting.Sent.{Sent}
+use Rattle.iox_domain_ports.specs.DomainPublisher.declared.meeting.Sent.TheVariants as sent
+use Rattle.iox_domain_ports.specs.DomainPublisher.declared.publisher_port.PublisherPort.{PublisherPort}
+use Rattle.iox_domain_ports.specs.DomainPublisher.declared.subscriber_entry.SubscriberEntry.{SubscriberEntry}
+use Rattle.iox_domain_ports.specs.DomainSubscriber.Living.{living_of_publisher, counted}
+use Rattle.iox_domain_ports.specs.DomainSubscriber.Publishers.{port_of, changed_at_port, settled}
 use Rattle.iox_domain_ports.specs.Lending.{LoansIf, LoansOne, written_in, gave_up_in}
 use Rattle.iox_domain_ports.specs.Living.{living}
 use Rattle.iox_domain_laws.specs.LivingSteps.{AsMuchLives, OneLessLives, LoanAdds, SendTakes, GivingUpTakes}

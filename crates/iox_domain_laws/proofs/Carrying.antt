@@ -1,30 +1,30 @@
 -- What each step of a publisher that follows no list does to it, put together to what a call does.
 use Rattle.std.proofs.Common.{arith, ◌≡◌, ◌-◌, ◌<◌, ◌≤◌, ◌∷◌, ◌++◌, [], cond, drop, length-append, ℕ, zero, suc, Bool, true, false, List, get_or, length, nat_lt, nat_le, slice_get, is_some, Option, None, Some, Result, Ok, Err, refl, ap, ◌∙◌, if◌then◌else◌, inl, inr}
-use Rattle.iox_index_base.specs.declared.container.Member.{Member}
-use Rattle.iox_domain_values.specs.declared.backpressure.BackpressureDecision.{BackpressureDecision}
-use Rattle.iox_domain_values.specs.declared.backpressure.BackpressureDecision.TheVariants as decided
-use Rattle.iox_domain_values.specs.declared.backpressure.BackpressureInfo.{BackpressureInfo}
-use Rattle.iox_domain_values.specs.declared.connection_failure.ConnectionFailure.{ConnectionFailure}
-use Rattle.iox_domain_values.specs.declared.data_segment.AllocationStrategy.{AllocationStrategy}
-use Rattle.iox_domain_values.specs.declared.degradation.DegradationAction.{DegradationAction}
-use Rattle.iox_domain_values.specs.declared.degradation.DegradationInfo.{DegradationInfo}
-use Rattle.iox_domain_values.specs.declared.port_error.LoanError.{LoanError}
-use Rattle.iox_domain_values.specs.declared.port_error.SendError.{SendError}
-use Rattle.iox_domain_slots.specs.Uses.{offered, Connection}
-use Rattle.iox_domain_sender.specs.Messages.{Message, Loan}
-use Rattle.iox_domain_publisher.specs.Lengths.{extent}
-use Rattle.iox_domain_publisher.specs.Loaning.{with_sender, LendsHere, LendsInNew, LendsBeyond, LendsWhere, LendsUnless, LoansIf, first_refusal}
-use Rattle.iox_domain_sender.specs.Sending.{opened_for}
-use Rattle.iox_domain_publisher.specs.Ports.{connection_of, with_connection_of, is_live}
-use Rattle.iox_domain_publisher.specs.Progress.{tried_again}
-use Rattle.iox_domain_publisher.specs.Sending.{with_message, met_by, met, meeting_at, with_progress, decided_by, Steps, GoesOn, Delivers, concluded, Finishes, begun_by, begun_at, dropped_at, SendsAfter, SendsIf, Sends}
-use Rattle.iox_domain_publisher.specs.Updating.{Updates}
-use Rattle.iox_domain_publisher.specs.Writing.{changed_if, place_of, given_up_at, given_up}
-use Rattle.iox_domain_publisher.specs.declared.meeting.Meeting.{Meeting}
-use Rattle.iox_domain_publisher.specs.declared.meeting.Meeting.TheVariants as meeting
-use Rattle.iox_domain_publisher.specs.declared.meeting.Sent.{Sent}
-use Rattle.iox_domain_publisher.specs.declared.publisher_port.PublisherPort.{PublisherPort}
-use Rattle.iox_domain_publisher.specs.declared.subscriber_entry.SubscriberEntry.{SubscriberEntry}
+use Rattle.iox_domain_ports.specs.IndexBase.declared.container.Member.{Member}
+use Rattle.iox_domain_ports.specs.DomainValues.declared.backpressure.BackpressureDecision.{BackpressureDecision}
+use Rattle.iox_domain_ports.specs.DomainValues.declared.backpressure.BackpressureDecision.TheVariants as decided
+use Rattle.iox_domain_ports.specs.DomainValues.declared.backpressure.BackpressureInfo.{BackpressureInfo}
+use Rattle.iox_domain_ports.specs.DomainValues.declared.connection_failure.ConnectionFailure.{ConnectionFailure}
+use Rattle.iox_domain_ports.specs.DomainValues.declared.data_segment.AllocationStrategy.{AllocationStrategy}
+use Rattle.iox_domain_ports.specs.DomainValues.declared.degradation.DegradationAction.{DegradationAction}
+use Rattle.iox_domain_ports.specs.DomainValues.declared.degradation.DegradationInfo.{DegradationInfo}
+use Rattle.iox_domain_ports.specs.DomainValues.declared.port_error.LoanError.{LoanError}
+use Rattle.iox_domain_ports.specs.DomainValues.declared.port_error.SendError.{SendError}
+use Rattle.iox_domain_ports.specs.DomainSlots.Uses.{offered, Connection}
+use Rattle.iox_domain_ports.specs.DomainSender.Messages.{Message, Loan}
+use Rattle.iox_domain_ports.specs.DomainPublisher.Lengths.{extent}
+use Rattle.iox_domain_ports.specs.DomainPublisher.Loaning.{with_sender, LendsHere, LendsInNew, LendsBeyond, LendsWhere, LendsUnless, LoansIf, first_refusal}
+use Rattle.iox_domain_ports.specs.DomainSender.Sending.{opened_for}
+use Rattle.iox_domain_ports.specs.DomainPublisher.Ports.{connection_of, with_connection_of, is_live}
+use Rattle.iox_domain_ports.specs.DomainPublisher.Progress.{tried_again}
+use Rattle.iox_domain_ports.specs.DomainPublisher.Sending.{with_message, met_by, met, meeting_at, with_progress, decided_by, Steps, GoesOn, Delivers, concluded, Finishes, begun_by, begun_at, dropped_at, SendsAfter, SendsIf, Sends}
+use Rattle.iox_domain_ports.specs.DomainPublisher.Updating.{Updates}
+use Rattle.iox_domain_ports.specs.DomainPublisher.Writing.{changed_if, place_of, given_up_at, given_up}
+use Rattle.iox_domain_ports.specs.DomainPublisher.declared.meeting.Meeting.{Meeting}
+use Rattle.iox_domain_ports.specs.DomainPublisher.declared.meeting.Meeting.TheVariants as meeting
+use Rattle.iox_domain_ports.specs.DomainPublisher.declared.meeting.Sent.{Sent}
+use Rattle.iox_domain_ports.specs.DomainPublisher.declared.publisher_port.PublisherPort.{PublisherPort}
+use Rattle.iox_domain_ports.specs.DomainPublisher.declared.subscriber_entry.SubscriberEntry.{SubscriberEntry}
 use Rattle.iox_domain_ports.specs.Lending.{LoansOne}
 use Rattle.iox_domain_ports.specs.Lending as lending
 use Rattle.iox_domain_ports.specs.Publishing.{is_blocked, is_free, UpdatesOne, SendsOne, RetriesOne, GivesUpOne}

@@ -4,17 +4,17 @@ use Rattle.std.proofs.lemmas.List.{length-replicate}
 use Rattle.std.proofs.lemmas.Bool.{cases_eq}
 use Rattle.std.proofs.lemmas.List.{get_or-set_other, get_or-set_same, length-set}
 use Rattle.std.specs.declared.alloc.AllocError.{AllocError}
-use Rattle.iox_maps.specs.SlotTable.{SlotTable, value_at, released, stored, without}
-use Rattle.iox_domain_values.specs.declared.connection_failure.ZeroCopyCreationError.{ZeroCopyCreationError}
-use Rattle.iox_domain_publisher.specs.Places.{reached}
-use Rattle.iox_domain_publisher.specs.declared.publisher_port.PublisherPort.{PublisherPort}
-use Rattle.iox_domain_publisher.proofs.Enough.{still}
-use Rattle.iox_domain_subscriber.specs.Following.{is_unborrowed, expired_port, replaced_port, PartsFor, PartsBorrowed, PartsOver, PartsIf, Parts, kept_at, ConnectsBy, Connects, unplaced, freed_if, FollowsNoneAt}
-use Rattle.iox_domain_subscriber.specs.Keys.{KeysState, with_last}
-use Rattle.iox_domain_subscriber.specs.Receiving.{is_idle_at, dropped_port, dropped_ports, swept}
-use Rattle.iox_domain_subscriber.specs.Subscribing.{attached_at, is_idle, without_key, ended_key}
-use Rattle.iox_domain_subscriber.specs.declared.attached.Attached.{Attached}
-use Rattle.iox_domain_subscriber.specs.declared.subscriber_port.SubscriberPort.{SubscriberPort}
+use Rattle.iox_domain_ports.specs.Maps.SlotTable.{SlotTable, value_at, released, stored, without}
+use Rattle.iox_domain_ports.specs.DomainValues.declared.connection_failure.ZeroCopyCreationError.{ZeroCopyCreationError}
+use Rattle.iox_domain_ports.specs.DomainPublisher.Places.{reached}
+use Rattle.iox_domain_ports.specs.DomainPublisher.declared.publisher_port.PublisherPort.{PublisherPort}
+use Rattle.iox_domain_ports.proofs.DomainPublisher.Enough.{still}
+use Rattle.iox_domain_ports.specs.DomainSubscriber.Following.{is_unborrowed, expired_port, replaced_port, PartsFor, PartsBorrowed, PartsOver, PartsIf, Parts, kept_at, ConnectsBy, Connects, unplaced, freed_if, FollowsNoneAt}
+use Rattle.iox_domain_ports.specs.DomainSubscriber.Keys.{KeysState, with_last}
+use Rattle.iox_domain_ports.specs.DomainSubscriber.Receiving.{is_idle_at, dropped_port, dropped_ports, swept}
+use Rattle.iox_domain_ports.specs.DomainSubscriber.Subscribing.{attached_at, is_idle, without_key, ended_key}
+use Rattle.iox_domain_ports.specs.DomainSubscriber.declared.attached.Attached.{Attached}
+use Rattle.iox_domain_ports.specs.DomainSubscriber.declared.subscriber_port.SubscriberPort.{SubscriberPort}
 use Rattle.iox_domain_laws.specs.Attaching.{keys_at, keys_of, KeysFit}
 use Rattle.iox_domain_laws.specs.Tries.{how_often}
 use Rattle.iox_domain_laws.proofs.Keys.{adds, adds_same, adds_other, often_append, often_end, often_remove, often_there, length_remove, often_without, none_without, keys_untied, keys_tied, keys_reached, keys_fewer, as_long}

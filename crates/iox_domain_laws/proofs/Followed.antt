@@ -3,18 +3,18 @@ use Rattle.std.proofs.Common.{arith, ◌≡◌, ◌≢◌, ◌+◌, ◌-◌, ◌
 use Rattle.std.proofs.lemmas.Bool.{cases_eq}
 use Rattle.std.proofs.lemmas.List.{get_or-set_other, get_or-set_same}
 use Rattle.std.specs.declared.alloc.AllocError.{AllocError}
-use Rattle.iox_index_base.specs.declared.container.Member.{Member}
-use Rattle.iox_domain_values.specs.declared.connection_failure.ConnectionFailure.{ConnectionFailure}
-use Rattle.iox_domain_values.specs.declared.degradation.DegradationAction.{DegradationAction}
-use Rattle.iox_domain_values.specs.declared.degradation.DegradationInfo.{DegradationInfo}
-use Rattle.iox_domain_slots.specs.Uses.{nobody, newest, ended, welcomed}
-use Rattle.iox_domain_sender.specs.Messages.{Message}
-use Rattle.iox_domain_publisher.specs.Places.{leads_to, reached}
-use Rattle.iox_domain_publisher.specs.Ports.{connection_of, connection_to, goes_on, is_live, with_connection_of, greeted_at, Joins}
-use Rattle.iox_domain_publisher.specs.Ties.{tie_put}
-use Rattle.iox_domain_publisher.specs.Updating.{is_tie_to, let_go_of, untied, untied_from, within_reach, tied, Ties, Follows, FollowsTo, FollowsAll, UpdatesIf, Updates}
-use Rattle.iox_domain_publisher.specs.declared.publisher_port.PublisherPort.{PublisherPort}
-use Rattle.iox_domain_publisher.specs.declared.subscriber_entry.SubscriberEntry.{SubscriberEntry}
+use Rattle.iox_domain_ports.specs.IndexBase.declared.container.Member.{Member}
+use Rattle.iox_domain_ports.specs.DomainValues.declared.connection_failure.ConnectionFailure.{ConnectionFailure}
+use Rattle.iox_domain_ports.specs.DomainValues.declared.degradation.DegradationAction.{DegradationAction}
+use Rattle.iox_domain_ports.specs.DomainValues.declared.degradation.DegradationInfo.{DegradationInfo}
+use Rattle.iox_domain_ports.specs.DomainSlots.Uses.{nobody, newest, ended, welcomed}
+use Rattle.iox_domain_ports.specs.DomainSender.Messages.{Message}
+use Rattle.iox_domain_ports.specs.DomainPublisher.Places.{leads_to, reached}
+use Rattle.iox_domain_ports.specs.DomainPublisher.Ports.{connection_of, connection_to, goes_on, is_live, with_connection_of, greeted_at, Joins}
+use Rattle.iox_domain_ports.specs.DomainPublisher.Ties.{tie_put}
+use Rattle.iox_domain_ports.specs.DomainPublisher.Updating.{is_tie_to, let_go_of, untied, untied_from, within_reach, tied, Ties, Follows, FollowsTo, FollowsAll, UpdatesIf, Updates}
+use Rattle.iox_domain_ports.specs.DomainPublisher.declared.publisher_port.PublisherPort.{PublisherPort}
+use Rattle.iox_domain_ports.specs.DomainPublisher.declared.subscriber_entry.SubscriberEntry.{SubscriberEntry}
 use Rattle.iox_domain_laws.specs.Laws.{IsListApart, IsTiedWell}
 use Rattle.iox_domain_laws.specs.Order.{IsPartOf, leads_at}
 use Rattle.iox_domain_laws.proofs.Books.{Books, Missing, got_leads}

@@ -4,29 +4,29 @@ use Rattle.std.proofs.lemmas.Bool.{eq-eqb}
 use Rattle.std.proofs.lemmas.List.Elements.{All-nil}
 use Rattle.std.specs.List.{All}
 use Rattle.std.specs.declared.alloc.AllocError.{AllocError}
-use Rattle.iox_domain_values.specs.declared.backpressure.BackpressureDecision.{BackpressureDecision}
-use Rattle.iox_domain_values.specs.declared.backpressure.BackpressureInfo.{BackpressureInfo}
-use Rattle.iox_domain_values.specs.declared.connection_failure.ConnectionFailure.{ConnectionFailure}
-use Rattle.iox_domain_values.specs.declared.create_error.PublisherCreateError.{PublisherCreateError}
-use Rattle.iox_domain_values.specs.declared.create_error.SubscriberCreateError.{SubscriberCreateError}
-use Rattle.iox_domain_values.specs.declared.degradation.DegradationAction.{DegradationAction}
-use Rattle.iox_domain_values.specs.declared.degradation.DegradationInfo.{DegradationInfo}
-use Rattle.iox_domain_values.specs.declared.port_error.ReceiveError.{ReceiveError}
-use Rattle.iox_domain_values.specs.declared.port_owner.PortOwner.{PortOwner}
-use Rattle.iox_domain_sender.specs.Messages.{Message}
-use Rattle.iox_domain_publisher.specs.Leaving.{new_port, departed}
-use Rattle.iox_domain_publisher.specs.Writing.{changed_if, given_up}
-use Rattle.iox_domain_publisher.specs.declared.publisher_port.PublisherPort.{PublisherPort}
-use Rattle.iox_domain_subscriber.specs.Arriving.{new_subscriber}
-use Rattle.iox_domain_subscriber.specs.Publishers.{port_of, with_port, changed, connection_in}
-use Rattle.iox_domain_subscriber.specs.Reading.{place_of}
-use Rattle.iox_domain_subscriber.specs.declared.attached.Taken.{Taken}
-use Rattle.iox_domain_subscriber.specs.declared.subscriber_port.SubscriberPort.{SubscriberPort}
+use Rattle.iox_domain_ports.specs.DomainValues.declared.backpressure.BackpressureDecision.{BackpressureDecision}
+use Rattle.iox_domain_ports.specs.DomainValues.declared.backpressure.BackpressureInfo.{BackpressureInfo}
+use Rattle.iox_domain_ports.specs.DomainValues.declared.connection_failure.ConnectionFailure.{ConnectionFailure}
+use Rattle.iox_domain_ports.specs.DomainValues.declared.create_error.PublisherCreateError.{PublisherCreateError}
+use Rattle.iox_domain_ports.specs.DomainValues.declared.create_error.SubscriberCreateError.{SubscriberCreateError}
+use Rattle.iox_domain_ports.specs.DomainValues.declared.degradation.DegradationAction.{DegradationAction}
+use Rattle.iox_domain_ports.specs.DomainValues.declared.degradation.DegradationInfo.{DegradationInfo}
+use Rattle.iox_domain_ports.specs.DomainValues.declared.port_error.ReceiveError.{ReceiveError}
+use Rattle.iox_domain_ports.specs.DomainValues.declared.port_owner.PortOwner.{PortOwner}
+use Rattle.iox_domain_ports.specs.DomainSender.Messages.{Message}
+use Rattle.iox_domain_ports.specs.DomainPublisher.Leaving.{new_port, departed}
+use Rattle.iox_domain_ports.specs.DomainPublisher.Writing.{changed_if, given_up}
+use Rattle.iox_domain_ports.specs.DomainPublisher.declared.publisher_port.PublisherPort.{PublisherPort}
+use Rattle.iox_domain_ports.specs.DomainSubscriber.Arriving.{new_subscriber}
+use Rattle.iox_domain_ports.specs.DomainSubscriber.Publishers.{port_of, with_port, changed, connection_in}
+use Rattle.iox_domain_ports.specs.DomainSubscriber.Reading.{place_of}
+use Rattle.iox_domain_ports.specs.DomainSubscriber.declared.attached.Taken.{Taken}
+use Rattle.iox_domain_ports.specs.DomainSubscriber.declared.subscriber_port.SubscriberPort.{SubscriberPort}
 use Rattle.iox_domain_laws.specs.SizeLaws.{IsWithin, IsMadeFor, made_for, allowed_by}
 use Rattle.iox_domain_laws.proofs.ListKeeps.{made_still}
 use Rattle.iox_domain_laws.specs.Calls.{PortCall, PublisherComes, SubscriberComes, Lends, Writes, GivesLoanUp, PublisherUpdates, Sends, Retries, GivesSendUp, PublisherLeaves, SubscriberUpdates, AsksForSamples, Receives, Releases, SubscriberLeaves, Happens}
 use Rattle.iox_domain_laws.specs.Laws.{IsTidy, IsSoundEntry, IsSound, gives_back, HeldStays}
-use Rattle.iox_domain_values.specs.Sizes.{buffer_of}
+use Rattle.iox_domain_ports.specs.DomainValues.Sizes.{buffer_of}
 use Rattle.iox_domain_ports.specs.Making.{slots_needed, publisher_place, subscriber_place, identity_of, sender_config, AddsPublisher, CreatesPublisher, AddsSubscriber, CreatesSubscriber}
 use Rattle.iox_domain_ports.specs.Ports.{AtPublisher, AtSubscriber, with_publisher}
 use Rattle.iox_domain_ports.specs.Publishing.{is_free}
@@ -37,14 +37,14 @@ use Rattle.iox_domain_ports.specs.Subscribers.{subscriber_of}
 use Rattle.iox_domain_ports.specs.Subscribing as subscribing
 use Rattle.iox_domain_ports.specs.declared.making.PublisherConfig.{PublisherConfig}
 use Rattle.iox_domain_ports.specs.declared.service_ports.ServicePorts.{ServicePorts}
-use Rattle.iox_domain_subscriber.specs.declared.publisher_entry.PublisherEntry.{PublisherEntry}
+use Rattle.iox_domain_ports.specs.DomainSubscriber.declared.publisher_entry.PublisherEntry.{PublisherEntry}
 use Rattle.iox_domain_laws.proofs.Keeping.{PortKeeps, nobody_within}
 use Rattle.iox_domain_laws.proofs.ListKeeps.{ListKeeps, list_stays, list_on, list_with, list_changed, list_settled, tidy_after, number_found, held_walks, held_takes}
 use Rattle.iox_domain_laws.proofs.Numbered.{other_came, all_came, all_then}
 use Rattle.iox_domain_laws.proofs.PublisherKeeps.{port_updates, port_loans, port_changed, port_given_up, port_departed, port_updates_one, port_sends_one, port_retries, port_gives_up}
 use Rattle.iox_domain_laws.proofs.Releasing.{back_keeps}
 use Rattle.iox_domain_laws.proofs.Walks.{walked_updates, walked_receives, left_all_walk}
-use Rattle.iox_domain_publisher.specs.Ports.{connection_of}
+use Rattle.iox_domain_ports.specs.DomainPublisher.Ports.{connection_of}
 
 -- a call leaves a service sound, and what is held stays, of all samples or of all but one
 record CallKeeps {T U : Type 0} (spared : Taken → Type 0) (old new : ServicePorts T U) : Type 0 where

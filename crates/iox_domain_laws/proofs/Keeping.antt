@@ -3,14 +3,14 @@ use Rattle.std.proofs.Common.{◌≡◌, ◌==◌, ◌∷◌, [], ◌++◌, ℕ,
 use Rattle.std.specs.List.{find}
 use Rattle.std.specs.Option.{option_or}
 use Rattle.std.proofs.lemmas.List.Folds.{find-append}
-use Rattle.iox_domain_slots.specs.Uses.{Connection, nobody, connected, placed, ended, settled, taken}
-use Rattle.iox_domain_slots.specs.declared.stage.Stage.{Stage}
-use Rattle.iox_domain_slots.specs.declared.stage.Stage.TheVariants as stage
-use Rattle.iox_domain_sender.specs.Messages.{Message}
-use Rattle.iox_domain_publisher.specs.Ports.{connection_of, goes_on, is_live, ended_at}
-use Rattle.iox_domain_publisher.specs.declared.publisher_port.PublisherPort.{PublisherPort}
+use Rattle.iox_domain_ports.specs.DomainSlots.Uses.{Connection, nobody, connected, placed, ended, settled, taken}
+use Rattle.iox_domain_ports.specs.DomainSlots.declared.stage.Stage.{Stage}
+use Rattle.iox_domain_ports.specs.DomainSlots.declared.stage.Stage.TheVariants as stage
+use Rattle.iox_domain_ports.specs.DomainSender.Messages.{Message}
+use Rattle.iox_domain_ports.specs.DomainPublisher.Ports.{connection_of, goes_on, is_live, ended_at}
+use Rattle.iox_domain_ports.specs.DomainPublisher.declared.publisher_port.PublisherPort.{PublisherPort}
 use Rattle.iox_domain_laws.specs.SizeLaws.{MadeFor, made_for, IsWithin}
-use Rattle.iox_domain_subscriber.specs.Reading.{borrowed_in}
+use Rattle.iox_domain_ports.specs.DomainSubscriber.Reading.{borrowed_in}
 
 -- what is held of a connection stays so, and one that there isn't holds nothing if that was so before
 pub record Keeps {T U : Type 0} (old new : Connection (Message T U)) : Type 0 where

@@ -1,10 +1,10 @@
 -- The keys of a subscriber stay in order.
 use Rattle.std.proofs.Common.{arith, ◌≡◌, ◌≢◌, ◌+◌, ◌<◌, ◌≤◌, ◌==◌, ◌∷◌, [], ◌++◌, ℕ, zero, suc, Bool, true, false, List, length, get_or, set, remove, replicate, slice_get, Option, None, Some, refl, sym, ap, ◌∙◌, if◌then◌else◌}
 use Rattle.std.proofs.lemmas.Bool.{eq-eqb, eqb-true}
-use Rattle.iox_domain_slots.specs.Counting.{times}
-use Rattle.iox_domain_slots.proofs.Counts.{times_cons}
-use Rattle.iox_domain_slots.proofs.Enough.{pigeons}
-use Rattle.iox_maps.specs.SlotTable.{without}
+use Rattle.iox_domain_ports.specs.DomainSlots.Counting.{times}
+use Rattle.iox_domain_ports.proofs.DomainSlots.Counts.{times_cons}
+use Rattle.iox_domain_ports.proofs.DomainSlots.Enough.{pigeons}
+use Rattle.iox_domain_ports.specs.Maps.SlotTable.{without}
 use Rattle.iox_domain_laws.specs.Attaching.{keys_at}
 use Rattle.iox_domain_laws.specs.Tries.{how_often}
 

@@ -37,3 +37,7 @@ pub mod Waiting
 pub mod Keyed
 pub mod Serviced
 pub mod Sized
+pub use Rattle.iox_domain_ports.proofs.Container as Container
+pub use Rattle.iox_domain_ports.proofs.DescribeBase as DescribeBase
+pub use Rattle.iox_domain_ports.proofs.DomainPublisher as DomainPublisher
+pub use Rattle.iox_domain_ports.proofs.DomainSlots as DomainSlots

@@ -3,15 +3,15 @@ use Rattle.std.proofs.Common.{arith, min, ◌≡◌, ◌<◌, ◌&&◌, ◌||◌
 use Rattle.std.proofs.lemmas.Bool.{cases_eq}
 use Rattle.std.specs.List.{All, list_any}
 use Rattle.std.specs.declared.alloc.AllocError.{AllocError}
-use Rattle.iox_domain_slots.specs.Uses.{Connection, nobody, is_open, is_there}
-use Rattle.iox_domain_slots.specs.declared.stage.Stage.{Stage}
-use Rattle.iox_domain_slots.specs.declared.stage.Stage.TheVariants as stage
-use Rattle.iox_domain_sender.specs.Messages.{Message}
-use Rattle.iox_domain_publisher.specs.Ports.{connection_of, detached_at, ended_at}
-use Rattle.iox_domain_publisher.specs.declared.publisher_port.PublisherPort.{PublisherPort}
-use Rattle.iox_domain_subscriber.specs.Publishers.{port_of, with_port, changed, changed_at_port, is_over_port, is_over_in, removed, settled, ended_if_left, AttachesAtPort, connection_at_port, most_borrowed_at_port}
-use Rattle.iox_domain_subscriber.specs.Reading.{borrowed_in, is_over, taken_at}
-use Rattle.iox_domain_subscriber.specs.declared.attached.Taken.{Taken}
+use Rattle.iox_domain_ports.specs.DomainSlots.Uses.{Connection, nobody, is_open, is_there}
+use Rattle.iox_domain_ports.specs.DomainSlots.declared.stage.Stage.{Stage}
+use Rattle.iox_domain_ports.specs.DomainSlots.declared.stage.Stage.TheVariants as stage
+use Rattle.iox_domain_ports.specs.DomainSender.Messages.{Message}
+use Rattle.iox_domain_ports.specs.DomainPublisher.Ports.{connection_of, detached_at, ended_at}
+use Rattle.iox_domain_ports.specs.DomainPublisher.declared.publisher_port.PublisherPort.{PublisherPort}
+use Rattle.iox_domain_ports.specs.DomainSubscriber.Publishers.{port_of, with_port, changed, changed_at_port, is_over_port, is_over_in, removed, settled, ended_if_left, AttachesAtPort, connection_at_port, most_borrowed_at_port}
+use Rattle.iox_domain_ports.specs.DomainSubscriber.Reading.{borrowed_in, is_over, taken_at}
+use Rattle.iox_domain_ports.specs.DomainSubscriber.declared.attached.Taken.{Taken}
 use Rattle.iox_domain_laws.specs.SizeLaws.{MadeFor, IsWithin, IsMadeFor, made_for}
 use Rattle.iox_domain_laws.specs.Laws.{IsTidy, IsSoundEntry}
 use Rattle.iox_domain_ports.specs.Reading.{sample_at_port}

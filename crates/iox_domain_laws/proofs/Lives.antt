@@ -1,28 +1,28 @@
 -- What a publisher's steps do to what lives of it: whether it stands, whose it is, its loans, and whether a send waits.
 use Rattle.std.proofs.Common.{◌≡◌, ◌+◌, ◌-◌, ◌==◌, ◌∙◌, ℕ, zero, suc, Bool, true, false, List, [], ◌∷◌, length, get_or, is_some, Option, None, Some, Result, Ok, Err, if◌then◌else◌, refl, sym, ap}
 use Rattle.std.specs.declared.alloc.AllocError.{AllocError}
-use Rattle.iox_index_base.specs.declared.container.Member.{Member}
-use Rattle.iox_domain_values.specs.declared.backpressure.BackpressureDecision.{BackpressureDecision}
-use Rattle.iox_domain_values.specs.declared.backpressure.BackpressureDecision.TheVariants as decided
-use Rattle.iox_domain_values.specs.declared.backpressure.BackpressureInfo.{BackpressureInfo}
-use Rattle.iox_domain_values.specs.declared.connection_failure.ConnectionFailure.{ConnectionFailure}
-use Rattle.iox_domain_values.specs.declared.degradation.DegradationAction.{DegradationAction}
-use Rattle.iox_domain_values.specs.declared.degradation.DegradationInfo.{DegradationInfo}
-use Rattle.iox_domain_values.specs.declared.port_error.SendError.{SendError}
-use Rattle.iox_domain_values.specs.declared.port_error.SendError.TheVariants as sending
-use Rattle.iox_domain_sender.specs.Messages.{Message}
-use Rattle.iox_domain_publisher.specs.Leaving.{parted_at, parted_from, departed}
-use Rattle.iox_domain_publisher.specs.Places.{is_attached}
-use Rattle.iox_domain_publisher.specs.Ports.{Joins, connection_to, connection_of, is_live, ended_at, welcomed_at, greeted_at}
-use Rattle.iox_domain_publisher.specs.Sending.{meeting_at, met, met_by, with_message, decided_by, concluded, sent_answer, Steps, Delivers, Finishes}
-use Rattle.iox_domain_publisher.specs.Ties.{tie_put}
-use Rattle.iox_domain_publisher.specs.Updating.{is_tie_to, let_go_of, untied, untied_from, within_reach, Ties, FollowsTo, Follows, FollowsAll, UpdatesIf, Updates}
-use Rattle.iox_domain_publisher.specs.declared.meeting.Meeting.{Meeting}
-use Rattle.iox_domain_publisher.specs.declared.meeting.Meeting.TheVariants as meeting
-use Rattle.iox_domain_publisher.specs.declared.meeting.Sent.{Sent}
-use Rattle.iox_domain_publisher.specs.declared.meeting.Sent.TheVariants as sent
-use Rattle.iox_domain_publisher.specs.declared.publisher_port.PublisherPort.{PublisherPort}
-use Rattle.iox_domain_publisher.specs.declared.subscriber_entry.SubscriberEntry.{SubscriberEntry}
+use Rattle.iox_domain_ports.specs.IndexBase.declared.container.Member.{Member}
+use Rattle.iox_domain_ports.specs.DomainValues.declared.backpressure.BackpressureDecision.{BackpressureDecision}
+use Rattle.iox_domain_ports.specs.DomainValues.declared.backpressure.BackpressureDecision.TheVariants as decided
+use Rattle.iox_domain_ports.specs.DomainValues.declared.backpressure.BackpressureInfo.{BackpressureInfo}
+use Rattle.iox_domain_ports.specs.DomainValues.declared.connection_failure.ConnectionFailure.{ConnectionFailure}
+use Rattle.iox_domain_ports.specs.DomainValues.declared.degradation.DegradationAction.{DegradationAction}
+use Rattle.iox_domain_ports.specs.DomainValues.declared.degradation.DegradationInfo.{DegradationInfo}
+use Rattle.iox_domain_ports.specs.DomainValues.declared.port_error.SendError.{SendError}
+use Rattle.iox_domain_ports.specs.DomainValues.declared.port_error.SendError.TheVariants as sending
+use Rattle.iox_domain_ports.specs.DomainSender.Messages.{Message}
+use Rattle.iox_domain_ports.specs.DomainPublisher.Leaving.{parted_at, parted_from, departed}
+use Rattle.iox_domain_ports.specs.DomainPublisher.Places.{is_attached}
+use Rattle.iox_domain_ports.specs.DomainPublisher.Ports.{Joins, connection_to, connection_of, is_live, ended_at, welcomed_at, greeted_at}
+use Rattle.iox_domain_ports.specs.DomainPublisher.Sending.{meeting_at, met, met_by, with_message, decided_by, concluded, sent_answer, Steps, Delivers, Finishes}
+use Rattle.iox_domain_ports.specs.DomainPublisher.Ties.{tie_put}
+use Rattle.iox_domain_ports.specs.DomainPublisher.Updating.{is_tie_to, let_go_of, untied, untied_from, within_reach, Ties, FollowsTo, Follows, FollowsAll, UpdatesIf, Updates}
+use Rattle.iox_domain_ports.specs.DomainPublisher.declared.meeting.Meeting.{Meeting}
+use Rattle.iox_domain_ports.specs.DomainPublisher.declared.meeting.Meeting.TheVariants as meeting
+use Rattle.iox_domain_ports.specs.DomainPublisher.declared.meeting.Sent.{Sent}
+use Rattle.iox_domain_ports.specs.DomainPublisher.declared.meeting.Sent.TheVariants as sent
+use Rattle.iox_domain_ports.specs.DomainPublisher.declared.publisher_port.PublisherPort.{PublisherPort}
+use Rattle.iox_domain_ports.specs.DomainPublisher.declared.subscriber_entry.SubscriberEntry.{SubscriberEntry}
 
 -- what lives of a publisher is told by this: whether it stands, whose it is, how many loans are out, and whether a send waits
 pub record Life : Type 0 where

@@ -6,16 +6,16 @@ use Rattle.std.specs.List.{list_any}
 use Rattle.std.proofs.Math.Logic.{⊎_elim}
 use Rattle.std.proofs.lemmas.Bool.{cases_Bool}
 use Rattle.std.proofs.lemmas.Map.Entries.{sum_by-set_value, sum_by-remove_entry}
-use Rattle.iox_domain_values.specs.declared.data_segment.AllocationStrategy.{AllocationStrategy}
-use Rattle.iox_domain_values.specs.declared.port_error.LoanError.{LoanError}
-use Rattle.iox_domain_slots.specs.Uses.{is_there}
-use Rattle.iox_domain_sender.specs.Messages.{new_loan}
-use Rattle.iox_domain_sender.specs.Sending.{opened_for}
-use Rattle.iox_domain_publisher.specs.Loaning.{with_sender, LendsHere, LendsBeyond, LendsWhere, LendsUnless, Lends, first_refusal, LacksMemory}
-use Rattle.iox_domain_publisher.specs.declared.publisher_port.PublisherPort.{PublisherPort}
-use Rattle.iox_domain_subscriber.specs.Living.{living_of_publisher, counted, living_publishers}
-use Rattle.iox_domain_subscriber.specs.Publishers.{port_of, with_port, removed, is_over_port, is_over_in, settled}
-use Rattle.iox_domain_subscriber.specs.Reading.{is_over}
+use Rattle.iox_domain_ports.specs.DomainValues.declared.data_segment.AllocationStrategy.{AllocationStrategy}
+use Rattle.iox_domain_ports.specs.DomainValues.declared.port_error.LoanError.{LoanError}
+use Rattle.iox_domain_ports.specs.DomainSlots.Uses.{is_there}
+use Rattle.iox_domain_ports.specs.DomainSender.Messages.{new_loan}
+use Rattle.iox_domain_ports.specs.DomainSender.Sending.{opened_for}
+use Rattle.iox_domain_ports.specs.DomainPublisher.Loaning.{with_sender, LendsHere, LendsBeyond, LendsWhere, LendsUnless, Lends, first_refusal, LacksMemory}
+use Rattle.iox_domain_ports.specs.DomainPublisher.declared.publisher_port.PublisherPort.{PublisherPort}
+use Rattle.iox_domain_ports.specs.DomainSubscriber.Living.{living_of_publisher, counted, living_publishers}
+use Rattle.iox_domain_ports.specs.DomainSubscriber.Publishers.{port_of, with_port, removed, is_over_port, is_over_in, settled}
+use Rattle.iox_domain_ports.specs.DomainSubscriber.Reading.{is_over}
 use Rattle.iox_domain_ports.specs.Living.{living}
 use Rattle.iox_domain_laws.specs.LivingSteps.{AsMuchLives, OneMoreLives, OneLessLives}
 use Rattle.iox_domain_ports.specs.Ports.{with_publisher}

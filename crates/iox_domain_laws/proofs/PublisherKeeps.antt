@@ -1,27 +1,27 @@
 -- What each call of a publisher leaves held.
 use Rattle.std.proofs.Common.{arith, ◌≡◌, ◌+◌, ◌-◌, ◌<◌, ◌≤◌, ◌==◌, ◌∷◌, [], ℕ, length-append, take, zero, suc, Bool, true, false, List, get_or, length, Option, None, Some, Result, Ok, Err, refl, ap}
 use Rattle.std.specs.declared.alloc.AllocError.{AllocError}
-use Rattle.iox_index_base.specs.declared.container.Member.{Member}
-use Rattle.iox_domain_values.specs.declared.backpressure.BackpressureDecision.{BackpressureDecision}
-use Rattle.iox_domain_values.specs.declared.backpressure.BackpressureInfo.{BackpressureInfo}
-use Rattle.iox_domain_values.specs.declared.connection_failure.ConnectionFailure.{ConnectionFailure}
-use Rattle.iox_domain_values.specs.declared.degradation.DegradationAction.{DegradationAction}
-use Rattle.iox_domain_values.specs.declared.degradation.DegradationInfo.{DegradationInfo}
-use Rattle.iox_domain_values.specs.declared.port_error.LoanError.{LoanError}
-use Rattle.iox_domain_values.specs.declared.port_error.SendError.{SendError}
-use Rattle.iox_domain_slots.specs.Uses.{Connection, welcomed, newest, taken}
-use Rattle.iox_domain_sender.specs.Messages.{Message, Loan}
-use Rattle.iox_domain_publisher.specs.Leaving.{parted_at, parted_from, departed}
-use Rattle.iox_domain_publisher.specs.Places.{is_attached}
-use Rattle.iox_domain_publisher.specs.Ports.{connection_of, connection_to, is_live, greeted_at, welcomed_at, Joins, Attaches, detached_at}
-use Rattle.iox_domain_publisher.specs.Sending.{ready_loan}
-use Rattle.iox_domain_publisher.specs.Ties.{tie_put}
-use Rattle.iox_domain_publisher.specs.Updating.{let_go_of, untied, untied_from, within_reach, tied, is_tie_to, Ties, Follows, FollowsTo, FollowsAll, UpdatesIf, Updates}
-use Rattle.iox_domain_publisher.specs.Writing.{changed_if, given_up}
-use Rattle.iox_domain_publisher.specs.declared.meeting.Sent.{Sent}
-use Rattle.iox_domain_publisher.specs.declared.publisher_port.PublisherPort.{PublisherPort}
-use Rattle.iox_domain_publisher.specs.declared.subscriber_entry.SubscriberEntry.{SubscriberEntry}
-use Rattle.iox_domain_subscriber.specs.Reading.{taken_at}
+use Rattle.iox_domain_ports.specs.IndexBase.declared.container.Member.{Member}
+use Rattle.iox_domain_ports.specs.DomainValues.declared.backpressure.BackpressureDecision.{BackpressureDecision}
+use Rattle.iox_domain_ports.specs.DomainValues.declared.backpressure.BackpressureInfo.{BackpressureInfo}
+use Rattle.iox_domain_ports.specs.DomainValues.declared.connection_failure.ConnectionFailure.{ConnectionFailure}
+use Rattle.iox_domain_ports.specs.DomainValues.declared.degradation.DegradationAction.{DegradationAction}
+use Rattle.iox_domain_ports.specs.DomainValues.declared.degradation.DegradationInfo.{DegradationInfo}
+use Rattle.iox_domain_ports.specs.DomainValues.declared.port_error.LoanError.{LoanError}
+use Rattle.iox_domain_ports.specs.DomainValues.declared.port_error.SendError.{SendError}
+use Rattle.iox_domain_ports.specs.DomainSlots.Uses.{Connection, welcomed, newest, taken}
+use Rattle.iox_domain_ports.specs.DomainSender.Messages.{Message, Loan}
+use Rattle.iox_domain_ports.specs.DomainPublisher.Leaving.{parted_at, parted_from, departed}
+use Rattle.iox_domain_ports.specs.DomainPublisher.Places.{is_attached}
+use Rattle.iox_domain_ports.specs.DomainPublisher.Ports.{connection_of, connection_to, is_live, greeted_at, welcomed_at, Joins, Attaches, detached_at}
+use Rattle.iox_domain_ports.specs.DomainPublisher.Sending.{ready_loan}
+use Rattle.iox_domain_ports.specs.DomainPublisher.Ties.{tie_put}
+use Rattle.iox_domain_ports.specs.DomainPublisher.Updating.{let_go_of, untied, untied_from, within_reach, tied, is_tie_to, Ties, Follows, FollowsTo, FollowsAll, UpdatesIf, Updates}
+use Rattle.iox_domain_ports.specs.DomainPublisher.Writing.{changed_if, given_up}
+use Rattle.iox_domain_ports.specs.DomainPublisher.declared.meeting.Sent.{Sent}
+use Rattle.iox_domain_ports.specs.DomainPublisher.declared.publisher_port.PublisherPort.{PublisherPort}
+use Rattle.iox_domain_ports.specs.DomainPublisher.declared.subscriber_entry.SubscriberEntry.{SubscriberEntry}
+use Rattle.iox_domain_ports.specs.DomainSubscriber.Reading.{taken_at}
 use Rattle.iox_domain_ports.specs.Lending.{LoansOne}
 use Rattle.iox_domain_ports.specs.Publishing.{is_blocked, is_free, UpdatesOne, SendsOne, RetriesOne, GivesUpOne}
 use Rattle.iox_domain_ports.specs.Publishing as publishing

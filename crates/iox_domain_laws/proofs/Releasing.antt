@@ -4,16 +4,16 @@ use Rattle.std.proofs.lemmas.Bool.{cases_eq, cases_lt, eqb-true}
 use Rattle.std.proofs.lemmas.List.{get_or-set_other, get_or-set_same, get_or_past}
 use Rattle.std.proofs.lemmas.List.Quantifiers.{position-Some}
 use Rattle.std.specs.List.{All, find, remove}
-use Rattle.iox_domain_slots.specs.Uses.{Connection, nobody, given_back, settled}
-use Rattle.iox_domain_slots.specs.declared.stage.Stage.{Stage}
-use Rattle.iox_domain_slots.specs.declared.stage.Stage.TheVariants as stage
-use Rattle.iox_domain_sender.specs.Messages.{Message}
-use Rattle.iox_domain_publisher.specs.Ports.{connection_of}
-use Rattle.iox_domain_publisher.specs.declared.publisher_port.PublisherPort.{PublisherPort}
-use Rattle.iox_domain_subscriber.specs.Publishers.{port_of, connection_in, connection_at_port, with_port, changed, changed_at_port, released}
-use Rattle.iox_domain_subscriber.specs.Publishers as publishers
-use Rattle.iox_domain_subscriber.specs.Reading.{borrowed_in, place_of, given_back_at}
-use Rattle.iox_domain_subscriber.specs.declared.attached.Taken.{Taken}
+use Rattle.iox_domain_ports.specs.DomainSlots.Uses.{Connection, nobody, given_back, settled}
+use Rattle.iox_domain_ports.specs.DomainSlots.declared.stage.Stage.{Stage}
+use Rattle.iox_domain_ports.specs.DomainSlots.declared.stage.Stage.TheVariants as stage
+use Rattle.iox_domain_ports.specs.DomainSender.Messages.{Message}
+use Rattle.iox_domain_ports.specs.DomainPublisher.Ports.{connection_of}
+use Rattle.iox_domain_ports.specs.DomainPublisher.declared.publisher_port.PublisherPort.{PublisherPort}
+use Rattle.iox_domain_ports.specs.DomainSubscriber.Publishers.{port_of, connection_in, connection_at_port, with_port, changed, changed_at_port, released}
+use Rattle.iox_domain_ports.specs.DomainSubscriber.Publishers as publishers
+use Rattle.iox_domain_ports.specs.DomainSubscriber.Reading.{borrowed_in, place_of, given_back_at}
+use Rattle.iox_domain_ports.specs.DomainSubscriber.declared.attached.Taken.{Taken}
 use Rattle.iox_domain_laws.specs.SizeLaws.{MadeFor, made_for, IsWithin, IsMadeFor}
 use Rattle.iox_domain_laws.proofs.Keeping.{set_within, nobody_within}
 use Rattle.iox_domain_laws.specs.Laws.{IsTidy, IsSoundEntry}

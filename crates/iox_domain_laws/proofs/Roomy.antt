@@ -2,22 +2,22 @@
 use Rattle.std.proofs.Common.{arith, ◌≡◌, ◌≢◌, ◌<◌, ◌&&◌, ℕ, Bool, true, false, not, List, get_or, length, Option, None, Some, Result, Ok, Err, refl, sym, ap, ◌∙◌, inl, inr}
 use Rattle.std.proofs.lemmas.Bool.{cases_lt}
 use Rattle.std.proofs.lemmas.List.{get_or_past}
-use Rattle.iox_index_base.specs.declared.container.Member.{Member}
-use Rattle.iox_domain_values.specs.declared.backpressure.BackpressureDecision.{BackpressureDecision}
-use Rattle.iox_domain_values.specs.declared.backpressure.BackpressureInfo.{BackpressureInfo}
-use Rattle.iox_domain_values.specs.declared.connection_failure.ConnectionFailure.{ConnectionFailure}
-use Rattle.iox_domain_values.specs.declared.degradation.DegradationAction.{DegradationAction}
-use Rattle.iox_domain_values.specs.declared.degradation.DegradationInfo.{DegradationInfo}
-use Rattle.iox_domain_values.specs.declared.port_error.SendError.{SendError}
-use Rattle.iox_domain_values.specs.declared.port_error.SendError.TheVariants as sending
-use Rattle.iox_domain_publisher.proofs.Asked.{finishes_else}
-use Rattle.iox_domain_publisher.proofs.Enough.{updates_made}
-use Rattle.iox_domain_publisher.specs.Memory.{HasRoom}
-use Rattle.iox_domain_publisher.specs.Sending.{Sends, SendsIf, SendsAfter, begun_at, ready_loan}
-use Rattle.iox_domain_publisher.specs.declared.meeting.Sent.{Sent}
-use Rattle.iox_domain_publisher.specs.declared.publisher_port.PublisherPort.{PublisherPort}
-use Rattle.iox_domain_publisher.specs.declared.subscriber_entry.SubscriberEntry.{SubscriberEntry}
-use Rattle.iox_domain_subscriber.specs.Publishers.{port_of}
+use Rattle.iox_domain_ports.specs.IndexBase.declared.container.Member.{Member}
+use Rattle.iox_domain_ports.specs.DomainValues.declared.backpressure.BackpressureDecision.{BackpressureDecision}
+use Rattle.iox_domain_ports.specs.DomainValues.declared.backpressure.BackpressureInfo.{BackpressureInfo}
+use Rattle.iox_domain_ports.specs.DomainValues.declared.connection_failure.ConnectionFailure.{ConnectionFailure}
+use Rattle.iox_domain_ports.specs.DomainValues.declared.degradation.DegradationAction.{DegradationAction}
+use Rattle.iox_domain_ports.specs.DomainValues.declared.degradation.DegradationInfo.{DegradationInfo}
+use Rattle.iox_domain_ports.specs.DomainValues.declared.port_error.SendError.{SendError}
+use Rattle.iox_domain_ports.specs.DomainValues.declared.port_error.SendError.TheVariants as sending
+use Rattle.iox_domain_ports.proofs.DomainPublisher.Asked.{finishes_else}
+use Rattle.iox_domain_ports.proofs.DomainPublisher.Enough.{updates_made}
+use Rattle.iox_domain_ports.specs.DomainPublisher.Memory.{HasRoom}
+use Rattle.iox_domain_ports.specs.DomainPublisher.Sending.{Sends, SendsIf, SendsAfter, begun_at, ready_loan}
+use Rattle.iox_domain_ports.specs.DomainPublisher.declared.meeting.Sent.{Sent}
+use Rattle.iox_domain_ports.specs.DomainPublisher.declared.publisher_port.PublisherPort.{PublisherPort}
+use Rattle.iox_domain_ports.specs.DomainPublisher.declared.subscriber_entry.SubscriberEntry.{SubscriberEntry}
+use Rattle.iox_domain_ports.specs.DomainSubscriber.Publishers.{port_of}
 use Rattle.iox_domain_laws.specs.Laws.{IsTiedWell, IsWellEntry, IsApart, ConnectsAll, NeedsNoMemory}
 use Rattle.iox_domain_ports.specs.Publishing.{is_free, is_blocked, UpdatesOne, SendsOne}
 use Rattle.iox_domain_ports.specs.Publishing as publishing

@@ -1,19 +1,19 @@
 -- Each call leaves the service of its ports, and how much it allows, as they are.
 use Rattle.std.proofs.Common.{◌≡◌, ◌∙◌, ℕ, Bool, true, false, List, Option, None, Some, Result, Ok, Err, refl, ap}
 use Rattle.std.specs.declared.alloc.AllocError.{AllocError}
-use Rattle.iox_domain_values.specs.declared.backpressure.BackpressureDecision.{BackpressureDecision}
-use Rattle.iox_domain_values.specs.declared.backpressure.BackpressureInfo.{BackpressureInfo}
-use Rattle.iox_domain_values.specs.declared.create_error.PublisherCreateError.{PublisherCreateError}
-use Rattle.iox_domain_values.specs.declared.create_error.SubscriberCreateError.{SubscriberCreateError}
-use Rattle.iox_domain_values.specs.declared.degradation.DegradationAction.{DegradationAction}
-use Rattle.iox_domain_values.specs.declared.degradation.DegradationInfo.{DegradationInfo}
-use Rattle.iox_domain_values.specs.declared.port_owner.PortOwner.{PortOwner}
-use Rattle.iox_domain_values.specs.Sizes.{buffer_of}
-use Rattle.iox_domain_publisher.specs.declared.publisher_port.PublisherPort.{PublisherPort}
-use Rattle.iox_domain_subscriber.specs.Publishers.{port_of, connection_in}
-use Rattle.iox_domain_subscriber.specs.Reading.{place_of}
-use Rattle.iox_domain_subscriber.specs.declared.attached.Taken.{Taken}
-use Rattle.iox_domain_subscriber.specs.declared.subscriber_port.SubscriberPort.{SubscriberPort}
+use Rattle.iox_domain_ports.specs.DomainValues.declared.backpressure.BackpressureDecision.{BackpressureDecision}
+use Rattle.iox_domain_ports.specs.DomainValues.declared.backpressure.BackpressureInfo.{BackpressureInfo}
+use Rattle.iox_domain_ports.specs.DomainValues.declared.create_error.PublisherCreateError.{PublisherCreateError}
+use Rattle.iox_domain_ports.specs.DomainValues.declared.create_error.SubscriberCreateError.{SubscriberCreateError}
+use Rattle.iox_domain_ports.specs.DomainValues.declared.degradation.DegradationAction.{DegradationAction}
+use Rattle.iox_domain_ports.specs.DomainValues.declared.degradation.DegradationInfo.{DegradationInfo}
+use Rattle.iox_domain_ports.specs.DomainValues.declared.port_owner.PortOwner.{PortOwner}
+use Rattle.iox_domain_ports.specs.DomainValues.Sizes.{buffer_of}
+use Rattle.iox_domain_ports.specs.DomainPublisher.declared.publisher_port.PublisherPort.{PublisherPort}
+use Rattle.iox_domain_ports.specs.DomainSubscriber.Publishers.{port_of, connection_in}
+use Rattle.iox_domain_ports.specs.DomainSubscriber.Reading.{place_of}
+use Rattle.iox_domain_ports.specs.DomainSubscriber.declared.attached.Taken.{Taken}
+use Rattle.iox_domain_ports.specs.DomainSubscriber.declared.subscriber_port.SubscriberPort.{SubscriberPort}
 use Rattle.iox_domain_ports.specs.Lending.{LoansOne}
 use Rattle.iox_domain_ports.specs.Making.{slots_needed, publisher_place, subscriber_place, AddsPublisher, CreatesPublisher, AddsSubscriber, CreatesSubscriber}
 use Rattle.iox_domain_ports.specs.Ports.{AtPublisher, AtSubscriber}

@@ -4,29 +4,29 @@ use Rattle.std.proofs.lemmas.Bool.{cases_eq, eq-eqb}
 use Rattle.std.proofs.lemmas.List.Folds.{find-append}
 use Rattle.std.specs.List.{find, list_any}
 use Rattle.std.specs.Option.{option_or}
-use Rattle.iox_domain_values.specs.declared.connection_failure.ConnectionFailure.{ConnectionFailure}
-use Rattle.iox_domain_values.specs.declared.degradation.DegradationAction.{DegradationAction}
-use Rattle.iox_domain_values.specs.declared.degradation.DegradationInfo.{DegradationInfo}
-use Rattle.iox_domain_slots.specs.Uses.{Connection, nobody, is_there, ended, settled as settled_connection, taken}
-use Rattle.iox_domain_slots.specs.declared.stage.Stage.TheVariants as stage
-use Rattle.iox_domain_sender.specs.Messages.{Message}
-use Rattle.iox_domain_publisher.specs.Ports.{connection_of, is_live, ended_at}
-use Rattle.iox_domain_publisher.specs.declared.publisher_port.PublisherPort.{PublisherPort}
-use Rattle.iox_domain_subscriber.specs.Publishers.{port_of, with_port, changed, changed_at_port, connection_at_port, is_over_port, is_over_in, removed, settled, ended_if_left}
-use Rattle.iox_domain_subscriber.specs.Reading.{borrowed_in, is_over, taken_at}
-use Rattle.iox_domain_subscriber.specs.Receiving.{IsGiverThere, IsReceiveAnswer, dropped_port, dropped_ports, is_idle_at, swept, given, given_ports}
-use Rattle.iox_domain_subscriber.specs.Subscribing.{attached_at, connection_by, ended_ports, gives, has_data, taken_of, taken_ports}
-use Rattle.iox_domain_subscriber.specs.Updating.{ReceivesAfter}
-use Rattle.iox_domain_subscriber.specs.declared.attached.Attached.{Attached}
-use Rattle.iox_domain_subscriber.specs.declared.attached.Taken.{Taken}
-use Rattle.iox_domain_subscriber.specs.declared.subscriber_port.SubscriberPort.{SubscriberPort}
+use Rattle.iox_domain_ports.specs.DomainValues.declared.connection_failure.ConnectionFailure.{ConnectionFailure}
+use Rattle.iox_domain_ports.specs.DomainValues.declared.degradation.DegradationAction.{DegradationAction}
+use Rattle.iox_domain_ports.specs.DomainValues.declared.degradation.DegradationInfo.{DegradationInfo}
+use Rattle.iox_domain_ports.specs.DomainSlots.Uses.{Connection, nobody, is_there, ended, settled as settled_connection, taken}
+use Rattle.iox_domain_ports.specs.DomainSlots.declared.stage.Stage.TheVariants as stage
+use Rattle.iox_domain_ports.specs.DomainSender.Messages.{Message}
+use Rattle.iox_domain_ports.specs.DomainPublisher.Ports.{connection_of, is_live, ended_at}
+use Rattle.iox_domain_ports.specs.DomainPublisher.declared.publisher_port.PublisherPort.{PublisherPort}
+use Rattle.iox_domain_ports.specs.DomainSubscriber.Publishers.{port_of, with_port, changed, changed_at_port, connection_at_port, is_over_port, is_over_in, removed, settled, ended_if_left}
+use Rattle.iox_domain_ports.specs.DomainSubscriber.Reading.{borrowed_in, is_over, taken_at}
+use Rattle.iox_domain_ports.specs.DomainSubscriber.Receiving.{IsGiverThere, IsReceiveAnswer, dropped_port, dropped_ports, is_idle_at, swept, given, given_ports}
+use Rattle.iox_domain_ports.specs.DomainSubscriber.Subscribing.{attached_at, connection_by, ended_ports, gives, has_data, taken_of, taken_ports}
+use Rattle.iox_domain_ports.specs.DomainSubscriber.Updating.{ReceivesAfter}
+use Rattle.iox_domain_ports.specs.DomainSubscriber.declared.attached.Attached.{Attached}
+use Rattle.iox_domain_ports.specs.DomainSubscriber.declared.attached.Taken.{Taken}
+use Rattle.iox_domain_ports.specs.DomainSubscriber.declared.subscriber_port.SubscriberPort.{SubscriberPort}
 use Rattle.iox_domain_ports.specs.Ports.{AtSubscriber}
 use Rattle.iox_domain_ports.specs.Reading.{sample_in, sample_at_port}
 use Rattle.iox_domain_ports.specs.Rolls.{RollState}
 use Rattle.iox_domain_ports.specs.Subscribers.{subscriber_of}
 use Rattle.iox_domain_ports.specs.Subscribing.{ReceivesIf, ReceivesOne}
 use Rattle.iox_domain_ports.specs.declared.service_ports.ServicePorts.{ServicePorts}
-use Rattle.iox_domain_subscriber.specs.declared.publisher_entry.PublisherEntry.{PublisherEntry}
+use Rattle.iox_domain_ports.specs.DomainSubscriber.declared.publisher_entry.PublisherEntry.{PublisherEntry}
 use Rattle.iox_domain_laws.specs.Laws.{ReceivedIsHeld}
 use Rattle.iox_domain_laws.proofs.BookedTakes.{giver_gives, met_gives, no_message, taken_set}
 use Rattle.iox_domain_laws.proofs.ListKeeps.{last_of, none_there}

@@ -2,23 +2,23 @@
 use Rattle.std.proofs.Common.{arith, ◌≡◌, ◌≢◌, ◌+◌, ◌-◌, ◌<◌, ◌≤◌, ◌&&◌, ◌==◌, ◌⊎◌, ◌++◌, ◌∷◌, [], ℕ, zero, suc, Bool, true, false, is_some, List, get_or, length, length-append, nat_lt, Option, None, Some, Result, Ok, Err, refl, sym, ap, ◌∙◌, subst, if◌then◌else◌, inl, inr}
 use Rattle.std.proofs.lemmas.Bool.{cases_eq, eq-eqb, eqb-true}
 use Rattle.std.proofs.lemmas.List.{get_or-set_other, get_or-set_same, get_or_past}
-use Rattle.iox_domain_values.specs.declared.backpressure.BackpressureDecision.{BackpressureDecision}
-use Rattle.iox_domain_values.specs.declared.backpressure.BackpressureDecision.TheVariants as decided
-use Rattle.iox_domain_values.specs.declared.backpressure.BackpressureInfo.{BackpressureInfo}
-use Rattle.iox_domain_values.specs.declared.port_error.SendError.{SendError}
-use Rattle.iox_domain_values.specs.declared.port_error.SendError.TheVariants as sending
-use Rattle.iox_domain_slots.specs.Uses.{accepts, nobody, offered}
-use Rattle.iox_domain_sender.specs.Messages.{Message}
-use Rattle.iox_domain_publisher.specs.Places.{unheard}
-use Rattle.iox_domain_publisher.specs.Ports.{connection_of, goes_on, is_live}
-use Rattle.iox_domain_publisher.specs.Progress.{ProgressState}
-use Rattle.iox_domain_publisher.specs.Sending.{with_message, met_by, met, meeting_at, meeting_by, is_ready, decided_by, Steps, GoesOn, Delivers, concluded, sent_answer, Finishes}
-use Rattle.iox_domain_publisher.specs.declared.meeting.Meeting.{Meeting}
-use Rattle.iox_domain_publisher.specs.declared.meeting.Meeting.TheVariants as meeting
-use Rattle.iox_domain_publisher.specs.declared.meeting.Sent.{Sent}
-use Rattle.iox_domain_publisher.specs.declared.meeting.Sent.TheVariants as sent
-use Rattle.iox_domain_publisher.specs.declared.publisher_port.PublisherPort.{PublisherPort}
-use Rattle.iox_domain_publisher.specs.declared.reader.Reader.{Reader}
+use Rattle.iox_domain_ports.specs.DomainValues.declared.backpressure.BackpressureDecision.{BackpressureDecision}
+use Rattle.iox_domain_ports.specs.DomainValues.declared.backpressure.BackpressureDecision.TheVariants as decided
+use Rattle.iox_domain_ports.specs.DomainValues.declared.backpressure.BackpressureInfo.{BackpressureInfo}
+use Rattle.iox_domain_ports.specs.DomainValues.declared.port_error.SendError.{SendError}
+use Rattle.iox_domain_ports.specs.DomainValues.declared.port_error.SendError.TheVariants as sending
+use Rattle.iox_domain_ports.specs.DomainSlots.Uses.{accepts, nobody, offered}
+use Rattle.iox_domain_ports.specs.DomainSender.Messages.{Message}
+use Rattle.iox_domain_ports.specs.DomainPublisher.Places.{unheard}
+use Rattle.iox_domain_ports.specs.DomainPublisher.Ports.{connection_of, goes_on, is_live}
+use Rattle.iox_domain_ports.specs.DomainPublisher.Progress.{ProgressState}
+use Rattle.iox_domain_ports.specs.DomainPublisher.Sending.{with_message, met_by, met, meeting_at, meeting_by, is_ready, decided_by, Steps, GoesOn, Delivers, concluded, sent_answer, Finishes}
+use Rattle.iox_domain_ports.specs.DomainPublisher.declared.meeting.Meeting.{Meeting}
+use Rattle.iox_domain_ports.specs.DomainPublisher.declared.meeting.Meeting.TheVariants as meeting
+use Rattle.iox_domain_ports.specs.DomainPublisher.declared.meeting.Sent.{Sent}
+use Rattle.iox_domain_ports.specs.DomainPublisher.declared.meeting.Sent.TheVariants as sent
+use Rattle.iox_domain_ports.specs.DomainPublisher.declared.publisher_port.PublisherPort.{PublisherPort}
+use Rattle.iox_domain_ports.specs.DomainPublisher.declared.reader.Reader.{Reader}
 use Rattle.iox_domain_ports.specs.Publishing.{is_blocked, GivesUpIf}
 use Rattle.iox_domain_laws.specs.Laws.{AreTiesApart}
 use Rattle.iox_domain_laws.specs.Tries.{how_often, Took, TryComesTo, Try, AreTries, TriesComeTo, all_takers, SendReachesOnce}

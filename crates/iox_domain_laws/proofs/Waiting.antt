@@ -3,35 +3,35 @@ use Rattle.std.proofs.Common.{arith, ◌≡◌, ◌<◌, ◌&&◌, ◌||◌, ◌
 use Rattle.std.proofs.lemmas.Bool.{cases_eq, eq-eqb}
 use Rattle.std.specs.List.{position, list_any}
 use Rattle.std.specs.declared.alloc.AllocError.{AllocError}
-use Rattle.iox_domain_values.specs.Sizes.{buffer_of}
-use Rattle.iox_domain_values.specs.declared.backpressure.BackpressureDecision.{BackpressureDecision}
-use Rattle.iox_domain_values.specs.declared.backpressure.BackpressureInfo.{BackpressureInfo}
-use Rattle.iox_domain_values.specs.declared.connection_failure.ConnectionFailure.{ConnectionFailure}
-use Rattle.iox_domain_values.specs.declared.create_error.PublisherCreateError.{PublisherCreateError}
-use Rattle.iox_domain_values.specs.declared.create_error.SubscriberCreateError.{SubscriberCreateError}
-use Rattle.iox_domain_values.specs.declared.degradation.DegradationAction.{DegradationAction}
-use Rattle.iox_domain_values.specs.declared.degradation.DegradationInfo.{DegradationInfo}
-use Rattle.iox_domain_values.specs.declared.port_error.LoanError.{LoanError}
-use Rattle.iox_domain_values.specs.declared.port_error.ReceiveError.{ReceiveError}
-use Rattle.iox_domain_values.specs.declared.port_error.SendError.{SendError}
-use Rattle.iox_domain_values.specs.declared.port_owner.PortOwner.{PortOwner}
-use Rattle.iox_domain_sender.specs.Messages.{Loan}
-use Rattle.iox_domain_slots.specs.Uses.{is_there}
-use Rattle.iox_domain_sender.specs.Sending.{is_written_at}
-use Rattle.iox_domain_publisher.specs.Leaving.{departed}
-use Rattle.iox_domain_publisher.specs.Loaning as loaning
-use Rattle.iox_domain_publisher.specs.Ports.{connection_to, is_live, ended_at, detached_at, attached_at, Joins}
-use Rattle.iox_domain_publisher.specs.Sending.{ready_at, ready_loan, Sends}
-use Rattle.iox_domain_publisher.specs.Writing.{changed_if, given_up, given_up_at}
-use Rattle.iox_domain_publisher.specs.Writing as writing
-use Rattle.iox_domain_publisher.specs.declared.meeting.Sent.{Sent}
-use Rattle.iox_domain_publisher.specs.declared.publisher_port.PublisherPort.{PublisherPort}
-use Rattle.iox_domain_subscriber.specs.Arriving.{new_subscriber}
-use Rattle.iox_domain_subscriber.specs.Publishers.{port_of, with_port, changed, changed_at_port, connection_in, ended_if_left, is_over_in, is_over_port, removed, settled, AttachesAtPort}
-use Rattle.iox_domain_subscriber.specs.Reading.{is_over, place_of, taken_at, given_back_at}
-use Rattle.iox_domain_subscriber.specs.declared.attached.Taken.{Taken}
-use Rattle.iox_domain_subscriber.specs.declared.publisher_entry.PublisherEntry.{PublisherEntry}
-use Rattle.iox_domain_subscriber.specs.declared.subscriber_port.SubscriberPort.{SubscriberPort}
+use Rattle.iox_domain_ports.specs.DomainValues.Sizes.{buffer_of}
+use Rattle.iox_domain_ports.specs.DomainValues.declared.backpressure.BackpressureDecision.{BackpressureDecision}
+use Rattle.iox_domain_ports.specs.DomainValues.declared.backpressure.BackpressureInfo.{BackpressureInfo}
+use Rattle.iox_domain_ports.specs.DomainValues.declared.connection_failure.ConnectionFailure.{ConnectionFailure}
+use Rattle.iox_domain_ports.specs.DomainValues.declared.create_error.PublisherCreateError.{PublisherCreateError}
+use Rattle.iox_domain_ports.specs.DomainValues.declared.create_error.SubscriberCreateError.{SubscriberCreateError}
+use Rattle.iox_domain_ports.specs.DomainValues.declared.degradation.DegradationAction.{DegradationAction}
+use Rattle.iox_domain_ports.specs.DomainValues.declared.degradation.DegradationInfo.{DegradationInfo}
+use Rattle.iox_domain_ports.specs.DomainValues.declared.port_error.LoanError.{LoanError}
+use Rattle.iox_domain_ports.specs.DomainValues.declared.port_error.ReceiveError.{ReceiveError}
+use Rattle.iox_domain_ports.specs.DomainValues.declared.port_error.SendError.{SendError}
+use Rattle.iox_domain_ports.specs.DomainValues.declared.port_owner.PortOwner.{PortOwner}
+use Rattle.iox_domain_ports.specs.DomainSender.Messages.{Loan}
+use Rattle.iox_domain_ports.specs.DomainSlots.Uses.{is_there}
+use Rattle.iox_domain_ports.specs.DomainSender.Sending.{is_written_at}
+use Rattle.iox_domain_ports.specs.DomainPublisher.Leaving.{departed}
+use Rattle.iox_domain_ports.specs.DomainPublisher.Loaning as loaning
+use Rattle.iox_domain_ports.specs.DomainPublisher.Ports.{connection_to, is_live, ended_at, detached_at, attached_at, Joins}
+use Rattle.iox_domain_ports.specs.DomainPublisher.Sending.{ready_at, ready_loan, Sends}
+use Rattle.iox_domain_ports.specs.DomainPublisher.Writing.{changed_if, given_up, given_up_at}
+use Rattle.iox_domain_ports.specs.DomainPublisher.Writing as writing
+use Rattle.iox_domain_ports.specs.DomainPublisher.declared.meeting.Sent.{Sent}
+use Rattle.iox_domain_ports.specs.DomainPublisher.declared.publisher_port.PublisherPort.{PublisherPort}
+use Rattle.iox_domain_ports.specs.DomainSubscriber.Arriving.{new_subscriber}
+use Rattle.iox_domain_ports.specs.DomainSubscriber.Publishers.{port_of, with_port, changed, changed_at_port, connection_in, ended_if_left, is_over_in, is_over_port, removed, settled, AttachesAtPort}
+use Rattle.iox_domain_ports.specs.DomainSubscriber.Reading.{is_over, place_of, taken_at, given_back_at}
+use Rattle.iox_domain_ports.specs.DomainSubscriber.declared.attached.Taken.{Taken}
+use Rattle.iox_domain_ports.specs.DomainSubscriber.declared.publisher_entry.PublisherEntry.{PublisherEntry}
+use Rattle.iox_domain_ports.specs.DomainSubscriber.declared.subscriber_port.SubscriberPort.{SubscriberPort}
 use Rattle.iox_domain_laws.specs.Calls as call
 use Rattle.iox_domain_laws.specs.Calls.{PortCall, Happens}
 use Rattle.iox_domain_laws.specs.Laws.{IsSound}

@@ -2,29 +2,29 @@
 use Rattle.std.proofs.Common.{◌≡◌, ◌+◌, ◌&&◌, ◌∷◌, [], ℕ, zero, suc, Bool, true, false, not, List, get_or, set, length, Option, None, Some, Result, Ok, Err, refl, sym, ap, ◌∙◌, if◌then◌else◌}
 use Rattle.std.specs.List.{All, remove}
 use Rattle.std.specs.declared.alloc.AllocError.{AllocError}
-use Rattle.iox_index_base.specs.declared.container.Member.{Member}
-use Rattle.iox_domain_values.specs.declared.backpressure.BackpressureDecision.{BackpressureDecision}
-use Rattle.iox_domain_values.specs.declared.backpressure.BackpressureInfo.{BackpressureInfo}
-use Rattle.iox_domain_values.specs.declared.connection_failure.ConnectionFailure.{ConnectionFailure}
-use Rattle.iox_domain_values.specs.declared.degradation.DegradationAction.{DegradationAction}
-use Rattle.iox_domain_values.specs.declared.degradation.DegradationInfo.{DegradationInfo}
-use Rattle.iox_domain_values.specs.declared.port_error.SendError.{SendError}
-use Rattle.iox_domain_slots.specs.Uses.{taken, given_back, settled}
-use Rattle.iox_domain_slots.specs.declared.stage.Stage.{Stage}
-use Rattle.iox_domain_slots.specs.declared.stage.Stage.TheVariants as stage
-use Rattle.iox_domain_sender.specs.Messages.{Message}
-use Rattle.iox_domain_publisher.specs.Leaving.{parted_at, parted_from, departed}
-use Rattle.iox_domain_publisher.specs.Places.{leads_to, left, is_attached}
-use Rattle.iox_domain_publisher.specs.Ports.{connection_of, connection_to, goes_on, is_live, ended_at, detached_at, Joins, Attaches}
-use Rattle.iox_domain_publisher.specs.Sending.{ready_loan}
-use Rattle.iox_domain_publisher.specs.Updating.{Updates}
-use Rattle.iox_domain_publisher.specs.declared.meeting.Sent.{Sent}
-use Rattle.iox_domain_publisher.specs.declared.publisher_port.PublisherPort.{PublisherPort}
-use Rattle.iox_domain_publisher.specs.declared.reader.Reader.{Reader}
-use Rattle.iox_domain_publisher.specs.declared.subscriber_entry.SubscriberEntry.{SubscriberEntry}
-use Rattle.iox_domain_subscriber.specs.Publishers as publishers
-use Rattle.iox_domain_subscriber.specs.Publishers.{port_of, with_port, changed, changed_at_port, is_over_in, removed, ended_if_left, released, AttachesAtPort, AttachesTo}
-use Rattle.iox_domain_subscriber.specs.Reading.{taken_at, given_back_at}
+use Rattle.iox_domain_ports.specs.IndexBase.declared.container.Member.{Member}
+use Rattle.iox_domain_ports.specs.DomainValues.declared.backpressure.BackpressureDecision.{BackpressureDecision}
+use Rattle.iox_domain_ports.specs.DomainValues.declared.backpressure.BackpressureInfo.{BackpressureInfo}
+use Rattle.iox_domain_ports.specs.DomainValues.declared.connection_failure.ConnectionFailure.{ConnectionFailure}
+use Rattle.iox_domain_ports.specs.DomainValues.declared.degradation.DegradationAction.{DegradationAction}
+use Rattle.iox_domain_ports.specs.DomainValues.declared.degradation.DegradationInfo.{DegradationInfo}
+use Rattle.iox_domain_ports.specs.DomainValues.declared.port_error.SendError.{SendError}
+use Rattle.iox_domain_ports.specs.DomainSlots.Uses.{taken, given_back, settled}
+use Rattle.iox_domain_ports.specs.DomainSlots.declared.stage.Stage.{Stage}
+use Rattle.iox_domain_ports.specs.DomainSlots.declared.stage.Stage.TheVariants as stage
+use Rattle.iox_domain_ports.specs.DomainSender.Messages.{Message}
+use Rattle.iox_domain_ports.specs.DomainPublisher.Leaving.{parted_at, parted_from, departed}
+use Rattle.iox_domain_ports.specs.DomainPublisher.Places.{leads_to, left, is_attached}
+use Rattle.iox_domain_ports.specs.DomainPublisher.Ports.{connection_of, connection_to, goes_on, is_live, ended_at, detached_at, Joins, Attaches}
+use Rattle.iox_domain_ports.specs.DomainPublisher.Sending.{ready_loan}
+use Rattle.iox_domain_ports.specs.DomainPublisher.Updating.{Updates}
+use Rattle.iox_domain_ports.specs.DomainPublisher.declared.meeting.Sent.{Sent}
+use Rattle.iox_domain_ports.specs.DomainPublisher.declared.publisher_port.PublisherPort.{PublisherPort}
+use Rattle.iox_domain_ports.specs.DomainPublisher.declared.reader.Reader.{Reader}
+use Rattle.iox_domain_ports.specs.DomainPublisher.declared.subscriber_entry.SubscriberEntry.{SubscriberEntry}
+use Rattle.iox_domain_ports.specs.DomainSubscriber.Publishers as publishers
+use Rattle.iox_domain_ports.specs.DomainSubscriber.Publishers.{port_of, with_port, changed, changed_at_port, is_over_in, removed, ended_if_left, released, AttachesAtPort, AttachesTo}
+use Rattle.iox_domain_ports.specs.DomainSubscriber.Reading.{taken_at, given_back_at}
 use Rattle.iox_domain_laws.specs.Laws.{IsListApart, IsTiedWell, IsWellEntry}
 use Rattle.iox_domain_ports.specs.Publishing.{is_free, is_blocked, UpdatesOne, SendsOne}
 use Rattle.iox_domain_ports.specs.Publishing as publishing

@@ -1,27 +1,27 @@
 -- When an update of a subscriber takes no memory.
 use Rattle.std.specs.Prelude.{ℕ, ◌+◌, ◌<◌, ◌≤◌, ◌≡◌, ◌≢◌, ◌++◌, ◌∷◌, [], true, false, Bool, is_some, List, length, get_or, Option, None, Some, Result, Err, if◌then◌else◌}
-use Rattle.iox_index_base.specs.declared.container.Member.{Member}
-use Rattle.iox_domain_values.specs.declared.connection_failure.ConnectionFailure.{ConnectionFailure}
-use Rattle.iox_domain_values.specs.declared.degradation.DegradationAction.{DegradationAction}
-use Rattle.iox_domain_values.specs.declared.degradation.DegradationInfo.{DegradationInfo}
-use Rattle.iox_domain_values.specs.declared.port_error.ReceiveError.{ReceiveError}
-use Rattle.iox_domain_values.specs.declared.port_error.ReceiveError.TheVariants as receiving
-use Rattle.iox_domain_values.specs.declared.port_owner.PortIdentity.{PortIdentity}
-use Rattle.iox_domain_publisher.specs.Updating.{no_memory}
-use Rattle.iox_domain_publisher.specs.declared.publisher_port.PublisherPort.{PublisherPort}
-use Rattle.iox_domain_subscriber.specs.Arriving.{new_subscriber}
-use Rattle.iox_domain_subscriber.specs.Following.{lacks_connection}
-use Rattle.iox_domain_subscriber.specs.Publishers.{port_of, stands_in}
-use Rattle.iox_domain_subscriber.specs.Receiving.{Receives}
-use Rattle.iox_domain_subscriber.specs.Subscribing.{attached_at}
-use Rattle.iox_domain_subscriber.specs.Updating.{Updates, HasSamples, ReceivesNext}
-use Rattle.iox_domain_subscriber.specs.declared.attached.Taken.{Taken}
-use Rattle.iox_domain_subscriber.specs.declared.publisher_entry.PublisherEntry.{PublisherEntry}
-use Rattle.iox_domain_subscriber.specs.declared.subscriber_port.SubscriberPort.{SubscriberPort}
+use Rattle.iox_domain_ports.specs.IndexBase.declared.container.Member.{Member}
+use Rattle.iox_domain_ports.specs.DomainValues.declared.connection_failure.ConnectionFailure.{ConnectionFailure}
+use Rattle.iox_domain_ports.specs.DomainValues.declared.degradation.DegradationAction.{DegradationAction}
+use Rattle.iox_domain_ports.specs.DomainValues.declared.degradation.DegradationInfo.{DegradationInfo}
+use Rattle.iox_domain_ports.specs.DomainValues.declared.port_error.ReceiveError.{ReceiveError}
+use Rattle.iox_domain_ports.specs.DomainValues.declared.port_error.ReceiveError.TheVariants as receiving
+use Rattle.iox_domain_ports.specs.DomainValues.declared.port_owner.PortIdentity.{PortIdentity}
+use Rattle.iox_domain_ports.specs.DomainPublisher.Updating.{no_memory}
+use Rattle.iox_domain_ports.specs.DomainPublisher.declared.publisher_port.PublisherPort.{PublisherPort}
+use Rattle.iox_domain_ports.specs.DomainSubscriber.Arriving.{new_subscriber}
+use Rattle.iox_domain_ports.specs.DomainSubscriber.Following.{lacks_connection}
+use Rattle.iox_domain_ports.specs.DomainSubscriber.Publishers.{port_of, stands_in}
+use Rattle.iox_domain_ports.specs.DomainSubscriber.Receiving.{Receives}
+use Rattle.iox_domain_ports.specs.DomainSubscriber.Subscribing.{attached_at}
+use Rattle.iox_domain_ports.specs.DomainSubscriber.Updating.{Updates, HasSamples, ReceivesNext}
+use Rattle.iox_domain_ports.specs.DomainSubscriber.declared.attached.Taken.{Taken}
+use Rattle.iox_domain_ports.specs.DomainSubscriber.declared.publisher_entry.PublisherEntry.{PublisherEntry}
+use Rattle.iox_domain_ports.specs.DomainSubscriber.declared.subscriber_port.SubscriberPort.{SubscriberPort}
 use Rattle.std.specs.List.{All}
-use Rattle.iox_domain_values.specs.declared.backpressure.BackpressureDecision.{BackpressureDecision}
-use Rattle.iox_domain_values.specs.declared.backpressure.BackpressureInfo.{BackpressureInfo}
-use Rattle.iox_domain_values.specs.declared.service_sizes.ServiceSizes.{ServiceSizes}
+use Rattle.iox_domain_ports.specs.DomainValues.declared.backpressure.BackpressureDecision.{BackpressureDecision}
+use Rattle.iox_domain_ports.specs.DomainValues.declared.backpressure.BackpressureInfo.{BackpressureInfo}
+use Rattle.iox_domain_ports.specs.DomainValues.declared.service_sizes.ServiceSizes.{ServiceSizes}
 use Rattle.iox_domain_ports.specs.Ports.{no_ports}
 use Rattle.iox_domain_ports.specs.Rolls.{IsListOf}
 use Rattle.iox_domain_ports.specs.Subscribers.{subscriber_of}

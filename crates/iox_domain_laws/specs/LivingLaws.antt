@@ -1,9 +1,9 @@
 -- What the counts of what lives come to, in other words.
 use Rattle.std.specs.Prelude.{ℕ, ◌≡◌, ◌≤◌, ◌↔◌, false, [], All, Option, None, Some}
 use Rattle.std.specs.Map.{values_of}
-use Rattle.iox_domain_values.specs.declared.service_sizes.ServiceSizes.{ServiceSizes}
-use Rattle.iox_domain_publisher.specs.declared.publisher_port.PublisherPort.{PublisherPort}
-use Rattle.iox_domain_subscriber.specs.declared.subscriber_port.SubscriberPort.{SubscriberPort}
+use Rattle.iox_domain_ports.specs.DomainValues.declared.service_sizes.ServiceSizes.{ServiceSizes}
+use Rattle.iox_domain_ports.specs.DomainPublisher.declared.publisher_port.PublisherPort.{PublisherPort}
+use Rattle.iox_domain_ports.specs.DomainSubscriber.declared.subscriber_port.SubscriberPort.{SubscriberPort}
 use Rattle.iox_domain_ports.specs.Ports.{no_ports}
 use Rattle.iox_domain_ports.specs.Living.{living}
 use Rattle.iox_domain_ports.specs.declared.service_ports.ServicePorts.{ServicePorts}

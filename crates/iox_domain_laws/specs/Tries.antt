@@ -1,19 +1,19 @@
 -- A send with all of its tries: who took its message, and how many of them are counted.
 use Rattle.std.specs.Prelude.{ℕ, ◌+◌, ◌<◌, ◌≤◌, ◌≡◌, ◌==◌, ◌++◌, ◌∷◌, [], true, false, Bool, is_some, List, length, get_or, None, Some, Result, Ok, if◌then◌else◌}
-use Rattle.iox_domain_values.specs.declared.backpressure.BackpressureDecision.{BackpressureDecision}
-use Rattle.iox_domain_values.specs.declared.backpressure.BackpressureInfo.{BackpressureInfo}
-use Rattle.iox_domain_values.specs.declared.degradation.DegradationAction.{DegradationAction}
-use Rattle.iox_domain_values.specs.declared.degradation.DegradationInfo.{DegradationInfo}
-use Rattle.iox_domain_values.specs.declared.port_error.SendError.{SendError}
-use Rattle.iox_domain_slots.specs.Uses.{accepts, offered}
-use Rattle.iox_domain_sender.specs.Messages.{Message, Loan}
-use Rattle.iox_domain_publisher.specs.Ports.{connection_of, is_live}
-use Rattle.iox_domain_publisher.specs.Sending.{begun_by, Finishes}
-use Rattle.iox_domain_publisher.specs.declared.meeting.Sent.{Sent}
-use Rattle.iox_domain_publisher.specs.declared.meeting.Sent.TheVariants as sent
-use Rattle.iox_domain_publisher.specs.declared.publisher_port.PublisherPort.{PublisherPort}
+use Rattle.iox_domain_ports.specs.DomainValues.declared.backpressure.BackpressureDecision.{BackpressureDecision}
+use Rattle.iox_domain_ports.specs.DomainValues.declared.backpressure.BackpressureInfo.{BackpressureInfo}
+use Rattle.iox_domain_ports.specs.DomainValues.declared.degradation.DegradationAction.{DegradationAction}
+use Rattle.iox_domain_ports.specs.DomainValues.declared.degradation.DegradationInfo.{DegradationInfo}
+use Rattle.iox_domain_ports.specs.DomainValues.declared.port_error.SendError.{SendError}
+use Rattle.iox_domain_ports.specs.DomainSlots.Uses.{accepts, offered}
+use Rattle.iox_domain_ports.specs.DomainSender.Messages.{Message, Loan}
+use Rattle.iox_domain_ports.specs.DomainPublisher.Ports.{connection_of, is_live}
+use Rattle.iox_domain_ports.specs.DomainPublisher.Sending.{begun_by, Finishes}
+use Rattle.iox_domain_ports.specs.DomainPublisher.declared.meeting.Sent.{Sent}
+use Rattle.iox_domain_ports.specs.DomainPublisher.declared.meeting.Sent.TheVariants as sent
+use Rattle.iox_domain_ports.specs.DomainPublisher.declared.publisher_port.PublisherPort.{PublisherPort}
 use Rattle.iox_domain_ports.specs.Publishing.{GivesUpOne}
-use Rattle.iox_domain_subscriber.specs.Publishers.{port_of}
+use Rattle.iox_domain_ports.specs.DomainSubscriber.Publishers.{port_of}
 use Rattle.iox_domain_laws.specs.Calls.{PortCall, Retries, GivesSendUp, Happens}
 use Rattle.iox_domain_laws.specs.Laws.{IsSound, AreTiesApart}
 use Rattle.iox_domain_ports.specs.declared.service_ports.ServicePorts.{ServicePorts}

@@ -1,5 +1,5 @@
 //! How much lives, and what each call adds to it and takes from it.
-ghost use Rattle.iox_domain_values.specs.declared.degradation.DegradationCause.TheVariants as cause;
+ghost use Rattle.iox_domain_ports.specs.DomainValues.declared.degradation.DegradationCause.TheVariants as cause;
 ghost use Rattle.iox_domain_laws.specs.LivingLaws.{LivingTells};
 ghost use Rattle.iox_domain_laws.specs.LivingSteps.{PublisherSteps, SubscriberSteps, CreatingSteps};
 

@@ -1,5 +1,5 @@
 //! Laws of the calls of the ports of a service, in other words than theirs. They are the contracts of functions that do nothing.
-ghost use Rattle.iox_domain_values.specs.declared.degradation.DegradationCause.TheVariants as cause;
+ghost use Rattle.iox_domain_ports.specs.DomainValues.declared.degradation.DegradationCause.TheVariants as cause;
 ghost use Rattle.iox_domain_laws.specs.Attaching.{AttachesWithoutMemory, KeysStay};
 ghost use Rattle.iox_domain_laws.specs.Laws.{HeldStays, ReceivedIsHeld, AtMostOnce, NeedsNoMemory};
 ghost use Rattle.iox_domain_laws.specs.Order.{InOrder};
@@ -51,7 +51,7 @@ pub fn send_reaches_once<T, U, B: Decides + Degrades>(_handlers: &B)
     ensures { SendReachesOnce T U (B.decides _handlers.now) }
 {}
 
-/// Where each listed publisher has a connection that leads to the subscriber, no update of a subscriber fails for want of memory, whatever its
+/// Where each listed publisher has a connection that leads to the subscriber, no update of a subscriber fails where an allocation fails, whatever its
 /// handler would say, nor does it so before a receive or the question for data: its keys are in order, and one is left for each place.
 pub fn attaches_without_memory<T, U, D: Degrades>(_handler: &D)
     ensures { AttachesWithoutMemory T U (D.degrades _handler.now cause.FailedToEstablishConnection) }

@@ -1,5 +1,5 @@
 //! Each number is given to one port.
-ghost use Rattle.iox_domain_values.specs.declared.degradation.DegradationCause.TheVariants as cause;
+ghost use Rattle.iox_domain_ports.specs.DomainValues.declared.degradation.DegradationCause.TheVariants as cause;
 ghost use Rattle.iox_domain_laws.specs.NumberLaws.{NumbersStay};
 
 use iox_domain_values::{Decides, Degrades, Overrides};

@@ -1,5 +1,5 @@
 //! Which service ports are of, and how much it allows.
-ghost use Rattle.iox_domain_values.specs.declared.degradation.DegradationCause.TheVariants as cause;
+ghost use Rattle.iox_domain_ports.specs.DomainValues.declared.degradation.DegradationCause.TheVariants as cause;
 ghost use Rattle.iox_domain_laws.specs.ServiceLaws.{ServiceStays};
 ghost use Rattle.iox_domain_laws.specs.SizeLaws.{SizesAgree};
 

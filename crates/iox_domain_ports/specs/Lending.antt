@@ -1,11 +1,11 @@
 -- A publisher lends a slot, what is to be sent is written there, and a loan is given up.
 use Rattle.std.specs.Prelude.{ℕ, ◌≡◌, Bool, true, false, Option, None, Some, option_map, Result}
 use Rattle.iox_describe_base.specs.declared.header.Header.{Header}
-use Rattle.iox_domain_values.specs.declared.port_error.LoanError.{LoanError}
-use Rattle.iox_domain_sender.specs.Messages.{Loan}
-use Rattle.iox_domain_publisher.specs.Loaning.{Loans}
-use Rattle.iox_domain_publisher.specs.Writing.{loan_of, changed_if, changed_there, given_up}
-use Rattle.iox_domain_publisher.specs.declared.publisher_port.PublisherPort.{PublisherPort}
+use Rattle.iox_domain_subscriber.specs.DomainValues.declared.port_error.LoanError.{LoanError}
+use Rattle.iox_domain_subscriber.specs.DomainSender.Messages.{Loan}
+use Rattle.iox_domain_subscriber.specs.DomainPublisher.Loaning.{Loans}
+use Rattle.iox_domain_subscriber.specs.DomainPublisher.Writing.{loan_of, changed_if, changed_there, given_up}
+use Rattle.iox_domain_subscriber.specs.DomainPublisher.declared.publisher_port.PublisherPort.{PublisherPort}
 use Rattle.iox_domain_subscriber.specs.Publishers.{port_of, changed, settled}
 use Rattle.iox_domain_ports.specs.declared.service_ports.ServicePorts.{ServicePorts}
 

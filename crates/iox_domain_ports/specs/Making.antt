@@ -1,25 +1,25 @@
 -- A publisher and a subscriber come.
 use Rattle.std.specs.Prelude.{ℕ, ◌≡◌, ◌+◌, ◌^◌, max, nat_lt, List, Option, None, Some, Result, Ok, Err, if◌then◌else◌}
 use Rattle.std.specs.declared.alloc.AllocError.{AllocError}
-use Rattle.iox_index_base.specs.declared.container.Member.{Member}
-use Rattle.iox_domain_values.specs.OverrideAnswers.{places}
-use Rattle.iox_domain_values.specs.Sizes.{worst_case, within}
-use Rattle.iox_domain_values.specs.declared.connection_failure.ConnectionFailure.{ConnectionFailure}
-use Rattle.iox_domain_values.specs.declared.create_error.PublisherCreateError.{PublisherCreateError}
-use Rattle.iox_domain_values.specs.declared.create_error.PublisherCreateError.TheVariants as publishing
-use Rattle.iox_domain_values.specs.declared.create_error.SubscriberCreateError.{SubscriberCreateError}
-use Rattle.iox_domain_values.specs.declared.create_error.SubscriberCreateError.TheVariants as subscribing
-use Rattle.iox_domain_values.specs.declared.data_segment.AllocationStrategy.{AllocationStrategy}
-use Rattle.iox_domain_values.specs.declared.data_segment.AllocationStrategy.TheVariants as allocation
-use Rattle.iox_domain_values.specs.declared.degradation.DegradationAction.{DegradationAction}
-use Rattle.iox_domain_values.specs.declared.degradation.DegradationInfo.{DegradationInfo}
-use Rattle.iox_domain_values.specs.declared.port_owner.PortIdentity.{PortIdentity}
-use Rattle.iox_domain_values.specs.declared.port_owner.PortOwner.{PortOwner}
-use Rattle.iox_domain_sender.specs.declared.sender_config.SenderConfig.{SenderConfig}
-use Rattle.iox_domain_publisher.specs.Leaving.{new_port}
-use Rattle.iox_domain_publisher.specs.Updating as publisher
-use Rattle.iox_domain_publisher.specs.declared.publisher_port.PublisherPort.{PublisherPort}
-use Rattle.iox_domain_publisher.specs.declared.subscriber_entry.SubscriberEntry.{SubscriberEntry}
+use Rattle.iox_domain_subscriber.specs.IndexBase.declared.container.Member.{Member}
+use Rattle.iox_domain_subscriber.specs.DomainValues.OverrideAnswers.{places}
+use Rattle.iox_domain_subscriber.specs.DomainValues.Sizes.{worst_case, within}
+use Rattle.iox_domain_subscriber.specs.DomainValues.declared.connection_failure.ConnectionFailure.{ConnectionFailure}
+use Rattle.iox_domain_subscriber.specs.DomainValues.declared.create_error.PublisherCreateError.{PublisherCreateError}
+use Rattle.iox_domain_subscriber.specs.DomainValues.declared.create_error.PublisherCreateError.TheVariants as publishing
+use Rattle.iox_domain_subscriber.specs.DomainValues.declared.create_error.SubscriberCreateError.{SubscriberCreateError}
+use Rattle.iox_domain_subscriber.specs.DomainValues.declared.create_error.SubscriberCreateError.TheVariants as subscribing
+use Rattle.iox_domain_subscriber.specs.DomainValues.declared.data_segment.AllocationStrategy.{AllocationStrategy}
+use Rattle.iox_domain_subscriber.specs.DomainValues.declared.data_segment.AllocationStrategy.TheVariants as allocation
+use Rattle.iox_domain_subscriber.specs.DomainValues.declared.degradation.DegradationAction.{DegradationAction}
+use Rattle.iox_domain_subscriber.specs.DomainValues.declared.degradation.DegradationInfo.{DegradationInfo}
+use Rattle.iox_domain_subscriber.specs.DomainValues.declared.port_owner.PortIdentity.{PortIdentity}
+use Rattle.iox_domain_subscriber.specs.DomainValues.declared.port_owner.PortOwner.{PortOwner}
+use Rattle.iox_domain_subscriber.specs.DomainSender.declared.sender_config.SenderConfig.{SenderConfig}
+use Rattle.iox_domain_subscriber.specs.DomainPublisher.Leaving.{new_port}
+use Rattle.iox_domain_subscriber.specs.DomainPublisher.Updating as publisher
+use Rattle.iox_domain_subscriber.specs.DomainPublisher.declared.publisher_port.PublisherPort.{PublisherPort}
+use Rattle.iox_domain_subscriber.specs.DomainPublisher.declared.subscriber_entry.SubscriberEntry.{SubscriberEntry}
 use Rattle.iox_domain_subscriber.specs.Publishers.{added}
 use Rattle.iox_domain_subscriber.specs.Arriving.{new_subscriber}
 use Rattle.iox_domain_subscriber.specs.Updating as subscriber

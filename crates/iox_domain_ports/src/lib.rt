@@ -30,6 +30,7 @@ pub mod service_ports;
 pub mod subscribers;
 pub mod subscribing;
 
+pub use iox_domain_subscriber::{Sent, Taken};
 pub use making::{PublisherConfig, SubscriberConfig};
 pub use roll::Roll;
 pub use service_ports::ServicePorts;

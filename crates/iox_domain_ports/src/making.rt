@@ -1,14 +1,14 @@
 //! A publisher and a subscriber come.
 ghost use Rattle.std.specs.Prelude.{◌≡◌, ◌+◌, ◌<◌, ◌^◌, Some, IfSome};
-ghost use Rattle.iox_domain_values.specs.declared.degradation.DegradationCause.TheVariants as cause;
-ghost use Rattle.iox_domain_values.specs.Sizes.{buffer_of};
+ghost use Rattle.iox_domain_subscriber.specs.DomainValues.declared.degradation.DegradationCause.TheVariants as cause;
+ghost use Rattle.iox_domain_subscriber.specs.DomainValues.Sizes.{buffer_of};
 ghost use Rattle.iox_domain_ports.specs.Subscribers.{subscriber_of};
 ghost use Rattle.iox_domain_ports.specs.Making.{slots_needed, publisher_place, subscriber_place, publisher_refusal, subscriber_refusal, segments_of, sender_config, identity_of, AddsPublisher, CreatesPublisher, FollowsFirst, AddsSubscriber, CreatesSubscriber};
 
 use crate::service_ports::ServicePorts;
-use iox_domain_publisher::{PublisherPort, SubscriberEntry};
-use iox_domain_sender::SenderConfig;
-use iox_domain_subscriber::{PublisherEntry, SubscriberPort};
+use iox_domain_subscriber::{
+    PublisherEntry, PublisherPort, SenderConfig, SubscriberEntry, SubscriberPort,
+};
 use iox_domain_values::{
     AllocationStrategy, Degrades, Overrides, PortIdentity, PortOwner, PublisherCreateError,
     SubscriberCreateError, number_of_places,
@@ -75,7 +75,7 @@ impl<T: Copy, U: Copy> ServicePorts<T, U> {
         }
     }
 
-    /// Why a publisher of this config isn't made, if it isn't: for want of memory where nothing else forbids it.
+    /// Why a publisher of this config isn't made, if it isn't: where an allocation fails where nothing else forbids it.
     pub fn publisher_refusal(&self, config: &PublisherConfig) -> PublisherCreateError
         ensures { result ≡ publisher_refusal (slots_needed config.now self.now) (publisher_place self.now) }
     {
@@ -205,7 +205,7 @@ impl<T: Copy, U: Copy> ServicePorts<T, U> {
         }
     }
 
-    /// Why a subscriber that asks for such a buffer isn't made, if it isn't: for want of memory where nothing else forbids it.
+    /// Why a subscriber that asks for such a buffer isn't made, if it isn't: where an allocation fails where nothing else forbids it.
     pub fn subscriber_refusal(&self, buffer_size: Option<usize>) -> SubscriberCreateError
         ensures { result ≡ subscriber_refusal (buffer_of buffer_size self.now.sizes) (subscriber_place self.now) }
     {

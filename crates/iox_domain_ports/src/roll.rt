@@ -1,6 +1,6 @@
 //! The list of the ports of one kind.
 ghost use Rattle.std.specs.Prelude.{◌≡◌, ◌≤◌, length, replicate, IfOk, IfSome, IfNone};
-ghost use Rattle.iox_index_base.specs.Places.{padded};
+ghost use Rattle.iox_domain_subscriber.specs.IndexBase.Places.{padded};
 ghost use Rattle.iox_domain_ports.specs.Rolls.{new_roll, free_place, entered, left};
 
 use iox_index_base::{Container, Member, OwnerId, ReleaseMode};

@@ -4,8 +4,7 @@ ghost use Rattle.iox_domain_ports.specs.Ports.{no_ports};
 
 use crate::roll::Roll;
 use crate::subscribers::Subscribers;
-use iox_domain_publisher::SubscriberEntry;
-use iox_domain_subscriber::{PublisherEntry, Publishers};
+use iox_domain_subscriber::{PublisherEntry, Publishers, SubscriberEntry};
 use iox_domain_values::ServiceSizes;
 use std::alloc::{AllocError, Global};
 

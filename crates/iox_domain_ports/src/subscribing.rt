@@ -1,6 +1,6 @@
 //! A subscriber follows the publishers, receives, releases and leaves.
 ghost use Rattle.std.specs.Prelude.{◌≡◌, None};
-ghost use Rattle.iox_domain_values.specs.declared.degradation.DegradationCause.TheVariants as cause;
+ghost use Rattle.iox_domain_subscriber.specs.DomainValues.declared.degradation.DegradationCause.TheVariants as cause;
 ghost use Rattle.iox_domain_ports.specs.Ports.{AtSubscriber};
 ghost use Rattle.iox_domain_ports.specs.Subscribers.{subscriber_of};
 ghost use Rattle.iox_domain_ports.specs.Subscribing.{UpdatesOne, HasSamplesOne, ReceivesOne, LeavesOne, LeavesAt, counted_by, let_go, Releases};

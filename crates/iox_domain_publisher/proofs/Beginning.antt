@@ -1,7 +1,7 @@
 -- A loan that is out begins to be sent.
 use Rattle.std.proofs.Common.{◌≡◌, ◌<◌, ℕ, zero, suc, true, List, [], ◌∷◌, length, slice_get, Some, is_some, refl, ap}
 use Rattle.std.proofs.Common.{arith}
-use Rattle.iox_domain_slots.specs.Uses.{begun}
+use Rattle.iox_domain_sender.specs.DomainSlots.Uses.{begun}
 use Rattle.iox_domain_sender.specs.Messages.{Loan, sent_as}
 use Rattle.iox_domain_sender.specs.Sending.{SenderState, with_uses}
 

@@ -1,11 +1,11 @@
 -- What a loan comes to.
 use Rattle.std.proofs.Common.{rules, arith, ◌≡◌, inl, inr, ◌+◌, ◌<◌, ◌≤◌, ◌∙◌, ℕ, Bool, true, false, length, nat_lt, nat_le, is_some, Option, None, Some, Result, Ok, Err, refl, ap, if◌then◌else◌}
 use Rattle.std.proofs.Math.Logic.{⊎_elim}
-use Rattle.iox_domain_values.specs.declared.data_segment.AllocationStrategy.{AllocationStrategy}
-use Rattle.iox_domain_values.specs.declared.data_segment.AllocationStrategy.TheVariants as strategy
-use Rattle.iox_domain_values.specs.declared.port_error.LoanError.{LoanError}
-use Rattle.iox_domain_values.specs.declared.port_error.LoanError.TheVariants as refusal
-use Rattle.iox_domain_slots.specs.Uses.{in_use}
+use Rattle.iox_domain_sender.specs.DomainValues.declared.data_segment.AllocationStrategy.{AllocationStrategy}
+use Rattle.iox_domain_sender.specs.DomainValues.declared.data_segment.AllocationStrategy.TheVariants as strategy
+use Rattle.iox_domain_sender.specs.DomainValues.declared.port_error.LoanError.{LoanError}
+use Rattle.iox_domain_sender.specs.DomainValues.declared.port_error.LoanError.TheVariants as refusal
+use Rattle.iox_domain_sender.specs.DomainSlots.Uses.{in_use}
 use Rattle.iox_domain_sender.specs.Sending.{SenderState, slots_of, opened_for, LoanMade}
 use Rattle.iox_domain_publisher.proofs.Counted.{room_fits}
 use Rattle.iox_domain_publisher.specs.Lengths.{extent, SegmentRoom}

@@ -9,3 +9,5 @@ pub mod Enough
 pub mod Counted
 pub mod Lent
 pub mod Finding
+pub use Rattle.iox_domain_sender.proofs.DomainSlots as DomainSlots
+pub use Rattle.iox_domain_sender.proofs.IndexBase as IndexBase

@@ -13,3 +13,7 @@ pub mod Laws
 pub mod UpdateLaws
 pub mod Memory
 pub mod LoanLaws
+pub use Rattle.iox_domain_sender.specs as DomainSender
+pub use Rattle.iox_domain_sender.specs.DomainSlots as DomainSlots
+pub use Rattle.iox_domain_sender.specs.DomainValues as DomainValues
+pub use Rattle.iox_domain_sender.specs.IndexBase as IndexBase

@@ -1,11 +1,11 @@
 -- What a loan comes to, in other words than its steps.
 use Rattle.std.specs.Prelude.{ℕ, ◌+◌, ◌<◌, ◌≤◌, ◌≡◌, ◌⊎◌, ◌++◌, ◌∷◌, [], length, IsSome, Option, None, Some, Result, Ok, Err}
-use Rattle.iox_domain_values.specs.declared.data_segment.AllocationStrategy.{AllocationStrategy}
-use Rattle.iox_domain_values.specs.declared.data_segment.AllocationStrategy.TheVariants as strategy
-use Rattle.iox_domain_values.specs.declared.port_error.LoanError.{LoanError}
-use Rattle.iox_domain_values.specs.declared.port_error.LoanError.TheVariants as refusal
-use Rattle.iox_domain_slots.specs.Counting.{times}
-use Rattle.iox_domain_slots.specs.Uses.{in_use, worst_case}
+use Rattle.iox_domain_sender.specs.DomainValues.declared.data_segment.AllocationStrategy.{AllocationStrategy}
+use Rattle.iox_domain_sender.specs.DomainValues.declared.data_segment.AllocationStrategy.TheVariants as strategy
+use Rattle.iox_domain_sender.specs.DomainValues.declared.port_error.LoanError.{LoanError}
+use Rattle.iox_domain_sender.specs.DomainValues.declared.port_error.LoanError.TheVariants as refusal
+use Rattle.iox_domain_sender.specs.DomainSlots.Counting.{times}
+use Rattle.iox_domain_sender.specs.DomainSlots.Uses.{in_use, worst_case}
 use Rattle.iox_domain_sender.specs.Messages.{new_loan}
 use Rattle.iox_domain_sender.specs.Sending.{SenderState, slots_of, opened_for}
 use Rattle.iox_domain_publisher.specs.Lengths.{extent, SegmentRoom}

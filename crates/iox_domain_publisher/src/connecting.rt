@@ -1,12 +1,12 @@
 //! The connections of a publisher are made and ended.
 ghost use Rattle.std.specs.Prelude.{◌≡◌, ◌+◌, ◌<◌, ◌≤◌, ◌^◌, ◌&&◌, ◌==◌, length, get_or, None, Some, true};
-ghost use Rattle.iox_domain_slots.specs.declared.stage.Stage.TheVariants as stage;
+ghost use Rattle.iox_domain_sender.specs.DomainSlots.declared.stage.Stage.TheVariants as stage;
 ghost use Rattle.iox_domain_publisher.specs.Ports.{connection_of, is_live, connection_to, Connects, Joins, Attaches, attached_at, detached_at, ended_at, welcomed_at};
 ghost use Rattle.iox_domain_publisher.specs.Places.{reached};
 
 use crate::publisher_port::PublisherPort;
 use crate::reader::Reader;
-use iox_domain_slots::Stage;
+use iox_domain_sender::Stage;
 use std::alloc::{AllocError, Global};
 
 impl<T: Copy, U: Copy> PublisherPort<T, U> {
@@ -48,7 +48,7 @@ impl<T: Copy, U: Copy> PublisherPort<T, U> {
     }
 
     /// The index of the connection that leads to this subscriber; where there is none it is made, and nobody reads there yet. It
-    /// fails only where memory is wanting, and then nothing has changed.
+    /// fails only where an allocation fails, and then nothing has changed.
     pub fn join(
         &mut self,
         alloc: Global,
@@ -72,7 +72,7 @@ impl<T: Copy, U: Copy> PublisherPort<T, U> {
     }
 
     /// The subscriber attaches to its connection, which is made where there is none, and whose index is the answer. It fails only
-    /// where there is none and memory is wanting, and then nothing has changed.
+    /// where there is none and an allocation fails, and then nothing has changed.
     pub fn attach(
         &mut self,
         alloc: Global,

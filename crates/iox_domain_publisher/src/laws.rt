@@ -1,5 +1,5 @@
-//! Laws of what a publisher does, in other words than its steps. They stand on functions that do nothing.
-ghost use Rattle.iox_domain_values.specs.declared.degradation.DegradationCause.TheVariants as cause;
+//! Laws of what a publisher does, in other words than its steps. They are the contracts of functions that do nothing.
+ghost use Rattle.iox_domain_sender.specs.DomainValues.declared.degradation.DegradationCause.TheVariants as cause;
 ghost use Rattle.iox_domain_publisher.specs.Lengths.{CountsElements};
 ghost use Rattle.iox_domain_publisher.specs.LoanLaws.{LoanTells, NewSegmentIsFree};
 ghost use Rattle.iox_domain_publisher.specs.Memory.{NeedsNoMemory};
@@ -29,7 +29,7 @@ pub fn counts_elements()
     ensures { CountsElements }
 {}
 
-/// A segment that was just opened isn't full, where nothing in use stands past the segments before it.
+/// A segment that was just opened isn't full, where nothing in use is past the segments before it.
 pub fn new_segment_is_free<T, U>()
     ensures { NewSegmentIsFree T U }
 {}

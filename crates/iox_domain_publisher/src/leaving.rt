@@ -12,7 +12,7 @@ use std::alloc::{AllocError, Global};
 
 impl<T: Copy, U: Copy> PublisherPort<T, U> {
     /// A publisher that is connected to nobody yet, and is to be listed at its place, with room for so many places of the list of
-    /// subscribers, whose elements have so many values each. It fails only where memory is wanting.
+    /// subscribers, whose elements have so many values each. It fails only where an allocation fails.
     pub fn new(
         alloc: Global,
         identity: PortIdentity,

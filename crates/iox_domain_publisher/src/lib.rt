@@ -4,7 +4,7 @@
 //! - [`ties`]: which connection each place of a list is tied to.
 //! - [`meeting`]: what comes of a message at a place, and of a send.
 //! - [`reader`]: who a connection leads to.
-//! - [`subscriber_entry`]: what the list of subscribers tells of one.
+//! - [`subscriber_entry`]: what the list of subscribers says of one.
 //! - [`progress`]: how far a send is.
 //! - [`publisher_port`]: a publisher.
 //! - [`connecting`]: its connections are made and ended.
@@ -40,6 +40,7 @@ pub mod ties;
 pub mod updating;
 pub mod writing;
 
+pub use iox_domain_sender::{Member, SenderConfig, Stage};
 pub use meeting::{Meeting, Sent};
 pub use places::Places;
 pub use progress::Progress;

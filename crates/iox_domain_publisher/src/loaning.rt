@@ -10,13 +10,13 @@ use iox_domain_values::{AllocationStrategy, LoanError};
 use std::alloc::Global;
 
 impl<T: Copy, U: Copy> PublisherPort<T, U> {
-    /// Lends a slot for so many values, of which none is written, and answers the slot; the header of the message tells so many
+    /// Lends a slot for so many values, of which none is written, and answers the slot; the header of the message says so many
     /// elements. None, and nothing happens, while a send of this publisher waits.
     ///
     /// Refused, in this order, with `ExceedsMaxLoanSize` if the loan is longer than fits and the room stays as it was made; with
     /// `ExceedsMaxLoans` if as many loans are out as may be; with `OutOfMemory` if each slot of the current segment is in use. Other
     /// strategies open a new segment for a longer loan, and for nothing else; `OutOfMemory` is then that the segment would be longer
-    /// than 2^32 - 1, that there are as many segments as may be, or want of memory. Lengths are those of all values of so many elements,
+    /// than 2^32 - 1, that there are as many segments as may be, or a failed allocation. Lengths are those of all values of so many elements,
     /// and at least of so many values. A loan that fits takes no memory. With as many slots
     /// as the worst case needs one is always free, and a refusal changes nothing; with fewer a new segment may stay though nothing is
     /// lent. `blank` fills a new segment.

@@ -50,8 +50,8 @@ impl<A: Copy> Places<A> {
         }
     }
 
-    /// Reaches so many places at least, the new ones without a value. It fails only where they aren't reached yet and memory is
-    /// wanting, and then nothing has changed.
+    /// Reaches so many places at least, the new ones without a value. It fails only where they aren't reached yet and an allocation
+    /// fails, and then nothing has changed.
     pub fn reach(&mut self, count: usize) -> Result<(), AllocError>
         ensures ok { IfOk result (λ _. self.new ≡ reached count self.old) }
         ensures short { OnErr result (length self.old < count) }

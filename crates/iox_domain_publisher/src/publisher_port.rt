@@ -21,7 +21,7 @@ pub struct PublisherPort<T, U> {
     pub place: usize,
     /// How its room grows where a longer slice is asked for.
     pub allocation: AllocationStrategy,
-    /// How many values an element has: 1, but where the values are the bytes of a payload that only the description tells.
+    /// How many values an element has: 1, but where the values are the bytes of a payload that only the description says.
     pub unit: usize,
     /// Whether it is on the list of publishers: it didn't leave.
     pub stands: bool,

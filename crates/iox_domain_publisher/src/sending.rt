@@ -1,13 +1,13 @@
 //! A publisher sends.
 ghost use Rattle.std.specs.Prelude.{◌≡◌, ◌≢◌, ℕ, ◌+◌, ◌-◌, ◌<◌, ◌≤◌, ◌^◌, Ok, Err, length, get_or, is_some, true, None, Some, IfSome, IsSome};
-ghost use Rattle.iox_domain_values.specs.declared.degradation.DegradationCause.TheVariants as cause;
+ghost use Rattle.iox_domain_sender.specs.DomainValues.declared.degradation.DegradationCause.TheVariants as cause;
 ghost use Rattle.iox_domain_sender.specs.Sending.{is_written_at};
 ghost use Rattle.iox_domain_publisher.specs.declared.meeting.Meeting.TheVariants as meeting;
 ghost use Rattle.iox_domain_publisher.specs.declared.meeting.Sent.TheVariants as sent;
 ghost use Rattle.iox_domain_publisher.specs.Laws.{live_ties, ReachesAll};
 ghost use Rattle.iox_domain_publisher.specs.Memory.{HasRoom};
-ghost use Rattle.iox_domain_values.specs.declared.connection_failure.ConnectionFailure.{ConnectionFailure};
-ghost use Rattle.iox_domain_values.specs.declared.port_error.SendError.TheVariants as sending;
+ghost use Rattle.iox_domain_sender.specs.DomainValues.declared.connection_failure.ConnectionFailure.{ConnectionFailure};
+ghost use Rattle.iox_domain_sender.specs.DomainValues.declared.port_error.SendError.TheVariants as sending;
 ghost use Rattle.iox_domain_publisher.specs.Progress.{start, passed, counted, failing, tried_again};
 ghost use Rattle.iox_domain_publisher.specs.Sending.{meeting_of, meeting_at, put_at, met, with_progress, info_of, goes_on_by, decided_by, sent_answer, concluded, ready_loan, begun_at, dropped_at, Sends, Steps, Delivers, Finishes};
 
@@ -15,8 +15,8 @@ use crate::meeting::{Meeting, Sent};
 use crate::progress::Progress;
 use crate::publisher_port::PublisherPort;
 use crate::subscriber_entry::SubscriberEntry;
+use iox_domain_sender::Member;
 use iox_domain_values::{BackpressureDecision, BackpressureInfo, Decides, Degrades, SendError};
-use iox_index_base::Member;
 use std::alloc::Global;
 
 impl<T: Copy, U: Copy> PublisherPort<T, U> {
@@ -207,11 +207,11 @@ impl<T: Copy, U: Copy> PublisherPort<T, U> {
 
     /// Sends the written loan in this slot: it is a loan no longer, and the newest of the history; each connection that goes on takes
     /// it, in the order of the list of subscribers, which is followed first. With safe overflow a full mailbox lets its oldest go;
-    /// without it the handlers decide, and the send may wait. None, and nothing happens, where no written loan stands there or
+    /// without it the handlers decide, and the send may wait. None, and nothing happens, where no written loan is there or
     /// another send waits.
     ///
     /// Refused with `ConnectionBrokenSinceSenderNoLongerExists` if the publisher left, with `ConnectionError` where the list isn't
-    /// followed, which never is for want of memory where all that it needs is there; then the loan is given up, and nothing is sent. `UnableToDeliver` where a handler said so; what was delivered stays.
+    /// followed, which never is where an allocation fails where all that it needs is there; then the loan is given up, and nothing is sent. `UnableToDeliver` where a handler said so; what was delivered stays.
     ///
     /// Ported from `iceoryx2::port::publisher::Publisher::send`.
     pub fn send<B: Decides + Degrades>(

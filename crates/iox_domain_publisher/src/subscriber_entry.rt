@@ -1,6 +1,6 @@
-//! What the list of subscribers tells of one.
+//! What the list of subscribers says of one.
 
-/// What the list of subscribers tells of one.
+/// What the list of subscribers says of one.
 #[derive(Clone, Copy, Debug, PartialEq, Eq)]
 pub struct SubscriberEntry {
     /// The number of its port.

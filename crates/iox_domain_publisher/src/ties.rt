@@ -7,7 +7,7 @@ use std::alloc::{AllocError, Global};
 use std::marker::Model;
 
 /// For each place of a list of ports the number of a connection, or none. The room for all places of the list is taken when the ties
-/// are made, and touched as places are first reached: so a place is never wanting memory later.
+/// are made, and touched as places are first reached: so a place never needs an allocation later.
 #[derive(Drop)]
 pub struct Ties {
     items: Vec<Option<usize>>,
@@ -26,7 +26,7 @@ impl Model for Ties {
 }
 
 impl Ties {
-    /// Room for so many places, of which none is reached. It fails only where memory is wanting.
+    /// Room for so many places, of which none is reached. It fails only where an allocation fails.
     pub fn new(alloc: Global, room: usize) -> Result<Ties, AllocError>
         ensures { IfOk result (λ ties. ties ≡ no_ties room) }
     {

@@ -1,6 +1,6 @@
 //! A publisher follows the list of subscribers.
 ghost use Rattle.std.specs.Prelude.{◌≡◌, ℕ, ◌+◌, ◌-◌, ◌<◌, ◌≤◌, ◌^◌, Ok, IfOk, OnErr, length, get_or, None, Some};
-ghost use Rattle.iox_domain_values.specs.declared.degradation.DegradationCause.TheVariants as cause;
+ghost use Rattle.iox_domain_sender.specs.DomainValues.declared.degradation.DegradationCause.TheVariants as cause;
 ghost use Rattle.iox_domain_publisher.specs.Places.{leads_to};
 ghost use Rattle.iox_domain_publisher.specs.Ports.{with_connections};
 ghost use Rattle.iox_domain_publisher.specs.Memory.{HasRoom};
@@ -9,11 +9,11 @@ ghost use Rattle.iox_domain_publisher.specs.Updating.{is_tie_to, untied, untied_
 use crate::publisher_port::PublisherPort;
 use crate::reader::Reader;
 use crate::subscriber_entry::SubscriberEntry;
+use iox_domain_sender::Member;
 use iox_domain_values::{
     ConnectionFailure, DegradationAction, DegradationCause, DegradationInfo, Degrades,
     ZeroCopyCreationError,
 };
-use iox_index_base::Member;
 use std::alloc::{AllocError, Global};
 
 impl<T: Copy, U: Copy> PublisherPort<T, U> {
@@ -152,7 +152,7 @@ impl<T: Copy, U: Copy> PublisherPort<T, U> {
 
     /// Follows the list of subscribers, if it changed since it was last followed: the connections of those that left end, and those
     /// that came are connected, and get what they may of the history. A place behind the end of the list lists nobody. Where a connection isn't made the handler is asked; the answer is
-    /// the first failure that it degrades and fails, after all places were tried. A connection fails only where memory is wanting, and
+    /// the first failure that it degrades and fails, after all places were tried. A connection fails only where an allocation fails, and
     /// takes none where it is there already; and at a place behind as many subscribers as the publisher was made for.
     ///
     /// Ported from `iceoryx2::port::publisher::Publisher::update_connections`.

@@ -1,4 +1,4 @@
-//! What lies in a loan is written and read, and a loan is given up. A loan goes by its slot; where none stands there nothing happens.
+//! What lies in a loan is written and read, and a loan is given up. A loan goes by its slot; where there is none nothing happens.
 ghost use Rattle.std.specs.Prelude.{◌≡◌, length, is_some, option_copied, option_map};
 ghost use Rattle.std.specs.Borrow.{sem};
 ghost use Rattle.std.specs.Option.{option_copied_mut};
@@ -11,7 +11,7 @@ use crate::publisher_port::PublisherPort;
 impl<T: Copy, U: Copy> PublisherPort<T, U> {
     ghost use Rattle.iox_domain_publisher.specs.WritingLends.{LendsValue, LendsUserHeader};
 
-    /// Writes a value at a place of the loan in this slot; answers whether a loan stands there that has this place.
+    /// Writes a value at a place of the loan in this slot; answers whether a loan is there that has this place.
     ///
     /// Ported from writing through `iceoryx2::sample_mut_uninit::SampleMutUninit::payload_mut`.
     pub fn write(&mut self, slot: usize, place: usize, value: T) -> bool
@@ -25,7 +25,7 @@ impl<T: Copy, U: Copy> PublisherPort<T, U> {
         true
     }
 
-    /// Writes all values of the loan in this slot at once; answers whether a loan of as many stands there.
+    /// Writes all values of the loan in this slot at once; answers whether a loan of as many is there.
     ///
     /// Ported from `iceoryx2::sample_mut_uninit::SampleMutUninit::write_from_slice`, which panics at another length.
     pub fn write_from_slice(&mut self, slot: usize, values: &[T]) -> bool
@@ -39,7 +39,7 @@ impl<T: Copy, U: Copy> PublisherPort<T, U> {
         true
     }
 
-    /// Writes the one value of the loan in this slot; answers whether a loan of one value stands there.
+    /// Writes the one value of the loan in this slot; answers whether a loan of one value is there.
     ///
     /// Ported from `iceoryx2::sample_mut_uninit::SampleMutUninit::write_payload`.
     pub fn write_payload(&mut self, slot: usize, value: T) -> bool
@@ -53,7 +53,7 @@ impl<T: Copy, U: Copy> PublisherPort<T, U> {
         true
     }
 
-    /// Writes the user header of the loan in this slot; answers whether one stands there.
+    /// Writes the user header of the loan in this slot; answers whether one is there.
     ///
     /// Ported from writing through `iceoryx2::sample_mut_uninit::SampleMutUninit::user_header_mut`.
     pub fn write_user_header(&mut self, slot: usize, user_header: U) -> bool
@@ -67,7 +67,7 @@ impl<T: Copy, U: Copy> PublisherPort<T, U> {
         true
     }
 
-    /// The value at a place of the loan in this slot, if a loan stands there that has this place, and it is written.
+    /// The value at a place of the loan in this slot, if a loan is there that has this place, and it is written.
     pub fn value(&self, slot: usize, place: usize) -> Option<&T>
         ensures { option_copied result ≡ value_at place (loan_of slot self.now) }
     {
@@ -77,7 +77,7 @@ impl<T: Copy, U: Copy> PublisherPort<T, U> {
         self.sender.value(slot, place)
     }
 
-    /// The value at a place of the loan in this slot, to be changed there, if a loan stands there that has this place, and it is written.
+    /// The value at a place of the loan in this slot, to be changed there, if a loan is there that has this place, and it is written.
     ///
     /// Ported from changing it through `iceoryx2::sample_mut::SampleMut::payload_mut`.
     pub fn value_mut(&mut self, slot: usize, place: usize) -> Option<&mut T>
@@ -91,7 +91,7 @@ impl<T: Copy, U: Copy> PublisherPort<T, U> {
         }
     }
 
-    /// The values of the loan in this slot, if a loan stands there of which each value is written.
+    /// The values of the loan in this slot, if a loan is there of which each value is written.
     ///
     /// Ported from `iceoryx2::sample_mut::SampleMut::payload`.
     pub fn values(&self, slot: usize) -> Option<&[T]>
@@ -104,7 +104,7 @@ impl<T: Copy, U: Copy> PublisherPort<T, U> {
         Some(self.sender.loan_values(at))
     }
 
-    /// How many elements the loan in this slot has, if one stands there.
+    /// How many elements the loan in this slot has, if one is there.
     pub fn elements(&self, slot: usize) -> Option<u64>
         ensures { result ≡ option_map (λ loan. loan.elements) (loan_of slot self.now) }
     {
@@ -114,7 +114,7 @@ impl<T: Copy, U: Copy> PublisherPort<T, U> {
         Some(self.sender.loan_elements(slot))
     }
 
-    /// The user header of the loan in this slot, if one stands there.
+    /// The user header of the loan in this slot, if one is there.
     ///
     /// Ported from `iceoryx2::sample_mut_uninit::SampleMutUninit::user_header`.
     pub fn user_header(&self, slot: usize) -> Option<&U>
@@ -126,7 +126,7 @@ impl<T: Copy, U: Copy> PublisherPort<T, U> {
         Some(self.sender.loan_user_header(slot))
     }
 
-    /// The user header of the loan in this slot, to be changed there, if one stands there.
+    /// The user header of the loan in this slot, to be changed there, if one is there.
     ///
     /// Ported from `iceoryx2::sample_mut_uninit::SampleMutUninit::user_header_mut`.
     pub fn user_header_mut(&mut self, slot: usize) -> Option<&mut U>
@@ -140,7 +140,7 @@ impl<T: Copy, U: Copy> PublisherPort<T, U> {
         }
     }
 
-    /// Whether a loan stands in this slot of which each value is written: the condition of its send.
+    /// Whether a loan is in this slot of which each value is written: the condition of its send.
     pub fn is_written(&self, slot: usize) -> bool
         ensures { result ≡ is_written_loan (loan_of slot self.now) }
     {

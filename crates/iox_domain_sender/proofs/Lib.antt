@@ -12,3 +12,6 @@ pub mod Opening
 pub mod Fullness
 pub mod Holding
 pub mod Inside
+pub use Rattle.iox_domain_slots.proofs as DomainSlots
+pub use Rattle.iox_domain_values.proofs as DomainValues
+pub use Rattle.iox_domain_slots.proofs.IndexBase as IndexBase

@@ -2,7 +2,7 @@
 use Rattle.std.proofs.Common.{◌≡◌, ◌+◌, ◌-◌, ◌∷◌, [], ◌++◌, ℕ, zero, suc, Bool, true, false, nat_lt, if◌then◌else◌, List, length, get_or, map, take, drop, remove, position, ◌==◌, cond, not, Some, refl, sym, ap, ◌∙◌}
 use Rattle.std.proofs.lemmas.List.{map-set, map-append, length-map}
 use Rattle.std.specs.List.{position_or_len}
-use Rattle.iox_queues_base.specs.Waiting.{put, put_over}
+use Rattle.iox_domain_slots.specs.QueuesBase.Waiting.{put, put_over}
 use Rattle.iox_domain_slots.specs.declared.stage.Stage.{Stage}
 use Rattle.iox_domain_slots.specs.declared.stage.Stage.TheVariants as stage
 use Rattle.iox_domain_slots.specs.Uses.{Uses, Connection, nobody, placed, offered, taken, given_back, settled, ended, newest, loaned, dropped, begun, connection_at, with_connection, welcomed}

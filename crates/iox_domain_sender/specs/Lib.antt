@@ -7,3 +7,6 @@ pub mod Laws
 pub mod RowsLends
 pub mod PayloadsLends
 pub mod SenderLends
+pub use Rattle.iox_domain_slots.specs as DomainSlots
+pub use Rattle.iox_domain_values.specs as DomainValues
+pub use Rattle.iox_domain_slots.specs.IndexBase as IndexBase

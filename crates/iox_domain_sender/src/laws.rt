@@ -1,7 +1,7 @@
-//! Laws of the steps of a publisher, in other words than theirs. They stand on functions that do nothing.
+//! Laws of the steps of a publisher, in other words than theirs. They are the contracts of functions that do nothing.
 ghost use Rattle.iox_domain_sender.specs.Laws.{FullExactlyIf, HeldStays, WholeIsSent};
 
-/// Something in use stands in each slot of a segment exactly if as many different loans and messages of it are in use as it has
+/// Something in use is in each slot of a segment exactly if as many different loans and messages of it are in use as it has
 /// slots: that is when `Sender::loan` makes none.
 pub fn full_exactly_if()
     ensures { FullExactlyIf }

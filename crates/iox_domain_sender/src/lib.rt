@@ -1,4 +1,4 @@
-//! One publisher: its messages and loans by what they hold, over the slots that they stand in.
+//! One publisher: its messages and loans by what they hold, over the slots that they are in.
 //!
 //! - [`rows`]: the values of the slots of one segment.
 //! - [`payloads`]: the values of the slots of all segments.
@@ -25,6 +25,7 @@ pub mod sender;
 pub mod sender_config;
 pub mod slot_header;
 
+pub use iox_domain_slots::{Member, Stage};
 pub use payloads::Payloads;
 pub use sender::Sender;
 pub use sender_config::SenderConfig;

@@ -48,7 +48,7 @@ impl Model for Marks {
 }
 
 impl Marks {
-    /// No slots, to come in at most so many segments of this size. It fails only where memory is wanting.
+    /// No slots, to come in at most so many segments of this size. It fails only where an allocation fails.
     pub fn new(alloc: Global, size: usize, most_segments: usize) -> Result<Marks, AllocError>
         ensures { IfOk result (λ made. made ≡ record { size = size; segments = 0; most_segments = most_segments; room = 0; payloads = [] }) }
     {

@@ -1,4 +1,4 @@
-//! The values that stand in the slots of a publisher.
+//! The values in the slots of a publisher.
 ghost use Rattle.std.specs.Prelude.{◌≡◌, ◌+◌, ◌-◌, ◌*◌, ◌/◌, ◌%◌, ◌<◌, ◌≤◌, ◌++◌, length, get_or, set, replicate, [], IfOk};
 ghost use Rattle.std.specs.Borrow.{sem};
 ghost use Rattle.iox_domain_sender.specs.Payloads.{PayloadsState, payload_at, with_payload};
@@ -38,7 +38,7 @@ impl<T> Model for Payloads<T> {
 impl<T: Copy> Payloads<T> {
     ghost use Rattle.iox_domain_sender.specs.PayloadsLends.{LendsInSlot};
 
-    /// No slots, to come in at most so many segments of this size. It fails only where memory is wanting.
+    /// No slots, to come in at most so many segments of this size. It fails only where an allocation fails.
     pub fn new(alloc: Global, size: usize, most_segments: usize) -> Result<Payloads<T>, AllocError>
         ensures { IfOk result (λ made. made ≡ record { size = size; segments = 0; most_segments = most_segments; room = 0; payloads = [] }) }
     {
@@ -58,7 +58,7 @@ impl<T: Copy> Payloads<T> {
         self.segments.push_reserved(segment);
     }
 
-    /// Gives a slot of the last segment so many values, whichever stand there.
+    /// Gives a slot of the last segment so many values, whichever are there.
     pub fn set_length(&mut self, slot: usize, count: usize)
         requires slot { slot < length self.old.payloads }
         requires last { length self.old.payloads ≤ slot + self.old.size }
@@ -71,7 +71,7 @@ impl<T: Copy> Payloads<T> {
         segment.set_length(row, count);
     }
 
-    /// Puts these values into a slot, in the place of as many that stand there.
+    /// Puts these values into a slot, in the place of as many that are there.
     pub fn copy(&mut self, slot: usize, values: &[T])
         requires slot { slot < length self.old.payloads }
         requires length { length values.now ≡ length (payload_at slot self.old) }
@@ -113,7 +113,7 @@ impl<T: Copy> Payloads<T> {
         segment.row(row)
     }
 
-    /// How many values may stand in a slot of the last segment.
+    /// How many values may be in a slot of the last segment.
     pub fn room(&self) -> usize
         ensures { result ≡ self.now.room }
     {

@@ -30,7 +30,7 @@ impl<T> Model for Rows<T> {
 impl<T: Copy> Rows<T> {
     ghost use Rattle.iox_domain_sender.specs.RowsLends.{LendsInRow};
 
-    /// Rows without a value, with this room each. It fails only where memory is wanting.
+    /// Rows without a value, with this room each. It fails only where an allocation fails.
     pub fn new(alloc: Global, rows: usize, room: usize, blank: T) -> Result<Rows<T>, AllocError>
         ensures { IfOk result (λ made. made ≡ record { room = room; rows = replicate rows [] }) }
     {
@@ -44,14 +44,14 @@ impl<T: Copy> Rows<T> {
         })
     }
 
-    /// How many values may stand in a row.
+    /// How many values may be in a row.
     pub fn room(&self) -> usize
         ensures { result ≡ self.now.room }
     {
         self.room
     }
 
-    /// Gives a row so many values, whichever stand there.
+    /// Gives a row so many values, whichever are there.
     pub fn set_length(&mut self, row: usize, count: usize)
         requires row { row < length self.old.rows }
         requires room { count ≤ self.old.room }
@@ -61,7 +61,7 @@ impl<T: Copy> Rows<T> {
         self.lengths[row] = count;
     }
 
-    /// Puts these values into a row, in the place of as many that stand there.
+    /// Puts these values into a row, in the place of as many that are there.
     pub fn copy(&mut self, row: usize, values: &[T])
         requires row { row < length self.old.rows }
         requires length { length values.now ≡ length (row_at row self.old) }

@@ -42,7 +42,7 @@ impl<T: Copy, U: Copy> Sender<T, U> {
     ghost use Rattle.iox_domain_sender.specs.SenderLends.{LendsValue, LendsUserHeader};
 
     /// A publisher with one segment of slots, of which none is in use. `blank` fills the slots, and a new loan has this user
-    /// header. It fails only where memory is wanting.
+    /// header. It fails only where an allocation fails.
     pub fn new(
         alloc: Global,
         config: SenderConfig,
@@ -154,14 +154,14 @@ impl<T: Copy, U: Copy> Sender<T, U> {
         self.written.are_all(self.uses.lent(at))
     }
 
-    /// Whether a loan stands in this slot: the condition of writing its user header.
+    /// Whether a loan is in this slot: the condition of writing its user header.
     pub fn has_loan(&self, slot: usize) -> bool
         ensures { result ≡ has_loan slot self.now.uses }
     {
         self.uses.place_of_loan(slot).is_some()
     }
 
-    /// Whether a loan stands in this slot and has this place: the condition of writing there.
+    /// Whether a loan is in this slot and has this place: the condition of writing there.
     pub fn has_place(&self, slot: usize, place: usize) -> bool
         ensures { result ≡ has_place slot place self.now.uses }
     {
@@ -192,7 +192,7 @@ impl<T: Copy, U: Copy> Sender<T, U> {
         Some(&self.values.values(slot)[place])
     }
 
-    /// Whether a loan stands in this slot of which the value at this place is written: the condition of changing it there.
+    /// Whether a loan is in this slot of which the value at this place is written: the condition of changing it there.
     pub fn has_value(&self, slot: usize, place: usize) -> bool
         ensures { result ≡ has_value slot place self.now.uses }
     {
@@ -255,7 +255,7 @@ impl<T: Copy, U: Copy> Sender<T, U> {
         self.uses.begin_send(at)
     }
 
-    /// Whether there is such a slot: the condition of reading what stands there.
+    /// Whether there is such a slot: the condition of reading what is there.
     pub fn has_slot(&self, slot: usize) -> bool
         ensures { result ≡ nat_lt slot (self.now.uses.first + self.now.uses.size) }
     {
@@ -287,7 +287,7 @@ impl<T: Copy, U: Copy> Sender<T, U> {
     }
 
     /// Opens a segment of as many slots, in which loans may have so many values; only its slots are lent from now on, and each of them
-    /// is free. What is in use stays as it is. It fails only where memory is wanting, and then nothing has changed.
+    /// is free. What is in use stays as it is. It fails only where an allocation fails, and then nothing has changed.
     pub fn open_segment(&mut self, alloc: Global, room: usize, blank: T) -> Result<(), AllocError>
         requires { self.old.segments < self.old.most_segments }
         ensures opened { IfOk result (λ _. self.new ≡ opened_for room self.old) }
@@ -367,7 +367,7 @@ impl<T: Copy, U: Copy> Sender<T, U> {
     }
 
     /// Makes a connection where at most `limit` messages may wait, and answers its index, at which there was none. It fails where
-    /// memory is wanting, and then nothing has changed.
+    /// an allocation fails, and then nothing has changed.
     pub fn connect(&mut self, alloc: Global, limit: usize) -> Result<usize, AllocError>
         requires { limit ≤ self.old.uses.most_waiting }
         ensures vacant { IfOk result (λ index. connection_at index self.old.uses ≡ nobody) }

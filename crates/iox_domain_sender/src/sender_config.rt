@@ -9,7 +9,7 @@ pub struct SenderConfig {
     pub slots: usize,
     /// How many segments there may be, at least 1.
     pub most_segments: usize,
-    /// How many values stand in a slot of the first segment at most.
+    /// How many values are in a slot of the first segment at most.
     pub room: usize,
     /// How many loans may be out.
     pub most_loans: usize,

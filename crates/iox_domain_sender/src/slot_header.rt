@@ -1,6 +1,6 @@
-//! What is told of the message in a slot.
+//! What is said of the message in a slot.
 
-/// What is told of the message that stands in a slot.
+/// What is said of the message that is in a slot.
 ///
 /// Ported from `iceoryx2::service::header::publish_subscribe::Header`, without what all messages of a publisher share.
 #[derive(Clone, Copy)]

@@ -2,12 +2,12 @@
 use Rattle.std.proofs.Common.{arith, ◌≡◌, ◌≤◌, ◌⊎◌, inl, inr, ◌∙◌, None, Some, refl, sym, ap}
 use Rattle.std.proofs.Math.Logic.{⊎_elim}
 use Rattle.std.proofs.lemmas.Bool.{cases_Bool}
-use Rattle.iox_describe_base.specs.Detail.{Detail}
-use Rattle.iox_describe_base.specs.Compatible.{same_detail, IsCompatible}
-use Rattle.iox_describe_base.proofs.CompatibleLemmas.{compatible-true, compatible-from, same_detail-true, same_detail-refl}
-use Rattle.iox_describe_base.specs.declared.type_detail.TypeVariant.{TypeVariant}
-use Rattle.iox_describe_base.specs.declared.type_detail.TypeVariant.TheVariants.{FixedSize, Dynamic}
-use Rattle.iox_describe_base.specs.declared.message_type.MessageTypeDetails.{MessageTypeDetails}
+use Rattle.iox_describe_settings.specs.DescribeBase.Detail.{Detail}
+use Rattle.iox_describe_settings.specs.DescribeBase.Compatible.{same_detail, IsCompatible}
+use Rattle.iox_describe_settings.proofs.DescribeBase.CompatibleLemmas.{compatible-true, compatible-from, same_detail-true, same_detail-refl}
+use Rattle.iox_describe_settings.specs.DescribeBase.declared.type_detail.TypeVariant.{TypeVariant}
+use Rattle.iox_describe_settings.specs.DescribeBase.declared.type_detail.TypeVariant.TheVariants.{FixedSize, Dynamic}
+use Rattle.iox_describe_settings.specs.DescribeBase.declared.message_type.MessageTypeDetails.{MessageTypeDetails}
 use Rattle.iox_domain_settings.specs.Fitting.{any_payload, any_user_header, stood_for, asked_types, FitTypes}
 use Rattle.iox_domain_settings.specs.Laws.{TypesFit, FitMeans, WhatFitsHasSizes}
 

@@ -1,10 +1,10 @@
 -- Whether the messages that a description tells of can hold values of given types.
 use Rattle.std.specs.Prelude.{◌≡◌, ◌⊎◌, true, codes, if◌then◌else◌}
-use Rattle.iox_describe_base.specs.Detail.{Detail, detail}
-use Rattle.iox_describe_base.specs.Compatible.{same_detail, is_compatible}
-use Rattle.iox_describe_base.specs.declared.type_detail.TypeVariant.{TypeVariant}
-use Rattle.iox_describe_base.specs.declared.type_detail.TypeVariant.TheVariants.{FixedSize, Dynamic}
-use Rattle.iox_describe_base.specs.declared.message_type.MessageTypeDetails.{MessageTypeDetails}
+use Rattle.iox_describe_settings.specs.DescribeBase.Detail.{Detail, detail}
+use Rattle.iox_describe_settings.specs.DescribeBase.Compatible.{same_detail, is_compatible}
+use Rattle.iox_describe_settings.specs.DescribeBase.declared.type_detail.TypeVariant.{TypeVariant}
+use Rattle.iox_describe_settings.specs.DescribeBase.declared.type_detail.TypeVariant.TheVariants.{FixedSize, Dynamic}
+use Rattle.iox_describe_settings.specs.DescribeBase.declared.message_type.MessageTypeDetails.{MessageTypeDetails}
 use Rattle.iox_describe_settings.specs.Agreement.{AreWithinLimits}
 use Rattle.iox_describe_settings.specs.declared.static_config.Settings.{Settings}
 use Rattle.iox_describe_settings.specs.declared.static_config.Settings.TheVariants.{PublishSubscribe}

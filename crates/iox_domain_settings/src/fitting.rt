@@ -1,7 +1,7 @@
 //! Whether the messages that a description tells of can hold values of given types.
 ghost use Rattle.std.specs.Prelude.{◌≡◌, ◌↔◌, IsTrue};
-ghost use Rattle.iox_describe_base.specs.Detail.{detail};
-ghost use Rattle.iox_describe_base.specs.declared.type_detail.TypeVariant.TheVariants.{FixedSize};
+ghost use Rattle.iox_describe_settings.specs.DescribeBase.Detail.{detail};
+ghost use Rattle.iox_describe_settings.specs.DescribeBase.declared.type_detail.TypeVariant.TheVariants.{FixedSize};
 ghost use Rattle.iox_domain_settings.specs.Fitting.{any_payload, any_user_header, stood_for, asked_types, FitTypes, Fits, HoldsSlices};
 
 use crate::custom::{CustomHeaderMarker, CustomPayloadMarker};

@@ -1,4 +1,4 @@
-//! Laws of what fits, in other words. They stand on functions that do nothing.
+//! Laws of what fits, in other words. They are the contracts of functions that do nothing.
 ghost use Rattle.iox_domain_settings.specs.Laws.{FitMeans, WhatFitsHasSizes};
 
 /// What it means that the types of messages fit: what is equal, what is at most, and what the markers leave open.

@@ -7,3 +7,4 @@ pub mod AllSlots
 pub mod Publishing
 pub mod Enough
 pub mod Welcoming
+pub use Rattle.iox_index_base.proofs as IndexBase

@@ -26,6 +26,7 @@ pub mod slots;
 pub mod stage;
 pub mod uses;
 
+pub use iox_index_base::Member;
 pub use slots::Slots;
 pub use stage::Stage;
 pub use uses::SlotUses;

@@ -268,7 +268,7 @@ impl Links {
         Ok(())
     }
 
-    /// Makes a connection where at most `limit` may wait, and answers its index. It fails where memory is wanting, and then
+    /// Makes a connection where at most `limit` may wait, and answers its index. It fails where an allocation fails, and then
     /// nothing has changed.
     pub fn connect(&mut self, alloc: Global, limit: usize) -> Result<usize, AllocError>
         requires { limit ≤ self.old.most_waiting }

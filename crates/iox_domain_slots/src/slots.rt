@@ -173,7 +173,7 @@ impl Slots {
     }
 
     /// Opens a segment of as many slots as the current one has, which is the current one from now on: the free slots of the
-    /// former ones are lent no more. It fails only where memory is wanting, and then nothing has changed.
+    /// former ones are lent no more. It fails only where an allocation fails, and then nothing has changed.
     pub fn open_segment(&mut self, alloc: Global) -> Result<(), AllocError>
         ensures opened { IfOk result (λ _. self.new ≡ record self.old {
           first = self.old.first + self.old.size;

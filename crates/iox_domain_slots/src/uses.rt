@@ -130,8 +130,8 @@ impl SlotUses {
         self.links.end(index, &mut self.slots);
     }
 
-    /// Makes a connection where at most `limit` may wait, and answers its index, at which there was none. It fails where memory
-    /// is wanting, and then nothing has changed.
+    /// Makes a connection where at most `limit` may wait, and answers its index, at which there was none. It fails where an allocation
+    /// fails, and then nothing has changed.
     pub fn connect(&mut self, alloc: Global, limit: usize) -> Result<usize, AllocError>
         requires { limit ≤ self.old.most_waiting }
         ensures vacant { IfOk result (λ index. connection_at index self.old ≡ nobody) }
@@ -143,7 +143,7 @@ impl SlotUses {
     }
 
     /// Slots of which none is in use, in one segment, and room for so many loans, so long a history, and connections of which at
-    /// most so many messages wait and so many are borrowed. It fails only where memory is wanting.
+    /// most so many messages wait and so many are borrowed. It fails only where an allocation fails.
     pub fn new(
         alloc: Global,
         overflows: bool,
@@ -179,7 +179,7 @@ impl SlotUses {
     }
 
     /// Opens a segment of as many slots as the current one has, which is the current one from now on: slots of the former ones
-    /// are lent no more, and stay in use as they were. It fails only where memory is wanting, and then nothing has changed.
+    /// are lent no more, and stay in use as they were. It fails only where an allocation fails, and then nothing has changed.
     pub fn open_segment(&mut self, alloc: Global) -> Result<(), AllocError>
         ensures opened { IfOk result (λ _. self.new ≡ segment_opened self.old) }
         ensures refused { OnErr result (self.new ≡ self.old) }

@@ -1,7 +1,7 @@
 -- Whether one of the connections is there.
 use Rattle.std.proofs.Common.{rules, arith, ◌≡◌, ◌<◌, ◌+◌, ◌||◌, ◌∷◌, [], ℕ, zero, suc, Bool, true, false, nat_lt, List, length, get_or, refl, ap, ◌∙◌}
 use Rattle.std.specs.List.{list_any}
-use Rattle.iox_domain_slots.specs.Uses.{Connection, nobody, is_there}
+use Rattle.iox_domain_publisher.specs.DomainSlots.Uses.{Connection, nobody, is_there}
 
 -- none of the first so many is there
 abbrev pub NoneBelow : {X : Type 0} → List (Connection X) → ℕ → Type 0

@@ -1,7 +1,7 @@
 -- Where attaching to a publisher may fail.
 use Rattle.std.proofs.Common.{arith, ◌≡◌, ◌≢◌, ◌<◌, ◌==◌, ◌||◌, ◌∷◌, [], ℕ, Bool, true, false, nat_le, List, length, Result, Ok, Err, Option, None, Some, refl}
 use Rattle.std.specs.declared.alloc.AllocError.{AllocError}
-use Rattle.iox_domain_values.specs.declared.connection_failure.ZeroCopyCreationError.{ZeroCopyCreationError}
+use Rattle.iox_domain_publisher.specs.DomainValues.declared.connection_failure.ZeroCopyCreationError.{ZeroCopyCreationError}
 use Rattle.iox_domain_publisher.specs.declared.publisher_port.PublisherPort.{PublisherPort}
 use Rattle.iox_domain_subscriber.specs.Publishers.{port_of, AttachesTo, AttachesAtPort}
 use Rattle.iox_domain_subscriber.specs.Following.{lacks_connection, may_fail, Connects, AttachesAtOnce}

@@ -1,7 +1,7 @@
 -- A subscriber comes.
 use Rattle.std.specs.Prelude.{ℕ, ◌+◌, [], replicate, None, true}
 use Rattle.std.specs.List.{range_with_len}
-use Rattle.iox_domain_values.specs.declared.port_owner.PortIdentity.{PortIdentity}
+use Rattle.iox_domain_publisher.specs.DomainValues.declared.port_owner.PortIdentity.{PortIdentity}
 use Rattle.iox_domain_publisher.specs.Ties.{no_ties}
 use Rattle.iox_domain_subscriber.specs.declared.subscriber_port.SubscriberPort.{SubscriberPort}
 

@@ -2,8 +2,8 @@
 use Rattle.std.specs.Prelude.{ℕ, ◌+◌, ◌<◌, ◌==◌, ◌≡◌, ◌≢◌, ◌||◌, is_none, Bool, true, false, List, [], length, get_or, slice_get, nat_le, Option, None, Some, Result, Ok, Err}
 use Rattle.std.specs.declared.alloc.AllocError.{AllocError}
 use Rattle.iox_maps.specs.SlotTable.{stored}
-use Rattle.iox_domain_values.specs.declared.connection_failure.ZeroCopyCreationError.{ZeroCopyCreationError}
-use Rattle.iox_domain_values.specs.declared.connection_failure.ZeroCopyCreationError.TheVariants as creation
+use Rattle.iox_domain_publisher.specs.DomainValues.declared.connection_failure.ZeroCopyCreationError.{ZeroCopyCreationError}
+use Rattle.iox_domain_publisher.specs.DomainValues.declared.connection_failure.ZeroCopyCreationError.TheVariants as creation
 use Rattle.iox_domain_publisher.specs.Ties.{ties_reached, tie_put}
 use Rattle.iox_domain_publisher.specs.Ports.{connection_to}
 use Rattle.iox_domain_publisher.specs.declared.publisher_port.PublisherPort.{PublisherPort}

@@ -1,6 +1,6 @@
 -- What the steps of a subscriber come to, in other words.
 use Rattle.std.specs.Prelude.{ℕ, ◌≡◌, true, List, Option, Some, Result, Ok}
-use Rattle.iox_domain_values.specs.declared.port_error.ReceiveError.{ReceiveError}
+use Rattle.iox_domain_publisher.specs.DomainValues.declared.port_error.ReceiveError.{ReceiveError}
 use Rattle.iox_domain_publisher.specs.declared.publisher_port.PublisherPort.{PublisherPort}
 use Rattle.iox_domain_subscriber.specs.Subscribing.{gives}
 use Rattle.iox_domain_subscriber.specs.Receiving.{Receives}

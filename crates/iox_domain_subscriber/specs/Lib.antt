@@ -10,3 +10,10 @@ pub mod Updating
 pub mod Laws
 pub mod Arriving
 pub mod Living
+pub use Rattle.iox_maps.specs.Container as Container
+pub use Rattle.iox_domain_publisher.specs as DomainPublisher
+pub use Rattle.iox_domain_publisher.specs.DomainSender as DomainSender
+pub use Rattle.iox_domain_publisher.specs.DomainSlots as DomainSlots
+pub use Rattle.iox_domain_publisher.specs.DomainValues as DomainValues
+pub use Rattle.iox_domain_publisher.specs.IndexBase as IndexBase
+pub use Rattle.iox_maps.specs as Maps

@@ -1,8 +1,8 @@
 -- How a subscriber receives.
 use Rattle.std.specs.Prelude.{ℕ, zero, suc, ◌+◌, ◌≡◌, ◌<◌, ◌⊎◌, Bool, true, false, List, [], ◌∷◌, length, get_or, slice_get, remove, Option, None, Some, Result, Ok, Err, if◌then◌else◌}
-use Rattle.iox_domain_values.specs.declared.port_error.ReceiveError.{ReceiveError}
-use Rattle.iox_domain_values.specs.declared.port_error.ReceiveError.TheVariants as receiving
-use Rattle.iox_domain_slots.specs.Uses.{is_there}
+use Rattle.iox_domain_publisher.specs.DomainValues.declared.port_error.ReceiveError.{ReceiveError}
+use Rattle.iox_domain_publisher.specs.DomainValues.declared.port_error.ReceiveError.TheVariants as receiving
+use Rattle.iox_domain_publisher.specs.DomainSlots.Uses.{is_there}
 use Rattle.iox_domain_publisher.specs.Ports.{detached_at}
 use Rattle.iox_domain_publisher.specs.declared.publisher_port.PublisherPort.{PublisherPort}
 use Rattle.iox_domain_subscriber.specs.Publishers.{changed, stands_in}

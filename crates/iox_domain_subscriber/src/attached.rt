@@ -16,7 +16,7 @@ pub struct Taken {
     pub publisher: u64,
     /// The index of the connection that it came through.
     pub index: usize,
-    /// The slot that it stands in.
+    /// The slot that it is in.
     pub slot: usize,
 }
 

@@ -24,7 +24,7 @@ impl Model for Keys {
 }
 
 impl Keys {
-    /// No keys, and room for so many. It fails only where memory is wanting.
+    /// No keys, and room for so many. It fails only where an allocation fails.
     pub fn new(alloc: Global, room: usize) -> Result<Keys, AllocError>
         ensures { IfOk result (λ keys. keys ≡ record { items = []; room = room }) }
     {

@@ -1,4 +1,4 @@
-//! Laws of the steps of a subscriber, in other words than theirs. They stand on functions that do nothing.
+//! Laws of the steps of a subscriber, in other words than theirs. They are the contracts of functions that do nothing.
 ghost use Rattle.iox_domain_subscriber.specs.Laws.{ReceivesIfGiven};
 
 /// A subscriber receives a message exactly if some connection below the limit of borrows has data, and is then not refused.

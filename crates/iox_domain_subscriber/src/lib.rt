@@ -6,7 +6,7 @@
 //! - [`attached`]: where a subscriber reads.
 //! - [`subscriber_port`]: a subscriber.
 //! - [`receiving`]: it receives.
-//! - [`publisher_entry`]: what the list of publishers tells of one.
+//! - [`publisher_entry`]: what the list of publishers says of one.
 //! - `expired`: what it looks for among its expired connections.
 //! - [`following`]: it follows one place of that list.
 //! - [`updating`]: it follows all of them.
@@ -34,6 +34,7 @@ pub mod subscriber_port;
 pub mod updating;
 
 pub use attached::{Attached, Taken};
+pub use iox_domain_publisher::{PublisherPort, SenderConfig, Sent, SubscriberEntry};
 pub use keys::Keys;
 pub use publisher_entry::PublisherEntry;
 pub use publishers::Publishers;

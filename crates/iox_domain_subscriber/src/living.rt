@@ -1,11 +1,11 @@
-//! How much lives: ports that stand, loans and samples.
+//! How much lives: ports that exist, loans and samples.
 ghost use Rattle.std.specs.Prelude.{◌≡◌, ◌+◌, ◌-◌, ◌^◌, min};
 ghost use Rattle.iox_domain_subscriber.specs.Living.{living_of_publisher, living_of_subscriber, counted};
 
 use crate::subscriber_port::SubscriberPort;
 use iox_domain_publisher::PublisherPort;
 
-/// What lives of a publisher: itself while it stands, each of its loans, and the message of a send that waits. Past 2^64 - 1 it is
+/// What lives of a publisher: itself while it exists, each of its loans, and the message of a send that waits. Past 2^64 - 1 it is
 /// that.
 pub fn living_of_publisher<T: Copy, U: Copy>(port: &PublisherPort<T, U>) -> u64
     ensures { result ≡ min (living_of_publisher port.now) (2 ^ 64 - 1) }
@@ -15,7 +15,7 @@ pub fn living_of_publisher<T: Copy, U: Copy>(port: &PublisherPort<T, U>) -> u64
     u64::from(port.stands).saturating_add(loans)
 }
 
-/// What lives of a subscriber: itself while it stands, and each sample that it received and that is held. Past 2^64 - 1 it is that.
+/// What lives of a subscriber: itself while it exists, and each sample that it received and that is held. Past 2^64 - 1 it is that.
 pub fn living_of_subscriber(port: &SubscriberPort) -> u64
     ensures { result ≡ min (living_of_subscriber port.now) (2 ^ 64 - 1) }
 {

@@ -1,6 +1,6 @@
-//! What the list of publishers tells of one.
+//! What the list of publishers says of one.
 
-/// What the list of publishers tells of one.
+/// What the list of publishers says of one.
 #[derive(Clone, Copy, Debug, PartialEq, Eq)]
 pub struct PublisherEntry {
     /// The number of its port.

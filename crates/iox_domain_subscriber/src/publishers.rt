@@ -2,7 +2,7 @@
 ghost use Rattle.std.specs.Prelude.{◌≡◌, ◌-◌, ◌^◌, ◌<◌, length, map, min, slice_get, option_copied, is_some, true, OnOk, OnErr, [], None, Some};
 ghost use Rattle.std.specs.Borrow.{sem};
 ghost use Rattle.std.specs.Option.{option_copied_mut};
-ghost use Rattle.iox_domain_slots.specs.Uses.{is_there};
+ghost use Rattle.iox_domain_publisher.specs.DomainSlots.Uses.{is_there};
 ghost use Rattle.iox_domain_publisher.specs.Ports.{detached_at};
 ghost use Rattle.iox_domain_subscriber.specs.Publishers.{port_of, with_port, added, connection_in, most_borrowed_in, stands_in, changed, ended_if_left, is_over_in, settled, released, AttachesTo};
 ghost use Rattle.iox_domain_subscriber.specs.Living.{living_publishers};
@@ -59,7 +59,7 @@ impl<T: Copy, U: Copy> Publishers<T, U> {
         self.ports.get_mut(&number)
     }
 
-    /// Adds a publisher under a number, in the place of one that had it. It fails only where memory is wanting, and then nothing has
+    /// Adds a publisher under a number, in the place of one that had it. It fails only where an allocation fails, and then nothing has
     /// changed.
     pub fn insert(&mut self, number: u64, port: PublisherPort<T, U>) -> Result<(), AllocError>
         ensures ok { OnOk result (self.new ≡ added number port self.old) }
@@ -110,7 +110,7 @@ impl<T: Copy, U: Copy> Publishers<T, U> {
     }
 
     /// A subscriber attaches to its connection at a publisher, which is made where there is none, for as many waiting messages as it asks
-    /// for and may have; the answer is its index. None where there is no such publisher. It fails only where memory is wanting, and
+    /// for and may have; the answer is its index. None where there is no such publisher. It fails only where an allocation fails, and
     /// then nothing has changed.
     pub fn attach(
         &mut self,
@@ -136,7 +136,7 @@ impl<T: Copy, U: Copy> Publishers<T, U> {
     }
 
     /// Ends a connection of a publisher that left, if it goes on: what waits is lost, what is borrowed stays in use until it is given
-    /// back. A publisher that is over then is gone. One that stands ends its connections itself, as it follows the list of subscribers:
+    /// back. A publisher that is over then is gone. One that exists ends its connections itself, as it follows the list of subscribers:
     /// then nothing happens.
     pub fn end(&mut self, number: u64, index: usize)
         ensures { self.new ≡ settled number (changed number (ended_if_left index) self.old) }
@@ -163,7 +163,7 @@ impl<T: Copy, U: Copy> Publishers<T, U> {
         }
     }
 
-    /// How much lives of the publishers of an owner, or of all where none is named: those that stand, their loans, and the messages of
+    /// How much lives of the publishers of an owner, or of all where none is named: those that exist, their loans, and the messages of
     /// sends that wait. Past 2^64 - 1 it is that.
     pub fn living(&self, owner: Option<u64>) -> u64
         ensures { result ≡ min (living_publishers owner self.now) (2 ^ 64 - 1) }

@@ -1,12 +1,11 @@
 //! What a subscriber does at one publisher.
 ghost use Rattle.std.specs.Prelude.{◌≡◌, ◌+◌, ◌<◌, true, length, map, is_some, option_copied, option_map, slice_get, Some, IfSome};
 ghost use Rattle.std.specs.List.{list_any};
-ghost use Rattle.iox_domain_slots.specs.Uses.{is_there};
+ghost use Rattle.iox_domain_publisher.specs.DomainSlots.Uses.{is_there};
 ghost use Rattle.iox_domain_publisher.specs.Ports.{connection_of};
 ghost use Rattle.iox_domain_subscriber.specs.Reading.{borrowed_in, is_over, place_of, taken_at, given_back_at};
 
-use iox_domain_publisher::PublisherPort;
-use iox_domain_slots::Stage;
+use iox_domain_publisher::{PublisherPort, Stage};
 
 /// How many messages wait at the connection of this index; none where there is none.
 pub fn waiting_at<T: Copy, U: Copy>(port: &PublisherPort<T, U>, index: usize) -> usize

@@ -1,7 +1,7 @@
 //! A subscriber receives.
 ghost use Rattle.std.specs.Prelude.{◌≡◌, ◌+◌, ◌<◌, ◌^◌, length, slice_get, IfSome, None, Some, true, false};
 ghost use Rattle.std.specs.Bool.{OnTrue, OnFalse};
-ghost use Rattle.iox_domain_slots.specs.Uses.{is_there};
+ghost use Rattle.iox_domain_publisher.specs.DomainSlots.Uses.{is_there};
 ghost use Rattle.iox_domain_subscriber.specs.Subscribing.{attached_at, connection_by, seen_of, has_data, gives, is_idle, ended_key, ended_ports, taken_of, taken_ports};
 ghost use Rattle.iox_domain_subscriber.specs.Receiving.{IsFirst, IsMet, IsGiver, IsGiverThere, is_idle_at, dropped_port, dropped_ports, swept, given, given_ports, nothing_taken, left_at, left_all, SweepsAt, Serves, Receives};
 

@@ -1,6 +1,6 @@
 //! A subscriber follows the list of publishers.
 ghost use Rattle.std.specs.Prelude.{◌≡◌, ◌+◌, ◌<◌, ◌^◌, length, None};
-ghost use Rattle.iox_domain_values.specs.declared.degradation.DegradationCause.TheVariants as cause;
+ghost use Rattle.iox_domain_publisher.specs.DomainValues.declared.degradation.DegradationCause.TheVariants as cause;
 ghost use Rattle.iox_domain_publisher.specs.Updating.{first_failure, update_answer};
 ghost use Rattle.iox_domain_subscriber.specs.Updating.{told_of, is_listed, FollowsOne, AsksOf, FollowsFrom, FollowsNoneIf, FollowsNones, FollowsList, Updates, HasSamplesAfter, HasSamples, ReceivesAfter, ReceivesNext};
 
@@ -8,11 +8,11 @@ use crate::attached::Taken;
 use crate::publisher_entry::PublisherEntry;
 use crate::publishers::Publishers;
 use crate::subscriber_port::SubscriberPort;
+use iox_domain_publisher::Member;
 use iox_domain_values::{
     ConnectionFailure, DegradationAction, DegradationCause, DegradationInfo, Degrades,
     ReceiveError, ZeroCopyCreationError,
 };
-use iox_index_base::Member;
 use std::alloc::Global;
 
 impl SubscriberPort {
@@ -133,7 +133,7 @@ impl SubscriberPort {
     /// Follows the list of publishers, if it changed since it was last followed, or a connection failed then for want of room among the
     /// expired ones. The subscriber attaches to those that came. A connection whose publisher left ends if it has neither data nor
     /// borrows, and else expires. Where a connection isn't made the handler is asked; the answer is the first failure that it degrades
-    /// and fails, after all places were tried. A connection fails where memory is wanting, or where the former one at its place
+    /// and fails, after all places were tried. A connection fails where an allocation fails, or where the former one at its place
     /// can't expire.
     ///
     /// Ported from `iceoryx2::port::subscriber::Subscriber::update_connections`.

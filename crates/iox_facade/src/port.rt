@@ -3,6 +3,7 @@
 pub mod publisher;
 pub mod subscriber;
 
+pub use iox_delivery::PortId;
 pub use iox_domain_publisher::{PublisherPort, Sent, SubscriberEntry};
 pub use iox_domain_sender::{Sender, SenderConfig};
 pub use iox_domain_values::{
@@ -12,4 +13,3 @@ pub use iox_domain_values::{
     Handlers, LoanError, PreallocatedSamplesOverride, PublisherCreateError, ReceiveError,
     SendError, SubscriberCreateError, ZeroCopyCreationError,
 };
-pub use iox_hub_run::iox_hub_base::iox_delivery_factories::iox_delivery::PortId;

@@ -6,6 +6,6 @@ pub use iox_describe::{
 pub use iox_domain_values::{
     AllocationStrategy, BackpressureStrategy, LoanError, ReceiveError, SendError,
 };
-pub use iox_hub_run::iox_hub_base::{Hub, HubBuilder, HubConfig};
+pub use iox_hub_base::{Hub, HubBuilder, HubConfig};
 pub use iox_negotiate::{Builder, Payload, PortFactory, Slice};
 pub use iox_negotiate_table::Table;

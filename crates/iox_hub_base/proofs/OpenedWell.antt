@@ -1,8 +1,8 @@
 -- A factory enters its service.
 use Rattle.std.proofs.Common.{ℕ, ◌≡◌, false, Result, Ok, Err, is_err}
-use Rattle.iox_describe_base.specs.Detail.{Detail}
-use Rattle.iox_describe_settings.specs.declared.static_config.Settings.{Settings}
-use Rattle.iox_domain_values.specs.declared.create_error.DomainError.{DomainError}
+use Rattle.iox_delivery_factories.specs.DescribeBase.Detail.{Detail}
+use Rattle.iox_delivery_factories.specs.DescribeSettings.declared.static_config.Settings.{Settings}
+use Rattle.iox_command.specs.DomainValues.declared.create_error.DomainError.{DomainError}
 use Rattle.iox_hub_services.specs.Open.{OpenServices}
 use Rattle.iox_hub_services.specs.Opening.{Opens}
 

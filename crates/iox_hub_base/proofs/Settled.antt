@@ -1,7 +1,7 @@
 -- What a hub answers of a service that was negotiated over its table.
 use Rattle.std.proofs.Common.{◌≡◌, Bool, List, Result, Ok, Err, refl, ap₂, sym, subst}
 use Rattle.std.specs.Result.{result_map_both}
-use Rattle.iox_describe_base.specs.Detail.{Detail}
+use Rattle.iox_delivery_factories.specs.DescribeBase.Detail.{Detail}
 use Rattle.iox_negotiate.specs.declared.factory.Membership.{Membership}
 use Rattle.iox_negotiate_table.specs.Contents.{Contents}
 use Rattle.iox_negotiate_table.specs.Stepped.{Steps}

@@ -1,7 +1,7 @@
 -- A hub as the home of the ports of its services.
 use Rattle.std.specs.Prelude.{ℕ, Option}
-use Rattle.iox_domain_home.specs.declared.domain_id.DomainId.{DomainId}
-use Rattle.iox_domain_ports.specs.declared.service_ports.ServicePorts.{ServicePorts}
+use Rattle.iox_delivery_factories.specs.DomainHome.declared.domain_id.DomainId.{DomainId}
+use Rattle.iox_delivery_factories.specs.DomainPorts.declared.service_ports.ServicePorts.{ServicePorts}
 use Rattle.iox_hub_services.specs.AsHome.{ports_at, with_ports_at, with_publisher_at, with_subscriber_at, without_publisher_at, without_subscriber_at}
 use Rattle.iox_hub_services.specs.Open.{OpenServices}
 use Rattle.iox_hub_base.specs.declared.hub.Hub.{Hub}

@@ -4,10 +4,10 @@ use Rattle.iox_delivery_factories.specs.Elements.{values_each}
 use Rattle.iox_delivery_factories.specs.Factories.{new_publisher_builder, new_subscriber_builder}
 use Rattle.iox_delivery_factories.specs.declared.publisher.PortFactoryPublisher.{PortFactoryPublisher}
 use Rattle.iox_delivery_factories.specs.declared.subscriber.PortFactorySubscriber.{PortFactorySubscriber}
-use Rattle.iox_hub_services.specs.Domain.{Domain}
-use Rattle.iox_domain_values.specs.declared.degradation_handler.DegradationHandler.{DegradationHandler}
-use Rattle.iox_domain_values.specs.declared.handlers.Handlers.{Handlers}
-use Rattle.iox_domain_values.specs.declared.samples_override.PreallocatedSamplesOverride.{PreallocatedSamplesOverride}
+use Rattle.iox_delivery_factories.specs.Domain.declared.domain.Domain.{Domain}
+use Rattle.iox_command.specs.DomainValues.declared.degradation_handler.DegradationHandler.{DegradationHandler}
+use Rattle.iox_command.specs.DomainValues.declared.handlers.Handlers.{Handlers}
+use Rattle.iox_command.specs.DomainValues.declared.samples_override.PreallocatedSamplesOverride.{PreallocatedSamplesOverride}
 
 -- what makes publishers of a domain for a node and an owner, of values of this size, if the domain is here
 abbrev pub publishers_of : {T U B D X Y Z : Type 0} {F : X → Type 0} {G : Y → Type 0} {K : Z → Type 0} → ℕ → ℕ → ℕ → Option (Domain T U B D) → Option (PortFactoryPublisher T U (Handlers X Y F G) (PreallocatedSamplesOverride Z K))

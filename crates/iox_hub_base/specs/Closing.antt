@@ -1,16 +1,16 @@
 -- A factory of a hub is closed.
 use Rattle.std.specs.Prelude.{ℕ, ◌≡◌, ◌-◌, Bool, true, false, List, Option, None, Some, Result, Ok, Err, nat_lt, nat_le, if◌then◌else◌}
-use Rattle.iox_hub_services.specs.Domain.{kept, forgotten}
-use Rattle.iox_domain_ports.specs.Living.{living}
+use Rattle.iox_delivery_factories.specs.Domain.Kept.{kept, forgotten}
+use Rattle.iox_delivery_factories.specs.DomainPorts.Living.{living}
 use Rattle.iox_hub_services.specs.Open.{presence_of}
 use Rattle.iox_hub_services.specs.Opening.{without_service}
 use Rattle.iox_hub_services.specs.declared.presence.Presence.{Presence}
 use Rattle.iox_hub_services.specs.declared.presence.Presence.TheVariants.{Here, Out}
 use Rattle.iox_negotiate.specs.Factory.{Closes as ClosesIn}
 use Rattle.iox_negotiate.specs.declared.factory.Membership.{Membership}
-use Rattle.iox_negotiate_errors.specs.declared.close.CloseError.{CloseError}
-use Rattle.iox_negotiate_errors.specs.declared.close.CloseError.TheVariants.{StillInUse}
-use Rattle.iox_negotiate_rounds.specs.Runs.{Does}
+use Rattle.iox_command.specs.NegotiateErrors.declared.close.CloseError.{CloseError}
+use Rattle.iox_command.specs.NegotiateErrors.declared.close.CloseError.TheVariants.{StillInUse}
+use Rattle.iox_negotiate_table.specs.NegotiateRounds.Runs.{Does}
 use Rattle.iox_negotiate_table.specs.Sights.{Sight}
 use Rattle.iox_hub_base.specs.Hubs.{factories_of}
 use Rattle.iox_hub_base.specs.declared.hub.Hub.{Hub}

@@ -1,7 +1,7 @@
 -- A hub: its nodes, the table of its services, and the domains of those that are open in it.
 use Rattle.std.specs.Prelude.{ℕ, ◌≡◌, ◌+◌, ◌-◌, ◌^◌, ◌&&◌, Bool, List, [], min, nat_le}
 use Rattle.std.specs.Option.{unwrap_or}
-use Rattle.iox_hub_services.specs.Domain.{kept_under, kept}
+use Rattle.iox_delivery_factories.specs.Domain.Kept.{kept_under, kept}
 use Rattle.iox_negotiate_table.specs.Contents.{empty_table}
 use Rattle.iox_hub_base.specs.declared.hub.Hub.{Hub}
 use Rattle.iox_hub_base.specs.declared.hub.HubConfig.{HubConfig}

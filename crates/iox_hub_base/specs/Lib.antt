@@ -5,5 +5,8 @@ pub mod Closing
 pub mod Foreign
 pub mod AsHome
 pub mod Builders
-pub mod Domain
-pub mod Services
+pub use Rattle.iox_delivery_factories.specs.DescribeBase as DescribeBase
+pub use Rattle.iox_delivery_factories.specs.DescribeSettings as DescribeSettings
+pub use Rattle.iox_negotiate.specs as Negotiate
+pub use Rattle.iox_delivery_factories.specs.Domain as Domain
+pub use Rattle.iox_hub_services.specs as HubServices

@@ -1,16 +1,16 @@
 -- A service is created or opened in a hub.
 use Rattle.std.specs.Prelude.{ℕ, ◌≡◌, Bool, true, false, List, Result, Ok, Err}
 use Rattle.std.specs.Result.{result_map_both}
-use Rattle.iox_describe_base.specs.Detail.{Detail}
+use Rattle.iox_delivery_factories.specs.DescribeBase.Detail.{Detail}
 use Rattle.iox_hub_services.specs.Opening.{Opens}
 use Rattle.iox_negotiate.specs.Factory.{Closes}
 use Rattle.iox_negotiate.specs.declared.factory.Membership.{Membership}
-use Rattle.iox_negotiate_errors.specs.declared.close.CloseError.{CloseError}
-use Rattle.iox_negotiate_rounds.specs.Runs.{Does}
-use Rattle.iox_negotiate_rounds.specs.declared.failure.CreateFailure.TheVariants as uncreated
-use Rattle.iox_negotiate_rounds.specs.declared.failure.OpenFailure.TheVariants as unopened
-use Rattle.iox_negotiate_rounds.specs.declared.failure.OpenOrCreateFailure.{OpenOrCreateFailure}
-use Rattle.iox_negotiate_rounds.specs.declared.failure.OpenOrCreateFailure.TheVariants as either
+use Rattle.iox_command.specs.NegotiateErrors.declared.close.CloseError.{CloseError}
+use Rattle.iox_negotiate_table.specs.NegotiateRounds.Runs.{Does}
+use Rattle.iox_negotiate_table.specs.NegotiateRounds.declared.failure.CreateFailure.TheVariants as uncreated
+use Rattle.iox_negotiate_table.specs.NegotiateRounds.declared.failure.OpenFailure.TheVariants as unopened
+use Rattle.iox_negotiate_table.specs.NegotiateRounds.declared.failure.OpenOrCreateFailure.{OpenOrCreateFailure}
+use Rattle.iox_negotiate_table.specs.NegotiateRounds.declared.failure.OpenOrCreateFailure.TheVariants as either
 use Rattle.iox_negotiate_table.specs.Sights.{Sight}
 use Rattle.iox_negotiate_table.specs.Stepped.{Steps}
 use Rattle.iox_negotiate_table.specs.declared.step.ForeignStep.{ForeignStep}

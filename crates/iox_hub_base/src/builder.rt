@@ -1,14 +1,14 @@
 //! Services are created and opened in a hub.
 ghost use Rattle.std.specs.Prelude.{◌≡◌, ℕ, List, nat_eq};
 ghost use Rattle.std.specs.Result.{result_map_both};
-ghost use Rattle.iox_describe_base.specs.Detail.{detail};
-ghost use Rattle.iox_describe_base.specs.Hash.{service_hash_of};
-ghost use Rattle.iox_describe_base.specs.declared.type_detail.TypeVariant.TheVariants.{FixedSize};
-ghost use Rattle.iox_describe_settings.specs.Agreement.{agreement};
+ghost use Rattle.iox_delivery_factories.specs.DescribeBase.Detail.{detail};
+ghost use Rattle.iox_delivery_factories.specs.DescribeBase.Hash.{service_hash_of};
+ghost use Rattle.iox_delivery_factories.specs.DescribeBase.declared.type_detail.TypeVariant.TheVariants.{FixedSize};
+ghost use Rattle.iox_delivery_factories.specs.DescribeSettings.Agreement.{agreement};
 ghost use Rattle.iox_negotiate.specs.Negotiation.{Negotiates, Creates, Either};
-ghost use Rattle.iox_negotiate_rounds.specs.Opening.{Opens};
-ghost use Rattle.iox_negotiate_rounds.specs.declared.failure.CreateFailure.TheVariants as uncreated;
-ghost use Rattle.iox_negotiate_rounds.specs.declared.failure.OpenFailure.TheVariants as unopened;
+ghost use Rattle.iox_negotiate_table.specs.NegotiateRounds.Opening.{Opens};
+ghost use Rattle.iox_negotiate_table.specs.NegotiateRounds.declared.failure.CreateFailure.TheVariants as uncreated;
+ghost use Rattle.iox_negotiate_table.specs.NegotiateRounds.declared.failure.OpenFailure.TheVariants as unopened;
 ghost use Rattle.iox_negotiate_table.specs.Stepped.{SteppedSight};
 ghost use Rattle.iox_hub_base.specs.Opening.{OpensInHub, lacking_either};
 

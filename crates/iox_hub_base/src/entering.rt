@@ -1,8 +1,8 @@
 //! From a service that was negotiated to a factory of the hub.
 ghost use Rattle.std.specs.Prelude.{◌≡◌};
 ghost use Rattle.std.specs.Result.{result_map_both};
-ghost use Rattle.iox_describe_base.specs.Detail.{detail};
-ghost use Rattle.iox_describe_base.specs.declared.type_detail.TypeVariant.TheVariants.{FixedSize};
+ghost use Rattle.iox_delivery_factories.specs.DescribeBase.Detail.{detail};
+ghost use Rattle.iox_delivery_factories.specs.DescribeBase.declared.type_detail.TypeVariant.TheVariants.{FixedSize};
 ghost use Rattle.iox_hub_base.specs.Opening.{Enters, IsClosedAgain};
 
 use crate::factory::PortFactory;

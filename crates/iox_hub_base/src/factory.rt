@@ -1,6 +1,6 @@
 //! A service that is open in a hub.
 ghost use Rattle.std.specs.Prelude.{◌≡◌, Some};
-ghost use Rattle.iox_describe.specs.Within.{HasForm};
+ghost use Rattle.iox_negotiate_table.specs.Describe.Within.{HasForm};
 
 use iox_describe::pattern::Pattern;
 use iox_describe::{AttributeSpecifier, Description, ServiceName};

@@ -1,6 +1,6 @@
 //! Nodes of others act on the services of a hub.
 ghost use Rattle.std.specs.Prelude.{◌≡◌};
-ghost use Rattle.iox_describe_base.specs.Hash.{service_hash_of};
+ghost use Rattle.iox_delivery_factories.specs.DescribeBase.Hash.{service_hash_of};
 ghost use Rattle.iox_negotiate_table.specs.Stepped.{ActsAll};
 ghost use Rattle.iox_hub_base.specs.Foreign.{ActsOn};
 

@@ -1,6 +1,6 @@
 //! A hub as the home of the ports of its services.
 ghost use Rattle.std.proofs.Common.{ap};
-ghost use Rattle.iox_hub_services.specs.Domain.{kept_degrades, kept_decides};
+ghost use Rattle.iox_delivery_factories.specs.Domain.Handling.{kept_degrades, kept_decides};
 ghost use Rattle.iox_hub_base.specs.AsHome.{with_services, hub_ports, with_hub_ports, with_hub_publisher, with_hub_subscriber, without_hub_publisher, without_hub_subscriber};
 ghost use Rattle.iox_hub_services.specs.AsHome.{domain_at, publisher_handlers_in, subscriber_handler_in};
 ghost use Rattle.iox_hub_services.specs.HomeLaws as homely;

@@ -36,5 +36,4 @@ pub mod ports;
 pub use builder::HubBuilder;
 pub use factory::{NotClosed, PortFactory};
 pub use hub::{Hub, HubConfig};
-pub use iox_delivery_factories;
 pub use node::NodeHandle;

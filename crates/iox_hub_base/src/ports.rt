@@ -15,8 +15,7 @@ use iox_domain_values::{
     BackpressureStrategy, DegradationAction, DegradationHandler, Handlers, PortOwner,
     PreallocatedSamplesOverride,
 };
-use iox_hub_services::iox_domain::Domain;
-use iox_hub_services::{DomainIsForeign, TakeError};
+use iox_hub_services::{Domain, DomainIsForeign, TakeError};
 use std::marker::PhantomData;
 
 impl<T: Copy, U: Copy, B: Drop, D: Drop> Hub<T, U, B, D> {

@@ -1,1 +1,2 @@
 pub mod Arrived
+pub use Rattle.iox_hub_ports.proofs.DomainLaws as DomainLaws

@@ -2,18 +2,18 @@
 use Rattle.std.specs.Prelude.{ℕ, ◌≡◌, true, Option, Result}
 use Rattle.std.specs.Option.{unwrap_or}
 use Rattle.iox_command.specs.declared.reply.Reply.{Reply}
-use Rattle.iox_domain_home.specs.Homes.{MakesAt}
-use Rattle.iox_domain_home.specs.Steps.{PublisherComes, SubscriberComes, why_no_publisher, why_no_subscriber}
-use Rattle.iox_domain_home.specs.declared.domain_id.DomainId.{DomainId}
-use Rattle.iox_domain_ports.specs.declared.making.PublisherConfig.{PublisherConfig}
-use Rattle.iox_domain_ports.specs.declared.making.SubscriberConfig.{SubscriberConfig}
-use Rattle.iox_domain_ports.specs.declared.service_ports.ServicePorts.{ServicePorts}
-use Rattle.iox_domain_values.specs.declared.create_error.PublisherCreateError.{PublisherCreateError}
-use Rattle.iox_domain_values.specs.declared.create_error.SubscriberCreateError.{SubscriberCreateError}
-use Rattle.iox_domain_values.specs.declared.degradation.DegradationAction.{DegradationAction}
-use Rattle.iox_domain_values.specs.declared.degradation.DegradationCause.{DegradationCause}
-use Rattle.iox_domain_values.specs.declared.degradation.DegradationCause.TheVariants.{FailedToEstablishConnection}
-use Rattle.iox_domain_values.specs.declared.degradation.DegradationInfo.{DegradationInfo}
+use Rattle.iox_hub_ports.specs.DomainHome.Homes.{MakesAt}
+use Rattle.iox_hub_ports.specs.DomainHome.Steps.{PublisherComes, SubscriberComes, why_no_publisher, why_no_subscriber}
+use Rattle.iox_hub_ports.specs.DomainHome.declared.domain_id.DomainId.{DomainId}
+use Rattle.iox_hub_ports.specs.DomainPorts.declared.making.PublisherConfig.{PublisherConfig}
+use Rattle.iox_hub_ports.specs.DomainPorts.declared.making.SubscriberConfig.{SubscriberConfig}
+use Rattle.iox_hub_ports.specs.DomainPorts.declared.service_ports.ServicePorts.{ServicePorts}
+use Rattle.iox_command.specs.DomainValues.declared.create_error.PublisherCreateError.{PublisherCreateError}
+use Rattle.iox_command.specs.DomainValues.declared.create_error.SubscriberCreateError.{SubscriberCreateError}
+use Rattle.iox_command.specs.DomainValues.declared.degradation.DegradationAction.{DegradationAction}
+use Rattle.iox_command.specs.DomainValues.declared.degradation.DegradationCause.{DegradationCause}
+use Rattle.iox_command.specs.DomainValues.declared.degradation.DegradationCause.TheVariants.{FailedToEstablishConnection}
+use Rattle.iox_command.specs.DomainValues.declared.degradation.DegradationInfo.{DegradationInfo}
 use Rattle.iox_hub_ports.specs.Making.{MakesRoomFirst, with_publisher, with_subscriber}
 use Rattle.iox_hub_ports.specs.declared.made.Made.{Made}
 use Rattle.iox_hub_commands.specs.Replies.{publisher_reply, subscriber_reply}

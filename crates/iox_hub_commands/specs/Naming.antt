@@ -3,14 +3,14 @@ use Rattle.std.specs.Prelude.{Option}
 use Rattle.std.specs.Option.{unwrap_or}
 use Rattle.iox_command.specs.declared.port.PublisherOptions.{PublisherOptions}
 use Rattle.iox_command.specs.declared.port.SubscriberOptions.{SubscriberOptions}
-use Rattle.iox_domain_ports.specs.declared.making.PublisherConfig.{PublisherConfig}
-use Rattle.iox_domain_ports.specs.declared.making.SubscriberConfig.{SubscriberConfig}
-use Rattle.iox_domain_settings.specs.PortSettings.{publisher_defaults}
-use Rattle.iox_domain_values.specs.declared.backpressure.BackpressureAction.{BackpressureAction}
-use Rattle.iox_domain_values.specs.declared.backpressure_strategy.BackpressureStrategy.{BackpressureStrategy}
-use Rattle.iox_domain_values.specs.declared.degradation.DegradationAction.{DegradationAction}
-use Rattle.iox_domain_values.specs.declared.degradation.DegradationAction.TheVariants.{Warn}
-use Rattle.iox_domain_values.specs.declared.port_owner.PortOwner.{PortOwner}
+use Rattle.iox_hub_ports.specs.DomainPorts.declared.making.PublisherConfig.{PublisherConfig}
+use Rattle.iox_hub_ports.specs.DomainPorts.declared.making.SubscriberConfig.{SubscriberConfig}
+use Rattle.iox_hub_ports.specs.DomainSettings.PortSettings.{publisher_defaults}
+use Rattle.iox_command.specs.DomainValues.declared.backpressure.BackpressureAction.{BackpressureAction}
+use Rattle.iox_command.specs.DomainValues.declared.backpressure_strategy.BackpressureStrategy.{BackpressureStrategy}
+use Rattle.iox_command.specs.DomainValues.declared.degradation.DegradationAction.{DegradationAction}
+use Rattle.iox_command.specs.DomainValues.declared.degradation.DegradationAction.TheVariants.{Warn}
+use Rattle.iox_command.specs.DomainValues.declared.port_owner.PortOwner.{PortOwner}
 use Rattle.iox_hub_commands.specs.declared.handlers.NamedSlots.{NamedSlots}
 
 -- what a publisher of slices is made with: a value is an element, and a slot holds as many as a loan may have at first

@@ -5,14 +5,14 @@ use Rattle.iox_command.specs.declared.refusal.Refusal.{Refusal}
 use Rattle.iox_command.specs.declared.refusal.Refusal.TheVariants as refusal
 use Rattle.iox_command.specs.declared.reply.Reply.{Reply}
 use Rattle.iox_command.specs.declared.reply.Reply.TheVariants as reply
-use Rattle.iox_domain_publisher.specs.declared.meeting.Sent.{Sent}
-use Rattle.iox_domain_publisher.specs.declared.meeting.Sent.TheVariants as sent
-use Rattle.iox_domain_values.specs.declared.connection_failure.ConnectionFailure.{ConnectionFailure}
-use Rattle.iox_domain_values.specs.declared.create_error.PublisherCreateError.{PublisherCreateError}
-use Rattle.iox_domain_values.specs.declared.create_error.SubscriberCreateError.{SubscriberCreateError}
-use Rattle.iox_domain_values.specs.declared.port_error.LoanError.{LoanError}
-use Rattle.iox_domain_values.specs.declared.port_error.SendError.{SendError}
-use Rattle.iox_negotiate_errors.specs.declared.close.CloseError.{CloseError}
+use Rattle.iox_hub_ports.specs.DomainPublisher.declared.meeting.Sent.{Sent}
+use Rattle.iox_hub_ports.specs.DomainPublisher.declared.meeting.Sent.TheVariants as sent
+use Rattle.iox_command.specs.DomainValues.declared.connection_failure.ConnectionFailure.{ConnectionFailure}
+use Rattle.iox_command.specs.DomainValues.declared.create_error.PublisherCreateError.{PublisherCreateError}
+use Rattle.iox_command.specs.DomainValues.declared.create_error.SubscriberCreateError.{SubscriberCreateError}
+use Rattle.iox_command.specs.DomainValues.declared.port_error.LoanError.{LoanError}
+use Rattle.iox_command.specs.DomainValues.declared.port_error.SendError.{SendError}
+use Rattle.iox_command.specs.NegotiateErrors.declared.close.CloseError.{CloseError}
 
 module _ {T : Type 0} where
   -- a service that was created or opened

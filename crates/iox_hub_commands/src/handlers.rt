@@ -1,12 +1,12 @@
 //! Who decides for a port that a command made: what the command named.
 ghost use Rattle.std.specs.Prelude.{◌≡◌, ℕ, Option};
 ghost use Rattle.std.specs.Option.{option_map, unwrap_or};
-ghost use Rattle.iox_domain_values.specs.Actions.{decision_of};
-ghost use Rattle.iox_domain_values.specs.declared.backpressure.BackpressureAction.{BackpressureAction};
-ghost use Rattle.iox_domain_values.specs.declared.backpressure_handler.BackpressureHandler.TheVariants as backpressure;
-ghost use Rattle.iox_domain_values.specs.declared.backpressure_strategy.BackpressureStrategy.{BackpressureStrategy};
-ghost use Rattle.iox_domain_values.specs.declared.degradation.DegradationAction.{DegradationAction};
-ghost use Rattle.iox_domain_values.specs.declared.degradation_handler.DegradationHandler.TheVariants as degradation;
+ghost use Rattle.iox_command.specs.DomainValues.Actions.{decision_of};
+ghost use Rattle.iox_command.specs.DomainValues.declared.backpressure.BackpressureAction.{BackpressureAction};
+ghost use Rattle.iox_command.specs.DomainValues.declared.backpressure_handler.BackpressureHandler.TheVariants as backpressure;
+ghost use Rattle.iox_command.specs.DomainValues.declared.backpressure_strategy.BackpressureStrategy.{BackpressureStrategy};
+ghost use Rattle.iox_command.specs.DomainValues.declared.degradation.DegradationAction.{DegradationAction};
+ghost use Rattle.iox_command.specs.DomainValues.declared.degradation_handler.DegradationHandler.TheVariants as degradation;
 
 use iox_domain_values::backpressure::decision;
 use iox_domain_values::{

@@ -33,4 +33,4 @@ pub mod replies;
 pub use handlers::{
     FixedDegradation, FixedHandlers, NamedSlots, PublisherHandlers, SubscriberHandler,
 };
-pub use iox_hub_ports;
+pub use iox_hub_ports::Made;

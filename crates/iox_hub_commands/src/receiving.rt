@@ -2,7 +2,7 @@
 ghost use Rattle.std.specs.Prelude.{◌+◌, ◌<◌, ◌^◌, IsSome};
 ghost use Rattle.iox_hub_commands.specs.Receiving.{IsShown, ReceiveStep};
 ghost use Rattle.iox_hub_ports.specs.Reading.{values_under};
-ghost use Rattle.iox_numbered.specs.NumberTable.{value_at};
+ghost use Rattle.iox_hub_ports.specs.Numbered.NumberTable.{value_at};
 
 use crate::messages::copied;
 use iox_command::{Refusal, Reply};

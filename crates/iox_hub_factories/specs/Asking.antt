@@ -1,28 +1,28 @@
 -- What the options of a service ask, whatever its pattern.
 use Rattle.std.specs.Prelude.{ℕ, List}
-use Rattle.iox_command.specs.Patterns.{pattern_of}
-use Rattle.iox_command.specs.declared.service.EventOptions.{EventOptions}
-use Rattle.iox_command.specs.declared.service.PublishSubscribeOptions.{PublishSubscribeOptions}
-use Rattle.iox_command.specs.declared.service.RequestResponseOptions.{RequestResponseOptions}
-use Rattle.iox_command.specs.declared.service.ServiceOptions.{ServiceOptions}
-use Rattle.iox_command.specs.declared.service.ServiceOptions.TheVariants as options
-use Rattle.iox_describe_base.specs.Attributes.{Required}
-use Rattle.iox_describe_base.specs.Hash.{service_hash_of}
-use Rattle.iox_describe_base.specs.declared.attribute.Attribute.{Attribute}
-use Rattle.iox_describe_base.specs.declared.hash.ServiceHash.{ServiceHash}
-use Rattle.iox_describe_base.specs.declared.message_type.MessageTypeDetails.{MessageTypeDetails}
-use Rattle.iox_describe_settings.specs.Agreement.{Agreement, agreement}
-use Rattle.iox_describe_settings.specs.EventSettings as event_settings
-use Rattle.iox_describe_settings.specs.PublishSubscribeSettings as publish_subscribe_settings
-use Rattle.iox_describe_settings.specs.RequestResponseSettings as request_response_settings
-use Rattle.iox_describe_settings.specs.declared.static_config.Settings.{Settings}
-use Rattle.iox_describe_settings.specs.declared.static_config.Settings.TheVariants as settings
-use Rattle.iox_describe_verdict.specs.EventClauses as event_clauses
-use Rattle.iox_describe_verdict.specs.PublishSubscribeClauses as publish_subscribe_clauses
-use Rattle.iox_describe_verdict.specs.RequestResponseClauses as request_response_clauses
-use Rattle.iox_describe_verdict.specs.declared.requirement.event.Requirement.{Requirement as EventRequirement}
-use Rattle.iox_describe_verdict.specs.declared.requirement.publish_subscribe.Requirement.{Requirement as PublishSubscribeRequirement}
-use Rattle.iox_describe_verdict.specs.declared.requirement.request_response.Requirement.{Requirement as RequestResponseRequirement}
+use Rattle.iox_hub_requests.specs.Command.Patterns.{pattern_of}
+use Rattle.iox_hub_requests.specs.Command.declared.service.EventOptions.{EventOptions}
+use Rattle.iox_hub_requests.specs.Command.declared.service.PublishSubscribeOptions.{PublishSubscribeOptions}
+use Rattle.iox_hub_requests.specs.Command.declared.service.RequestResponseOptions.{RequestResponseOptions}
+use Rattle.iox_hub_requests.specs.Command.declared.service.ServiceOptions.{ServiceOptions}
+use Rattle.iox_hub_requests.specs.Command.declared.service.ServiceOptions.TheVariants as options
+use Rattle.iox_hub_base.specs.DescribeBase.Attributes.{Required}
+use Rattle.iox_hub_base.specs.DescribeBase.Hash.{service_hash_of}
+use Rattle.iox_hub_base.specs.DescribeBase.declared.attribute.Attribute.{Attribute}
+use Rattle.iox_hub_base.specs.DescribeBase.declared.hash.ServiceHash.{ServiceHash}
+use Rattle.iox_hub_base.specs.DescribeBase.declared.message_type.MessageTypeDetails.{MessageTypeDetails}
+use Rattle.iox_hub_base.specs.DescribeSettings.Agreement.{Agreement, agreement}
+use Rattle.iox_hub_base.specs.DescribeSettings.EventSettings as event_settings
+use Rattle.iox_hub_base.specs.DescribeSettings.PublishSubscribeSettings as publish_subscribe_settings
+use Rattle.iox_hub_base.specs.DescribeSettings.RequestResponseSettings as request_response_settings
+use Rattle.iox_hub_base.specs.DescribeSettings.declared.static_config.Settings.{Settings}
+use Rattle.iox_hub_base.specs.DescribeSettings.declared.static_config.Settings.TheVariants as settings
+use Rattle.iox_hub_requests.specs.DescribeVerdict.EventClauses as event_clauses
+use Rattle.iox_hub_requests.specs.DescribeVerdict.PublishSubscribeClauses as publish_subscribe_clauses
+use Rattle.iox_hub_requests.specs.DescribeVerdict.RequestResponseClauses as request_response_clauses
+use Rattle.iox_hub_requests.specs.DescribeVerdict.declared.requirement.event.Requirement.{Requirement as EventRequirement}
+use Rattle.iox_hub_requests.specs.DescribeVerdict.declared.requirement.publish_subscribe.Requirement.{Requirement as PublishSubscribeRequirement}
+use Rattle.iox_hub_requests.specs.DescribeVerdict.declared.requirement.request_response.Requirement.{Requirement as RequestResponseRequirement}
 use Rattle.iox_hub_requests.specs.Asked.{asked_event, asked_publish_subscribe, asked_request_response}
 use Rattle.iox_hub_requests.specs.Described.{settings_of}
 

@@ -1,30 +1,30 @@
 -- A service is created as options ask, and its factory gets a number.
 use Rattle.std.specs.Prelude.{ℕ, ◌≡◌, Bool, true, false, List, Option, Some, Result, Ok, Err}
 use Rattle.std.specs.declared.alloc.AllocError.{AllocError}
-use Rattle.iox_command.specs.declared.refusal.Refusal.{Refusal}
-use Rattle.iox_command.specs.declared.refusal.Refusal.TheVariants as refusal
-use Rattle.iox_command.specs.declared.service.ServiceOptions.{ServiceOptions}
-use Rattle.iox_command.specs.declared.service.ServiceOptions.TheVariants as options
-use Rattle.iox_command.specs.declared.step.StepBefore.{StepBefore}
-use Rattle.iox_describe_base.specs.Detail.{Detail}
-use Rattle.iox_describe_base.specs.declared.attribute.Attribute.{Attribute}
-use Rattle.iox_describe_base.specs.declared.hash.ServiceHash.{ServiceHash}
-use Rattle.iox_describe_base.specs.declared.message_type.MessageTypeDetails.{MessageTypeDetails}
-use Rattle.iox_describe_base.specs.declared.pattern.MessagingPattern.TheVariants as pattern
-use Rattle.iox_describe_settings.specs.Agreement.{Agreement, AreWithinLimits}
+use Rattle.iox_hub_requests.specs.Command.declared.refusal.Refusal.{Refusal}
+use Rattle.iox_hub_requests.specs.Command.declared.refusal.Refusal.TheVariants as refusal
+use Rattle.iox_hub_requests.specs.Command.declared.service.ServiceOptions.{ServiceOptions}
+use Rattle.iox_hub_requests.specs.Command.declared.service.ServiceOptions.TheVariants as options
+use Rattle.iox_hub_requests.specs.Command.declared.step.StepBefore.{StepBefore}
+use Rattle.iox_hub_base.specs.DescribeBase.Detail.{Detail}
+use Rattle.iox_hub_base.specs.DescribeBase.declared.attribute.Attribute.{Attribute}
+use Rattle.iox_hub_base.specs.DescribeBase.declared.hash.ServiceHash.{ServiceHash}
+use Rattle.iox_hub_base.specs.DescribeBase.declared.message_type.MessageTypeDetails.{MessageTypeDetails}
+use Rattle.iox_hub_base.specs.DescribeBase.declared.pattern.MessagingPattern.TheVariants as pattern
+use Rattle.iox_hub_base.specs.DescribeSettings.Agreement.{Agreement, AreWithinLimits}
 use Rattle.iox_hub_base.specs.Opening.{Made, OpensInHub}
 use Rattle.iox_hub_base.specs.declared.hub.Hub.{Hub}
-use Rattle.iox_negotiate.specs.Negotiation.{Creates}
-use Rattle.iox_negotiate_errors.specs.EventErrors as event
-use Rattle.iox_negotiate_errors.specs.PublishSubscribeErrors as publish_subscribe
-use Rattle.iox_negotiate_errors.specs.RequestResponseErrors as request_response
-use Rattle.iox_negotiate_errors.specs.declared.event.EventCreateError.TheVariants as event_error
-use Rattle.iox_negotiate_errors.specs.declared.publish_subscribe.PublishSubscribeCreateError.TheVariants as publish_subscribe_error
-use Rattle.iox_negotiate_errors.specs.declared.request_response.RequestResponseCreateError.TheVariants as request_response_error
-use Rattle.iox_negotiate_rounds.specs.declared.failure.CreateFailure.{CreateFailure}
-use Rattle.iox_negotiate_rounds.specs.declared.failure.CreateFailure.TheVariants.{OutOfMemory}
-use Rattle.iox_negotiate_table.specs.Stepped.{SteppedSight}
-use Rattle.iox_negotiate_table.specs.declared.step.ForeignStep.{ForeignStep}
+use Rattle.iox_hub_base.specs.Negotiate.Negotiation.{Creates}
+use Rattle.iox_hub_requests.specs.NegotiateErrors.EventErrors as event
+use Rattle.iox_hub_requests.specs.NegotiateErrors.PublishSubscribeErrors as publish_subscribe
+use Rattle.iox_hub_requests.specs.NegotiateErrors.RequestResponseErrors as request_response
+use Rattle.iox_hub_requests.specs.NegotiateErrors.declared.event.EventCreateError.TheVariants as event_error
+use Rattle.iox_hub_requests.specs.NegotiateErrors.declared.publish_subscribe.PublishSubscribeCreateError.TheVariants as publish_subscribe_error
+use Rattle.iox_hub_requests.specs.NegotiateErrors.declared.request_response.RequestResponseCreateError.TheVariants as request_response_error
+use Rattle.iox_hub_requests.specs.NegotiateRounds.declared.failure.CreateFailure.{CreateFailure}
+use Rattle.iox_hub_requests.specs.NegotiateRounds.declared.failure.CreateFailure.TheVariants.{OutOfMemory}
+use Rattle.iox_hub_requests.specs.NegotiateTable.Stepped.{SteppedSight}
+use Rattle.iox_hub_requests.specs.NegotiateTable.declared.step.ForeignStep.{ForeignStep}
 use Rattle.iox_hub_factories.specs.Asking.{hash_of, agreed_of, IsHistoryTooLong}
 use Rattle.iox_hub_factories.specs.Numbering.{Prepares, GetsNumber, IsSkipped, IsRefusedWith}
 use Rattle.iox_hub_factories.specs.Tables.{FactoryTable}

@@ -8,5 +8,8 @@ pub mod Either
 pub mod Closing
 pub mod Foreign
 pub mod FactoryLaws
-pub mod Hub
-pub mod Requests
+pub use Rattle.iox_numbered.specs as Numbered
+pub use Rattle.iox_hub_base.specs.Domain as Domain
+pub use Rattle.iox_hub_base.specs as HubBase
+pub use Rattle.iox_hub_requests.specs as HubRequests
+pub use Rattle.iox_hub_base.specs.HubServices as HubServices

@@ -10,7 +10,7 @@ use std::alloc::Global;
 
 /// Nodes of others do these steps on the service of this pattern and name, one after the other, as `Hub::foreign` does them.
 ///
-/// Refused with `HubError::OutOfMemory` at the first step that finds no memory; the steps before it stay done. Also where no memory is found
+/// Refused with `HubError::OutOfMemory` at the first step that finds no memory; the steps before it stay done. Also where an allocation fails
 /// for their list, and then nothing happens: no steps take none.
 ///
 /// This port's own.

@@ -1,8 +1,8 @@
 //! Services are opened, or created.
 ghost use Rattle.std.specs.Prelude.{◌≡◌, ◌<◌, ◌+◌, ◌^◌, length};
-ghost use Rattle.iox_command.specs.declared.service.ServiceOptions.TheVariants as service;
-ghost use Rattle.iox_describe_base.specs.Detail.{detail};
-ghost use Rattle.iox_describe_base.specs.declared.type_detail.TypeVariant.TheVariants.{FixedSize};
+ghost use Rattle.iox_hub_requests.specs.Command.declared.service.ServiceOptions.TheVariants as service;
+ghost use Rattle.iox_hub_base.specs.DescribeBase.Detail.{detail};
+ghost use Rattle.iox_hub_base.specs.DescribeBase.declared.type_detail.TypeVariant.TheVariants.{FixedSize};
 ghost use Rattle.iox_hub_base.specs.Hubs.{is_node};
 ghost use Rattle.iox_hub_requests.specs.Asked.{types_of};
 ghost use Rattle.iox_hub_factories.specs.Either.{EitherAs, EitherNumbered, either_lacking};
@@ -33,7 +33,7 @@ impl Factories {
     /// accesses that they name.
     ///
     /// None, and nothing happens, where the hub has no node of the number. Refused as `HubBuilder::open_or_create_with_attributes_in` refuses it;
-    /// also with the `OutOfMemory` of the pattern's error of opening, and nothing happens but that there may be more room, where no memory is found for the lists of steps or
+    /// also with the `OutOfMemory` of the pattern's error of opening, and nothing happens but that there may be more room, where an allocation fails for the lists of steps or
     /// for room: it takes none for that where no steps are named and there is room.
     pub fn open_or_create<T: Words + ZeroCopySend, U: Copy + ZeroCopySend, B: Drop, D: Drop>(
         &mut self,

@@ -34,5 +34,5 @@ pub mod opening;
 pub use acting::foreign;
 pub use asked::ServiceAsked;
 pub use factories::Factories;
-pub use iox_hub_base;
+pub use iox_hub_base::{Hub, HubConfig};
 pub use made::MadeFactory;

@@ -3,15 +3,15 @@ use Rattle.std.proofs.Common.{◌≡◌, ◌∙◌, ℕ, false, List, length, Op
 use Rattle.std.specs.BTreeMap.{is_at}
 use Rattle.std.specs.Ordering.{nat_cmp}
 use Rattle.std.proofs.lemmas.Map.Steps.{set_value_same}
-use Rattle.iox_domain_sender.specs.Messages.{write_all}
-use Rattle.iox_domain_sender.specs.Sending.{has_length}
-use Rattle.iox_domain_publisher.specs.Writing.{changed_if}
-use Rattle.iox_domain_publisher.specs.declared.publisher_port.PublisherPort.{PublisherPort}
-use Rattle.iox_domain_subscriber.specs.Publishers.{port_of, changed_at_port}
-use Rattle.iox_domain_ports.specs.Lending.{passes_port}
-use Rattle.iox_domain_ports.specs.declared.service_ports.ServicePorts.{ServicePorts}
-use Rattle.iox_domain_home.specs.declared.domain_id.DomainId.{DomainId}
-use Rattle.iox_delivery_slices.specs.Delivery.{changed_at}
+use Rattle.iox_delivery_slices.specs.DomainSender.Messages.{write_all}
+use Rattle.iox_delivery_slices.specs.DomainSender.Sending.{has_length}
+use Rattle.iox_delivery_slices.specs.DomainPublisher.Writing.{changed_if}
+use Rattle.iox_delivery_slices.specs.DomainPublisher.declared.publisher_port.PublisherPort.{PublisherPort}
+use Rattle.iox_delivery_slices.specs.DomainSubscriber.Publishers.{port_of, changed_at_port}
+use Rattle.iox_delivery_slices.specs.DomainPorts.Lending.{passes_port}
+use Rattle.iox_delivery_slices.specs.DomainPorts.declared.service_ports.ServicePorts.{ServicePorts}
+use Rattle.iox_delivery_slices.specs.DomainHome.declared.domain_id.DomainId.{DomainId}
+use Rattle.iox_delivery_slices.specs.Delivery.Publishing.{changed_at}
 use Rattle.iox_hub_ports.specs.Laws.{MisfitChangesNothing}
 use Rattle.iox_hub_ports.specs.Loans.{fits_in, filled_in}
 

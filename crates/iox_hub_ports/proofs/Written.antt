@@ -1,9 +1,10 @@
 -- A loan whose elements are written gets a number.
 use Rattle.std.proofs.Common.{◌≡◌, ℕ, replicate, IfOk, Option, Some, Result, refl, subst}
-use Rattle.iox_domain_values.specs.declared.port_error.LoanError.{LoanError}
-use Rattle.iox_domain_ports.specs.declared.service_ports.ServicePorts.{ServicePorts}
-use Rattle.iox_domain_home.specs.declared.domain_id.DomainId.{DomainId}
-use Rattle.iox_delivery_slices.specs.Delivery.{IsReady, PortId}
+use Rattle.iox_delivery_slices.specs.DomainValues.declared.port_error.LoanError.{LoanError}
+use Rattle.iox_delivery_slices.specs.DomainPorts.declared.service_ports.ServicePorts.{ServicePorts}
+use Rattle.iox_delivery_slices.specs.DomainHome.declared.domain_id.DomainId.{DomainId}
+use Rattle.iox_delivery_slices.specs.Delivery.Lent.{IsReady}
+use Rattle.iox_delivery_slices.specs.Delivery.declared.port_id.PortId.{PortId}
 use Rattle.iox_delivery_slices.specs.Slices.{LendsFilled}
 use Rattle.iox_hub_ports.specs.Numbering.{NumbersLoan, LendsWrittenNumbered}
 use Rattle.iox_hub_ports.specs.declared.made.Made.{Made}

@@ -1,21 +1,23 @@
 -- What the calls of a port under a number do to their home. `ports_of` finds the ports of a domain in a home, `with_ports` puts others
 -- there.
 use Rattle.std.specs.Prelude.{ℕ, ◌≡◌, ◌&&◌, Bool, false, not, List, replicate, Option, None, Some, Result, IfOk, if◌then◌else◌}
-use Rattle.iox_domain_values.specs.declared.backpressure.BackpressureDecision.{BackpressureDecision}
-use Rattle.iox_domain_values.specs.declared.backpressure.BackpressureInfo.{BackpressureInfo}
-use Rattle.iox_domain_values.specs.declared.connection_failure.ConnectionFailure.{ConnectionFailure}
-use Rattle.iox_domain_values.specs.declared.degradation.DegradationAction.{DegradationAction}
-use Rattle.iox_domain_values.specs.declared.degradation.DegradationInfo.{DegradationInfo}
-use Rattle.iox_domain_values.specs.declared.port_error.LoanError.{LoanError}
-use Rattle.iox_domain_values.specs.declared.port_error.ReceiveError.{ReceiveError}
-use Rattle.iox_domain_values.specs.declared.port_error.SendError.{SendError}
-use Rattle.iox_domain_publisher.specs.declared.meeting.Sent.{Sent}
-use Rattle.iox_domain_subscriber.specs.declared.attached.Taken.{Taken}
-use Rattle.iox_domain_ports.specs.declared.service_ports.ServicePorts.{ServicePorts}
-use Rattle.iox_domain_home.specs.Homes.{AtDomain, LeavesDomain}
-use Rattle.iox_domain_home.specs.Steps as steps
-use Rattle.iox_domain_home.specs.declared.domain_id.DomainId.{DomainId}
-use Rattle.iox_delivery_slices.specs.Delivery.{publisher_stands, publisher_blocked, IsReady, PortId}
+use Rattle.iox_delivery_slices.specs.DomainValues.declared.backpressure.BackpressureDecision.{BackpressureDecision}
+use Rattle.iox_delivery_slices.specs.DomainValues.declared.backpressure.BackpressureInfo.{BackpressureInfo}
+use Rattle.iox_delivery_slices.specs.DomainValues.declared.connection_failure.ConnectionFailure.{ConnectionFailure}
+use Rattle.iox_delivery_slices.specs.DomainValues.declared.degradation.DegradationAction.{DegradationAction}
+use Rattle.iox_delivery_slices.specs.DomainValues.declared.degradation.DegradationInfo.{DegradationInfo}
+use Rattle.iox_delivery_slices.specs.DomainValues.declared.port_error.LoanError.{LoanError}
+use Rattle.iox_delivery_slices.specs.DomainValues.declared.port_error.ReceiveError.{ReceiveError}
+use Rattle.iox_delivery_slices.specs.DomainValues.declared.port_error.SendError.{SendError}
+use Rattle.iox_delivery_slices.specs.DomainPublisher.declared.meeting.Sent.{Sent}
+use Rattle.iox_delivery_slices.specs.DomainSubscriber.declared.attached.Taken.{Taken}
+use Rattle.iox_delivery_slices.specs.DomainPorts.declared.service_ports.ServicePorts.{ServicePorts}
+use Rattle.iox_delivery_slices.specs.DomainHome.Homes.{AtDomain, LeavesDomain}
+use Rattle.iox_delivery_slices.specs.DomainHome.Steps as steps
+use Rattle.iox_delivery_slices.specs.DomainHome.declared.domain_id.DomainId.{DomainId}
+use Rattle.iox_delivery_slices.specs.Delivery.Holding.{publisher_stands, publisher_blocked}
+use Rattle.iox_delivery_slices.specs.Delivery.Lent.{IsReady}
+use Rattle.iox_delivery_slices.specs.Delivery.declared.port_id.PortId.{PortId}
 use Rattle.iox_delivery_slices.specs.Slices.{LendsFilled, SendsValues}
 
 -- A call at the port that goes by a number: nothing happens where none does.

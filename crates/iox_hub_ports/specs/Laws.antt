@@ -1,9 +1,9 @@
 -- Laws of the calls by number, in other words than their steps.
 use Rattle.std.specs.Prelude.{ℕ, ◌≡◌, false, List, is_some, Option, Result}
-use Rattle.iox_domain_values.specs.declared.port_error.LoanError.{LoanError}
-use Rattle.iox_domain_ports.specs.declared.service_ports.ServicePorts.{ServicePorts}
-use Rattle.iox_domain_home.specs.declared.domain_id.DomainId.{DomainId}
-use Rattle.iox_delivery_slices.specs.Delivery.{PortId}
+use Rattle.iox_delivery_slices.specs.DomainValues.declared.port_error.LoanError.{LoanError}
+use Rattle.iox_delivery_slices.specs.DomainPorts.declared.service_ports.ServicePorts.{ServicePorts}
+use Rattle.iox_delivery_slices.specs.DomainHome.declared.domain_id.DomainId.{DomainId}
+use Rattle.iox_delivery_slices.specs.Delivery.declared.port_id.PortId.{PortId}
 use Rattle.iox_hub_ports.specs.Calls.{AtPort, Lends, ready}
 use Rattle.iox_hub_ports.specs.Loans.{changed_under, is_filled, filled_in}
 use Rattle.iox_hub_ports.specs.declared.made.MadeLoan.{MadeLoan}

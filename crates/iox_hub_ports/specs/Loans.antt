@@ -1,18 +1,19 @@
 -- Loans under numbers are written, given up and sent.
 use Rattle.std.specs.Prelude.{ℕ, ◌≡◌, ◌&&◌, Bool, false, List, length, is_some, Option, None, Some, Result}
-use Rattle.iox_domain_values.specs.declared.backpressure.BackpressureDecision.{BackpressureDecision}
-use Rattle.iox_domain_values.specs.declared.backpressure.BackpressureInfo.{BackpressureInfo}
-use Rattle.iox_domain_values.specs.declared.degradation.DegradationAction.{DegradationAction}
-use Rattle.iox_domain_values.specs.declared.degradation.DegradationInfo.{DegradationInfo}
-use Rattle.iox_domain_values.specs.declared.port_error.SendError.{SendError}
-use Rattle.iox_domain_sender.specs.Messages.{Loan, write_value, write_all}
-use Rattle.iox_domain_sender.specs.Sending.{has_place, has_length, is_written_loan}
-use Rattle.iox_domain_publisher.specs.Writing.{value_at}
-use Rattle.iox_domain_publisher.specs.declared.meeting.Sent.{Sent}
-use Rattle.iox_domain_ports.specs.Lending.{passes, written_in}
-use Rattle.iox_domain_ports.specs.declared.service_ports.ServicePorts.{ServicePorts}
-use Rattle.iox_domain_home.specs.declared.domain_id.DomainId.{DomainId}
-use Rattle.iox_delivery_slices.specs.Delivery.{loan_found, changed_at}
+use Rattle.iox_delivery_slices.specs.DomainValues.declared.backpressure.BackpressureDecision.{BackpressureDecision}
+use Rattle.iox_delivery_slices.specs.DomainValues.declared.backpressure.BackpressureInfo.{BackpressureInfo}
+use Rattle.iox_delivery_slices.specs.DomainValues.declared.degradation.DegradationAction.{DegradationAction}
+use Rattle.iox_delivery_slices.specs.DomainValues.declared.degradation.DegradationInfo.{DegradationInfo}
+use Rattle.iox_delivery_slices.specs.DomainValues.declared.port_error.SendError.{SendError}
+use Rattle.iox_delivery_slices.specs.DomainSender.Messages.{Loan, write_value, write_all}
+use Rattle.iox_delivery_slices.specs.DomainSender.Sending.{has_place, has_length, is_written_loan}
+use Rattle.iox_delivery_slices.specs.DomainPublisher.Writing.{value_at}
+use Rattle.iox_delivery_slices.specs.DomainPublisher.declared.meeting.Sent.{Sent}
+use Rattle.iox_delivery_slices.specs.DomainPorts.Lending.{passes, written_in}
+use Rattle.iox_delivery_slices.specs.DomainPorts.declared.service_ports.ServicePorts.{ServicePorts}
+use Rattle.iox_delivery_slices.specs.DomainHome.declared.domain_id.DomainId.{DomainId}
+use Rattle.iox_delivery_slices.specs.Delivery.Holding.{loan_found}
+use Rattle.iox_delivery_slices.specs.Delivery.Publishing.{changed_at}
 use Rattle.iox_hub_ports.specs.Calls.{Sends}
 use Rattle.iox_hub_ports.specs.declared.made.MadeLoan.{MadeLoan}
 

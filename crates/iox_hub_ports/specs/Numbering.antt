@@ -1,14 +1,14 @@
 -- How loans and samples get numbers, and when a number is spent.
 use Rattle.std.specs.Prelude.{ℕ, ◌≡◌, Bool, true, false, Option, None, Some, Result, Ok, Err}
 use Rattle.iox_numbered.specs.NumberTable.{inserted}
-use Rattle.iox_domain_values.specs.declared.degradation.DegradationAction.{DegradationAction}
-use Rattle.iox_domain_values.specs.declared.degradation.DegradationInfo.{DegradationInfo}
-use Rattle.iox_domain_values.specs.declared.port_error.LoanError.{LoanError}
-use Rattle.iox_domain_values.specs.declared.port_error.ReceiveError.{ReceiveError}
-use Rattle.iox_domain_subscriber.specs.declared.attached.Taken.{Taken}
-use Rattle.iox_domain_ports.specs.declared.service_ports.ServicePorts.{ServicePorts}
-use Rattle.iox_domain_home.specs.declared.domain_id.DomainId.{DomainId}
-use Rattle.iox_delivery_slices.specs.Delivery.{PortId}
+use Rattle.iox_delivery_slices.specs.DomainValues.declared.degradation.DegradationAction.{DegradationAction}
+use Rattle.iox_delivery_slices.specs.DomainValues.declared.degradation.DegradationInfo.{DegradationInfo}
+use Rattle.iox_delivery_slices.specs.DomainValues.declared.port_error.LoanError.{LoanError}
+use Rattle.iox_delivery_slices.specs.DomainValues.declared.port_error.ReceiveError.{ReceiveError}
+use Rattle.iox_delivery_slices.specs.DomainSubscriber.declared.attached.Taken.{Taken}
+use Rattle.iox_delivery_slices.specs.DomainPorts.declared.service_ports.ServicePorts.{ServicePorts}
+use Rattle.iox_delivery_slices.specs.DomainHome.declared.domain_id.DomainId.{DomainId}
+use Rattle.iox_delivery_slices.specs.Delivery.declared.port_id.PortId.{PortId}
 use Rattle.iox_hub_ports.specs.Calls.{AtPort, Lends, LendsWritten, Receives}
 use Rattle.iox_hub_ports.specs.declared.made.Made.{Made}
 

@@ -1,13 +1,13 @@
 //! What is written into a loan; it is given up, or sent.
 ghost use Rattle.std.specs.Prelude.{◌≡◌, is_some, if◌then◌else◌};
-ghost use Rattle.iox_domain_ports.specs.Lending.{gave_up_in};
+ghost use Rattle.iox_delivery_slices.specs.DomainPorts.Lending.{gave_up_in};
 ghost use Rattle.iox_numbered.specs.NumberTable.{value_at};
 ghost use Rattle.iox_hub_ports.specs.Loans.{loan_under, changed_under, is_set, set_in, is_filled, filled_in, SendsUnder};
 ghost use Rattle.iox_hub_ports.specs.Numbering.{removed_if};
 ghost use Rattle.iox_hub_ports.specs.Tables.{without_loan};
 
 use crate::made::Made;
-use iox_delivery_slices::iox_delivery::lending;
+use iox_delivery::lending;
 use iox_domain_home::Home;
 use iox_domain_publisher::Sent;
 use iox_domain_values::SendError;

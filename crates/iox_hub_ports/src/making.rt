@@ -1,13 +1,13 @@
 //! Ports come, and get numbers.
 ghost use Rattle.std.specs.Prelude.{◌<◌, ◌+◌, ◌^◌, length};
-ghost use Rattle.iox_domain_home.specs.Homes.{MakesAt};
-ghost use Rattle.iox_domain_home.specs.Steps.{PublisherComes, SubscriberComes, why_no_publisher, why_no_subscriber};
-ghost use Rattle.iox_domain_values.specs.declared.degradation.DegradationCause.TheVariants.{FailedToEstablishConnection};
+ghost use Rattle.iox_delivery_slices.specs.DomainHome.Homes.{MakesAt};
+ghost use Rattle.iox_delivery_slices.specs.DomainHome.Steps.{PublisherComes, SubscriberComes, why_no_publisher, why_no_subscriber};
+ghost use Rattle.iox_delivery_slices.specs.DomainValues.declared.degradation.DegradationCause.TheVariants.{FailedToEstablishConnection};
 ghost use Rattle.iox_hub_ports.specs.Making.{MakesNumbered, MakesRoomFirst, with_publisher, with_subscriber};
 
 use crate::growing::room_for_one;
 use crate::made::{Made, MadePublisher};
-use iox_delivery_slices::iox_delivery::PortId;
+use iox_delivery::PortId;
 use iox_domain_home::{DomainId, MakesPorts};
 use iox_domain_ports::{PublisherConfig, SubscriberConfig};
 use iox_domain_values::{Degrades, Overrides, PublisherCreateError, SubscriberCreateError};

@@ -6,7 +6,7 @@ ghost use Rattle.iox_hub_ports.specs.Reading.{values_under, is_held, ReleasesUnd
 ghost use Rattle.iox_hub_ports.specs.Tables.{without_sample};
 
 use crate::made::Made;
-use iox_delivery_slices::iox_delivery::subscribing;
+use iox_delivery::subscribing;
 use iox_domain_home::Home;
 
 impl Made {

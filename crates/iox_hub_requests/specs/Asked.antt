@@ -6,13 +6,13 @@ use Rattle.iox_command.specs.declared.service.NumberOrOff.{NumberOrOff}
 use Rattle.iox_command.specs.declared.service.NumberOrOff.TheVariants.{Number, Off}
 use Rattle.iox_command.specs.declared.service.PublishSubscribeOptions.{PublishSubscribeOptions}
 use Rattle.iox_command.specs.declared.service.RequestResponseOptions.{RequestResponseOptions}
-use Rattle.iox_describe_base.specs.Attributes.{required}
-use Rattle.iox_describe_base.specs.Detail.{detail}
-use Rattle.iox_describe_base.specs.declared.message_type.MessageTypeDetails.{MessageTypeDetails}
-use Rattle.iox_describe_base.specs.declared.type_detail.TypeVariant.TheVariants.{FixedSize, Dynamic}
-use Rattle.iox_describe_verdict.specs.declared.requirement.event.Requirement.{Requirement as EventRequirement}
-use Rattle.iox_describe_verdict.specs.declared.requirement.publish_subscribe.Requirement.{Requirement as PublishSubscribeRequirement}
-use Rattle.iox_describe_verdict.specs.declared.requirement.request_response.Requirement.{Requirement as RequestResponseRequirement}
+use Rattle.iox_negotiate_table.specs.DescribeBase.Attributes.{required}
+use Rattle.iox_negotiate_table.specs.DescribeBase.Detail.{detail}
+use Rattle.iox_negotiate_table.specs.DescribeBase.declared.message_type.MessageTypeDetails.{MessageTypeDetails}
+use Rattle.iox_negotiate_table.specs.DescribeBase.declared.type_detail.TypeVariant.TheVariants.{FixedSize, Dynamic}
+use Rattle.iox_negotiate_table.specs.DescribeVerdict.declared.requirement.event.Requirement.{Requirement as EventRequirement}
+use Rattle.iox_negotiate_table.specs.DescribeVerdict.declared.requirement.publish_subscribe.Requirement.{Requirement as PublishSubscribeRequirement}
+use Rattle.iox_negotiate_table.specs.DescribeVerdict.declared.requirement.request_response.Requirement.{Requirement as RequestResponseRequirement}
 
 -- messages that carry slices of values of this name, size and alignment, with a user header of this name, size and alignment
 abbrev pub types_of : List ℕ → ℕ → ℕ → List ℕ → ℕ → ℕ → MessageTypeDetails

@@ -2,17 +2,17 @@
 use Rattle.std.specs.Prelude.{ℕ, List, []}
 use Rattle.iox_command.specs.declared.service.ServiceOptions.{ServiceOptions}
 use Rattle.iox_command.specs.declared.service.ServiceOptions.TheVariants as options
-use Rattle.iox_describe_base.specs.Hash.{service_hash_of}
-use Rattle.iox_describe_base.specs.declared.message_type.MessageTypeDetails.{MessageTypeDetails}
-use Rattle.iox_describe_settings.specs.Agreement.{Agreement, agreement, pattern_of}
-use Rattle.iox_describe_settings.specs.EventSettings as event_settings
-use Rattle.iox_describe_settings.specs.PublishSubscribeSettings as publish_subscribe_settings
-use Rattle.iox_describe_settings.specs.RequestResponseSettings as request_response_settings
-use Rattle.iox_describe_settings.specs.declared.static_config.Settings.{Settings}
-use Rattle.iox_describe_settings.specs.declared.static_config.Settings.TheVariants.{RequestResponse, PublishSubscribe, Event}
-use Rattle.iox_describe_verdict.specs.EventClauses as event_clauses
-use Rattle.iox_describe_verdict.specs.PublishSubscribeClauses as publish_subscribe_clauses
-use Rattle.iox_describe_verdict.specs.RequestResponseClauses as request_response_clauses
+use Rattle.iox_negotiate_table.specs.DescribeBase.Hash.{service_hash_of}
+use Rattle.iox_negotiate_table.specs.DescribeBase.declared.message_type.MessageTypeDetails.{MessageTypeDetails}
+use Rattle.iox_negotiate_table.specs.DescribeSettings.Agreement.{Agreement, agreement, pattern_of}
+use Rattle.iox_negotiate_table.specs.DescribeSettings.EventSettings as event_settings
+use Rattle.iox_negotiate_table.specs.DescribeSettings.PublishSubscribeSettings as publish_subscribe_settings
+use Rattle.iox_negotiate_table.specs.DescribeSettings.RequestResponseSettings as request_response_settings
+use Rattle.iox_negotiate_table.specs.DescribeSettings.declared.static_config.Settings.{Settings}
+use Rattle.iox_negotiate_table.specs.DescribeSettings.declared.static_config.Settings.TheVariants.{RequestResponse, PublishSubscribe, Event}
+use Rattle.iox_negotiate_table.specs.DescribeVerdict.EventClauses as event_clauses
+use Rattle.iox_negotiate_table.specs.DescribeVerdict.PublishSubscribeClauses as publish_subscribe_clauses
+use Rattle.iox_negotiate_table.specs.DescribeVerdict.RequestResponseClauses as request_response_clauses
 use Rattle.iox_hub_requests.specs.Asked.{asked_event, asked_publish_subscribe, asked_request_response}
 
 -- the settings that are named, each other one at its default, and a 0 that can't serve made 1

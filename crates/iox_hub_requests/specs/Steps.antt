@@ -4,7 +4,7 @@ use Rattle.std.specs.List.{filter}
 use Rattle.iox_command.specs.declared.step.ForeignStep.{ForeignStep as Named}
 use Rattle.iox_command.specs.declared.step.ForeignStep.TheVariants as named
 use Rattle.iox_command.specs.declared.step.StepBefore.{StepBefore}
-use Rattle.iox_describe_base.specs.declared.message_type.MessageTypeDetails.{MessageTypeDetails}
+use Rattle.iox_negotiate_table.specs.DescribeBase.declared.message_type.MessageTypeDetails.{MessageTypeDetails}
 use Rattle.iox_negotiate_table.specs.declared.step.ForeignStep.{ForeignStep}
 use Rattle.iox_negotiate_table.specs.declared.step.ForeignStep.TheVariants as step
 use Rattle.iox_hub_requests.specs.Described.{described}

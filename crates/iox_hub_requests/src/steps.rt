@@ -13,7 +13,7 @@ pub const MOST_LISTS: u64 = 16;
 
 /// The steps on the service of a name, in their order.
 ///
-/// Refused only for want of memory, which no steps take none of.
+/// Refused only where an allocation fails, which no steps take none of.
 pub fn step_list(
     alloc: Global,
     name: &ServiceName,
@@ -32,7 +32,7 @@ pub fn step_list(
 
 /// The steps before each access, up to the last that has any, and to the sixteenth.
 ///
-/// Refused only for want of memory, which no steps take none of.
+/// Refused only where an allocation fails, which no steps take none of.
 pub fn step_lists(
     alloc: Global,
     name: &ServiceName,

@@ -1,10 +1,10 @@
 //! Messages go from node to node.
 use crate::shared::{CONFIG, Messages, create, open, wanted};
+use iox_delivery::{Publisher, Sent, Subscriber};
+use iox_delivery_factories::{PortFactoryPublisher, PortFactorySubscriber};
 use iox_domain_home::Home;
 use iox_domain_values::{PublisherCreateError, SubscriberCreateError};
 use iox_hub_base::Hub;
-use iox_hub_base::iox_delivery_factories::iox_delivery::{Publisher, Sent, Subscriber};
-use iox_hub_base::iox_delivery_factories::{PortFactoryPublisher, PortFactorySubscriber};
 use std::alloc::Global;
 use std::process::Abort;
 use std::test::Fail;

@@ -1,6 +1,7 @@
 //! A hub with a service, and what is done there as rows of a table.
 use iox_describe::pattern::PublishSubscribe;
 use iox_describe::{LimitError, MessagingPattern, ServiceName};
+use iox_domain::Domain;
 use iox_domain_home::{DomainId, Home, MakesPorts};
 use iox_domain_ports::{PublisherConfig, SubscriberConfig};
 use iox_domain_subscriber::Taken;
@@ -8,7 +9,6 @@ use iox_domain_values::{
     AllocationStrategy, BackpressureStrategy, DegradationAction, DegradationHandler, Handlers,
     PortOwner, PreallocatedSamplesOverride,
 };
-use iox_hub_base::iox_delivery_factories::iox_domain::Domain;
 use iox_hub_base::{Hub, HubBuilder, HubConfig, NodeHandle, PortFactory};
 use iox_negotiate::ServiceBuilder;
 use iox_negotiate_errors::{PublishSubscribeCreateError, PublishSubscribeOpenError};

@@ -6,9 +6,10 @@ use Rattle.std.specs.Map.{lookup, set_value, remove_entry}
 use Rattle.std.specs.Ordering.{nat_cmp, is_eq, match_ordering}
 use Rattle.std.specs.declared.cmp.Ordering.{Ordering}
 use Rattle.std.specs.declared.cmp.Ordering.TheVariants.{Less, Equal, Greater}
-use Rattle.iox_describe_settings.specs.Agreement.{Agreement}
-use Rattle.iox_describe_settings.specs.declared.static_config.publish_subscribe.StaticConfig.{StaticConfig}
-use Rattle.iox_hub_factories.specs.Hub.{is_number, Presence}
+use Rattle.iox_hub_commands.specs.DescribeSettings.Agreement.{Agreement}
+use Rattle.iox_hub_commands.specs.DescribeSettings.declared.static_config.publish_subscribe.StaticConfig.{StaticConfig}
+use Rattle.iox_hub_factories.specs.HubServices.Numbered.{is_number}
+use Rattle.iox_hub_factories.specs.HubServices.declared.presence.Presence.{Presence}
 use Rattle.iox_hub_factories.specs.Tables.{FactoryTable, parts_of}
 use Rattle.iox_hub_factories.specs.declared.made.MadeFactory.{MadeFactory}
 use Rattle.iox_negotiate_laws.proofs.Maps.{Among, among-all}
@@ -69,8 +70,8 @@ module _ {T U B D : Type 0} where
   pub same_agreed : (old new : List (ℕ × Presence T U B D)) → new ≡ old → KeepsAgreed old new
   same_agreed old new same number presence in_it = (presence, subst (λ es. Among (number, presence) es) same in_it, refl)
 
-  pub agreed_on : (old mid new : List (ℕ × Presence T U B D)) → KeepsAgreed old mid → KeepsAgreed mid new → KeepsAgreed old new
-  agreed_on old mid new first second number presence in_it =
+  pub kept_twice : (old mid new : List (ℕ × Presence T U B D)) → KeepsAgreed old mid → KeepsAgreed mid new → KeepsAgreed old new
+  kept_twice old mid new first second number presence in_it =
       let (between, there, same) = second number presence in_it in
       let (before, where_it_was, was) = first number between there in
       (before, where_it_was, same ∙ was)

@@ -1,10 +1,11 @@
 -- What has grown by calls of ports is made for what its service agreed on.
 use Rattle.std.proofs.Common.{[], ◌∷◌, ℕ, List, subst}
 use Rattle.std.specs.List.{All}
-use Rattle.iox_domain_laws.proofs.Sized.{sizes_agree}
-use Rattle.iox_domain_laws.specs.SizeLaws.{IsMadeFor, allowed_by}
-use Rattle.iox_domain_settings.specs.Sizes.{sizes}
-use Rattle.iox_hub_factories.specs.Hub.{Presence, Here, Out}
+use Rattle.iox_hub_commands.proofs.DomainLaws.Sized.{sizes_agree}
+use Rattle.iox_hub_commands.specs.DomainLaws.SizeLaws.{IsMadeFor, allowed_by}
+use Rattle.iox_hub_commands.specs.DomainSettings.Sizes.{sizes}
+use Rattle.iox_hub_factories.specs.HubServices.declared.presence.Presence.{Presence}
+use Rattle.iox_hub_factories.specs.HubServices.declared.presence.Presence.TheVariants.{Here, Out}
 use Rattle.iox_hub_run.specs.Grown.{AnySlots, AnyAction, AnyDecision, HasGrown, HaveGrown, IsAsAgreed, AreAsAgreed}
 
 module _ {T U B D : Type 0} where

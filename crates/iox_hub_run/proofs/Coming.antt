@@ -1,16 +1,17 @@
 -- A port comes to the domain of the factory that was found.
 use Rattle.std.proofs.Common.{◌≡◌, Option, None, Some, option_map, sym, subst}
-use Rattle.iox_command.specs.declared.port.PublisherOptions.{PublisherOptions}
-use Rattle.iox_command.specs.declared.port.SubscriberOptions.{SubscriberOptions}
-use Rattle.iox_command.specs.declared.reply.Reply.{Reply}
-use Rattle.iox_domain_home.specs.declared.domain_id.DomainId.{DomainId}
-use Rattle.iox_domain_values.specs.declared.backpressure.BackpressureAction.{BackpressureAction}
-use Rattle.iox_domain_values.specs.declared.backpressure_strategy.BackpressureStrategy.{BackpressureStrategy}
-use Rattle.iox_domain_values.specs.declared.degradation.DegradationAction.{DegradationAction}
-use Rattle.iox_domain_values.specs.declared.degradation.DegradationCause.{DegradationCause}
-use Rattle.iox_domain_values.specs.declared.degradation.DegradationInfo.{DegradationInfo}
-use Rattle.iox_domain_values.specs.declared.port_owner.PortOwner.{PortOwner}
-use Rattle.iox_hub_factories.specs.Hub.{hub_ports, with_hub_ports, with_hub_publisher, with_hub_subscriber, Made as Opened}
+use Rattle.iox_hub_commands.specs.Command.declared.port.PublisherOptions.{PublisherOptions}
+use Rattle.iox_hub_commands.specs.Command.declared.port.SubscriberOptions.{SubscriberOptions}
+use Rattle.iox_hub_commands.specs.Command.declared.reply.Reply.{Reply}
+use Rattle.iox_hub_commands.specs.DomainHome.declared.domain_id.DomainId.{DomainId}
+use Rattle.iox_hub_commands.specs.DomainValues.declared.backpressure.BackpressureAction.{BackpressureAction}
+use Rattle.iox_hub_commands.specs.DomainValues.declared.backpressure_strategy.BackpressureStrategy.{BackpressureStrategy}
+use Rattle.iox_hub_commands.specs.DomainValues.declared.degradation.DegradationAction.{DegradationAction}
+use Rattle.iox_hub_commands.specs.DomainValues.declared.degradation.DegradationCause.{DegradationCause}
+use Rattle.iox_hub_commands.specs.DomainValues.declared.degradation.DegradationInfo.{DegradationInfo}
+use Rattle.iox_hub_commands.specs.DomainValues.declared.port_owner.PortOwner.{PortOwner}
+use Rattle.iox_hub_factories.specs.HubBase.AsHome.{hub_ports, with_hub_ports, with_hub_publisher, with_hub_subscriber}
+use Rattle.iox_hub_factories.specs.HubBase.Opening.{Made as Opened}
 use Rattle.iox_hub_commands.specs.Arriving.{PublisherStep, SubscriberStep}
 use Rattle.iox_hub_commands.specs.Naming.{publisher_config, publisher_handlers, subscriber_config, subscriber_handler}
 use Rattle.iox_hub_run.specs.Services.{PublisherComes, SubscriberComes, domain_of_factory, owner_of_factory}

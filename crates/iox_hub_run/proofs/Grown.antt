@@ -5,25 +5,34 @@ use Rattle.std.specs.Map.{lookup, set_value, remove_entry}
 use Rattle.std.specs.Ordering.{nat_cmp, is_eq, match_ordering}
 use Rattle.std.specs.declared.cmp.Ordering.{Ordering}
 use Rattle.std.specs.declared.cmp.Ordering.TheVariants.{Less, Equal, Greater}
-use Rattle.iox_hub_commands.specs.Delivery.{changed_at}
-use Rattle.iox_hub_commands.specs.Slices.{each_written}
-use Rattle.iox_hub_factories.specs.Hub.{with_ports, Domain, hub_ports, with_hub_ports, with_services, Hub, domain_at, stepped_if, stepped, here_stands, stands_at, stepped_elsewhere, one_value, is_number, changed_found, changed_twice, same_unchanged, OpenServices, presence_of, Presence, Here}
-use Rattle.iox_domain_home.specs.Homes.{AtDomain, LeavesDomain, MakesAt}
-use Rattle.iox_domain_home.specs.declared.domain_id.DomainId.{DomainId}
-use Rattle.iox_domain_laws.specs.Calls.{PortCall, Writes, Happens}
-use Rattle.iox_domain_laws.specs.Order.{Happen}
-use Rattle.iox_domain_ports.specs.declared.service_ports.ServicePorts.{ServicePorts}
-use Rattle.iox_domain_publisher.specs.Writing.{changed_if}
-use Rattle.iox_domain_publisher.specs.declared.publisher_port.PublisherPort.{PublisherPort}
-use Rattle.iox_domain_sender.specs.Messages.{write_value}
-use Rattle.iox_domain_sender.specs.Sending.{has_place}
-use Rattle.iox_domain_subscriber.specs.Publishers.{port_of, changed, changed_at_port, with_port}
-use Rattle.iox_domain_values.specs.declared.backpressure.BackpressureDecision.{BackpressureDecision}
-use Rattle.iox_domain_values.specs.declared.backpressure.BackpressureInfo.{BackpressureInfo}
-use Rattle.iox_domain_values.specs.declared.degradation.DegradationAction.{DegradationAction}
-use Rattle.iox_domain_values.specs.declared.degradation.DegradationInfo.{DegradationInfo}
+use Rattle.iox_hub_commands.specs.Delivery.Publishing.{changed_at}
+use Rattle.iox_hub_commands.specs.DeliverySlices.Slices.{each_written}
+use Rattle.iox_hub_factories.specs.Domain.Domains.{with_ports}
+use Rattle.iox_hub_factories.specs.Domain.declared.domain.Domain.{Domain}
+use Rattle.iox_hub_factories.specs.HubBase.AsHome.{hub_ports, with_hub_ports, with_services}
+use Rattle.iox_hub_factories.specs.HubBase.declared.hub.Hub.{Hub}
+use Rattle.iox_hub_factories.specs.HubServices.AsHome.{domain_at, stepped_if, stepped}
+use Rattle.iox_hub_factories.specs.HubServices.HomeLaws.{here_stands, stands_at, stepped_elsewhere}
+use Rattle.iox_hub_factories.specs.HubServices.Numbered.{one_value, is_number, changed_found, changed_twice, same_unchanged}
+use Rattle.iox_hub_factories.specs.HubServices.Open.{OpenServices, presence_of}
+use Rattle.iox_hub_factories.specs.HubServices.declared.presence.Presence.{Presence}
+use Rattle.iox_hub_factories.specs.HubServices.declared.presence.Presence.TheVariants.{Here}
+use Rattle.iox_hub_commands.specs.DomainHome.Homes.{AtDomain, LeavesDomain, MakesAt}
+use Rattle.iox_hub_commands.specs.DomainHome.declared.domain_id.DomainId.{DomainId}
+use Rattle.iox_hub_commands.specs.DomainLaws.Calls.{PortCall, Writes, Happens}
+use Rattle.iox_hub_commands.specs.DomainLaws.Order.{Happen}
+use Rattle.iox_hub_commands.specs.DomainPorts.declared.service_ports.ServicePorts.{ServicePorts}
+use Rattle.iox_hub_commands.specs.DomainPublisher.Writing.{changed_if}
+use Rattle.iox_hub_commands.specs.DomainPublisher.declared.publisher_port.PublisherPort.{PublisherPort}
+use Rattle.iox_hub_commands.specs.DomainSender.Messages.{write_value}
+use Rattle.iox_hub_commands.specs.DomainSender.Sending.{has_place}
+use Rattle.iox_hub_commands.specs.DomainSubscriber.Publishers.{port_of, changed, changed_at_port, with_port}
+use Rattle.iox_hub_commands.specs.DomainValues.declared.backpressure.BackpressureDecision.{BackpressureDecision}
+use Rattle.iox_hub_commands.specs.DomainValues.declared.backpressure.BackpressureInfo.{BackpressureInfo}
+use Rattle.iox_hub_commands.specs.DomainValues.declared.degradation.DegradationAction.{DegradationAction}
+use Rattle.iox_hub_commands.specs.DomainValues.declared.degradation.DegradationInfo.{DegradationInfo}
 use Rattle.iox_hub_run.specs.Grown.{AnySlots, AnyAction, AnyDecision, LeadsTo, HasGrown, HaveGrown, GrowsOn, OthersStay}
-use Rattle.iox_hub_run.proofs.Agreeing.{KeepsAgreed, same_agreed, agreed_on, set_agreed}
+use Rattle.iox_hub_run.proofs.Agreeing.{KeepsAgreed, same_agreed, kept_twice, set_agreed}
 use Rattle.iox_hub_run.proofs.Loosening.{loosened}
 
 -- calls, and then more calls
@@ -176,7 +185,7 @@ module _ {T U B D : Type 0} where
 
   pub moves_on : (id : DomainId) (old mid new : Hub T U B D) → Moves id old mid → Moves id mid new → Moves id old new
   moves_on id old mid new (stay, grow, (table, keep)) (stay_later, grow_later, (table_later, keep_later)) =
-      (λ other apart. stay_later other apart ∙ stay other apart, λ grown. grow_later (grow grown), (table_later ∙ table, agreed_on old.services.domains mid.services.domains new.services.domains keep keep_later))
+      (λ other apart. stay_later other apart ∙ stay other apart, λ grown. grow_later (grow grown), (table_later ∙ table, kept_twice old.services.domains mid.services.domains new.services.domains keep keep_later))
 
   ports_go : (ports after : ServicePorts T U) (domain : Domain T U B D) (found : Option (Domain T U B D)) → LeadsTo ports after → option_map (λ one. one.ports) found ≡ Some ports → found ≡ Some domain → Goes domain (with_ports after domain)
   ports_go ports after domain found leads are is =

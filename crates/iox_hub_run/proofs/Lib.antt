@@ -12,3 +12,4 @@ pub mod ServicesAgree
 pub mod StepMoves
 pub mod RunLemmas
 pub mod AsAgreed
+pub mod OneAgreement

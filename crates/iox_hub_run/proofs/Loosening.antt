@@ -1,41 +1,41 @@
 -- What a call does by handlers that answer in some way it does where anything may be answered.
 use Rattle.std.proofs.Common.{ℕ, zero, suc, ◌+◌, Bool, true, false, List, [], ◌∷◌, Option, None, Some, Result, Ok, Err, is_ok}
 use Rattle.std.specs.declared.alloc.AllocError.{AllocError}
-use Rattle.iox_domain_laws.specs.Calls.{PortCall, PublisherComes, SubscriberComes, Lends, Writes, GivesLoanUp, PublisherUpdates, Sends, Retries, GivesSendUp, PublisherLeaves, SubscriberUpdates, AsksForSamples, Receives, Releases, SubscriberLeaves, Happens}
-use Rattle.iox_domain_ports.specs.Making.{slots_needed, publisher_place, subscriber_place, identity_of, AddsPublisher, CreatesPublisher, AddsSubscriber, CreatesSubscriber}
-use Rattle.iox_domain_ports.specs.Ports.{AtPublisher, AtSubscriber}
-use Rattle.iox_domain_ports.specs.Publishing as publishing
-use Rattle.iox_domain_ports.specs.Rolls.{RollState}
-use Rattle.iox_domain_ports.specs.Subscribers.{subscriber_of}
-use Rattle.iox_domain_ports.specs.Subscribing as subscribing
-use Rattle.iox_domain_ports.specs.declared.making.PublisherConfig.{PublisherConfig}
-use Rattle.iox_domain_ports.specs.declared.service_ports.ServicePorts.{ServicePorts}
-use Rattle.iox_domain_publisher.specs.Sending as sending
-use Rattle.iox_domain_publisher.specs.Updating as publisher
-use Rattle.iox_domain_publisher.specs.declared.meeting.Meeting.{Meeting}
-use Rattle.iox_domain_publisher.specs.declared.meeting.Meeting.TheVariants as meeting
-use Rattle.iox_domain_publisher.specs.declared.meeting.Sent.{Sent}
-use Rattle.iox_domain_publisher.specs.declared.publisher_port.PublisherPort.{PublisherPort}
-use Rattle.iox_domain_publisher.specs.declared.subscriber_entry.SubscriberEntry.{SubscriberEntry}
-use Rattle.iox_domain_subscriber.specs.Arriving.{new_subscriber}
-use Rattle.iox_domain_subscriber.specs.Publishers.{port_of}
-use Rattle.iox_domain_subscriber.specs.Updating as subscriber
-use Rattle.iox_domain_subscriber.specs.declared.attached.Taken.{Taken}
-use Rattle.iox_domain_subscriber.specs.declared.publisher_entry.PublisherEntry.{PublisherEntry}
-use Rattle.iox_domain_subscriber.specs.declared.subscriber_port.SubscriberPort.{SubscriberPort}
-use Rattle.iox_domain_values.specs.Sizes.{buffer_of}
-use Rattle.iox_domain_values.specs.declared.backpressure.BackpressureDecision.{BackpressureDecision}
-use Rattle.iox_domain_values.specs.declared.backpressure.BackpressureInfo.{BackpressureInfo}
-use Rattle.iox_domain_values.specs.declared.connection_failure.ConnectionFailure.{ConnectionFailure}
-use Rattle.iox_domain_values.specs.declared.connection_failure.ZeroCopyCreationError.{ZeroCopyCreationError}
-use Rattle.iox_domain_values.specs.declared.create_error.PublisherCreateError.{PublisherCreateError}
-use Rattle.iox_domain_values.specs.declared.create_error.SubscriberCreateError.{SubscriberCreateError}
-use Rattle.iox_domain_values.specs.declared.degradation.DegradationAction.{DegradationAction}
-use Rattle.iox_domain_values.specs.declared.degradation.DegradationInfo.{DegradationInfo}
-use Rattle.iox_domain_values.specs.declared.port_error.ReceiveError.{ReceiveError}
-use Rattle.iox_domain_values.specs.declared.port_error.SendError.{SendError}
-use Rattle.iox_domain_values.specs.declared.port_owner.PortOwner.{PortOwner}
-use Rattle.iox_index_base.specs.declared.container.Member.{Member}
+use Rattle.iox_hub_commands.specs.DomainLaws.Calls.{PortCall, PublisherComes, SubscriberComes, Lends, Writes, GivesLoanUp, PublisherUpdates, Sends, Retries, GivesSendUp, PublisherLeaves, SubscriberUpdates, AsksForSamples, Receives, Releases, SubscriberLeaves, Happens}
+use Rattle.iox_hub_commands.specs.DomainPorts.Making.{slots_needed, publisher_place, subscriber_place, identity_of, AddsPublisher, CreatesPublisher, AddsSubscriber, CreatesSubscriber}
+use Rattle.iox_hub_commands.specs.DomainPorts.Ports.{AtPublisher, AtSubscriber}
+use Rattle.iox_hub_commands.specs.DomainPorts.Publishing as publishing
+use Rattle.iox_hub_commands.specs.DomainPorts.Rolls.{RollState}
+use Rattle.iox_hub_commands.specs.DomainPorts.Subscribers.{subscriber_of}
+use Rattle.iox_hub_commands.specs.DomainPorts.Subscribing as subscribing
+use Rattle.iox_hub_commands.specs.DomainPorts.declared.making.PublisherConfig.{PublisherConfig}
+use Rattle.iox_hub_commands.specs.DomainPorts.declared.service_ports.ServicePorts.{ServicePorts}
+use Rattle.iox_hub_commands.specs.DomainPublisher.Sending as sending
+use Rattle.iox_hub_commands.specs.DomainPublisher.Updating as publisher
+use Rattle.iox_hub_commands.specs.DomainPublisher.declared.meeting.Meeting.{Meeting}
+use Rattle.iox_hub_commands.specs.DomainPublisher.declared.meeting.Meeting.TheVariants as meeting
+use Rattle.iox_hub_commands.specs.DomainPublisher.declared.meeting.Sent.{Sent}
+use Rattle.iox_hub_commands.specs.DomainPublisher.declared.publisher_port.PublisherPort.{PublisherPort}
+use Rattle.iox_hub_commands.specs.DomainPublisher.declared.subscriber_entry.SubscriberEntry.{SubscriberEntry}
+use Rattle.iox_hub_commands.specs.DomainSubscriber.Arriving.{new_subscriber}
+use Rattle.iox_hub_commands.specs.DomainSubscriber.Publishers.{port_of}
+use Rattle.iox_hub_commands.specs.DomainSubscriber.Updating as subscriber
+use Rattle.iox_hub_commands.specs.DomainSubscriber.declared.attached.Taken.{Taken}
+use Rattle.iox_hub_commands.specs.DomainSubscriber.declared.publisher_entry.PublisherEntry.{PublisherEntry}
+use Rattle.iox_hub_commands.specs.DomainSubscriber.declared.subscriber_port.SubscriberPort.{SubscriberPort}
+use Rattle.iox_hub_commands.specs.DomainValues.Sizes.{buffer_of}
+use Rattle.iox_hub_commands.specs.DomainValues.declared.backpressure.BackpressureDecision.{BackpressureDecision}
+use Rattle.iox_hub_commands.specs.DomainValues.declared.backpressure.BackpressureInfo.{BackpressureInfo}
+use Rattle.iox_hub_commands.specs.DomainValues.declared.connection_failure.ConnectionFailure.{ConnectionFailure}
+use Rattle.iox_hub_commands.specs.DomainValues.declared.connection_failure.ZeroCopyCreationError.{ZeroCopyCreationError}
+use Rattle.iox_hub_commands.specs.DomainValues.declared.create_error.PublisherCreateError.{PublisherCreateError}
+use Rattle.iox_hub_commands.specs.DomainValues.declared.create_error.SubscriberCreateError.{SubscriberCreateError}
+use Rattle.iox_hub_commands.specs.DomainValues.declared.degradation.DegradationAction.{DegradationAction}
+use Rattle.iox_hub_commands.specs.DomainValues.declared.degradation.DegradationInfo.{DegradationInfo}
+use Rattle.iox_hub_commands.specs.DomainValues.declared.port_error.ReceiveError.{ReceiveError}
+use Rattle.iox_hub_commands.specs.DomainValues.declared.port_error.SendError.{SendError}
+use Rattle.iox_hub_commands.specs.DomainValues.declared.port_owner.PortOwner.{PortOwner}
+use Rattle.iox_hub_commands.specs.IndexBase.declared.container.Member.{Member}
 use Rattle.iox_hub_run.specs.Grown.{AnySlots, AnyAction, AnyDecision}
 
 asks_of : (may : DegradationInfo → DegradationAction → Type 0) (listed : Option (Member PublisherEntry)) (port : SubscriberPort) (found after : Option ConnectionFailure) (outcome : Result (Unit {0}) ZeroCopyCreationError)

@@ -1,12 +1,16 @@
 -- What the commands of ports change of the numbers of ports, loans and samples.
 use Rattle.std.proofs.Common.{arith, ◌≡◌, ◌≤◌, ◌+◌, ℕ, Bool, true, false, Option, None, Some, Result, Ok, Err, inl, inr, refl}
 use Rattle.std.specs.declared.alloc.AllocError.{AllocError}
-use Rattle.iox_hub_commands.specs.Delivery.{PortId}
-use Rattle.iox_domain_home.specs.declared.domain_id.DomainId.{DomainId}
-use Rattle.iox_domain_subscriber.specs.declared.attached.Taken.{Taken}
-use Rattle.iox_domain_values.specs.declared.port_error.LoanError.{LoanError}
-use Rattle.iox_domain_values.specs.declared.port_error.ReceiveError.{ReceiveError}
-use Rattle.iox_hub_commands.specs.Ports.{GrowsFirst, NumbersPort, with_publisher, with_subscriber, NumbersLoan, NumbersSample, removed_if, IsRoomier, without_publisher, without_subscriber, without_loan, without_sample, Made}
+use Rattle.iox_hub_commands.specs.Delivery.declared.port_id.PortId.{PortId}
+use Rattle.iox_hub_commands.specs.DomainHome.declared.domain_id.DomainId.{DomainId}
+use Rattle.iox_hub_commands.specs.DomainSubscriber.declared.attached.Taken.{Taken}
+use Rattle.iox_hub_commands.specs.DomainValues.declared.port_error.LoanError.{LoanError}
+use Rattle.iox_hub_commands.specs.DomainValues.declared.port_error.ReceiveError.{ReceiveError}
+use Rattle.iox_hub_commands.specs.HubPorts.Growing.{GrowsFirst}
+use Rattle.iox_hub_commands.specs.HubPorts.Making.{NumbersPort, with_publisher, with_subscriber}
+use Rattle.iox_hub_commands.specs.HubPorts.Numbering.{NumbersLoan, NumbersSample, removed_if}
+use Rattle.iox_hub_commands.specs.HubPorts.Tables.{IsRoomier, without_publisher, without_subscriber, without_loan, without_sample}
+use Rattle.iox_hub_commands.specs.HubPorts.declared.made.Made.{Made}
 use Rattle.iox_hub_run.specs.Lives.{AllStay, OneChanges}
 use Rattle.iox_hub_run.proofs.GoingOn.{stay_longer, stays_and_changes, one_more}
 

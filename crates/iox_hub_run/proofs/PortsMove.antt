@@ -3,41 +3,53 @@ use Rattle.std.proofs.Common.{◌≡◌, ℕ, Bool, true, false, List, Option, N
 use Rattle.std.specs.Option.{unwrap_or}
 use Rattle.std.specs.Prelude.{replicate}
 use Rattle.std.specs.declared.alloc.AllocError.{AllocError}
-use Rattle.iox_command.specs.declared.port.PortNumber.{PortNumber}
-use Rattle.iox_command.specs.declared.port.PortNumber.TheVariants as port_number
-use Rattle.iox_command.specs.declared.reply.Reply.{Reply}
-use Rattle.iox_hub_commands.specs.Delivery.{AfterLoan, ReleasesOne, PortId}
-use Rattle.iox_hub_commands.specs.Slices.{each_written_in, FillsLent, WritesAndSends}
-use Rattle.iox_domain_home.specs.Homes.{AtDomain}
-use Rattle.iox_domain_home.specs.Steps as steps
-use Rattle.iox_domain_home.specs.declared.domain_id.DomainId.{DomainId}
-use Rattle.iox_domain_laws.specs.Calls as calls
-use Rattle.iox_domain_ports.specs.Lending.{written_in, gave_up_in}
-use Rattle.iox_domain_ports.specs.declared.making.PublisherConfig.{PublisherConfig}
-use Rattle.iox_domain_ports.specs.declared.making.SubscriberConfig.{SubscriberConfig}
-use Rattle.iox_domain_ports.specs.declared.service_ports.ServicePorts.{ServicePorts}
-use Rattle.iox_domain_publisher.specs.declared.meeting.Sent.{Sent}
-use Rattle.iox_domain_sender.specs.Messages.{write_value, write_all}
-use Rattle.iox_domain_sender.specs.Sending.{has_place, has_length}
-use Rattle.iox_domain_subscriber.specs.declared.attached.Taken.{Taken}
-use Rattle.iox_domain_values.specs.declared.backpressure.BackpressureDecision.{BackpressureDecision}
-use Rattle.iox_domain_values.specs.declared.backpressure.BackpressureInfo.{BackpressureInfo}
-use Rattle.iox_domain_values.specs.declared.connection_failure.ConnectionFailure.{ConnectionFailure}
-use Rattle.iox_domain_values.specs.declared.degradation.DegradationAction.{DegradationAction}
-use Rattle.iox_domain_values.specs.declared.degradation.DegradationCause.{DegradationCause}
-use Rattle.iox_domain_values.specs.declared.degradation.DegradationCause.TheVariants.{FailedToEstablishConnection}
-use Rattle.iox_domain_values.specs.declared.degradation.DegradationInfo.{DegradationInfo}
-use Rattle.iox_domain_values.specs.declared.port_error.LoanError.{LoanError}
-use Rattle.iox_domain_values.specs.declared.port_error.ReceiveError.{ReceiveError}
-use Rattle.iox_domain_values.specs.declared.port_error.SendError.{SendError}
-use Rattle.iox_hub_factories.specs.Hub.{hub_ports, with_hub_ports, with_hub_publisher, with_hub_subscriber, without_hub_publisher, without_hub_subscriber, Hub, publisher_kept, subscriber_kept, publisher_forgotten, subscriber_forgotten}
+use Rattle.iox_hub_commands.specs.Command.declared.port.PortNumber.{PortNumber}
+use Rattle.iox_hub_commands.specs.Command.declared.port.PortNumber.TheVariants as port_number
+use Rattle.iox_hub_commands.specs.Command.declared.reply.Reply.{Reply}
+use Rattle.iox_hub_commands.specs.Delivery.Publishing.{AfterLoan}
+use Rattle.iox_hub_commands.specs.Delivery.Subscribing.{ReleasesOne}
+use Rattle.iox_hub_commands.specs.Delivery.declared.port_id.PortId.{PortId}
+use Rattle.iox_hub_commands.specs.DeliverySlices.Slices.{each_written_in, FillsLent, WritesAndSends}
+use Rattle.iox_hub_commands.specs.DomainHome.Homes.{AtDomain}
+use Rattle.iox_hub_commands.specs.DomainHome.Steps as steps
+use Rattle.iox_hub_commands.specs.DomainHome.declared.domain_id.DomainId.{DomainId}
+use Rattle.iox_hub_commands.specs.DomainLaws.Calls as calls
+use Rattle.iox_hub_commands.specs.DomainPorts.Lending.{written_in, gave_up_in}
+use Rattle.iox_hub_commands.specs.DomainPorts.declared.making.PublisherConfig.{PublisherConfig}
+use Rattle.iox_hub_commands.specs.DomainPorts.declared.making.SubscriberConfig.{SubscriberConfig}
+use Rattle.iox_hub_commands.specs.DomainPorts.declared.service_ports.ServicePorts.{ServicePorts}
+use Rattle.iox_hub_commands.specs.DomainPublisher.declared.meeting.Sent.{Sent}
+use Rattle.iox_hub_commands.specs.DomainSender.Messages.{write_value, write_all}
+use Rattle.iox_hub_commands.specs.DomainSender.Sending.{has_place, has_length}
+use Rattle.iox_hub_commands.specs.DomainSubscriber.declared.attached.Taken.{Taken}
+use Rattle.iox_hub_commands.specs.DomainValues.declared.backpressure.BackpressureDecision.{BackpressureDecision}
+use Rattle.iox_hub_commands.specs.DomainValues.declared.backpressure.BackpressureInfo.{BackpressureInfo}
+use Rattle.iox_hub_commands.specs.DomainValues.declared.connection_failure.ConnectionFailure.{ConnectionFailure}
+use Rattle.iox_hub_commands.specs.DomainValues.declared.degradation.DegradationAction.{DegradationAction}
+use Rattle.iox_hub_commands.specs.DomainValues.declared.degradation.DegradationCause.{DegradationCause}
+use Rattle.iox_hub_commands.specs.DomainValues.declared.degradation.DegradationCause.TheVariants.{FailedToEstablishConnection}
+use Rattle.iox_hub_commands.specs.DomainValues.declared.degradation.DegradationInfo.{DegradationInfo}
+use Rattle.iox_hub_commands.specs.DomainValues.declared.port_error.LoanError.{LoanError}
+use Rattle.iox_hub_commands.specs.DomainValues.declared.port_error.ReceiveError.{ReceiveError}
+use Rattle.iox_hub_commands.specs.DomainValues.declared.port_error.SendError.{SendError}
+use Rattle.iox_hub_factories.specs.HubBase.AsHome.{hub_ports, with_hub_ports, with_hub_publisher, with_hub_subscriber, without_hub_publisher, without_hub_subscriber}
+use Rattle.iox_hub_factories.specs.HubBase.declared.hub.Hub.{Hub}
+use Rattle.iox_hub_factories.specs.HubServices.AsHome.{publisher_kept, subscriber_kept, publisher_forgotten, subscriber_forgotten}
 use Rattle.iox_hub_commands.specs.Arriving.{PublisherStep, SubscriberStep}
 use Rattle.iox_hub_commands.specs.Following.{UpdateStep, HasStep, LeaveStep}
 use Rattle.iox_hub_commands.specs.Lending.{LoanStep, LoanUninitStep, PutStep}
 use Rattle.iox_hub_commands.specs.Messages.{SetStep, FillStep, DropStep, SendStep, RetryStep, GiveUpStep, ReleaseStep}
 use Rattle.iox_hub_commands.specs.Receiving.{ReceiveStep}
-use Rattle.iox_hub_commands.specs.Ports.{AtPort, AtPortIf, Lends, LendsWritten, Puts, Follows, Sends, Retries, GivesUp, PublisherGoes, FollowsPublishers, Tells, Receives, SubscriberGoes, ready, GrowsFirst, changed_under, set_in, filled_in, SendsUnder, LendsNumbered, LendsWrittenNumbered, ReceivesNumbered, ReleasesUnder, IsFull, lender, port_under, Made, MadeLoan, MadeSample}
-use Rattle.iox_numbered.specs.NumberTable.{value_at}
+use Rattle.iox_hub_commands.specs.HubPorts.Calls.{AtPort, AtPortIf, Lends, LendsWritten, Puts, Follows, Sends, Retries, GivesUp, PublisherGoes, FollowsPublishers, Tells, Receives, SubscriberGoes, ready}
+use Rattle.iox_hub_commands.specs.HubPorts.Growing.{GrowsFirst}
+use Rattle.iox_hub_commands.specs.HubPorts.Loans.{changed_under, set_in, filled_in, SendsUnder}
+use Rattle.iox_hub_commands.specs.HubPorts.Numbering.{LendsNumbered, LendsWrittenNumbered, ReceivesNumbered}
+use Rattle.iox_hub_commands.specs.HubPorts.Reading.{ReleasesUnder}
+use Rattle.iox_hub_commands.specs.HubPorts.Tables.{IsFull, lender, port_under}
+use Rattle.iox_hub_commands.specs.HubPorts.declared.made.Made.{Made}
+use Rattle.iox_hub_commands.specs.HubPorts.declared.made.MadeLoan.{MadeLoan}
+use Rattle.iox_hub_commands.specs.HubPorts.declared.made.MadeSample.{MadeSample}
+use Rattle.iox_hub_factories.specs.Numbered.NumberTable.{value_at}
 use Rattle.iox_hub_run.specs.Grown.{AnySlots, AnyAction, AnyDecision, LeadsTo}
 use Rattle.iox_hub_run.proofs.Grown.{Moves, MovesOne, by_call, by_handlers, each_leads, is_moves, none_moves, moves_on, keep_moves, at_domain_moves, leaves_moves, makes_moves, changed_moves}
 

@@ -6,23 +6,29 @@ use Rattle.std.specs.Map.{remove_entry}
 use Rattle.std.specs.Ordering.{nat_cmp}
 use Rattle.std.specs.Result.{result_map_both}
 use Rattle.std.specs.declared.alloc.AllocError.{AllocError}
-use Rattle.iox_command.specs.declared.refusal.HubError.{HubError}
-use Rattle.iox_command.specs.declared.refusal.Refusal.{Refusal}
-use Rattle.iox_command.specs.declared.service.ServiceOptions.{ServiceOptions}
-use Rattle.iox_command.specs.declared.service.ServiceOptions.TheVariants as options
-use Rattle.iox_command.specs.declared.step.ForeignStep.{ForeignStep as Named}
-use Rattle.iox_command.specs.declared.step.StepBefore.{StepBefore}
-use Rattle.iox_describe.specs.Within.{HasForm, IsWithinLimits}
-use Rattle.iox_describe_base.specs.Attributes.{Required}
-use Rattle.iox_describe_base.specs.Detail.{Detail}
-use Rattle.iox_describe_base.specs.declared.attribute.Attribute.{Attribute}
-use Rattle.iox_describe_base.specs.declared.hash.ServiceHash.{ServiceHash}
-use Rattle.iox_describe_base.specs.declared.message_type.MessageTypeDetails.{MessageTypeDetails}
-use Rattle.iox_describe_base.specs.declared.pattern.MessagingPattern.{MessagingPattern}
-use Rattle.iox_describe_settings.specs.Agreement.{Agreement, AreWithinLimits}
-use Rattle.iox_describe_settings.specs.declared.static_config.Settings.{Settings}
-use Rattle.iox_describe_settings.specs.declared.static_config.Settings.TheVariants.{PublishSubscribe}
-use Rattle.iox_hub_factories.specs.Hub.{is_last, less_one, Made, Settles, OpensInHub, Hub, OpenServices, Opens as ServiceOpens, Presence, Here}
+use Rattle.iox_hub_commands.specs.Command.declared.refusal.HubError.{HubError}
+use Rattle.iox_hub_commands.specs.Command.declared.refusal.Refusal.{Refusal}
+use Rattle.iox_hub_commands.specs.Command.declared.service.ServiceOptions.{ServiceOptions}
+use Rattle.iox_hub_commands.specs.Command.declared.service.ServiceOptions.TheVariants as options
+use Rattle.iox_hub_commands.specs.Command.declared.step.ForeignStep.{ForeignStep as Named}
+use Rattle.iox_hub_commands.specs.Command.declared.step.StepBefore.{StepBefore}
+use Rattle.iox_negotiate_laws.specs.Describe.Within.{HasForm, IsWithinLimits}
+use Rattle.iox_hub_commands.specs.DescribeBase.Attributes.{Required}
+use Rattle.iox_hub_commands.specs.DescribeBase.Detail.{Detail}
+use Rattle.iox_hub_commands.specs.DescribeBase.declared.attribute.Attribute.{Attribute}
+use Rattle.iox_hub_commands.specs.DescribeBase.declared.hash.ServiceHash.{ServiceHash}
+use Rattle.iox_hub_commands.specs.DescribeBase.declared.message_type.MessageTypeDetails.{MessageTypeDetails}
+use Rattle.iox_hub_commands.specs.DescribeBase.declared.pattern.MessagingPattern.{MessagingPattern}
+use Rattle.iox_hub_commands.specs.DescribeSettings.Agreement.{Agreement, AreWithinLimits}
+use Rattle.iox_hub_commands.specs.DescribeSettings.declared.static_config.Settings.{Settings}
+use Rattle.iox_hub_commands.specs.DescribeSettings.declared.static_config.Settings.TheVariants.{PublishSubscribe}
+use Rattle.iox_hub_factories.specs.HubBase.Closing.{is_last, less_one}
+use Rattle.iox_hub_factories.specs.HubBase.Opening.{Made, Settles, OpensInHub}
+use Rattle.iox_hub_factories.specs.HubBase.declared.hub.Hub.{Hub}
+use Rattle.iox_hub_factories.specs.HubServices.Open.{OpenServices}
+use Rattle.iox_hub_factories.specs.HubServices.Opening.{Opens as ServiceOpens}
+use Rattle.iox_hub_factories.specs.HubServices.declared.presence.Presence.{Presence}
+use Rattle.iox_hub_factories.specs.HubServices.declared.presence.Presence.TheVariants.{Here}
 use Rattle.iox_hub_factories.specs.Closing.{ClosesUnless, ClosesIfOf, ClosesNumbered}
 use Rattle.iox_hub_factories.specs.Creating.{CreatesAs, CreatesPrepared, CreatesNumbered}
 use Rattle.iox_hub_factories.specs.Either.{EitherAs, EitherPrepared, EitherNumbered}
@@ -32,29 +38,29 @@ use Rattle.iox_hub_factories.specs.Opening.{OpensAs, OpensPrepared, OpensNumbere
 use Rattle.iox_hub_factories.specs.Tables.{FactoryTable, parts_of}
 use Rattle.iox_hub_factories.specs.declared.asked.ServiceAsked.{ServiceAsked}
 use Rattle.iox_hub_factories.specs.declared.made.MadeFactory.{MadeFactory}
-use Rattle.iox_negotiate.proofs.Meeting.{opens-met, either-met}
-use Rattle.iox_negotiate.specs.Asked.{IsRefusal}
-use Rattle.iox_negotiate.specs.Factory.{membership}
-use Rattle.iox_negotiate.specs.Negotiation.{Negotiates, Creates, Either}
-use Rattle.iox_negotiate.specs.declared.factory.Membership.{Membership}
-use Rattle.iox_negotiate_errors.specs.declared.close.CloseError.{CloseError}
+use Rattle.iox_negotiate_laws.proofs.Negotiate.Meeting.{opens-met, either-met}
+use Rattle.iox_negotiate_laws.specs.Negotiate.Asked.{IsRefusal}
+use Rattle.iox_negotiate_laws.specs.Negotiate.Factory.{membership}
+use Rattle.iox_negotiate_laws.specs.Negotiate.Negotiation.{Negotiates, Creates, Either}
+use Rattle.iox_negotiate_laws.specs.Negotiate.declared.factory.Membership.{Membership}
+use Rattle.iox_negotiate_laws.specs.NegotiateErrors.declared.close.CloseError.{CloseError}
 use Rattle.iox_negotiate_laws.proofs.Agreements.{agrees, past-on, no-past, stepped-went-past, went-past, reached-on, was-agreed-on}
 use Rattle.iox_negotiate_laws.proofs.Maps.{Among, among-all}
 use Rattle.iox_negotiate_laws.proofs.Stepping.{Past, acts-ran}
 use Rattle.iox_negotiate_laws.specs.Agreements.{WasAgreed}
 use Rattle.iox_negotiate_laws.specs.Calls as call
 use Rattle.iox_negotiate_laws.specs.Histories.{IsReached}
-use Rattle.iox_negotiate_rounds.proofs.Counting.{creates-service}
-use Rattle.iox_negotiate_rounds.specs.Creating.{CreatesIf}
-use Rattle.iox_negotiate_rounds.specs.Opening.{Opens, OpensOrCreates}
-use Rattle.iox_negotiate_rounds.specs.Runs.{Does}
-use Rattle.iox_negotiate_rounds.specs.declared.failure.CreateFailure.{CreateFailure}
-use Rattle.iox_negotiate_rounds.specs.declared.failure.OpenFailure.{OpenFailure}
-use Rattle.iox_negotiate_rounds.specs.declared.failure.OpenOrCreateFailure.{OpenOrCreateFailure}
-use Rattle.iox_negotiate_rounds.specs.declared.request.Opened.{Opened}
-use Rattle.iox_negotiate_table.specs.Contents.{Contents, empty_table}
-use Rattle.iox_negotiate_table.specs.Stepped.{Steps, SteppedSight}
-use Rattle.iox_negotiate_table.specs.declared.step.ForeignStep.{ForeignStep}
+use Rattle.iox_negotiate_laws.proofs.NegotiateRounds.Counting.{creates-service}
+use Rattle.iox_negotiate_laws.specs.NegotiateRounds.Creating.{CreatesIf}
+use Rattle.iox_negotiate_laws.specs.NegotiateRounds.Opening.{Opens, OpensOrCreates}
+use Rattle.iox_negotiate_laws.specs.NegotiateRounds.Runs.{Does}
+use Rattle.iox_negotiate_laws.specs.NegotiateRounds.declared.failure.CreateFailure.{CreateFailure}
+use Rattle.iox_negotiate_laws.specs.NegotiateRounds.declared.failure.OpenFailure.{OpenFailure}
+use Rattle.iox_negotiate_laws.specs.NegotiateRounds.declared.failure.OpenOrCreateFailure.{OpenOrCreateFailure}
+use Rattle.iox_negotiate_laws.specs.NegotiateRounds.declared.request.Opened.{Opened}
+use Rattle.iox_negotiate_laws.specs.NegotiateTable.Contents.{Contents, empty_table}
+use Rattle.iox_negotiate_laws.specs.NegotiateTable.Stepped.{Steps, SteppedSight}
+use Rattle.iox_negotiate_laws.specs.NegotiateTable.declared.step.ForeignStep.{ForeignStep}
 use Rattle.iox_hub_run.specs.Agreements.{agreed_in, IsAgreement, AreOfOneAgreement}
 use Rattle.iox_hub_run.proofs.Agreeing.{all_among, among_left, among_more, KeepsFactories, same_factories, factories_on, HadDomain, KeepsAgreed, same_agreed, domains_on, gone_agreed, come_agreed}
 

@@ -5,20 +5,28 @@ use Rattle.std.specs.BTreeMap.{is_at}
 use Rattle.std.specs.Map.{remove_entry}
 use Rattle.std.specs.Ordering.{nat_cmp}
 use Rattle.std.specs.declared.alloc.AllocError.{AllocError}
-use Rattle.iox_command.specs.declared.refusal.HubError.{HubError}
-use Rattle.iox_command.specs.declared.refusal.Refusal.{Refusal}
-use Rattle.iox_command.specs.declared.service.ServiceOptions.{ServiceOptions}
-use Rattle.iox_command.specs.declared.service.ServiceOptions.TheVariants as options
-use Rattle.iox_command.specs.declared.step.ForeignStep.{ForeignStep as Named}
-use Rattle.iox_command.specs.declared.step.StepBefore.{StepBefore}
-use Rattle.iox_describe_base.specs.Attributes.{Required}
-use Rattle.iox_describe_base.specs.Detail.{Detail}
-use Rattle.iox_describe_base.specs.declared.attribute.Attribute.{Attribute}
-use Rattle.iox_describe_base.specs.declared.message_type.MessageTypeDetails.{MessageTypeDetails}
-use Rattle.iox_describe_base.specs.declared.pattern.MessagingPattern.{MessagingPattern}
-use Rattle.iox_describe_settings.specs.declared.static_config.Settings.{Settings}
-use Rattle.iox_domain_home.specs.declared.domain_id.DomainId.{DomainId}
-use Rattle.iox_hub_factories.specs.Hub.{is_last, less_one, Made, Enters, Settles, OpensInHub, Hub, domain_at, is_number, not_number, others_beside, OpenServices, here_if, presence_of, domain_of, Opens, Presence, Here}
+use Rattle.iox_hub_commands.specs.Command.declared.refusal.HubError.{HubError}
+use Rattle.iox_hub_commands.specs.Command.declared.refusal.Refusal.{Refusal}
+use Rattle.iox_hub_commands.specs.Command.declared.service.ServiceOptions.{ServiceOptions}
+use Rattle.iox_hub_commands.specs.Command.declared.service.ServiceOptions.TheVariants as options
+use Rattle.iox_hub_commands.specs.Command.declared.step.ForeignStep.{ForeignStep as Named}
+use Rattle.iox_hub_commands.specs.Command.declared.step.StepBefore.{StepBefore}
+use Rattle.iox_hub_commands.specs.DescribeBase.Attributes.{Required}
+use Rattle.iox_hub_commands.specs.DescribeBase.Detail.{Detail}
+use Rattle.iox_hub_commands.specs.DescribeBase.declared.attribute.Attribute.{Attribute}
+use Rattle.iox_hub_commands.specs.DescribeBase.declared.message_type.MessageTypeDetails.{MessageTypeDetails}
+use Rattle.iox_hub_commands.specs.DescribeBase.declared.pattern.MessagingPattern.{MessagingPattern}
+use Rattle.iox_hub_commands.specs.DescribeSettings.declared.static_config.Settings.{Settings}
+use Rattle.iox_hub_commands.specs.DomainHome.declared.domain_id.DomainId.{DomainId}
+use Rattle.iox_hub_factories.specs.HubBase.Closing.{is_last, less_one}
+use Rattle.iox_hub_factories.specs.HubBase.Opening.{Made, Enters, Settles, OpensInHub}
+use Rattle.iox_hub_factories.specs.HubBase.declared.hub.Hub.{Hub}
+use Rattle.iox_hub_factories.specs.HubServices.AsHome.{domain_at}
+use Rattle.iox_hub_factories.specs.HubServices.Numbered.{is_number, not_number, others_beside}
+use Rattle.iox_hub_factories.specs.HubServices.Open.{OpenServices, here_if, presence_of, domain_of}
+use Rattle.iox_hub_factories.specs.HubServices.Opening.{Opens}
+use Rattle.iox_hub_factories.specs.HubServices.declared.presence.Presence.{Presence}
+use Rattle.iox_hub_factories.specs.HubServices.declared.presence.Presence.TheVariants.{Here}
 use Rattle.iox_hub_factories.specs.Closing.{ClosesUnless, ClosesIfOf, ClosesNumbered}
 use Rattle.iox_hub_factories.specs.Creating.{CreatesAs, CreatesPrepared, CreatesNumbered}
 use Rattle.iox_hub_factories.specs.Either.{EitherAs, EitherPrepared, EitherNumbered}
@@ -27,10 +35,10 @@ use Rattle.iox_hub_factories.specs.Opening.{OpensAs, OpensPrepared, OpensNumbere
 use Rattle.iox_hub_factories.specs.Tables.{FactoryTable, parts_of}
 use Rattle.iox_hub_factories.specs.declared.asked.ServiceAsked.{ServiceAsked}
 use Rattle.iox_hub_factories.specs.declared.made.MadeFactory.{MadeFactory}
-use Rattle.iox_negotiate.specs.declared.factory.Membership.{Membership}
-use Rattle.iox_negotiate_errors.specs.declared.close.CloseError.{CloseError}
-use Rattle.iox_negotiate_table.specs.Stepped.{Steps}
-use Rattle.iox_negotiate_table.specs.declared.step.ForeignStep.{ForeignStep}
+use Rattle.iox_negotiate_laws.specs.Negotiate.declared.factory.Membership.{Membership}
+use Rattle.iox_negotiate_laws.specs.NegotiateErrors.declared.close.CloseError.{CloseError}
+use Rattle.iox_negotiate_laws.specs.NegotiateTable.Stepped.{Steps}
+use Rattle.iox_negotiate_laws.specs.NegotiateTable.declared.step.ForeignStep.{ForeignStep}
 use Rattle.iox_hub_run.specs.Grown.{HaveGrown}
 use Rattle.iox_hub_run.proofs.Grown.{Serves, leads_nowhere, grown_come, grown_gone, none_serves, no_service_serves}
 

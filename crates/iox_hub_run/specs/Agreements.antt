@@ -1,10 +1,12 @@
 -- Each service has one agreement: its factories carry it, and its domain is for its settings.
 use Rattle.std.specs.Prelude.{ℕ, ◌≡◌, List}
 use Rattle.std.specs.List.{AllByRecursion}
-use Rattle.iox_describe_settings.specs.Agreement.{Agreement}
-use Rattle.iox_describe_settings.specs.declared.static_config.Settings.TheVariants.{PublishSubscribe}
-use Rattle.iox_describe_settings.specs.declared.static_config.publish_subscribe.StaticConfig.{StaticConfig}
-use Rattle.iox_hub_factories.specs.Hub.{Hub, Presence, Here, Out}
+use Rattle.iox_hub_commands.specs.DescribeSettings.Agreement.{Agreement}
+use Rattle.iox_hub_commands.specs.DescribeSettings.declared.static_config.Settings.TheVariants.{PublishSubscribe}
+use Rattle.iox_hub_commands.specs.DescribeSettings.declared.static_config.publish_subscribe.StaticConfig.{StaticConfig}
+use Rattle.iox_hub_factories.specs.HubBase.declared.hub.Hub.{Hub}
+use Rattle.iox_hub_factories.specs.HubServices.declared.presence.Presence.{Presence}
+use Rattle.iox_hub_factories.specs.HubServices.declared.presence.Presence.TheVariants.{Here, Out}
 use Rattle.iox_hub_factories.specs.Tables.{FactoryTable, parts_of}
 use Rattle.iox_negotiate_laws.specs.Agreements.{WasAgreed}
 use Rattle.iox_negotiate_laws.specs.Histories.{IsReached}

@@ -1,19 +1,22 @@
 -- How the domains of a hub became what they are: by calls of ports, one after another.
 use Rattle.std.specs.Prelude.{ℕ, ◌≡◌, List, [], ◌∷◌}
 use Rattle.std.specs.List.{All}
-use Rattle.iox_describe_settings.specs.declared.static_config.publish_subscribe.StaticConfig.{StaticConfig}
-use Rattle.iox_domain_home.specs.declared.domain_id.DomainId.{DomainId}
-use Rattle.iox_domain_laws.specs.Calls.{PortCall}
-use Rattle.iox_domain_laws.specs.Order.{Happen}
-use Rattle.iox_domain_laws.specs.SizeLaws.{MadeFor, IsMadeFor}
-use Rattle.iox_domain_ports.specs.Ports.{no_ports}
-use Rattle.iox_domain_ports.specs.declared.service_ports.ServicePorts.{ServicePorts}
-use Rattle.iox_domain_settings.specs.Sizes.{sizes}
-use Rattle.iox_domain_values.specs.declared.backpressure.BackpressureDecision.{BackpressureDecision}
-use Rattle.iox_domain_values.specs.declared.backpressure.BackpressureInfo.{BackpressureInfo}
-use Rattle.iox_domain_values.specs.declared.degradation.DegradationAction.{DegradationAction}
-use Rattle.iox_domain_values.specs.declared.degradation.DegradationInfo.{DegradationInfo}
-use Rattle.iox_hub_factories.specs.Hub.{Hub, domain_at, Presence, Here, Out}
+use Rattle.iox_hub_commands.specs.DescribeSettings.declared.static_config.publish_subscribe.StaticConfig.{StaticConfig}
+use Rattle.iox_hub_commands.specs.DomainHome.declared.domain_id.DomainId.{DomainId}
+use Rattle.iox_hub_commands.specs.DomainLaws.Calls.{PortCall}
+use Rattle.iox_hub_commands.specs.DomainLaws.Order.{Happen}
+use Rattle.iox_hub_commands.specs.DomainLaws.SizeLaws.{MadeFor, IsMadeFor}
+use Rattle.iox_hub_commands.specs.DomainPorts.Ports.{no_ports}
+use Rattle.iox_hub_commands.specs.DomainPorts.declared.service_ports.ServicePorts.{ServicePorts}
+use Rattle.iox_hub_commands.specs.DomainSettings.Sizes.{sizes}
+use Rattle.iox_hub_commands.specs.DomainValues.declared.backpressure.BackpressureDecision.{BackpressureDecision}
+use Rattle.iox_hub_commands.specs.DomainValues.declared.backpressure.BackpressureInfo.{BackpressureInfo}
+use Rattle.iox_hub_commands.specs.DomainValues.declared.degradation.DegradationAction.{DegradationAction}
+use Rattle.iox_hub_commands.specs.DomainValues.declared.degradation.DegradationInfo.{DegradationInfo}
+use Rattle.iox_hub_factories.specs.HubBase.declared.hub.Hub.{Hub}
+use Rattle.iox_hub_factories.specs.HubServices.AsHome.{domain_at}
+use Rattle.iox_hub_factories.specs.HubServices.declared.presence.Presence.{Presence}
+use Rattle.iox_hub_factories.specs.HubServices.declared.presence.Presence.TheVariants.{Here, Out}
 
 -- a publisher may be given any number of slots
 abbrev pub AnySlots : ℕ → ℕ → Type 0

@@ -6,4 +6,8 @@ pub mod Runs
 pub mod Lives
 pub mod Grown
 pub mod Agreements
-pub mod Passed
+pub mod AgreementLaws
+pub use Rattle.iox_hub_commands.specs.Command as Command
+pub use Rattle.iox_hub_factories.specs.HubBase as HubBase
+pub use Rattle.iox_hub_commands.specs as HubCommands
+pub use Rattle.iox_hub_factories.specs.HubRequests as HubRequests

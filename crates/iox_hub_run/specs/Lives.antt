@@ -1,8 +1,8 @@
 -- What becomes of numbers: what goes by them, from one moment of a hub to a later one.
 use Rattle.std.specs.Prelude.{ℕ, ◌≡◌, ◌+◌, ◌<◌, ◌≤◌, ◌++◌, [], ◌∷◌, ◌⊎◌, None, nat_eq}
 use Rattle.std.specs.Map.{remove_entry}
-use Rattle.iox_hub_commands.specs.Ports.{Made}
-use Rattle.iox_numbered.specs.NumberTable.{NumberTable, Rises, value_at}
+use Rattle.iox_hub_commands.specs.HubPorts.declared.made.Made.{Made}
+use Rattle.iox_hub_factories.specs.Numbered.NumberTable.{NumberTable, Rises, value_at}
 use Rattle.iox_hub_run.specs.declared.numbered_hub.NumberedHub.{NumberedHub}
 
 module _ {V : Type 0} where

@@ -1,8 +1,9 @@
 -- How many numbers were given out.
 use Rattle.std.specs.Prelude.{ℕ, ◌≡◌, ◌+◌}
-use Rattle.iox_hub_factories.specs.Hub.{IsNewHub, HubConfig}
+use Rattle.iox_hub_factories.specs.HubBase.Hubs.{IsNewHub}
+use Rattle.iox_hub_factories.specs.HubBase.declared.hub.HubConfig.{HubConfig}
 use Rattle.iox_hub_factories.specs.Tables.{no_factories}
-use Rattle.iox_hub_commands.specs.Ports.{IsEmpty}
+use Rattle.iox_hub_commands.specs.HubPorts.Tables.{IsEmpty}
 use Rattle.iox_hub_run.specs.declared.numbered_hub.NumberedHub.{NumberedHub}
 
 -- A hub in which nothing was made.

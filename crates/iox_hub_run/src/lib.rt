@@ -6,6 +6,7 @@
 //! | `services` | the commands on nodes and services |
 //! | `step` | one command, and its reply |
 //! | `run` | a list of commands |
+//! | `laws` | what it comes to that each service has one agreement |
 //!
 //! First calls. `Script` of `iox_script` makes the first two.
 //!
@@ -16,12 +17,13 @@
 //! ```
 #![tactic(auto)]
 
+pub mod laws;
 pub mod numbered_hub;
 pub mod run;
 mod services;
 mod step;
 
 pub use iox_hub_commands::{FixedDegradation, FixedHandlers};
-pub use iox_hub_factories::iox_hub_base;
+pub use iox_hub_factories::HubConfig;
 pub use numbered_hub::NumberedHub;
 pub use run::RunReport;

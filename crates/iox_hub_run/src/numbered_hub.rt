@@ -5,10 +5,8 @@ ghost use Rattle.iox_hub_run.specs.Grown.{HaveGrown};
 ghost use Rattle.iox_hub_run.specs.Lives.{NumbersRise};
 ghost use Rattle.iox_hub_run.specs.Numbers.{IsNew, numbers_used};
 
-use iox_hub_commands::iox_hub_ports::Made;
-use iox_hub_commands::{FixedDegradation, FixedHandlers};
-use iox_hub_factories::Factories;
-use iox_hub_factories::iox_hub_base::{Hub, HubConfig};
+use iox_hub_commands::{FixedDegradation, FixedHandlers, Made};
+use iox_hub_factories::{Factories, Hub, HubConfig};
 use std::alloc::Global;
 
 /// A hub, and what commands made in it, under numbers that are counted from 1 for each kind. A number is spent when what it stands for

@@ -1,8 +1,8 @@
 //! A list of commands.
 ghost use Rattle.std.specs.Prelude.{◌+◌, ◌<◌, ◌≤◌, ◌^◌, length};
-ghost use Rattle.iox_describe_base.specs.Detail.{detail};
-ghost use Rattle.iox_describe_base.specs.declared.type_detail.TypeVariant.TheVariants.{FixedSize};
-ghost use Rattle.iox_hub_factories.specs.Requests.{types_of};
+ghost use Rattle.iox_hub_commands.specs.DescribeBase.Detail.{detail};
+ghost use Rattle.iox_hub_commands.specs.DescribeBase.declared.type_detail.TypeVariant.TheVariants.{FixedSize};
+ghost use Rattle.iox_hub_factories.specs.HubRequests.Asked.{types_of};
 ghost use Rattle.iox_hub_run.specs.Agreements.{AreOfOneAgreement};
 ghost use Rattle.iox_hub_run.specs.Grown.{GrowsOn, HaveGrown, AreAsAgreed};
 ghost use Rattle.iox_hub_run.specs.Lives.{NumbersGoOn};
@@ -37,7 +37,7 @@ impl<
 > NumberedHub<T, U, B, D> {
     /// Carries out commands, one after another.
     ///
-    /// It stops before the first of some commands, where no memory is found for the list of replies; or at a command that `step` doesn't
+    /// It stops before the first of some commands, where an allocation fails for the list of replies; or at a command that `step` doesn't
     /// reply to, and those before it are replied to.
     pub fn run(&mut self, alloc: Global, commands: Vec<Command<T>>) -> RunReport<T>
         requires { numbers_used self.old + length commands.items < 2 ^ 64 }

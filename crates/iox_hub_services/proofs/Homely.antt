@@ -7,18 +7,18 @@ use Rattle.iox_domain.specs.Kept.{kept}
 use Rattle.iox_domain.specs.Publishing.{MakesPublisher, kept_unless}
 use Rattle.iox_domain.specs.Subscribing.{MakesSubscriber}
 use Rattle.iox_domain.specs.declared.domain.Domain.{Domain}
-use Rattle.iox_domain_home.specs.Homes.{AtDomain, LeavesDomain, MakesAt, dropped_if}
-use Rattle.iox_domain_home.specs.Steps.{PublisherComes, SubscriberComes, why_no_publisher, why_no_subscriber}
-use Rattle.iox_domain_home.specs.declared.domain_id.DomainId.{DomainId}
-use Rattle.iox_domain_ports.specs.Making.{slots_needed, publisher_place, subscriber_place}
-use Rattle.iox_domain_ports.specs.declared.making.PublisherConfig.{PublisherConfig}
-use Rattle.iox_domain_ports.specs.declared.making.SubscriberConfig.{SubscriberConfig}
-use Rattle.iox_domain_ports.specs.declared.service_ports.ServicePorts.{ServicePorts}
-use Rattle.iox_domain_values.specs.Sizes.{buffer_of}
-use Rattle.iox_domain_values.specs.declared.create_error.PublisherCreateError.{PublisherCreateError}
-use Rattle.iox_domain_values.specs.declared.create_error.SubscriberCreateError.{SubscriberCreateError}
-use Rattle.iox_domain_values.specs.declared.degradation.DegradationAction.{DegradationAction}
-use Rattle.iox_domain_values.specs.declared.degradation.DegradationInfo.{DegradationInfo}
+use Rattle.iox_domain.specs.DomainHome.Homes.{AtDomain, LeavesDomain, MakesAt, dropped_if}
+use Rattle.iox_domain.specs.DomainHome.Steps.{PublisherComes, SubscriberComes, why_no_publisher, why_no_subscriber}
+use Rattle.iox_domain.specs.DomainHome.declared.domain_id.DomainId.{DomainId}
+use Rattle.iox_domain.specs.DomainPorts.Making.{slots_needed, publisher_place, subscriber_place}
+use Rattle.iox_domain.specs.DomainPorts.declared.making.PublisherConfig.{PublisherConfig}
+use Rattle.iox_domain.specs.DomainPorts.declared.making.SubscriberConfig.{SubscriberConfig}
+use Rattle.iox_domain.specs.DomainPorts.declared.service_ports.ServicePorts.{ServicePorts}
+use Rattle.iox_domain.specs.DomainValues.Sizes.{buffer_of}
+use Rattle.iox_domain.specs.DomainValues.declared.create_error.PublisherCreateError.{PublisherCreateError}
+use Rattle.iox_domain.specs.DomainValues.declared.create_error.SubscriberCreateError.{SubscriberCreateError}
+use Rattle.iox_domain.specs.DomainValues.declared.degradation.DegradationAction.{DegradationAction}
+use Rattle.iox_domain.specs.DomainValues.declared.degradation.DegradationInfo.{DegradationInfo}
 use Rattle.iox_hub_services.specs.AsHome.{domain_at, ports_at, stepped_if, stepped, with_ports_at, publisher_kept, subscriber_kept, publisher_forgotten, subscriber_forgotten}
 use Rattle.iox_hub_services.specs.HomeLaws.{at_hub, stands_at, here_stands, stepped_again}
 use Rattle.iox_hub_services.specs.Numbered.{same_unchanged}

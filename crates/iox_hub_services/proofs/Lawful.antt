@@ -2,11 +2,11 @@
 use Rattle.std.proofs.Common.{ℕ, ◌≡◌, inl, inr, true, false, None, Some, Result, Ok, Err, refl, sym, ap, subst, ◌∙◌}
 use Rattle.std.specs.Option.{option_map}
 use Rattle.std.specs.Prelude.{is_some}
-use Rattle.iox_describe_settings.specs.declared.static_config.Settings.{Settings}
+use Rattle.iox_domain.specs.DescribeSettings.declared.static_config.Settings.{Settings}
 use Rattle.iox_domain.proofs.Keeping.{kept_is_there}
 use Rattle.iox_domain.specs.Domains.{IsNewDomain}
 use Rattle.iox_domain.specs.declared.domain.Domain.{Domain}
-use Rattle.iox_domain_home.specs.declared.domain_id.DomainId.{DomainId}
+use Rattle.iox_domain.specs.DomainHome.declared.domain_id.DomainId.{DomainId}
 use Rattle.iox_hub_services.proofs.Own.{own_found}
 use Rattle.iox_hub_services.specs.AsHome.{ports_at}
 use Rattle.iox_hub_services.specs.HomeLaws.{at_hub}

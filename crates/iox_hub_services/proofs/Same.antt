@@ -3,9 +3,9 @@ use Rattle.std.proofs.Common.{◌≡◌, Bool, true, false, refl, subst}
 use Rattle.std.proofs.lemmas.Bool.{eqb-true, eq-eqb}
 use Rattle.std.specs.Bool.{beq}
 use Rattle.std.specs.Prelude.{◌==◌}
-use Rattle.iox_describe_base.proofs.CompatibleLemmas.{both, both_met, same_detail-true, same_detail-refl}
-use Rattle.iox_describe_base.specs.Compatible.{same_detail}
-use Rattle.iox_describe_settings.specs.declared.static_config.publish_subscribe.StaticConfig.{StaticConfig}
+use Rattle.iox_domain.proofs.DescribeBase.CompatibleLemmas.{both, both_met, same_detail-true, same_detail-refl}
+use Rattle.iox_domain.specs.DescribeBase.Compatible.{same_detail}
+use Rattle.iox_domain.specs.DescribeSettings.declared.static_config.publish_subscribe.StaticConfig.{StaticConfig}
 use Rattle.iox_hub_services.specs.Agreeing.{same_agreement}
 
 beq-true : (a b : Bool) → beq a b ≡ true → a ≡ b

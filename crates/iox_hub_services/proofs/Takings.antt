@@ -5,7 +5,7 @@ use Rattle.std.specs.BTreeMap.{is_at}
 use Rattle.std.specs.Option.{ok_or}
 use Rattle.std.specs.Ordering.{nat_cmp}
 use Rattle.std.specs.Prelude.{IfOk}
-use Rattle.iox_describe_settings.specs.declared.static_config.publish_subscribe.StaticConfig.{StaticConfig}
+use Rattle.iox_domain.specs.DescribeSettings.declared.static_config.publish_subscribe.StaticConfig.{StaticConfig}
 use Rattle.iox_hub_services.specs.Open.{OpenServices, IsOwn, here, here_if, taken_out, presence_of, with_presence}
 use Rattle.iox_hub_services.specs.Taking.{Takes}
 use Rattle.iox_hub_services.specs.declared.presence.Presence.{Presence}

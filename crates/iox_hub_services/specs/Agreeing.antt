@@ -1,8 +1,8 @@
 -- Whether the same is agreed.
 use Rattle.std.specs.Prelude.{◌==◌, ◌&&◌, Bool}
 use Rattle.std.specs.Bool.{beq}
-use Rattle.iox_describe_base.specs.Compatible.{same_detail}
-use Rattle.iox_describe_settings.specs.declared.static_config.publish_subscribe.StaticConfig.{StaticConfig}
+use Rattle.iox_domain.specs.DescribeBase.Compatible.{same_detail}
+use Rattle.iox_domain.specs.DescribeSettings.declared.static_config.publish_subscribe.StaticConfig.{StaticConfig}
 
 -- whether two publish-subscribe settings are the same, each of them
 abbrev pub same_agreement : StaticConfig → StaticConfig → Bool

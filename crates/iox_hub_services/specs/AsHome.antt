@@ -4,8 +4,8 @@ use Rattle.std.specs.Option.{option_map}
 use Rattle.iox_domain.specs.Domains.{with_ports}
 use Rattle.iox_domain.specs.Kept.{kept_under, kept, forgotten}
 use Rattle.iox_domain.specs.declared.domain.Domain.{Domain}
-use Rattle.iox_domain_home.specs.declared.domain_id.DomainId.{DomainId}
-use Rattle.iox_domain_ports.specs.declared.service_ports.ServicePorts.{ServicePorts}
+use Rattle.iox_domain.specs.DomainHome.declared.domain_id.DomainId.{DomainId}
+use Rattle.iox_domain.specs.DomainPorts.declared.service_ports.ServicePorts.{ServicePorts}
 use Rattle.iox_hub_services.specs.Open.{OpenServices, domain_of, with_domain}
 
 -- the domain of an id, if the id is of this hub and the domain is here

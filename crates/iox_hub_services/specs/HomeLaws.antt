@@ -7,13 +7,13 @@ use Rattle.iox_domain.specs.AsHome.{same_id}
 use Rattle.iox_domain.specs.Domains.{with_ports}
 use Rattle.iox_domain.specs.Handling.{kept_degrades, kept_decides}
 use Rattle.iox_domain.specs.declared.domain.Domain.{Domain}
-use Rattle.iox_domain_home.specs.declared.domain_id.DomainId.{DomainId}
-use Rattle.iox_domain_ports.specs.declared.service_ports.ServicePorts.{ServicePorts}
-use Rattle.iox_domain_values.specs.declared.backpressure.BackpressureDecision.{BackpressureDecision}
-use Rattle.iox_domain_values.specs.declared.backpressure.BackpressureInfo.{BackpressureInfo}
-use Rattle.iox_domain_values.specs.declared.degradation.DegradationAction.{DegradationAction}
-use Rattle.iox_domain_values.specs.declared.degradation.DegradationCause.{DegradationCause}
-use Rattle.iox_domain_values.specs.declared.degradation.DegradationInfo.{DegradationInfo}
+use Rattle.iox_domain.specs.DomainHome.declared.domain_id.DomainId.{DomainId}
+use Rattle.iox_domain.specs.DomainPorts.declared.service_ports.ServicePorts.{ServicePorts}
+use Rattle.iox_domain.specs.DomainValues.declared.backpressure.BackpressureDecision.{BackpressureDecision}
+use Rattle.iox_domain.specs.DomainValues.declared.backpressure.BackpressureInfo.{BackpressureInfo}
+use Rattle.iox_domain.specs.DomainValues.declared.degradation.DegradationAction.{DegradationAction}
+use Rattle.iox_domain.specs.DomainValues.declared.degradation.DegradationCause.{DegradationCause}
+use Rattle.iox_domain.specs.DomainValues.declared.degradation.DegradationInfo.{DegradationInfo}
 use Rattle.iox_hub_services.specs.AsHome.{domain_at, ports_at, stepped_if, stepped, with_ports_at, publisher_kept, subscriber_kept, publisher_forgotten, subscriber_forgotten, with_publisher_at, with_subscriber_at, without_publisher_at, without_subscriber_at, publisher_handlers_in, subscriber_handler_in}
 use Rattle.iox_hub_services.specs.Numbered.{one_value, changed_found, others_unchanged, same_unchanged, changed_twice}
 use Rattle.iox_hub_services.specs.Open.{OpenServices, here_if, presence_of, domain_of, with_domain}

@@ -1,9 +1,9 @@
 -- What holds of the services of a hub, in other words than their calls'.
 use Rattle.std.specs.Prelude.{ℕ, ◌≡◌, true, [], None, Some, Result, Ok, Err}
-use Rattle.iox_describe_base.specs.Detail.{Detail}
-use Rattle.iox_describe_settings.specs.declared.static_config.Settings.{Settings}
+use Rattle.iox_domain.specs.DescribeBase.Detail.{Detail}
+use Rattle.iox_domain.specs.DescribeSettings.declared.static_config.Settings.{Settings}
 use Rattle.iox_domain.specs.declared.domain.Domain.{Domain}
-use Rattle.iox_domain_settings.specs.Fitting.{Fits}
+use Rattle.iox_domain.specs.DomainSettings.Fitting.{Fits}
 use Rattle.iox_hub_services.specs.AsHome.{ports_at}
 use Rattle.iox_hub_services.specs.Open.{OpenServices, AreOwn, presence_of, domain_of}
 use Rattle.iox_hub_services.specs.Opening.{is_open, Opens}

@@ -9,4 +9,3 @@ pub mod AsHome
 pub mod HomeLaws
 pub mod Within
 pub mod Laws
-pub mod Domain

@@ -1,12 +1,12 @@
 -- A service opens, and is closed.
 use Rattle.std.specs.Prelude.{ℕ, ◌≡◌, ◌⊎◌, Bool, true, false, is_some, Result, Ok, Err}
-use Rattle.iox_describe_base.specs.Detail.{Detail}
-use Rattle.iox_describe_settings.specs.declared.static_config.Settings.{Settings}
+use Rattle.iox_domain.specs.DescribeBase.Detail.{Detail}
+use Rattle.iox_domain.specs.DescribeSettings.declared.static_config.Settings.{Settings}
 use Rattle.iox_domain.specs.Domains.{IsNewDomain}
 use Rattle.iox_domain.specs.declared.domain.Domain.{Domain}
-use Rattle.iox_domain_settings.specs.Fitting.{Fits}
-use Rattle.iox_domain_values.specs.declared.create_error.DomainError.{DomainError}
-use Rattle.iox_domain_values.specs.declared.create_error.DomainError.TheVariants.{OutOfMemory}
+use Rattle.iox_domain.specs.DomainSettings.Fitting.{Fits}
+use Rattle.iox_domain.specs.DomainValues.declared.create_error.DomainError.{DomainError}
+use Rattle.iox_domain.specs.DomainValues.declared.create_error.DomainError.TheVariants.{OutOfMemory}
 use Rattle.iox_hub_services.specs.Open.{OpenServices, presence_of, opened, closed}
 use Rattle.iox_hub_services.specs.declared.presence.Presence.TheVariants.{Here}
 

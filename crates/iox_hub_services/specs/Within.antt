@@ -1,6 +1,6 @@
 -- A home that is a part of a larger one: a call of the part is one of the whole.
 use Rattle.std.proofs.Common.{ℕ, ◌≡◌, Bool, true, false, Option, None, Some, Result, Ok, Err, refl, sym, ap, ◌∙◌}
-use Rattle.iox_domain_home.specs.Homes.{AtDomain, LeavesDomain, MakesAt, dropped_if}
+use Rattle.iox_domain.specs.DomainHome.Homes.{AtDomain, LeavesDomain, MakesAt, dropped_if}
 
 -- a call at a domain of a part is one of the whole
 pub at_domain_within : {P H W A : Type 0} (within : H → W) (put : P → H) (step : P → Option A → P → Type 0) (found : Option P) (old new : H) (answer : Option A) → AtDomain put step found old answer new

@@ -26,7 +26,7 @@ pub mod presences;
 pub mod services;
 pub mod taking;
 
-pub use iox_domain;
+pub use iox_domain::{Domain, Kept};
 pub use presence::Presence;
 pub use services::Services;
 pub use taking::{DomainIsForeign, TakeError};

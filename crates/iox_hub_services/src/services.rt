@@ -1,7 +1,7 @@
 //! The services of a hub.
 ghost use Rattle.std.specs.Prelude.{◌≡◌, ℕ, option_copied, IfSome, [], None};
-ghost use Rattle.iox_describe_base.specs.Detail.{detail};
-ghost use Rattle.iox_describe_base.specs.declared.type_detail.TypeVariant.TheVariants.{FixedSize};
+ghost use Rattle.iox_domain.specs.DescribeBase.Detail.{detail};
+ghost use Rattle.iox_domain.specs.DescribeBase.declared.type_detail.TypeVariant.TheVariants.{FixedSize};
 ghost use Rattle.iox_hub_services.specs.Open.{presence_of, domain_of};
 ghost use Rattle.iox_hub_services.specs.Opening.{is_open, Opens, without_service};
 

@@ -35,7 +35,7 @@ impl<T: Copy, const CAPACITY: usize> Model for FixedSizeContainer<T, CAPACITY> {
 }
 
 impl<T: Copy, const CAPACITY: usize> FixedSizeContainer<T, CAPACITY> {
-    /// A container without members, which the id tells from others. Fails only where no memory is found.
+    /// A container without members, which the id distinguishes from others. Fails only where an allocation fails.
     pub fn new(alloc: Global, id: u64) -> Result<Self, AllocError>
         ensures { IfOk result (λ container. container ≡ empty_container id CAPACITY) }
     {
@@ -137,7 +137,7 @@ impl<T: Copy, const CAPACITY: usize> FixedSizeContainer<T, CAPACITY> {
         self.container.recover(owner, mode, decide)
     }
 
-    /// A copy of the members as they are. Fails only where no memory is found.
+    /// A copy of the members as they are. Fails only where an allocation fails.
     pub fn get_state(&self, alloc: Global) -> Result<ContainerState<T>, AllocError>
         ensures { IfOk result (λ state. state ≡ copy_of self.now) }
     {

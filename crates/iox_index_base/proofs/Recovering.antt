@@ -3,7 +3,7 @@ use Rattle.std.proofs.Common.{ℕ, suc, ◌≡◌, ◌+◌, ◌<◌, ◌≤◌, 
 use Rattle.std.proofs.Math.ListN.{get_or, set, drop_of_length-le}
 use Rattle.std.proofs.Math.Seq.{drop-cons}
 use Rattle.std.specs.List.{cons_option}
-use Rattle.iox_string.specs.Retained.{KeepsAsAnswered}
+use Rattle.iox_container.specs.String.Retained.{KeepsAsAnswered}
 use Rattle.std.proofs.lemmas.List.{drop-set-lt, get_or_default}
 use Rattle.iox_index_base.specs.Recovery.{asked_from, without_each, Recovers}
 

@@ -90,7 +90,7 @@ impl<T: Copy> Model for ContainerState<T> {
 }
 
 impl<T: Copy> Container<T> {
-    /// A container without members, which the id tells from others. It fails only where memory is wanting.
+    /// A container without members, which the id distinguishes from others. It fails only where an allocation fails.
     pub fn new(alloc: Global, id: u64, capacity: usize) -> Result<Self, AllocError>
         ensures { IfOk result (λ container. container ≡ empty_container id capacity) }
     {
@@ -266,7 +266,7 @@ impl<T: Copy> Container<T> {
         self.settle(mode)
     }
 
-    /// A copy of the members as they are. It fails only where memory is wanting.
+    /// A copy of the members as they are. It fails only where an allocation fails.
     pub fn get_state(&self, alloc: Global) -> Result<ContainerState<T>, AllocError>
         ensures copied { IfOk result (λ state. state ≡ copy_of self.now) }
     {

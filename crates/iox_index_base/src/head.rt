@@ -1,4 +1,4 @@
-//! The word of a set that tells its next free index.
+//! The word of a set that holds its next free index.
 ghost use Rattle.std.specs.Prelude.{◌≡◌, ◌+◌, ◌*◌, ◌^◌, ◌%◌, ◌/◌, ◌<◌};
 ghost use Rattle.iox_index_base.specs.Head.{word_of_head, head_of_word, head_after_acquire, head_after_release};
 

@@ -4,7 +4,7 @@
 //! |---|---|
 //! | `error` | why an index, a place or a number is refused |
 //! | `release` | how an index is released, and what that leaves |
-//! | `head` | the word of a set that tells its next free index |
+//! | `head` | the word of a set that holds its next free index |
 //! | `unique` | sets that hand out the last released index first |
 //! | `shared` | the same, shared by threads |
 //! | `owner` | who holds an index |

@@ -26,7 +26,7 @@ impl<C: Copy> Model for Places<C> {
 }
 
 impl<C: Copy> Places<C> {
-    /// So many empty places. It fails only where memory is wanting.
+    /// So many empty places. It fails only where an allocation fails.
     pub(crate) fn new(alloc: Global, count: usize) -> Result<Self, AllocError>
         ensures { IfOk result (λ places. places ≡ replicate count None) }
     {
@@ -36,7 +36,7 @@ impl<C: Copy> Places<C> {
         })
     }
 
-    /// A copy of the places, with as much room. It fails only where memory is wanting.
+    /// A copy of the places, with as much room. It fails only where an allocation fails.
     pub(crate) fn copy(&self, alloc: Global) -> Result<Self, AllocError>
         ensures { IfOk result (λ places. places ≡ self.now) }
     {

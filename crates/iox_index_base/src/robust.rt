@@ -34,7 +34,7 @@ impl Model for RobustUniqueIndexSet {
 }
 
 impl RobustUniqueIndexSet {
-    /// A set of the indices below `capacity`, of which none is held. It fails only where memory is wanting.
+    /// A set of the indices below `capacity`, of which none is held. It fails only where an allocation fails.
     pub fn new(alloc: Global, capacity: usize) -> Result<Self, AllocError>
         ensures { IfOk result (λ set. set ≡ new_robust_set capacity) }
     {

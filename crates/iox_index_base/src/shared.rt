@@ -40,7 +40,7 @@ impl Model for SharedIndexSet {
 }
 
 impl UniqueIndexSet {
-    /// The set with its free indices as they are, to be shared. The set itself comes back where no memory is found, or
+    /// The set with its free indices as they are, to be shared. The set itself comes back where an allocation fails, or
     /// where it has 2^24 indices or more, for which a head has no room.
     pub fn share(self, alloc: Global) -> Result<SharedIndexSet, UniqueIndexSet>
         ensures shared { IfOk result (λ set. set ≡ shared_form self) }

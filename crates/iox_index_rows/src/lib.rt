@@ -1,7 +1,7 @@
 //! Sets of indices and containers of members, held against rows from outside: what no contract of theirs can say.
 //!
 //! It has no items of its own, only tests: `sets` holds plain sets, `shared` those that threads share, `members` the
-//! container (by the calls of `steps`), `memory` that ample memory is never wanting, `texts` the text of each error.
+//! container (by the calls of `steps`), `memory` that ample memory is always enough, `texts` the text of each error.
 #![tactic(auto)]
 
 #[cfg(test)]

@@ -1,4 +1,4 @@
-//! Ample memory is never wanting, at any capacity and again; and no more room is taken than there is.
+//! Ample memory is always enough, at any capacity and again; and no more room is taken than there is.
 use crate::holds;
 use iox_index::{
     Container, FixedSizeContainer, FixedSizeUniqueIndexSet, OwnerId, RobustUniqueIndexSet,

@@ -1,14 +1,14 @@
 -- What an end of a ring was answered.
 use Rattle.std.specs.Prelude.{Option, Some, None}
-use Rattle.iox_queues_steps.specs.declared.order.PushAnswer.{PushAnswer}
-use Rattle.iox_queues_steps.specs.declared.order.PopAnswer.{PopAnswer}
-use Rattle.iox_queues_steps.specs.declared.order.PopAnswer.TheVariants.{Got, Saw}
-use Rattle.iox_queues_overflowing.specs.declared.push.Push.TheVariants as overflowing_push
-use Rattle.iox_queues_overflowing.specs.declared.pop.Pop.TheVariants as overflowing_pop
-use Rattle.iox_queues_refusing.specs.declared.push.Push as refusing_push_type
-use Rattle.iox_queues_refusing.specs.declared.push.Push.TheVariants as refusing_push
-use Rattle.iox_queues_refusing.specs.declared.pop.Pop as refusing_pop_type
-use Rattle.iox_queues_refusing.specs.declared.pop.Pop.TheVariants as refusing_pop
+use Rattle.iox_lanes_words.specs.QueuesSteps.declared.order.PushAnswer.{PushAnswer}
+use Rattle.iox_lanes_words.specs.QueuesSteps.declared.order.PopAnswer.{PopAnswer}
+use Rattle.iox_lanes_words.specs.QueuesSteps.declared.order.PopAnswer.TheVariants.{Got, Saw}
+use Rattle.iox_queues_rings.specs.QueuesOverflowing.declared.push.Push.TheVariants as overflowing_push
+use Rattle.iox_queues_rings.specs.QueuesOverflowing.declared.pop.Pop.TheVariants as overflowing_pop
+use Rattle.iox_queues_rings.specs.QueuesRefusing.declared.push.Push as refusing_push_type
+use Rattle.iox_queues_rings.specs.QueuesRefusing.declared.push.Push.TheVariants as refusing_push
+use Rattle.iox_queues_rings.specs.QueuesRefusing.declared.pop.Pop as refusing_pop_type
+use Rattle.iox_queues_rings.specs.QueuesRefusing.declared.pop.Pop.TheVariants as refusing_pop
 use Rattle.iox_queues_rings.specs.declared.ends.Push.{Push}
 use Rattle.iox_queues_rings.specs.declared.ends.Push.TheVariants as push
 use Rattle.iox_queues_rings.specs.declared.ends.Pop.{Pop}

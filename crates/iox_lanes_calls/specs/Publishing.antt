@@ -1,17 +1,17 @@
 -- The calls of a publisher, by the stage where each stands. Loads and stores of rings are those of the rings' ends.
 use Rattle.std.specs.Prelude.{ℕ, ◌-◌, Bool, true, false, List, slice_get, Option, Some, None, if◌then◌else◌, ◌==◌, nat_lt}
-use Rattle.iox_queues_steps.specs.Access.{successor}
-use Rattle.iox_queues_steps.specs.declared.order.PushAnswer.{PushAnswer}
-use Rattle.iox_queues_steps.specs.declared.order.PushAnswer.TheVariants.{Kept, LeftOut, Refused}
-use Rattle.iox_queues_steps.specs.declared.order.PopAnswer.{PopAnswer}
-use Rattle.iox_queues_steps.specs.declared.order.PopAnswer.TheVariants.{Got, Saw}
-use Rattle.iox_queues_overflowing.specs.declared.push.Push as overflowing_type
-use Rattle.iox_queues_overflowing.specs.declared.push.Push.TheVariants as overflowing
-use Rattle.iox_queues_refusing.specs.Refusing.{pop_next, pop_take}
-use Rattle.iox_queues_refusing.specs.declared.push.Push as refusing_type
-use Rattle.iox_queues_refusing.specs.declared.push.Push.TheVariants as refusing
-use Rattle.iox_queues_refusing.specs.declared.pop.Pop.{Pop}
-use Rattle.iox_queues_refusing.specs.declared.pop.Pop.TheVariants.{Begun}
+use Rattle.iox_lanes_words.specs.QueuesSteps.Access.{successor}
+use Rattle.iox_lanes_words.specs.QueuesSteps.declared.order.PushAnswer.{PushAnswer}
+use Rattle.iox_lanes_words.specs.QueuesSteps.declared.order.PushAnswer.TheVariants.{Kept, LeftOut, Refused}
+use Rattle.iox_lanes_words.specs.QueuesSteps.declared.order.PopAnswer.{PopAnswer}
+use Rattle.iox_lanes_words.specs.QueuesSteps.declared.order.PopAnswer.TheVariants.{Got, Saw}
+use Rattle.iox_queues_rings.specs.QueuesOverflowing.declared.push.Push as overflowing_type
+use Rattle.iox_queues_rings.specs.QueuesOverflowing.declared.push.Push.TheVariants as overflowing
+use Rattle.iox_queues_rings.specs.QueuesRefusing.Refusing.{pop_next, pop_take}
+use Rattle.iox_queues_rings.specs.QueuesRefusing.declared.push.Push as refusing_type
+use Rattle.iox_queues_rings.specs.QueuesRefusing.declared.push.Push.TheVariants as refusing
+use Rattle.iox_queues_rings.specs.QueuesRefusing.declared.pop.Pop.{Pop}
+use Rattle.iox_queues_rings.specs.QueuesRefusing.declared.pop.Pop.TheVariants.{Begun}
 use Rattle.iox_queues_rings.specs.Ends.{push_begun, push_next, push_take}
 use Rattle.iox_queues_rings.specs.declared.ends.Push.{Push}
 use Rattle.iox_queues_rings.specs.declared.ends.Push.TheVariants as ring

@@ -1,13 +1,13 @@
 -- The calls of a subscriber, by the stage where each stands. Loads and stores of rings are those of the rings' ends.
 use Rattle.std.specs.Prelude.{ℕ, ◌+◌, ◌-◌, Bool, true, false, ◌||◌, not, List, slice_get, Option, Some, None, if◌then◌else◌, nat_lt}
-use Rattle.iox_queues_steps.specs.Access.{successor}
-use Rattle.iox_queues_steps.specs.declared.order.PushAnswer.{PushAnswer}
-use Rattle.iox_queues_steps.specs.declared.order.PushAnswer.TheVariants.{Kept, LeftOut, Refused}
-use Rattle.iox_queues_steps.specs.declared.order.PopAnswer.{PopAnswer}
-use Rattle.iox_queues_steps.specs.declared.order.PopAnswer.TheVariants.{Got, Saw}
-use Rattle.iox_queues_refusing.specs.Refusing as refusing
-use Rattle.iox_queues_refusing.specs.declared.push.Push.{Push}
-use Rattle.iox_queues_refusing.specs.declared.push.Push.TheVariants as push
+use Rattle.iox_lanes_words.specs.QueuesSteps.Access.{successor}
+use Rattle.iox_lanes_words.specs.QueuesSteps.declared.order.PushAnswer.{PushAnswer}
+use Rattle.iox_lanes_words.specs.QueuesSteps.declared.order.PushAnswer.TheVariants.{Kept, LeftOut, Refused}
+use Rattle.iox_lanes_words.specs.QueuesSteps.declared.order.PopAnswer.{PopAnswer}
+use Rattle.iox_lanes_words.specs.QueuesSteps.declared.order.PopAnswer.TheVariants.{Got, Saw}
+use Rattle.iox_queues_rings.specs.QueuesRefusing.Refusing as refusing
+use Rattle.iox_queues_rings.specs.QueuesRefusing.declared.push.Push.{Push}
+use Rattle.iox_queues_rings.specs.QueuesRefusing.declared.push.Push.TheVariants as push
 use Rattle.iox_queues_rings.specs.Ends.{pop_first, pop_next, pop_take}
 use Rattle.iox_queues_rings.specs.declared.ends.Pop.{Pop}
 use Rattle.iox_lanes_words.specs.Words.{on_ring}

@@ -2,12 +2,12 @@
 use Rattle.std.proofs.Common.{ℕ, suc, ◌≡◌, ◌+◌, ◌-◌, ◌*◌, ◌<◌, ◌≤◌, ◌^◌, ◌==◌, Bool, true, false, nat_lt, if◌then◌else◌, List, [], ◌∷◌, ◌++◌, length, get_or, remove, Option, Some, None, refl, sym, ◌∙◌, ap, subst, inl, inr, arith}
 use Rattle.std.proofs.lemmas.Bool.{ltb-true, ltb-false}
 use Rattle.std.proofs.lemmas.Bool.Decides.{eqb_tells}
-use Rattle.iox_queues_steps.specs.Access.{successor}
-use Rattle.iox_lanes_calls.specs.declared.publisher.PublisherChange.TheVariants as change
-use Rattle.iox_lanes_publisher.specs.Keeping.{BookState, put_at, counted_up, counted_down, first_free, lent, lent_from, unlent, dropped, newest_of, remembered, referred_at, unreferred_at}
-use Rattle.iox_lanes_publisher.specs.declared.slot_book.LoanMark.{LoanMark}
-use Rattle.iox_lanes_publisher.specs.declared.slot_book.LoanMark.TheVariants as mark
-use Rattle.iox_lanes_publisher.specs.declared.slot_book.LoanAnswer.TheVariants as answer
+use Rattle.iox_lanes_parties.specs.QueuesSteps.Access.{successor}
+use Rattle.iox_lanes_parties.specs.LanesCalls.declared.publisher.PublisherChange.TheVariants as change
+use Rattle.iox_lanes_parties.specs.LanesPublisher.Keeping.{BookState, put_at, counted_up, counted_down, first_free, lent, lent_from, unlent, dropped, newest_of, remembered, referred_at, unreferred_at}
+use Rattle.iox_lanes_parties.specs.LanesPublisher.declared.slot_book.LoanMark.{LoanMark}
+use Rattle.iox_lanes_parties.specs.LanesPublisher.declared.slot_book.LoanMark.TheVariants as mark
+use Rattle.iox_lanes_parties.specs.LanesPublisher.declared.slot_book.LoanAnswer.TheVariants as answer
 use Rattle.iox_lanes_parties.specs.Parties.{is_out}
 use Rattle.iox_lanes_ledger.specs.Uses.{one_if, count, entry, refers, references, IsCounted, AreCounted, UsesCounted, IsReferred, MayBeReferred, ChangesKeepCount}
 use Rattle.iox_lanes_ledger.proofs.Entries.{choose_one, choose_other, count_append, one_if_le, total_same, total_more, total_le, put_at_length, entry_is, entry_same, entry_other, entry_own, refers_own, refers_same, refers_other, row_place}

@@ -3,30 +3,30 @@ use Rattle.std.proofs.Common.{ℕ, ◌≡◌, ◌+◌, ◌-◌, ◌<◌, ◌≤�
 use Rattle.std.proofs.lemmas.Bool.{ltb-true}
 use Rattle.std.proofs.lemmas.Bool.Decides.{eqb_tells}
 use Rattle.std.proofs.lemmas.Option.{slice_get_within, slice_get-get_or}
-use Rattle.iox_queues_steps.specs.Access.{successor}
-use Rattle.iox_queues_steps.specs.declared.order.PushAnswer.TheVariants.{Refused}
-use Rattle.iox_queues_steps.specs.declared.order.PopAnswer.{PopAnswer}
-use Rattle.iox_queues_steps.specs.declared.order.PopAnswer.TheVariants.{Got, Saw}
-use Rattle.iox_queues_overflowing.specs.declared.pop.Pop.TheVariants as overflowing_pop
-use Rattle.iox_queues_refusing.specs.Refusing as refusing
-use Rattle.iox_queues_refusing.specs.declared.push.Push as refusing_push_type
-use Rattle.iox_queues_refusing.specs.declared.push.Push.TheVariants as refusing_push
-use Rattle.iox_queues_refusing.specs.declared.pop.Pop.TheVariants as refusing_pop
-use Rattle.iox_queues_rings.specs.Ends.{pop_take, pop_first}
-use Rattle.iox_queues_rings.specs.declared.ends.RingKind.{RingKind}
-use Rattle.iox_queues_rings.specs.declared.ends.RingKind.TheVariants as kind
-use Rattle.iox_queues_rings.specs.declared.ends.Pop.{Pop}
-use Rattle.iox_queues_rings.specs.declared.ends.Pop.TheVariants as ring
-use Rattle.iox_lanes_calls.specs.Answers.{pop_answer, refusing_push_answer}
-use Rattle.iox_lanes_calls.specs.Subscribing.{subscriber_take, subscriber_change, receive_from, received, released, is_full, is_full_at, borrowed_by, given_back_by}
-use Rattle.iox_lanes_calls.specs.declared.route.Route.{Route}
-use Rattle.iox_lanes_calls.specs.declared.subscriber.SlotExtent.{SlotExtent}
-use Rattle.iox_lanes_calls.specs.declared.subscriber.SubscriberCall.{SubscriberCall}
-use Rattle.iox_lanes_calls.specs.declared.subscriber.SubscriberCall.TheVariants as subscribing
-use Rattle.iox_lanes_calls.specs.declared.subscriber.SubscriberChange.{SubscriberChange}
-use Rattle.iox_lanes_calls.specs.declared.subscriber.SubscriberChange.TheVariants as change
-use Rattle.iox_lanes_publisher.specs.Keeping.{put_at}
-use Rattle.iox_lanes_subscriber.specs.Keeping.{SubscriberState, changed, counted_up, counted_down}
+use Rattle.iox_lanes_parties.specs.QueuesSteps.Access.{successor}
+use Rattle.iox_lanes_parties.specs.QueuesSteps.declared.order.PushAnswer.TheVariants.{Refused}
+use Rattle.iox_lanes_parties.specs.QueuesSteps.declared.order.PopAnswer.{PopAnswer}
+use Rattle.iox_lanes_parties.specs.QueuesSteps.declared.order.PopAnswer.TheVariants.{Got, Saw}
+use Rattle.iox_lanes_parties.specs.QueuesOverflowing.declared.pop.Pop.TheVariants as overflowing_pop
+use Rattle.iox_lanes_parties.specs.QueuesRefusing.Refusing as refusing
+use Rattle.iox_lanes_parties.specs.QueuesRefusing.declared.push.Push as refusing_push_type
+use Rattle.iox_lanes_parties.specs.QueuesRefusing.declared.push.Push.TheVariants as refusing_push
+use Rattle.iox_lanes_parties.specs.QueuesRefusing.declared.pop.Pop.TheVariants as refusing_pop
+use Rattle.iox_lanes_parties.specs.QueuesRings.Ends.{pop_take, pop_first}
+use Rattle.iox_lanes_parties.specs.QueuesRings.declared.ends.RingKind.{RingKind}
+use Rattle.iox_lanes_parties.specs.QueuesRings.declared.ends.RingKind.TheVariants as kind
+use Rattle.iox_lanes_parties.specs.QueuesRings.declared.ends.Pop.{Pop}
+use Rattle.iox_lanes_parties.specs.QueuesRings.declared.ends.Pop.TheVariants as ring
+use Rattle.iox_lanes_parties.specs.LanesCalls.Answers.{pop_answer, refusing_push_answer}
+use Rattle.iox_lanes_parties.specs.LanesCalls.Subscribing.{subscriber_take, subscriber_change, receive_from, received, released, is_full, is_full_at, borrowed_by, given_back_by}
+use Rattle.iox_lanes_parties.specs.LanesCalls.declared.route.Route.{Route}
+use Rattle.iox_lanes_parties.specs.LanesCalls.declared.subscriber.SlotExtent.{SlotExtent}
+use Rattle.iox_lanes_parties.specs.LanesCalls.declared.subscriber.SubscriberCall.{SubscriberCall}
+use Rattle.iox_lanes_parties.specs.LanesCalls.declared.subscriber.SubscriberCall.TheVariants as subscribing
+use Rattle.iox_lanes_parties.specs.LanesCalls.declared.subscriber.SubscriberChange.{SubscriberChange}
+use Rattle.iox_lanes_parties.specs.LanesCalls.declared.subscriber.SubscriberChange.TheVariants as change
+use Rattle.iox_lanes_parties.specs.LanesPublisher.Keeping.{put_at}
+use Rattle.iox_lanes_parties.specs.LanesSubscriber.Keeping.{SubscriberState, changed, counted_up, counted_down}
 use Rattle.iox_lanes_parties.specs.Parties.{SubscriberLaneState}
 use Rattle.iox_lanes_ledger.specs.Borrowing.{borrows}
 use Rattle.iox_lanes_ledger.specs.Rooms.{borrowed_of, may_take, MayBorrow, ReleasesOk, CountsBorrowed}

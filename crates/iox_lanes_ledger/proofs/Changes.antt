@@ -1,31 +1,31 @@
 -- What the steps of calls change of the record of who has which slot: it follows what the rings take and give.
 use Rattle.std.proofs.Common.{ℕ, ◌≡◌, ◌+◌, ◌-◌, ◌*◌, ◌<◌, ◌≤◌, ◌==◌, ◌⊎◌, Bool, true, false, if◌then◌else◌, nat_lt, List, [], ◌∷◌, ◌++◌, length, get_or, remove, Option, Some, None, refl, sym, ◌∙◌, ap, subst, inl, inr, arith}
 use Rattle.std.proofs.lemmas.Bool.Decides.{eqb_tells}
-use Rattle.iox_queues_steps.specs.Access.{RingWords, successor, answer_of}
-use Rattle.iox_queues_overflowing.specs.declared.push.Push.TheVariants as overflowing_push
-use Rattle.iox_queues_overflowing.specs.declared.pop.Pop.TheVariants as overflowing_pop
-use Rattle.iox_queues_overflowing.specs.Overflowing as overflowing
-use Rattle.iox_queues_refusing.specs.Refusing as refusing
-use Rattle.iox_queues_refusing.specs.declared.push.Push as refusing_push_type
-use Rattle.iox_queues_refusing.specs.declared.push.Push.TheVariants as refusing_push
-use Rattle.iox_queues_refusing.specs.declared.pop.Pop as refusing_pop_type
-use Rattle.iox_queues_refusing.specs.declared.pop.Pop.TheVariants as refusing_pop
-use Rattle.iox_queues_rings.specs.Ends.{push_next, pop_next, pop_take}
-use Rattle.iox_queues_rings.specs.declared.ends.Push.{Push}
-use Rattle.iox_queues_rings.specs.declared.ends.Push.TheVariants as push
-use Rattle.iox_queues_rings.specs.declared.ends.Pop.{Pop}
-use Rattle.iox_queues_rings.specs.declared.ends.Pop.TheVariants as pop
-use Rattle.iox_lanes_calls.specs.Answers.{pop_answer, refusing_pop_answer}
-use Rattle.iox_lanes_calls.specs.Publishing.{taken_back, push_change}
-use Rattle.iox_lanes_calls.specs.Subscribing.{borrowed_by, given_back_by}
-use Rattle.iox_lanes_calls.specs.declared.publisher.PublisherChange.{PublisherChange}
-use Rattle.iox_lanes_calls.specs.declared.publisher.PublisherChange.TheVariants as change
-use Rattle.iox_lanes_calls.specs.declared.subscriber.SubscriberChange.{SubscriberChange}
-use Rattle.iox_lanes_calls.specs.declared.subscriber.SubscriberChange.TheVariants as own_change
-use Rattle.iox_lanes_publisher.specs.Keeping.{BookState, changed, put_at, referred_at, unreferred_at, lent, lent_from, first_free, newest_of, unlent, dropped, remembered, counted_down}
-use Rattle.iox_lanes_publisher.specs.declared.slot_book.LoanMark.{LoanMark}
-use Rattle.iox_lanes_publisher.specs.declared.slot_book.LoanMark.TheVariants as mark
-use Rattle.iox_lanes_publisher.specs.declared.slot_book.LoanAnswer.TheVariants as answer
+use Rattle.iox_lanes_parties.specs.QueuesSteps.Access.{RingWords, successor, answer_of}
+use Rattle.iox_lanes_parties.specs.QueuesOverflowing.declared.push.Push.TheVariants as overflowing_push
+use Rattle.iox_lanes_parties.specs.QueuesOverflowing.declared.pop.Pop.TheVariants as overflowing_pop
+use Rattle.iox_lanes_parties.specs.QueuesOverflowing.Overflowing as overflowing
+use Rattle.iox_lanes_parties.specs.QueuesRefusing.Refusing as refusing
+use Rattle.iox_lanes_parties.specs.QueuesRefusing.declared.push.Push as refusing_push_type
+use Rattle.iox_lanes_parties.specs.QueuesRefusing.declared.push.Push.TheVariants as refusing_push
+use Rattle.iox_lanes_parties.specs.QueuesRefusing.declared.pop.Pop as refusing_pop_type
+use Rattle.iox_lanes_parties.specs.QueuesRefusing.declared.pop.Pop.TheVariants as refusing_pop
+use Rattle.iox_lanes_parties.specs.QueuesRings.Ends.{push_next, pop_next, pop_take}
+use Rattle.iox_lanes_parties.specs.QueuesRings.declared.ends.Push.{Push}
+use Rattle.iox_lanes_parties.specs.QueuesRings.declared.ends.Push.TheVariants as push
+use Rattle.iox_lanes_parties.specs.QueuesRings.declared.ends.Pop.{Pop}
+use Rattle.iox_lanes_parties.specs.QueuesRings.declared.ends.Pop.TheVariants as pop
+use Rattle.iox_lanes_parties.specs.LanesCalls.Answers.{pop_answer, refusing_pop_answer}
+use Rattle.iox_lanes_parties.specs.LanesCalls.Publishing.{taken_back, push_change}
+use Rattle.iox_lanes_parties.specs.LanesCalls.Subscribing.{borrowed_by, given_back_by}
+use Rattle.iox_lanes_parties.specs.LanesCalls.declared.publisher.PublisherChange.{PublisherChange}
+use Rattle.iox_lanes_parties.specs.LanesCalls.declared.publisher.PublisherChange.TheVariants as change
+use Rattle.iox_lanes_parties.specs.LanesCalls.declared.subscriber.SubscriberChange.{SubscriberChange}
+use Rattle.iox_lanes_parties.specs.LanesCalls.declared.subscriber.SubscriberChange.TheVariants as own_change
+use Rattle.iox_lanes_parties.specs.LanesPublisher.Keeping.{BookState, changed, put_at, referred_at, unreferred_at, lent, lent_from, first_free, newest_of, unlent, dropped, remembered, counted_down}
+use Rattle.iox_lanes_parties.specs.LanesPublisher.declared.slot_book.LoanMark.{LoanMark}
+use Rattle.iox_lanes_parties.specs.LanesPublisher.declared.slot_book.LoanMark.TheVariants as mark
+use Rattle.iox_lanes_parties.specs.LanesPublisher.declared.slot_book.LoanAnswer.TheVariants as answer
 use Rattle.iox_lanes_parties.specs.Parties.{is_out}
 use Rattle.iox_lanes_ledger.specs.Uses.{one_if, count, entry, refers, refers_to, IsOwn, UsesCounted, IsReferred, MayBeReferred, ChangeFits}
 use Rattle.iox_lanes_ledger.proofs.Entries.{put_at_length, entry_own, entry_same, total_none, refers_own, refers_same, refers_other, row_place}

@@ -3,7 +3,7 @@ use Rattle.std.proofs.Common.{ℕ, zero, suc, ◌≡◌, ◌+◌, ◌-◌, ◌*�
 use Rattle.std.proofs.lemmas.Bool.{cases_lt, lt-ltb, le-ltb}
 use Rattle.std.proofs.lemmas.List.{get_or_past, get_or-set_same, get_or-set_other, get_or-replicate, length-replicate}
 use Rattle.std.proofs.lemmas.Nat.{div-mul-add, mod-mul-add, row_fits}
-use Rattle.iox_lanes_publisher.specs.Keeping.{put_at}
+use Rattle.iox_lanes_parties.specs.LanesPublisher.Keeping.{put_at}
 use Rattle.iox_lanes_ledger.specs.Uses.{one_if, count, total, entry, refers}
 
 pub choose_one : {X : Type 0} (test : Bool) (x y : X) → test ≡ true → (if test then x else y) ≡ x

@@ -1,26 +1,26 @@
 -- Each step of a call leaves it fewer steps.
 use Rattle.std.proofs.Common.{ℕ, suc, ◌≡◌, ◌+◌, ◌-◌, ◌*◌, ◌<◌, ◌≤◌, ◌^◌, ◌==◌, Bool, true, false, nat_lt, if◌then◌else◌, List, length, slice_get, Option, Some, None, refl, ◌∙◌, ap, arith}
 use Rattle.std.proofs.lemmas.Option.{slice_get_within}
-use Rattle.iox_queues_steps.specs.Access.{successor}
-use Rattle.iox_queues_steps.specs.declared.order.PushAnswer.TheVariants.{Kept, LeftOut, Refused}
-use Rattle.iox_queues_overflowing.specs.declared.push.Push.TheVariants as overflowing_push
-use Rattle.iox_queues_refusing.specs.Refusing as refusing
-use Rattle.iox_queues_refusing.specs.declared.push.Push.TheVariants as refusing_push
-use Rattle.iox_queues_refusing.specs.declared.pop.Pop.{Pop}
-use Rattle.iox_queues_refusing.specs.declared.pop.Pop.TheVariants as pop
-use Rattle.iox_queues_rings.specs.Ends.{push_begun}
-use Rattle.iox_queues_rings.specs.declared.ends.RingKind.{RingKind}
-use Rattle.iox_queues_rings.specs.declared.ends.RingKind.TheVariants as kind
-use Rattle.iox_queues_rings.specs.declared.ends.Push.{Push}
-use Rattle.iox_queues_rings.specs.declared.ends.Push.TheVariants as ring
-use Rattle.iox_lanes_calls.specs.Answers.{push_answer, refusing_pop_answer}
-use Rattle.iox_lanes_calls.specs.Publishing.{publisher_is_idle, loan_from, push_from, sweep_from, nothing_sent, counted, pushed, taken_back, loan_reclaimed, send_reclaimed, publisher_take, publisher_change, push_change, write_from, head_from}
-use Rattle.iox_lanes_calls.specs.declared.publisher.Delivery.{Delivery}
-use Rattle.iox_lanes_calls.specs.declared.publisher.PublisherCall.{PublisherCall}
-use Rattle.iox_lanes_calls.specs.declared.publisher.PublisherCall.TheVariants as publishing
-use Rattle.iox_lanes_calls.specs.declared.publisher.PublisherChange.TheVariants as change
-use Rattle.iox_lanes_calls.specs.declared.route.Route.{Route}
-use Rattle.iox_lanes_publisher.specs.Keeping.{BookState, changed}
+use Rattle.iox_lanes_parties.specs.QueuesSteps.Access.{successor}
+use Rattle.iox_lanes_parties.specs.QueuesSteps.declared.order.PushAnswer.TheVariants.{Kept, LeftOut, Refused}
+use Rattle.iox_lanes_parties.specs.QueuesOverflowing.declared.push.Push.TheVariants as overflowing_push
+use Rattle.iox_lanes_parties.specs.QueuesRefusing.Refusing as refusing
+use Rattle.iox_lanes_parties.specs.QueuesRefusing.declared.push.Push.TheVariants as refusing_push
+use Rattle.iox_lanes_parties.specs.QueuesRefusing.declared.pop.Pop.{Pop}
+use Rattle.iox_lanes_parties.specs.QueuesRefusing.declared.pop.Pop.TheVariants as pop
+use Rattle.iox_lanes_parties.specs.QueuesRings.Ends.{push_begun}
+use Rattle.iox_lanes_parties.specs.QueuesRings.declared.ends.RingKind.{RingKind}
+use Rattle.iox_lanes_parties.specs.QueuesRings.declared.ends.RingKind.TheVariants as kind
+use Rattle.iox_lanes_parties.specs.QueuesRings.declared.ends.Push.{Push}
+use Rattle.iox_lanes_parties.specs.QueuesRings.declared.ends.Push.TheVariants as ring
+use Rattle.iox_lanes_parties.specs.LanesCalls.Answers.{push_answer, refusing_pop_answer}
+use Rattle.iox_lanes_parties.specs.LanesCalls.Publishing.{publisher_is_idle, loan_from, push_from, sweep_from, nothing_sent, counted, pushed, taken_back, loan_reclaimed, send_reclaimed, publisher_take, publisher_change, push_change, write_from, head_from}
+use Rattle.iox_lanes_parties.specs.LanesCalls.declared.publisher.Delivery.{Delivery}
+use Rattle.iox_lanes_parties.specs.LanesCalls.declared.publisher.PublisherCall.{PublisherCall}
+use Rattle.iox_lanes_parties.specs.LanesCalls.declared.publisher.PublisherCall.TheVariants as publishing
+use Rattle.iox_lanes_parties.specs.LanesCalls.declared.publisher.PublisherChange.TheVariants as change
+use Rattle.iox_lanes_parties.specs.LanesCalls.declared.route.Route.{Route}
+use Rattle.iox_lanes_parties.specs.LanesPublisher.Keeping.{BookState, changed}
 use Rattle.iox_lanes_ledger.specs.Pace.{pushing_left, sweeps_left, steps_left}
 use Rattle.iox_lanes_ledger.specs.Rooms.{slots_at, PushGoes, HasRooms}
 use Rattle.iox_lanes_ledger.specs.Uses.{UsesCounted, ChangeFits}

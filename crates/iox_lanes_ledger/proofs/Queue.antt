@@ -1,14 +1,14 @@
 -- The samples given back at a connection are a queue: a step puts one behind the others, or takes the first.
 use Rattle.std.proofs.Common.{ℕ, ◌≡◌, ◌-◌, ◌==◌, Bool, true, false, nat_lt, if◌then◌else◌, List, [], ◌∷◌, ◌++◌, length, None, refl, ap}
-use Rattle.iox_queues_steps.specs.Order.{Acts, after_acts}
-use Rattle.iox_queues_steps.specs.declared.order.Act.TheVariants.{Put, Take}
-use Rattle.iox_queues_steps.specs.declared.order.PushAnswer.TheVariants.{Kept, Refused}
-use Rattle.iox_queues_steps.specs.declared.order.PopAnswer.TheVariants.{Got}
-use Rattle.iox_queues_refusing.specs.Refusing as refusing
-use Rattle.iox_queues_refusing.specs.declared.push.Push.{Push}
-use Rattle.iox_queues_refusing.specs.declared.push.Push.TheVariants as push
-use Rattle.iox_queues_refusing.specs.declared.pop.Pop.{Pop}
-use Rattle.iox_queues_refusing.specs.declared.pop.Pop.TheVariants as pop
+use Rattle.iox_lanes_parties.specs.QueuesSteps.Order.{Acts, after_acts}
+use Rattle.iox_lanes_parties.specs.QueuesSteps.declared.order.Act.TheVariants.{Put, Take}
+use Rattle.iox_lanes_parties.specs.QueuesSteps.declared.order.PushAnswer.TheVariants.{Kept, Refused}
+use Rattle.iox_lanes_parties.specs.QueuesSteps.declared.order.PopAnswer.TheVariants.{Got}
+use Rattle.iox_lanes_parties.specs.QueuesRefusing.Refusing as refusing
+use Rattle.iox_lanes_parties.specs.QueuesRefusing.declared.push.Push.{Push}
+use Rattle.iox_lanes_parties.specs.QueuesRefusing.declared.push.Push.TheVariants as push
+use Rattle.iox_lanes_parties.specs.QueuesRefusing.declared.pop.Pop.{Pop}
+use Rattle.iox_lanes_parties.specs.QueuesRefusing.declared.pop.Pop.TheVariants as pop
 use Rattle.iox_lanes_ledger.proofs.Rings.{taking_refusing, storing_refusing}
 
 nothing_more : (q : List ℕ) → q ≡ q ++ []

@@ -1,34 +1,34 @@
 -- A step of a ring's end moves a value from place to place: no value comes or goes but by what the step puts, takes or hands out.
 use Rattle.std.proofs.Common.{ℕ, suc, ◌≡◌, ◌+◌, ◌-◌, ◌%◌, ◌<◌, ◌≤◌, ◌==◌, Bool, true, false, if◌then◌else◌, nat_lt, List, [], ◌∷◌, ◌++◌, length, drop, slice_index, Some, None, refl, sym, ◌∙◌, ap, subst, arith, append-nil}
 use Rattle.std.proofs.lemmas.Bool.{ltb-true, ltb-false, eq-eqb, ne_eqb, eqb-true}
-use Rattle.iox_queues_steps.specs.Access.{RingWords, successor, after_store, answer_of, after_access}
-use Rattle.iox_queues_steps.specs.Kept.{Held}
-use Rattle.iox_queues_steps.specs.Order.{Acts, after_acts, put_answer, after_put}
-use Rattle.iox_queues_steps.specs.declared.access.Word.TheVariants.{Read}
-use Rattle.iox_queues_steps.specs.declared.order.Act.{Act}
-use Rattle.iox_queues_steps.specs.declared.order.Act.TheVariants.{Put, Take}
-use Rattle.iox_queues_steps.specs.declared.order.PopAnswer.TheVariants.{Got, Saw}
-use Rattle.iox_queues_steps.specs.declared.order.PushAnswer.{PushAnswer}
-use Rattle.iox_queues_steps.specs.declared.order.PushAnswer.TheVariants.{Kept, LeftOut, Refused}
-use Rattle.iox_queues_overflowing.specs.Overflowing as overflowing
-use Rattle.iox_queues_overflowing.specs.OverflowingRing as overflowing_ring
-use Rattle.iox_queues_overflowing.specs.declared.push.Push as overflowing_push_type
-use Rattle.iox_queues_overflowing.specs.declared.push.Push.TheVariants as overflowing_push
-use Rattle.iox_queues_overflowing.specs.declared.pop.Pop as overflowing_pop_type
-use Rattle.iox_queues_overflowing.specs.declared.pop.Pop.TheVariants as overflowing_pop
-use Rattle.iox_queues_refusing.specs.Refusing as refusing
-use Rattle.iox_queues_refusing.specs.declared.push.Push as refusing_push_type
-use Rattle.iox_queues_refusing.specs.declared.push.Push.TheVariants as refusing_push
-use Rattle.iox_queues_refusing.specs.declared.pop.Pop as refusing_pop_type
-use Rattle.iox_queues_refusing.specs.declared.pop.Pop.TheVariants as refusing_pop
-use Rattle.iox_queues_rings.specs.Ends.{overflows, placed_by_push, placed_by_pop, push_next, push_take, push_idle, push_begun, pop_next, Shape}
-use Rattle.iox_queues_rings.specs.declared.ends.RingKind.{RingKind}
-use Rattle.iox_queues_rings.specs.declared.ends.RingKind.TheVariants as kind
-use Rattle.iox_queues_rings.specs.declared.ends.Push.{Push}
-use Rattle.iox_queues_rings.specs.declared.ends.Push.TheVariants as push
-use Rattle.iox_queues_rings.specs.declared.ends.Pop.{Pop}
-use Rattle.iox_queues_rings.specs.declared.ends.Pop.TheVariants as pop
-use Rattle.iox_lanes_calls.specs.Answers.{push_answer}
+use Rattle.iox_lanes_parties.specs.QueuesSteps.Access.{RingWords, successor, after_store, answer_of, after_access}
+use Rattle.iox_lanes_parties.specs.QueuesSteps.Kept.{Held}
+use Rattle.iox_lanes_parties.specs.QueuesSteps.Order.{Acts, after_acts, put_answer, after_put}
+use Rattle.iox_lanes_parties.specs.QueuesSteps.declared.access.Word.TheVariants.{Read}
+use Rattle.iox_lanes_parties.specs.QueuesSteps.declared.order.Act.{Act}
+use Rattle.iox_lanes_parties.specs.QueuesSteps.declared.order.Act.TheVariants.{Put, Take}
+use Rattle.iox_lanes_parties.specs.QueuesSteps.declared.order.PopAnswer.TheVariants.{Got, Saw}
+use Rattle.iox_lanes_parties.specs.QueuesSteps.declared.order.PushAnswer.{PushAnswer}
+use Rattle.iox_lanes_parties.specs.QueuesSteps.declared.order.PushAnswer.TheVariants.{Kept, LeftOut, Refused}
+use Rattle.iox_lanes_parties.specs.QueuesOverflowing.Overflowing as overflowing
+use Rattle.iox_lanes_parties.specs.QueuesOverflowing.OverflowingRing as overflowing_ring
+use Rattle.iox_lanes_parties.specs.QueuesOverflowing.declared.push.Push as overflowing_push_type
+use Rattle.iox_lanes_parties.specs.QueuesOverflowing.declared.push.Push.TheVariants as overflowing_push
+use Rattle.iox_lanes_parties.specs.QueuesOverflowing.declared.pop.Pop as overflowing_pop_type
+use Rattle.iox_lanes_parties.specs.QueuesOverflowing.declared.pop.Pop.TheVariants as overflowing_pop
+use Rattle.iox_lanes_parties.specs.QueuesRefusing.Refusing as refusing
+use Rattle.iox_lanes_parties.specs.QueuesRefusing.declared.push.Push as refusing_push_type
+use Rattle.iox_lanes_parties.specs.QueuesRefusing.declared.push.Push.TheVariants as refusing_push
+use Rattle.iox_lanes_parties.specs.QueuesRefusing.declared.pop.Pop as refusing_pop_type
+use Rattle.iox_lanes_parties.specs.QueuesRefusing.declared.pop.Pop.TheVariants as refusing_pop
+use Rattle.iox_lanes_parties.specs.QueuesRings.Ends.{overflows, placed_by_push, placed_by_pop, push_next, push_take, push_idle, push_begun, pop_next, Shape}
+use Rattle.iox_lanes_parties.specs.QueuesRings.declared.ends.RingKind.{RingKind}
+use Rattle.iox_lanes_parties.specs.QueuesRings.declared.ends.RingKind.TheVariants as kind
+use Rattle.iox_lanes_parties.specs.QueuesRings.declared.ends.Push.{Push}
+use Rattle.iox_lanes_parties.specs.QueuesRings.declared.ends.Push.TheVariants as push
+use Rattle.iox_lanes_parties.specs.QueuesRings.declared.ends.Pop.{Pop}
+use Rattle.iox_lanes_parties.specs.QueuesRings.declared.ends.Pop.TheVariants as pop
+use Rattle.iox_lanes_parties.specs.LanesCalls.Answers.{push_answer}
 use Rattle.iox_lanes_ledger.specs.Uses.{one_if, count}
 use Rattle.iox_lanes_ledger.specs.Stored.{taken_in, put_in, aside, cells_from, between}
 use Rattle.iox_lanes_ledger.proofs.Entries.{count_append}

@@ -2,11 +2,11 @@
 use Rattle.std.proofs.Common.{ℕ, ◌≡◌, ◌+◌, ◌-◌, ◌<◌, ◌≤◌, Bool, true, false, nat_lt, if◌then◌else◌, List, [], ◌∷◌, ◌++◌, length, get_or, remove, Option, Some, None, refl, sym, ◌∙◌, ap, inl, inr, arith}
 use Rattle.std.proofs.lemmas.Bool.{cases_lt}
 use Rattle.std.proofs.lemmas.Bool.Decides.{eqb_tells}
-use Rattle.iox_queues_steps.specs.Access.{successor}
-use Rattle.iox_lanes_calls.specs.declared.publisher.PublisherChange.{PublisherChange}
-use Rattle.iox_lanes_calls.specs.declared.publisher.PublisherChange.TheVariants as change
-use Rattle.iox_lanes_publisher.specs.Keeping.{BookState, changed, lent, lent_from, first_free, newest_of, unlent, dropped, remembered, counted_down}
-use Rattle.iox_lanes_publisher.specs.declared.slot_book.LoanAnswer.TheVariants as answer
+use Rattle.iox_lanes_parties.specs.QueuesSteps.Access.{successor}
+use Rattle.iox_lanes_parties.specs.LanesCalls.declared.publisher.PublisherChange.{PublisherChange}
+use Rattle.iox_lanes_parties.specs.LanesCalls.declared.publisher.PublisherChange.TheVariants as change
+use Rattle.iox_lanes_parties.specs.LanesPublisher.Keeping.{BookState, changed, lent, lent_from, first_free, newest_of, unlent, dropped, remembered, counted_down}
+use Rattle.iox_lanes_parties.specs.LanesPublisher.declared.slot_book.LoanAnswer.TheVariants as answer
 use Rattle.iox_lanes_ledger.specs.Rooms.{slots_at}
 use Rattle.iox_lanes_ledger.specs.Uses.{one_if, count, total, refers_to, UsesCounted, ChangeFits}
 use Rattle.iox_lanes_ledger.proofs.Changes.{put_by, lost_by, IsChangeAt, IsElse, else_refers, refers_there, refers_elsewhere}

@@ -3,26 +3,26 @@ use Rattle.std.proofs.Common.{ℕ, ◌≡◌, ◌+◌, ◌-◌, ◌<◌, ◌==�
 use Rattle.std.proofs.lemmas.Bool.{cases_lt}
 use Rattle.std.proofs.lemmas.Bool.Decides.{eqb_tells}
 use Rattle.std.proofs.lemmas.List.{get_or_past}
-use Rattle.iox_queues_steps.specs.Access.{successor}
-use Rattle.iox_queues_steps.specs.declared.order.PushAnswer.{PushAnswer}
-use Rattle.iox_queues_steps.specs.declared.order.PushAnswer.TheVariants.{Kept, LeftOut, Refused}
-use Rattle.iox_queues_steps.specs.declared.order.PopAnswer.{PopAnswer}
-use Rattle.iox_queues_steps.specs.declared.order.PopAnswer.TheVariants.{Got, Saw}
-use Rattle.iox_queues_refusing.specs.Refusing as refusing
-use Rattle.iox_queues_refusing.specs.declared.push.Push as refusing_push_type
-use Rattle.iox_queues_refusing.specs.declared.push.Push.TheVariants as refusing_push
-use Rattle.iox_queues_rings.specs.Ends.{pop_take}
-use Rattle.iox_queues_rings.specs.declared.ends.Pop.{Pop}
-use Rattle.iox_lanes_calls.specs.Answers.{pop_answer, refusing_push_answer}
-use Rattle.iox_lanes_calls.specs.Subscribing.{subscriber_is_idle, subscriber_take, subscriber_change, receive_from, received, is_full_at, released, given_back_by, borrowed_by}
-use Rattle.iox_lanes_calls.specs.declared.route.Route.{Route}
-use Rattle.iox_lanes_calls.specs.declared.subscriber.SlotExtent.{SlotExtent}
-use Rattle.iox_lanes_calls.specs.declared.subscriber.SubscriberCall.{SubscriberCall}
-use Rattle.iox_lanes_calls.specs.declared.subscriber.SubscriberCall.TheVariants as subscribing
-use Rattle.iox_lanes_calls.specs.declared.subscriber.SubscriberChange.{SubscriberChange}
-use Rattle.iox_lanes_calls.specs.declared.subscriber.SubscriberChange.TheVariants as change
-use Rattle.iox_lanes_publisher.specs.Keeping.{put_at}
-use Rattle.iox_lanes_subscriber.specs.Keeping.{SubscriberState, changed}
+use Rattle.iox_lanes_parties.specs.QueuesSteps.Access.{successor}
+use Rattle.iox_lanes_parties.specs.QueuesSteps.declared.order.PushAnswer.{PushAnswer}
+use Rattle.iox_lanes_parties.specs.QueuesSteps.declared.order.PushAnswer.TheVariants.{Kept, LeftOut, Refused}
+use Rattle.iox_lanes_parties.specs.QueuesSteps.declared.order.PopAnswer.{PopAnswer}
+use Rattle.iox_lanes_parties.specs.QueuesSteps.declared.order.PopAnswer.TheVariants.{Got, Saw}
+use Rattle.iox_lanes_parties.specs.QueuesRefusing.Refusing as refusing
+use Rattle.iox_lanes_parties.specs.QueuesRefusing.declared.push.Push as refusing_push_type
+use Rattle.iox_lanes_parties.specs.QueuesRefusing.declared.push.Push.TheVariants as refusing_push
+use Rattle.iox_lanes_parties.specs.QueuesRings.Ends.{pop_take}
+use Rattle.iox_lanes_parties.specs.QueuesRings.declared.ends.Pop.{Pop}
+use Rattle.iox_lanes_parties.specs.LanesCalls.Answers.{pop_answer, refusing_push_answer}
+use Rattle.iox_lanes_parties.specs.LanesCalls.Subscribing.{subscriber_is_idle, subscriber_take, subscriber_change, receive_from, received, is_full_at, released, given_back_by, borrowed_by}
+use Rattle.iox_lanes_parties.specs.LanesCalls.declared.route.Route.{Route}
+use Rattle.iox_lanes_parties.specs.LanesCalls.declared.subscriber.SlotExtent.{SlotExtent}
+use Rattle.iox_lanes_parties.specs.LanesCalls.declared.subscriber.SubscriberCall.{SubscriberCall}
+use Rattle.iox_lanes_parties.specs.LanesCalls.declared.subscriber.SubscriberCall.TheVariants as subscribing
+use Rattle.iox_lanes_parties.specs.LanesCalls.declared.subscriber.SubscriberChange.{SubscriberChange}
+use Rattle.iox_lanes_parties.specs.LanesCalls.declared.subscriber.SubscriberChange.TheVariants as change
+use Rattle.iox_lanes_parties.specs.LanesPublisher.Keeping.{put_at}
+use Rattle.iox_lanes_parties.specs.LanesSubscriber.Keeping.{SubscriberState, changed}
 use Rattle.iox_lanes_parties.specs.Parties.{SubscriberLaneState, is_borrowed, place_of, route_at, release_begun, subscriber_may, subscriber_fits, subscriber_begun}
 use Rattle.iox_lanes_parties.specs.declared.call.Call.{Call}
 use Rattle.iox_lanes_parties.specs.declared.call.Call.TheVariants as call

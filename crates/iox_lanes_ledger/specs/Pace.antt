@@ -1,14 +1,14 @@
 -- How many steps a publisher's call may still make.
 use Rattle.std.specs.Prelude.{ℕ, ◌+◌, ◌-◌, ◌*◌}
-use Rattle.iox_queues_overflowing.specs.declared.push.Push.TheVariants as overflowing
-use Rattle.iox_queues_refusing.specs.declared.push.Push.TheVariants as refusing
-use Rattle.iox_queues_refusing.specs.declared.pop.Pop.{Pop}
-use Rattle.iox_queues_refusing.specs.declared.pop.Pop.TheVariants as pop
-use Rattle.iox_queues_rings.specs.declared.ends.Push.{Push}
-use Rattle.iox_queues_rings.specs.declared.ends.Push.TheVariants as ring
-use Rattle.iox_lanes_calls.specs.declared.publisher.PublisherCall.{PublisherCall}
-use Rattle.iox_lanes_calls.specs.declared.publisher.PublisherCall.TheVariants as publishing
-use Rattle.iox_lanes_publisher.specs.Keeping.{BookState}
+use Rattle.iox_lanes_parties.specs.QueuesOverflowing.declared.push.Push.TheVariants as overflowing
+use Rattle.iox_lanes_parties.specs.QueuesRefusing.declared.push.Push.TheVariants as refusing
+use Rattle.iox_lanes_parties.specs.QueuesRefusing.declared.pop.Pop.{Pop}
+use Rattle.iox_lanes_parties.specs.QueuesRefusing.declared.pop.Pop.TheVariants as pop
+use Rattle.iox_lanes_parties.specs.QueuesRings.declared.ends.Push.{Push}
+use Rattle.iox_lanes_parties.specs.QueuesRings.declared.ends.Push.TheVariants as ring
+use Rattle.iox_lanes_parties.specs.LanesCalls.declared.publisher.PublisherCall.{PublisherCall}
+use Rattle.iox_lanes_parties.specs.LanesCalls.declared.publisher.PublisherCall.TheVariants as publishing
+use Rattle.iox_lanes_parties.specs.LanesPublisher.Keeping.{BookState}
 use Rattle.iox_lanes_ledger.specs.Rooms.{slots_at}
 
 -- a call that takes back at a connection with so many slots: four steps for each of them, and two that find no more

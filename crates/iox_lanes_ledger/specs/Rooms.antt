@@ -1,23 +1,23 @@
 -- How many slots a connection has, how many of them its subscriber borrows, and how many loans are out.
 use Rattle.std.specs.Prelude.{ℕ, ◌≡◌, ◌+◌, ◌<◌, ◌≤◌, ◌^◌, ◌⊎◌, Bool, true, false, length, get_or, slice_get, Some}
-use Rattle.iox_queues_overflowing.specs.declared.push.Push as overflowing_type
-use Rattle.iox_queues_overflowing.specs.declared.push.Push.TheVariants as overflowing
-use Rattle.iox_queues_overflowing.specs.declared.pop.Pop.TheVariants as overflowing_pop
-use Rattle.iox_queues_refusing.specs.declared.push.Push as refusing_type
-use Rattle.iox_queues_refusing.specs.declared.push.Push.TheVariants as refusing
-use Rattle.iox_queues_refusing.specs.declared.pop.Pop.{Pop}
-use Rattle.iox_queues_refusing.specs.declared.pop.Pop.TheVariants as pop
-use Rattle.iox_queues_rings.specs.declared.ends.Pop as ring_pop
-use Rattle.iox_queues_rings.specs.declared.ends.Pop.TheVariants as rings
-use Rattle.iox_queues_rings.specs.declared.ends.Push.{Push}
-use Rattle.iox_queues_rings.specs.declared.ends.Push.TheVariants as ring
-use Rattle.iox_lanes_calls.specs.declared.publisher.PublisherCall.{PublisherCall}
-use Rattle.iox_lanes_calls.specs.declared.publisher.PublisherCall.TheVariants as publishing
-use Rattle.iox_lanes_calls.specs.declared.route.Route.{Route}
-use Rattle.iox_lanes_calls.specs.declared.subscriber.SubscriberCall.{SubscriberCall}
-use Rattle.iox_lanes_calls.specs.declared.subscriber.SubscriberCall.TheVariants as subscribing
-use Rattle.iox_lanes_publisher.specs.Keeping.{BookState}
-use Rattle.iox_lanes_publisher.specs.declared.slot_book.LoanMark.TheVariants as mark
+use Rattle.iox_lanes_parties.specs.QueuesOverflowing.declared.push.Push as overflowing_type
+use Rattle.iox_lanes_parties.specs.QueuesOverflowing.declared.push.Push.TheVariants as overflowing
+use Rattle.iox_lanes_parties.specs.QueuesOverflowing.declared.pop.Pop.TheVariants as overflowing_pop
+use Rattle.iox_lanes_parties.specs.QueuesRefusing.declared.push.Push as refusing_type
+use Rattle.iox_lanes_parties.specs.QueuesRefusing.declared.push.Push.TheVariants as refusing
+use Rattle.iox_lanes_parties.specs.QueuesRefusing.declared.pop.Pop.{Pop}
+use Rattle.iox_lanes_parties.specs.QueuesRefusing.declared.pop.Pop.TheVariants as pop
+use Rattle.iox_lanes_parties.specs.QueuesRings.declared.ends.Pop as ring_pop
+use Rattle.iox_lanes_parties.specs.QueuesRings.declared.ends.Pop.TheVariants as rings
+use Rattle.iox_lanes_parties.specs.QueuesRings.declared.ends.Push.{Push}
+use Rattle.iox_lanes_parties.specs.QueuesRings.declared.ends.Push.TheVariants as ring
+use Rattle.iox_lanes_parties.specs.LanesCalls.declared.publisher.PublisherCall.{PublisherCall}
+use Rattle.iox_lanes_parties.specs.LanesCalls.declared.publisher.PublisherCall.TheVariants as publishing
+use Rattle.iox_lanes_parties.specs.LanesCalls.declared.route.Route.{Route}
+use Rattle.iox_lanes_parties.specs.LanesCalls.declared.subscriber.SubscriberCall.{SubscriberCall}
+use Rattle.iox_lanes_parties.specs.LanesCalls.declared.subscriber.SubscriberCall.TheVariants as subscribing
+use Rattle.iox_lanes_parties.specs.LanesPublisher.Keeping.{BookState}
+use Rattle.iox_lanes_parties.specs.LanesPublisher.declared.slot_book.LoanMark.TheVariants as mark
 use Rattle.iox_lanes_parties.specs.Parties.{SubscriberLaneState, is_out}
 use Rattle.iox_lanes_ledger.specs.Borrowing.{borrows}
 use Rattle.iox_lanes_ledger.specs.Uses.{total, refers_to}

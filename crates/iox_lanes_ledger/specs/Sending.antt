@@ -1,14 +1,14 @@
 -- What a send that is under way knows of its slot: the connections that it has not come to lack it.
 use Rattle.std.specs.Prelude.{ℕ, ◌≡◌, ◌+◌, ◌<◌, ◌≤◌, false}
-use Rattle.iox_queues_overflowing.specs.declared.push.Push as overflowing_type
-use Rattle.iox_queues_overflowing.specs.declared.push.Push.TheVariants as overflowing
-use Rattle.iox_queues_refusing.specs.declared.push.Push as refusing_type
-use Rattle.iox_queues_refusing.specs.declared.push.Push.TheVariants as refusing
-use Rattle.iox_queues_rings.specs.declared.ends.Push.{Push}
-use Rattle.iox_queues_rings.specs.declared.ends.Push.TheVariants as ring
-use Rattle.iox_lanes_calls.specs.declared.publisher.PublisherCall.{PublisherCall}
-use Rattle.iox_lanes_calls.specs.declared.publisher.PublisherCall.TheVariants as publishing
-use Rattle.iox_lanes_publisher.specs.Keeping.{BookState, loan_of}
+use Rattle.iox_lanes_parties.specs.QueuesOverflowing.declared.push.Push as overflowing_type
+use Rattle.iox_lanes_parties.specs.QueuesOverflowing.declared.push.Push.TheVariants as overflowing
+use Rattle.iox_lanes_parties.specs.QueuesRefusing.declared.push.Push as refusing_type
+use Rattle.iox_lanes_parties.specs.QueuesRefusing.declared.push.Push.TheVariants as refusing
+use Rattle.iox_lanes_parties.specs.QueuesRings.declared.ends.Push.{Push}
+use Rattle.iox_lanes_parties.specs.QueuesRings.declared.ends.Push.TheVariants as ring
+use Rattle.iox_lanes_parties.specs.LanesCalls.declared.publisher.PublisherCall.{PublisherCall}
+use Rattle.iox_lanes_parties.specs.LanesCalls.declared.publisher.PublisherCall.TheVariants as publishing
+use Rattle.iox_lanes_parties.specs.LanesPublisher.Keeping.{BookState, loan_of}
 use Rattle.iox_lanes_parties.specs.Parties.{is_out}
 use Rattle.iox_lanes_ledger.specs.Uses.{refers_to, IsOwn}
 

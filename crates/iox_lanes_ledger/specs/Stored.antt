@@ -1,12 +1,12 @@
 -- What a connection's two rings hold beside the messages that wait there: what lies aside, and what was given back.
 use Rattle.std.specs.Prelude.{ℕ, zero, suc, ◌+◌, ◌-◌, ◌%◌, List, [], ◌∷◌, ◌++◌, length, slice_index}
-use Rattle.iox_queues_steps.specs.Access.{RingWords}
-use Rattle.iox_queues_steps.specs.declared.order.Act.{Act}
-use Rattle.iox_queues_steps.specs.declared.order.Act.TheVariants.{Put, Take}
-use Rattle.iox_queues_steps.specs.declared.order.PushAnswer.{PushAnswer}
-use Rattle.iox_queues_steps.specs.declared.order.PushAnswer.TheVariants.{Kept, LeftOut, Refused}
-use Rattle.iox_queues_rings.specs.Ends.{late_put}
-use Rattle.iox_queues_rings.specs.declared.ends.Push.{Push}
+use Rattle.iox_lanes_parties.specs.QueuesSteps.Access.{RingWords}
+use Rattle.iox_lanes_parties.specs.QueuesSteps.declared.order.Act.{Act}
+use Rattle.iox_lanes_parties.specs.QueuesSteps.declared.order.Act.TheVariants.{Put, Take}
+use Rattle.iox_lanes_parties.specs.QueuesSteps.declared.order.PushAnswer.{PushAnswer}
+use Rattle.iox_lanes_parties.specs.QueuesSteps.declared.order.PushAnswer.TheVariants.{Kept, LeftOut, Refused}
+use Rattle.iox_lanes_parties.specs.QueuesRings.Ends.{late_put}
+use Rattle.iox_lanes_parties.specs.QueuesRings.declared.ends.Push.{Push}
 
 -- a value that was put, unless it was refused
 abbrev pub taken_in : ℕ → PushAnswer → List ℕ

@@ -1,10 +1,10 @@
 -- What the slots of a publisher are used for: as a loan, in its history, at its connections.
 use Rattle.std.specs.Prelude.{ℕ, zero, suc, ◌≡◌, ◌+◌, ◌-◌, ◌*◌, ◌<◌, ◌≤◌, ◌^◌, ◌==◌, Bool, true, false, nat_lt, if◌then◌else◌, List, [], ◌∷◌, length, get_or}
-use Rattle.iox_lanes_calls.specs.declared.publisher.PublisherChange.{PublisherChange}
-use Rattle.iox_lanes_calls.specs.declared.publisher.PublisherChange.TheVariants.{Nothing, Lend, Mark, Remember, TakenBack, Put, LeftOut, DropLoan}
-use Rattle.iox_lanes_publisher.specs.Keeping.{BookState, changed}
-use Rattle.iox_lanes_publisher.specs.declared.slot_book.LoanMark.{LoanMark}
-use Rattle.iox_lanes_publisher.specs.declared.slot_book.LoanMark.TheVariants as mark
+use Rattle.iox_lanes_parties.specs.LanesCalls.declared.publisher.PublisherChange.{PublisherChange}
+use Rattle.iox_lanes_parties.specs.LanesCalls.declared.publisher.PublisherChange.TheVariants.{Nothing, Lend, Mark, Remember, TakenBack, Put, LeftOut, DropLoan}
+use Rattle.iox_lanes_parties.specs.LanesPublisher.Keeping.{BookState, changed}
+use Rattle.iox_lanes_parties.specs.LanesPublisher.declared.slot_book.LoanMark.{LoanMark}
+use Rattle.iox_lanes_parties.specs.LanesPublisher.declared.slot_book.LoanMark.TheVariants as mark
 use Rattle.iox_lanes_parties.specs.Parties.{is_out}
 
 -- one where a test holds, else none

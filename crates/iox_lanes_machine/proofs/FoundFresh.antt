@@ -4,21 +4,21 @@ use Rattle.std.proofs.lemmas.Bool.Decides.{eqb_tells}
 use Rattle.std.proofs.lemmas.List.{length-set, length-replicate}
 use Rattle.std.proofs.lemmas.List.Elements.{All-weaker}
 use Rattle.std.proofs.Math.Seq.{set-append_seam}
-use Rattle.iox_queues_steps.specs.Access.{RingWords, successor, after_store}
-use Rattle.iox_queues_steps.specs.declared.access.Word.TheVariants.{Write, Cell}
-use Rattle.iox_queues_steps.specs.declared.access.Access.TheVariants as own
-use Rattle.iox_queues_rings.specs.Ends.{cells_of}
-use Rattle.iox_queues_rings.specs.RingMachine.{first_words}
-use Rattle.iox_queues_rings.specs.declared.ends.RingKind.{RingKind}
-use Rattle.iox_queues_rings.specs.declared.ends.RingKind.TheVariants as kind
-use Rattle.iox_lanes_words.specs.Numbers.{number_of}
-use Rattle.iox_lanes_words.specs.Table.{TableWords, stored_in}
-use Rattle.iox_lanes_words.specs.declared.word.ConnectionRing.TheVariants.{Submission, Completion}
-use Rattle.iox_lanes_words.specs.declared.word.SharedWord.TheVariants.{Ring}
-use Rattle.iox_lanes_calls.specs.declared.route.Route.{Route}
-use Rattle.iox_lanes_publisher.specs.declared.slot_book.LoanMark.{LoanMark}
-use Rattle.iox_lanes_publisher.specs.declared.slot_book.LoanMark.TheVariants as mark
-use Rattle.iox_lanes_parties.specs.Parties.{PublisherLaneState, is_out}
+use Rattle.iox_lanes_ledger.specs.QueuesSteps.Access.{RingWords, successor, after_store}
+use Rattle.iox_lanes_ledger.specs.QueuesSteps.declared.access.Word.TheVariants.{Write, Cell}
+use Rattle.iox_lanes_ledger.specs.QueuesSteps.declared.access.Access.TheVariants as own
+use Rattle.iox_lanes_ledger.specs.QueuesRings.Ends.{cells_of}
+use Rattle.iox_lanes_ledger.specs.QueuesRings.RingMachine.{first_words}
+use Rattle.iox_lanes_ledger.specs.QueuesRings.declared.ends.RingKind.{RingKind}
+use Rattle.iox_lanes_ledger.specs.QueuesRings.declared.ends.RingKind.TheVariants as kind
+use Rattle.iox_lanes_ledger.specs.LanesWords.Numbers.{number_of}
+use Rattle.iox_lanes_ledger.specs.LanesWords.Table.{TableWords, stored_in}
+use Rattle.iox_lanes_ledger.specs.LanesWords.declared.word.ConnectionRing.TheVariants.{Submission, Completion}
+use Rattle.iox_lanes_ledger.specs.LanesWords.declared.word.SharedWord.TheVariants.{Ring}
+use Rattle.iox_lanes_ledger.specs.LanesCalls.declared.route.Route.{Route}
+use Rattle.iox_lanes_ledger.specs.LanesPublisher.declared.slot_book.LoanMark.{LoanMark}
+use Rattle.iox_lanes_ledger.specs.LanesPublisher.declared.slot_book.LoanMark.TheVariants as mark
+use Rattle.iox_lanes_ledger.specs.LanesParties.Parties.{PublisherLaneState, is_out}
 use Rattle.iox_lanes_ledger.specs.Rooms.{CountsLoans}
 use Rattle.iox_lanes_ledger.specs.Uses.{entry, UsesCounted}
 use Rattle.iox_lanes_machine.specs.Findings.{laid}

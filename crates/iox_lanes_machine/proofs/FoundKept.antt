@@ -4,30 +4,30 @@ use Rattle.std.proofs.lemmas.Bool.{ltb-true}
 use Rattle.std.proofs.lemmas.Bool.Decides.{eqb_tells}
 use Rattle.std.proofs.lemmas.List.{length-set}
 use Rattle.std.proofs.lemmas.Option.{slice_get_within}
-use Rattle.iox_queues_steps.specs.Access.{RingWords, successor}
-use Rattle.iox_queues_steps.specs.declared.access.Word.{Word}
-use Rattle.iox_queues_steps.specs.declared.access.Word.TheVariants.{Write, Cell}
-use Rattle.iox_queues_rings.specs.Ends.{cells_of}
-use Rattle.iox_queues_rings.specs.RingMachine.{first_words}
-use Rattle.iox_queues_rings.specs.declared.ends.RingKind.TheVariants as kind
-use Rattle.iox_queues_rings.proofs.EitherRing.{start_refusing}
-use Rattle.iox_queues_refusing.specs.declared.pop.Pop.TheVariants as refusing_pop
-use Rattle.iox_queues_refusing.specs.declared.push.Push.TheVariants as refusing_push
-use Rattle.iox_lanes_words.specs.Numbers.{IsWord, words_of, number_of}
-use Rattle.iox_lanes_words.specs.Table.{TableWords, stored_in}
-use Rattle.iox_lanes_words.specs.declared.access.SharedAccess.TheVariants.{Store}
-use Rattle.iox_lanes_words.specs.declared.sizes.TableSizes.{TableSizes}
-use Rattle.iox_lanes_words.specs.declared.word.ConnectionRing.{ConnectionRing}
-use Rattle.iox_lanes_words.specs.declared.word.ConnectionRing.TheVariants.{Submission, Completion}
-use Rattle.iox_lanes_words.specs.declared.word.SharedWord.TheVariants.{Ring, Slot}
-use Rattle.iox_lanes_words.specs.declared.word.SlotWord.{SlotWord}
-use Rattle.iox_lanes_words.specs.declared.word.SlotWord.TheVariants.{Header, UserHeader, Payload}
-use Rattle.iox_lanes_calls.specs.declared.route.Route.{Route}
-use Rattle.iox_lanes_publisher.specs.declared.slot_book.LoanMark.TheVariants as mark
-use Rattle.iox_lanes_publisher.specs.Keeping.{may_remember}
-use Rattle.iox_lanes_parties.specs.Parties.{PublisherLaneState, is_out, lane_found, lane_remembers}
-use Rattle.iox_lanes_parties.specs.Within.{IsPublisher}
-use Rattle.iox_lanes_parties.proofs.Rings.{all_at, and_left, and_right}
+use Rattle.iox_lanes_ledger.specs.QueuesSteps.Access.{RingWords, successor}
+use Rattle.iox_lanes_ledger.specs.QueuesSteps.declared.access.Word.{Word}
+use Rattle.iox_lanes_ledger.specs.QueuesSteps.declared.access.Word.TheVariants.{Write, Cell}
+use Rattle.iox_lanes_ledger.specs.QueuesRings.Ends.{cells_of}
+use Rattle.iox_lanes_ledger.specs.QueuesRings.RingMachine.{first_words}
+use Rattle.iox_lanes_ledger.specs.QueuesRings.declared.ends.RingKind.TheVariants as kind
+use Rattle.iox_lanes_ledger.proofs.QueuesRings.EitherRing.{start_refusing}
+use Rattle.iox_lanes_ledger.specs.QueuesRefusing.declared.pop.Pop.TheVariants as refusing_pop
+use Rattle.iox_lanes_ledger.specs.QueuesRefusing.declared.push.Push.TheVariants as refusing_push
+use Rattle.iox_lanes_ledger.specs.LanesWords.Numbers.{IsWord, words_of, number_of}
+use Rattle.iox_lanes_ledger.specs.LanesWords.Table.{TableWords, stored_in}
+use Rattle.iox_lanes_ledger.specs.LanesWords.declared.access.SharedAccess.TheVariants.{Store}
+use Rattle.iox_lanes_ledger.specs.LanesWords.declared.sizes.TableSizes.{TableSizes}
+use Rattle.iox_lanes_ledger.specs.LanesWords.declared.word.ConnectionRing.{ConnectionRing}
+use Rattle.iox_lanes_ledger.specs.LanesWords.declared.word.ConnectionRing.TheVariants.{Submission, Completion}
+use Rattle.iox_lanes_ledger.specs.LanesWords.declared.word.SharedWord.TheVariants.{Ring, Slot}
+use Rattle.iox_lanes_ledger.specs.LanesWords.declared.word.SlotWord.{SlotWord}
+use Rattle.iox_lanes_ledger.specs.LanesWords.declared.word.SlotWord.TheVariants.{Header, UserHeader, Payload}
+use Rattle.iox_lanes_ledger.specs.LanesCalls.declared.route.Route.{Route}
+use Rattle.iox_lanes_ledger.specs.LanesPublisher.declared.slot_book.LoanMark.TheVariants as mark
+use Rattle.iox_lanes_ledger.specs.LanesPublisher.Keeping.{may_remember}
+use Rattle.iox_lanes_ledger.specs.LanesParties.Parties.{PublisherLaneState, is_out, lane_found, lane_remembers}
+use Rattle.iox_lanes_ledger.specs.LanesParties.Within.{IsPublisher}
+use Rattle.iox_lanes_ledger.proofs.LanesParties.Rings.{all_at, and_left, and_right}
 use Rattle.iox_lanes_ledger.specs.Rooms.{CountsLoans}
 use Rattle.iox_lanes_ledger.specs.Stored.{between}
 use Rattle.iox_lanes_ledger.specs.Uses.{one_if, count, entry, refers_to, UsesCounted, MayBeReferred}
@@ -56,11 +56,11 @@ use Rattle.iox_lanes_machine.proofs.Opening.{after_access}
 use Rattle.iox_lanes_machine.proofs.Within.{set_same, set_other, publisher_within}
 
 -- the ring of samples given back at a connection has its words
-back_seat : (m : World) (c : ℕ) (link : LinkState) → slice_get m.links c ≡ Some link → IsWithin m → IsFresh m → IsBackSeat m.table c m.table.sizes.completion_cells
+pub back_seat : (m : World) (c : ℕ) (link : LinkState) → slice_get m.links c ≡ Some link → IsWithin m → IsFresh m → IsBackSeat m.table c m.table.sizes.completion_cells
 back_seat m c link found w h = record { there = (w.links c link found).connection_is; some = h.some; room = omega arith; words = w.words }
 
 -- how many samples were found given back
-back_count : (m : World) (c : ℕ) (link : LinkState) (found : slice_get m.links c ≡ Some link) (h : IsFresh m) → back_found m.table c ≡ length (h.links c link found).back
+pub back_count : (m : World) (c : ℕ) (link : LinkState) (found : slice_get m.links c ≡ Some link) (h : IsFresh m) → back_found m.table c ≡ length (h.links c link found).back
 back_count m c link found h = ap (λ (words : RingWords). words.write) (h.links c link found).returned
 
 -- two stores that lay a slot leave the ring of messages of another connection, and of this one if they lie in the other ring
@@ -72,7 +72,7 @@ sent_stays table c other cells cell slot ring st is away =
     access_elsewhere t1 other cells (Store (Ring c ring Write) (successor cell)) st1 ((is.0, tt), away Write)
     ∙ access_elsewhere table other cells (Store (Ring c ring (Cell cell)) slot) st (is, away (Cell cell))
 
-back_away : (table : TableWords) (c other cells cell slot : ℕ) (ring : ConnectionRing) → IsBackSeat table other cells → IsWord table.sizes (Ring c ring (Cell cell)) → ((word : Word) → IsOffBack other (Ring c ring word))
+pub back_away : (table : TableWords) (c other cells cell slot : ℕ) (ring : ConnectionRing) → IsBackSeat table other cells → IsWord table.sizes (Ring c ring (Cell cell)) → ((word : Word) → IsOffBack other (Ring c ring word))
     → back_ring (laid table c ring cell slot) other cells ≡ back_ring table other cells
 back_away table c other cells cell slot ring st is away =
     let t1 : TableWords = stored_in table (Ring c ring (Cell cell)) slot in
@@ -283,6 +283,27 @@ waiting_fresh m who place slot lane is found w h = (within, fresh)
         relinked_within (after m table'.words m.links publishers') links' ends
         (publisher_within m (after m table'.words m.links publishers') who lane (lane_found place slot lane) found moved refl refl refl refl refl refl (laid_length m.table c n slot Submission) w)
 
+-- what was given back at a connection after one sample more
+back_laid : (m : World) (c : ℕ) (link : LinkState) (slot : ℕ) (found : slice_get m.links c ≡ Some link) → IsWithin m → (h : IsFresh m) → back_found m.table c < m.table.sizes.completion_cells
+    → back_ring (laid m.table c Completion (back_found m.table c) slot) c m.table.sizes.completion_cells ≡ first_words kind.Refusing m.table.sizes.completion_cells ((h.links c link found).back ++ slot ∷ [])
+back_laid m c link slot found w h few =
+    let cells : ℕ = m.table.sizes.completion_cells in
+    let back : List ℕ = (h.links c link found).back in
+    let count_is = back_count m c link found h in
+    ap (λ (i : ℕ). back_ring (laid m.table c Completion i slot) c cells) count_is
+    ∙ laid_back m.table c cells back slot (back_seat m c link found w h) (omega (arith, few, count_is)) (omega (arith, few, count_is, h.small)) (h.links c link found).returned
+
+pub back_grows : (m : World) (c : ℕ) (link : LinkState) (slot : ℕ) (found : slice_get m.links c ≡ Some link) → IsWithin m → (h : IsFresh m) → back_found m.table c < m.table.sizes.completion_cells
+    → given_back (laid m.table c Completion (back_found m.table c) slot) c ≡ given_back m.table c ++ slot ∷ []
+back_grows m c link slot found w h few =
+    let cells : ℕ = m.table.sizes.completion_cells in
+    let back : List ℕ = (h.links c link found).back in
+    let size : length (back ++ slot ∷ []) ≡ length back + 1 = length-append back (slot ∷ []) in
+    ap between (back_laid m c link slot found w h few)
+    ∙ between_is cells (first_words kind.Refusing cells (back ++ slot ∷ [])) (back ++ slot ∷ []) refusing_push.Idle refusing_pop.Idle
+    (start_refusing cells (back ++ slot ∷ []) h.small (omega (arith, size, few, back_count m c link found h)))
+    ∙ ap (λ (xs : List ℕ). xs ++ slot ∷ []) (sym (returned_is m c link found h))
+
 -- a sample more was given back
 given_fresh : (m : World) (who place slot : ℕ) (lane : PublisherLaneState) (is : MayBeBack m place slot lane) → slice_get m.publishers who ≡ Some lane → IsWithin m → IsFresh m
     → IsWithin (given_at m who place slot lane (Some is.route)) × IsFresh (given_at m who place slot lane (Some is.route))
@@ -322,17 +343,13 @@ given_fresh m who place slot lane is found w h = (within, fresh)
     world = after m table'.words m.links publishers'
 
     returned : back_ring table' c cells ≡ first_words kind.Refusing cells (back ++ slot ∷ [])
-    returned = ap (λ (i : ℕ). back_ring (laid m.table c Completion i slot) c cells) count_is
-        ∙ laid_back m.table c cells back slot (back_seat m c is.link is.found w h) (omega (arith, is.few, count_is)) (omega (arith, is.few, count_is, h.small)) (h.links c is.link is.found).returned
+    returned = back_laid m c is.link slot is.found w h (omega (arith, is.few))
 
     backs : (d : ℕ) (link : LinkState) → slice_get m.links d ≡ Some link → (d ≡ c → ⊥) → back_ring table' d cells ≡ back_ring m.table d cells
     backs d link e not = back_away m.table c d cells (back_found m.table c) slot Completion (back_seat m d link e w h) cell (λ word same. not (sym same))
 
-    given : given_back table' c ≡ back ++ slot ∷ []
-    given =
-        let size : length (back ++ slot ∷ []) ≡ length back + 1 = length-append back (slot ∷ []) in
-        ap between returned ∙ between_is cells (first_words kind.Refusing cells (back ++ slot ∷ [])) (back ++ slot ∷ []) refusing_push.Idle refusing_pop.Idle
-        (start_refusing cells (back ++ slot ∷ []) h.small (omega (arith, size, is.few, count_is)))
+    given : given_back table' c ≡ given_back m.table c ++ slot ∷ []
+    given = back_grows m c is.link slot is.found w h (omega (arith, is.few))
 
     stands : Stands m world c slot
     stands = record {
@@ -341,8 +358,7 @@ given_fresh m who place slot lane is found w h = (within, fresh)
             arith,
             ap (λ (l : LinkState). count s l.found) (some_is was now (sym was_is ∙ now_is)),
             ap (count s) given,
-            count_append s back (slot ∷ []),
-            ap (count s) (returned_is m c is.link is.found h),
+            count_append s (given_back m.table c) (slot ∷ []),
           );
       elsewhere = λ d now not now_is. (now_is, ap between (backs d now now_is not));
     }
@@ -488,14 +504,14 @@ held_fresh m slot word value is w h = (within, fresh)
     }
 
 -- what waits at the connection at a place of a publisher
-waiting_is : (m : World) (who place slot : ℕ) (lane : PublisherLaneState) (is : MayWait m place slot lane) → slice_get m.publishers who ≡ Some lane
+pub waiting_is : (m : World) (who place slot : ℕ) (lane : PublisherLaneState) (is : MayWait m place slot lane) → slice_get m.publishers who ≡ Some lane
     → waiting_in m who place slot lane is.route.connection (Some is.link) ≡ waiting_of m who place slot (slice_get m.publishers who)
 waiting_is m who place slot lane is found =
     sym (ap (waiting_in m who place slot lane is.route.connection) is.found)
     ∙ sym (ap (waiting_at m who place slot lane) is.at)
     ∙ sym (ap (waiting_of m who place slot) found)
 
-given_is : (m : World) (who place slot : ℕ) (lane : PublisherLaneState) (is : MayBeBack m place slot lane) → slice_get m.publishers who ≡ Some lane
+pub given_is : (m : World) (who place slot : ℕ) (lane : PublisherLaneState) (is : MayBeBack m place slot lane) → slice_get m.publishers who ≡ Some lane
     → given_at m who place slot lane (Some is.route) ≡ given_of m who place slot (slice_get m.publishers who)
 given_is m who place slot lane is found = sym (ap (given_at m who place slot lane) is.at) ∙ sym (ap (given_of m who place slot) found)
 
@@ -519,7 +535,7 @@ newest_keeps : (m : World) (who slot : ℕ) (at : Option PublisherLaneState) →
 newest_keeps m who slot None e fit w h = absurd (cc fit)
 newest_keeps m who slot (Some lane) e fit w h = subst Both (sym (ap (remembered_of m who slot) e)) (newest_fresh m who slot lane fit e w h)
 
-found_both : (m : World) (f : Found) → finds_now m f ≡ true → IsWithin m → IsFresh m → Both (with_found m f)
+pub found_both : (m : World) (f : Found) → finds_now m f ≡ true → IsWithin m → IsFresh m → Both (with_found m f)
 found_both m (found.Waiting publisher place slot) fit w h = waits_keep m publisher place slot (slice_get m.publishers publisher) refl fit w h
 found_both m (found.GivenBack publisher place slot) fit w h = backs_keep m publisher place slot (slice_get m.publishers publisher) refl fit w h
 found_both m (found.Newest publisher slot) fit w h = newest_keeps m publisher slot (slice_get m.publishers publisher) refl fit w h

@@ -5,32 +5,32 @@ use Rattle.std.proofs.lemmas.Bool.{cases_lt}
 use Rattle.std.proofs.lemmas.List.{get_or_past}
 use Rattle.std.proofs.lemmas.List.Elements.{All-nil}
 use Rattle.std.proofs.lemmas.Option.{slice_get_within, slice_get-get_or}
-use Rattle.iox_queues_steps.specs.Access.{RingWords}
-use Rattle.iox_queues_steps.specs.Order.{puts}
-use Rattle.iox_queues_steps.specs.declared.access.Word.TheVariants.{Read}
-use Rattle.iox_queues_steps.specs.declared.order.Placed.{Placed}
-use Rattle.iox_queues_steps.specs.declared.order.PushCall.{PushCall}
-use Rattle.iox_queues_steps.specs.Order.{PutNow}
-use Rattle.iox_queues_refusing.specs.Refusing as refusing
-use Rattle.iox_queues_refusing.specs.declared.pop.Pop.TheVariants as refusing_pop
-use Rattle.iox_queues_refusing.specs.declared.push.Push.TheVariants as refusing_push
-use Rattle.iox_queues_rings.specs.Ends.{Shape, cells_of, push_idle, pop_idle}
-use Rattle.iox_queues_rings.specs.RingMachine.{first_words}
-use Rattle.iox_queues_rings.specs.declared.ends.RingKind.{RingKind}
-use Rattle.iox_queues_rings.specs.declared.ends.RingKind.TheVariants as kind
-use Rattle.iox_queues_rings.proofs.EitherRing.{start_overflowing, start_refusing}
-use Rattle.iox_lanes_words.specs.Table.{held_by}
-use Rattle.iox_lanes_calls.specs.Publishing.{publisher_is_idle}
-use Rattle.iox_lanes_calls.specs.Subscribing.{subscriber_is_idle}
-use Rattle.iox_lanes_calls.specs.declared.publisher.PublisherCall.{PublisherCall}
-use Rattle.iox_lanes_calls.specs.declared.publisher.PublisherCall.TheVariants as publishing
-use Rattle.iox_lanes_calls.specs.declared.route.Route.{Route}
-use Rattle.iox_lanes_calls.specs.declared.subscriber.SubscriberCall.{SubscriberCall}
-use Rattle.iox_lanes_calls.specs.declared.subscriber.SubscriberCall.TheVariants as subscribing
-use Rattle.iox_lanes_parties.specs.Parties.{PublisherLaneState, SubscriberLaneState, route_at}
-use Rattle.iox_lanes_parties.specs.Within.{IsPublisher}
-use Rattle.iox_lanes_parties.specs.declared.call.FinishedCall.{FinishedCall}
-use Rattle.iox_lanes_parties.proofs.Rings.{all_at}
+use Rattle.iox_lanes_ledger.specs.QueuesSteps.Access.{RingWords}
+use Rattle.iox_lanes_ledger.specs.QueuesSteps.Order.{puts}
+use Rattle.iox_lanes_ledger.specs.QueuesSteps.declared.access.Word.TheVariants.{Read}
+use Rattle.iox_lanes_ledger.specs.QueuesSteps.declared.order.Placed.{Placed}
+use Rattle.iox_lanes_ledger.specs.QueuesSteps.declared.order.PushCall.{PushCall}
+use Rattle.iox_lanes_ledger.specs.QueuesSteps.Order.{PutNow}
+use Rattle.iox_lanes_ledger.specs.QueuesRefusing.Refusing as refusing
+use Rattle.iox_lanes_ledger.specs.QueuesRefusing.declared.pop.Pop.TheVariants as refusing_pop
+use Rattle.iox_lanes_ledger.specs.QueuesRefusing.declared.push.Push.TheVariants as refusing_push
+use Rattle.iox_lanes_ledger.specs.QueuesRings.Ends.{Shape, cells_of, push_idle, pop_idle}
+use Rattle.iox_lanes_ledger.specs.QueuesRings.RingMachine.{first_words}
+use Rattle.iox_lanes_ledger.specs.QueuesRings.declared.ends.RingKind.{RingKind}
+use Rattle.iox_lanes_ledger.specs.QueuesRings.declared.ends.RingKind.TheVariants as kind
+use Rattle.iox_lanes_ledger.proofs.QueuesRings.EitherRing.{start_overflowing, start_refusing}
+use Rattle.iox_lanes_ledger.specs.LanesWords.Table.{held_by}
+use Rattle.iox_lanes_ledger.specs.LanesCalls.Publishing.{publisher_is_idle}
+use Rattle.iox_lanes_ledger.specs.LanesCalls.Subscribing.{subscriber_is_idle}
+use Rattle.iox_lanes_ledger.specs.LanesCalls.declared.publisher.PublisherCall.{PublisherCall}
+use Rattle.iox_lanes_ledger.specs.LanesCalls.declared.publisher.PublisherCall.TheVariants as publishing
+use Rattle.iox_lanes_ledger.specs.LanesCalls.declared.route.Route.{Route}
+use Rattle.iox_lanes_ledger.specs.LanesCalls.declared.subscriber.SubscriberCall.{SubscriberCall}
+use Rattle.iox_lanes_ledger.specs.LanesCalls.declared.subscriber.SubscriberCall.TheVariants as subscribing
+use Rattle.iox_lanes_ledger.specs.LanesParties.Parties.{PublisherLaneState, SubscriberLaneState, route_at}
+use Rattle.iox_lanes_ledger.specs.LanesParties.Within.{IsPublisher}
+use Rattle.iox_lanes_ledger.specs.LanesParties.declared.call.FinishedCall.{FinishedCall}
+use Rattle.iox_lanes_ledger.proofs.LanesParties.Rings.{all_at}
 use Rattle.iox_lanes_ledger.specs.Borrowing.{is_at, borrows, UsesBorrowed}
 use Rattle.iox_lanes_ledger.specs.Rooms.{slots_at, borrowed_of, HasRooms, MayBorrow, ReleasesOk, CountsBorrowed}
 use Rattle.iox_lanes_ledger.specs.Sending.{SendsLacking}

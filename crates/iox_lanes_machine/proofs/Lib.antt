@@ -31,6 +31,7 @@ pub mod Fresh
 pub mod Findings
 pub mod FoundFresh
 pub mod FoundKept
+pub mod TakenIn
 pub mod StartRooms
 pub mod StartUses
 pub mod Alone
@@ -44,3 +45,4 @@ pub mod Paces
 pub mod FullLoans
 pub mod PermittedLoans
 pub mod Queues
+pub use Rattle.iox_lanes_ledger.proofs.LanesParties as LanesParties

@@ -1,28 +1,28 @@
 -- Loans and sends end in so many steps of their publisher.
 use Rattle.std.proofs.Common.{ℕ, ◌≡◌, ◌+◌, ◌-◌, ◌*◌, ◌<◌, ◌≤◌, ◌^◌, ◌⊎◌, not, Bool, true, false, List, [], ◌∷◌, length, set, slice_get, Option, Some, None, refl, sym, ◌∙◌, ap, subst, inl, inr, arith}
 use Rattle.std.proofs.lemmas.Bool.Decides.{eqb_tells}
-use Rattle.iox_queues_steps.specs.Access.{successor}
-use Rattle.iox_queues_steps.specs.declared.order.Placed.{Placed}
-use Rattle.iox_lanes_words.specs.Table.{after_shared}
-use Rattle.iox_lanes_words.specs.declared.sizes.TableSizes.{TableSizes}
-use Rattle.iox_lanes_calls.specs.Publishing.{publisher_is_idle, publisher_next}
-use Rattle.iox_lanes_calls.specs.declared.publisher.PublisherCall.{PublisherCall}
-use Rattle.iox_lanes_calls.specs.declared.publisher.PublisherCall.TheVariants as publishing
-use Rattle.iox_lanes_calls.specs.declared.route.Route.{Route}
-use Rattle.iox_lanes_publisher.specs.Keeping.{BookState}
-use Rattle.iox_lanes_publisher.specs.Publishers.{words_of}
-use Rattle.iox_lanes_parties.specs.Parties.{PublisherLaneState, SubscriberLaneState, publisher_may, publisher_fits, publisher_begun, publisher_after, head_of}
-use Rattle.iox_lanes_parties.specs.Within.{IsPublisher, IsPublishing}
-use Rattle.iox_lanes_parties.specs.declared.call.Call.{Call}
-use Rattle.iox_lanes_parties.specs.declared.call.Call.TheVariants as call
-use Rattle.iox_lanes_parties.specs.declared.call.CallName.{CallName}
-use Rattle.iox_lanes_parties.specs.declared.call.CallName.TheVariants as name
-use Rattle.iox_lanes_parties.specs.declared.call.Entry.{Entry}
-use Rattle.iox_lanes_parties.specs.declared.call.Move.{Move}
-use Rattle.iox_lanes_parties.specs.declared.call.Move.TheVariants.{Begin, GoOn}
-use Rattle.iox_lanes_parties.specs.declared.call.Party.{Party}
-use Rattle.iox_lanes_parties.specs.declared.call.Party.TheVariants.{Publisher, Subscriber}
-use Rattle.iox_lanes_parties.proofs.Rings.{all_at, and_right}
+use Rattle.iox_lanes_ledger.specs.QueuesSteps.Access.{successor}
+use Rattle.iox_lanes_ledger.specs.QueuesSteps.declared.order.Placed.{Placed}
+use Rattle.iox_lanes_ledger.specs.LanesWords.Table.{after_shared}
+use Rattle.iox_lanes_ledger.specs.LanesWords.declared.sizes.TableSizes.{TableSizes}
+use Rattle.iox_lanes_ledger.specs.LanesCalls.Publishing.{publisher_is_idle, publisher_next}
+use Rattle.iox_lanes_ledger.specs.LanesCalls.declared.publisher.PublisherCall.{PublisherCall}
+use Rattle.iox_lanes_ledger.specs.LanesCalls.declared.publisher.PublisherCall.TheVariants as publishing
+use Rattle.iox_lanes_ledger.specs.LanesCalls.declared.route.Route.{Route}
+use Rattle.iox_lanes_ledger.specs.LanesPublisher.Keeping.{BookState}
+use Rattle.iox_lanes_ledger.specs.LanesPublisher.Publishers.{words_of}
+use Rattle.iox_lanes_ledger.specs.LanesParties.Parties.{PublisherLaneState, SubscriberLaneState, publisher_may, publisher_fits, publisher_begun, publisher_after, head_of}
+use Rattle.iox_lanes_ledger.specs.LanesParties.Within.{IsPublisher, IsPublishing}
+use Rattle.iox_lanes_ledger.specs.LanesParties.declared.call.Call.{Call}
+use Rattle.iox_lanes_ledger.specs.LanesParties.declared.call.Call.TheVariants as call
+use Rattle.iox_lanes_ledger.specs.LanesParties.declared.call.CallName.{CallName}
+use Rattle.iox_lanes_ledger.specs.LanesParties.declared.call.CallName.TheVariants as name
+use Rattle.iox_lanes_ledger.specs.LanesParties.declared.call.Entry.{Entry}
+use Rattle.iox_lanes_ledger.specs.LanesParties.declared.call.Move.{Move}
+use Rattle.iox_lanes_ledger.specs.LanesParties.declared.call.Move.TheVariants.{Begin, GoOn}
+use Rattle.iox_lanes_ledger.specs.LanesParties.declared.call.Party.{Party}
+use Rattle.iox_lanes_ledger.specs.LanesParties.declared.call.Party.TheVariants.{Publisher, Subscriber}
+use Rattle.iox_lanes_ledger.proofs.LanesParties.Rings.{all_at, and_right}
 use Rattle.iox_lanes_ledger.specs.Pace.{sweeps_left, steps_left}
 use Rattle.iox_lanes_ledger.specs.Uses.{one_if}
 use Rattle.iox_lanes_ledger.proofs.Pace.{StoresWord, steps_fall, loan_left, head_left}

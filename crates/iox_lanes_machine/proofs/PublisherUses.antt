@@ -2,30 +2,30 @@
 use Rattle.std.proofs.Common.{ℕ, ◌≡◌, ◌<◌, ◌^◌, true, List, [], length, get_or, slice_get, Option, Some, None, refl, sym, ◌∙◌, ap, subst, inl, inr, arith, length-set}
 use Rattle.std.proofs.lemmas.Bool.Decides.{eqb_tells}
 use Rattle.std.proofs.lemmas.Option.{slice_get_within, slice_get-get_or}
-use Rattle.iox_queues_steps.specs.Access.{RingWords}
-use Rattle.iox_queues_steps.specs.declared.access.Word.TheVariants.{Read}
-use Rattle.iox_queues_steps.specs.declared.order.Act.{Act}
-use Rattle.iox_queues_steps.specs.declared.order.Placed.{Placed}
-use Rattle.iox_queues_refusing.specs.Refusing as refusing
-use Rattle.iox_queues_rings.specs.Ends.{cells_of}
-use Rattle.iox_queues_rings.specs.declared.ends.Push.{Push}
-use Rattle.iox_lanes_words.specs.Table.{held_by}
-use Rattle.iox_lanes_words.specs.declared.sizes.TableSizes.{TableSizes}
-use Rattle.iox_lanes_calls.specs.Answers.{refusing_pop_answer}
-use Rattle.iox_lanes_calls.specs.Publishing.{publisher_next, publisher_change, push_change}
-use Rattle.iox_lanes_calls.specs.declared.publisher.PublisherCall.{PublisherCall}
-use Rattle.iox_lanes_calls.specs.declared.publisher.PublisherCall.TheVariants as publishing
-use Rattle.iox_lanes_calls.specs.declared.publisher.PublisherChange.{PublisherChange}
-use Rattle.iox_lanes_calls.specs.declared.route.Route.{Route}
-use Rattle.iox_lanes_publisher.specs.Keeping.{BookState, changed}
-use Rattle.iox_lanes_publisher.specs.Publishers.{words_of}
-use Rattle.iox_lanes_parties.specs.Parties.{PublisherLaneState, SubscriberLaneState, publisher_fits, publisher_begun, publisher_after, head_of}
-use Rattle.iox_lanes_parties.specs.Within.{IsPublisher, IsPublishing}
-use Rattle.iox_lanes_parties.specs.declared.call.Call.{Call}
-use Rattle.iox_lanes_parties.specs.declared.call.Call.TheVariants as call
-use Rattle.iox_lanes_parties.specs.declared.call.Move.TheVariants.{Begin, GoOn}
-use Rattle.iox_lanes_parties.proofs.Rings.{all_at}
-use Rattle.iox_lanes_parties.proofs.PublishersWithin.{publishers_stay_within}
+use Rattle.iox_lanes_ledger.specs.QueuesSteps.Access.{RingWords}
+use Rattle.iox_lanes_ledger.specs.QueuesSteps.declared.access.Word.TheVariants.{Read}
+use Rattle.iox_lanes_ledger.specs.QueuesSteps.declared.order.Act.{Act}
+use Rattle.iox_lanes_ledger.specs.QueuesSteps.declared.order.Placed.{Placed}
+use Rattle.iox_lanes_ledger.specs.QueuesRefusing.Refusing as refusing
+use Rattle.iox_lanes_ledger.specs.QueuesRings.Ends.{cells_of}
+use Rattle.iox_lanes_ledger.specs.QueuesRings.declared.ends.Push.{Push}
+use Rattle.iox_lanes_ledger.specs.LanesWords.Table.{held_by}
+use Rattle.iox_lanes_ledger.specs.LanesWords.declared.sizes.TableSizes.{TableSizes}
+use Rattle.iox_lanes_ledger.specs.LanesCalls.Answers.{refusing_pop_answer}
+use Rattle.iox_lanes_ledger.specs.LanesCalls.Publishing.{publisher_next, publisher_change, push_change}
+use Rattle.iox_lanes_ledger.specs.LanesCalls.declared.publisher.PublisherCall.{PublisherCall}
+use Rattle.iox_lanes_ledger.specs.LanesCalls.declared.publisher.PublisherCall.TheVariants as publishing
+use Rattle.iox_lanes_ledger.specs.LanesCalls.declared.publisher.PublisherChange.{PublisherChange}
+use Rattle.iox_lanes_ledger.specs.LanesCalls.declared.route.Route.{Route}
+use Rattle.iox_lanes_ledger.specs.LanesPublisher.Keeping.{BookState, changed}
+use Rattle.iox_lanes_ledger.specs.LanesPublisher.Publishers.{words_of}
+use Rattle.iox_lanes_ledger.specs.LanesParties.Parties.{PublisherLaneState, SubscriberLaneState, publisher_fits, publisher_begun, publisher_after, head_of}
+use Rattle.iox_lanes_ledger.specs.LanesParties.Within.{IsPublisher, IsPublishing}
+use Rattle.iox_lanes_ledger.specs.LanesParties.declared.call.Call.{Call}
+use Rattle.iox_lanes_ledger.specs.LanesParties.declared.call.Call.TheVariants as call
+use Rattle.iox_lanes_ledger.specs.LanesParties.declared.call.Move.TheVariants.{Begin, GoOn}
+use Rattle.iox_lanes_ledger.proofs.LanesParties.Rings.{all_at}
+use Rattle.iox_lanes_ledger.proofs.LanesParties.PublishersWithin.{publishers_stay_within}
 use Rattle.iox_lanes_ledger.specs.Stored.{aside}
 use Rattle.iox_lanes_ledger.specs.Sending.{SendsLacking}
 use Rattle.iox_lanes_ledger.specs.Uses.{one_if, count, refers_to, UsesCounted, ChangeFits}

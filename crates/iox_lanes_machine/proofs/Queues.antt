@@ -2,37 +2,37 @@
 use Rattle.std.proofs.Common.{ℕ, ◌≡◌, ◌+◌, ◌<◌, ◌≤◌, ◌^◌, ◌==◌, Bool, true, false, List, [], ◌∷◌, ◌++◌, length, slice_get, Option, Some, None, refl, sym, ◌∙◌, ap, subst, inl, inr, arith}
 use Rattle.std.proofs.lemmas.Bool.Decides.{eqb_tells}
 use Rattle.std.proofs.lemmas.List.{append-nil}
-use Rattle.iox_queues_steps.specs.Access.{RingWords, answer_of, after_access}
-use Rattle.iox_queues_steps.specs.declared.schedule.Stepped.{Stepped}
-use Rattle.iox_queues_steps.specs.declared.schedule.Stepped.TheVariants as stepped
-use Rattle.iox_queues_refusing.specs.Refusing as refusing
-use Rattle.iox_queues_refusing.specs.declared.pop.Pop.{Pop}
-use Rattle.iox_queues_refusing.specs.declared.pop.Pop.TheVariants as pop
-use Rattle.iox_queues_refusing.specs.declared.push.Push.{Push}
-use Rattle.iox_queues_refusing.specs.declared.push.Push.TheVariants as push
-use Rattle.iox_queues_refusing.proofs.RefusingSteps as refusing_steps
-use Rattle.iox_lanes_words.specs.Table.{TableWords, after_shared}
-use Rattle.iox_lanes_words.specs.Words.{on_ring}
-use Rattle.iox_lanes_words.specs.declared.word.ConnectionRing.TheVariants.{Completion}
-use Rattle.iox_lanes_calls.specs.Publishing.{publisher_next, publisher_change}
-use Rattle.iox_lanes_calls.specs.Subscribing.{subscriber_next, subscriber_change, given_back_by}
-use Rattle.iox_lanes_calls.specs.declared.publisher.PublisherCall.{PublisherCall}
-use Rattle.iox_lanes_calls.specs.declared.publisher.PublisherCall.TheVariants as publishing
-use Rattle.iox_lanes_calls.specs.declared.publisher.PublisherChange.{PublisherChange}
-use Rattle.iox_lanes_calls.specs.declared.publisher.PublisherChange.TheVariants as change
-use Rattle.iox_lanes_calls.specs.declared.subscriber.SubscriberCall.{SubscriberCall}
-use Rattle.iox_lanes_calls.specs.declared.subscriber.SubscriberCall.TheVariants as subscribing
-use Rattle.iox_lanes_calls.specs.declared.route.Route.{Route}
-use Rattle.iox_lanes_publisher.specs.Keeping.{BookState, changed}
-use Rattle.iox_lanes_publisher.specs.Publishers.{words_of}
-use Rattle.iox_lanes_parties.specs.Parties.{PublisherLaneState, SubscriberLaneState, publisher_after, subscriber_after}
-use Rattle.iox_lanes_parties.specs.Within.{IsPublisher, IsPublishing, IsSubscribing}
-use Rattle.iox_lanes_parties.specs.declared.call.Call.{Call}
-use Rattle.iox_lanes_parties.specs.declared.call.Move.{Move}
-use Rattle.iox_lanes_parties.specs.declared.call.Move.TheVariants.{Begin, GoOn}
-use Rattle.iox_lanes_parties.specs.declared.call.Party.{Party}
-use Rattle.iox_lanes_parties.specs.declared.call.Party.TheVariants.{Publisher, Subscriber}
-use Rattle.iox_lanes_parties.proofs.Rings.{all_at}
+use Rattle.iox_lanes_ledger.specs.QueuesSteps.Access.{RingWords, answer_of, after_access}
+use Rattle.iox_lanes_ledger.specs.QueuesSteps.declared.schedule.Stepped.{Stepped}
+use Rattle.iox_lanes_ledger.specs.QueuesSteps.declared.schedule.Stepped.TheVariants as stepped
+use Rattle.iox_lanes_ledger.specs.QueuesRefusing.Refusing as refusing
+use Rattle.iox_lanes_ledger.specs.QueuesRefusing.declared.pop.Pop.{Pop}
+use Rattle.iox_lanes_ledger.specs.QueuesRefusing.declared.pop.Pop.TheVariants as pop
+use Rattle.iox_lanes_ledger.specs.QueuesRefusing.declared.push.Push.{Push}
+use Rattle.iox_lanes_ledger.specs.QueuesRefusing.declared.push.Push.TheVariants as push
+use Rattle.iox_lanes_ledger.proofs.QueuesRefusing.RefusingSteps as refusing_steps
+use Rattle.iox_lanes_ledger.specs.LanesWords.Table.{TableWords, after_shared}
+use Rattle.iox_lanes_ledger.specs.LanesWords.Words.{on_ring}
+use Rattle.iox_lanes_ledger.specs.LanesWords.declared.word.ConnectionRing.TheVariants.{Completion}
+use Rattle.iox_lanes_ledger.specs.LanesCalls.Publishing.{publisher_next, publisher_change}
+use Rattle.iox_lanes_ledger.specs.LanesCalls.Subscribing.{subscriber_next, subscriber_change, given_back_by}
+use Rattle.iox_lanes_ledger.specs.LanesCalls.declared.publisher.PublisherCall.{PublisherCall}
+use Rattle.iox_lanes_ledger.specs.LanesCalls.declared.publisher.PublisherCall.TheVariants as publishing
+use Rattle.iox_lanes_ledger.specs.LanesCalls.declared.publisher.PublisherChange.{PublisherChange}
+use Rattle.iox_lanes_ledger.specs.LanesCalls.declared.publisher.PublisherChange.TheVariants as change
+use Rattle.iox_lanes_ledger.specs.LanesCalls.declared.subscriber.SubscriberCall.{SubscriberCall}
+use Rattle.iox_lanes_ledger.specs.LanesCalls.declared.subscriber.SubscriberCall.TheVariants as subscribing
+use Rattle.iox_lanes_ledger.specs.LanesCalls.declared.route.Route.{Route}
+use Rattle.iox_lanes_ledger.specs.LanesPublisher.Keeping.{BookState, changed}
+use Rattle.iox_lanes_ledger.specs.LanesPublisher.Publishers.{words_of}
+use Rattle.iox_lanes_ledger.specs.LanesParties.Parties.{PublisherLaneState, SubscriberLaneState, publisher_after, subscriber_after}
+use Rattle.iox_lanes_ledger.specs.LanesParties.Within.{IsPublisher, IsPublishing, IsSubscribing}
+use Rattle.iox_lanes_ledger.specs.LanesParties.declared.call.Call.{Call}
+use Rattle.iox_lanes_ledger.specs.LanesParties.declared.call.Move.{Move}
+use Rattle.iox_lanes_ledger.specs.LanesParties.declared.call.Move.TheVariants.{Begin, GoOn}
+use Rattle.iox_lanes_ledger.specs.LanesParties.declared.call.Party.{Party}
+use Rattle.iox_lanes_ledger.specs.LanesParties.declared.call.Party.TheVariants.{Publisher, Subscriber}
+use Rattle.iox_lanes_ledger.proofs.LanesParties.Rings.{all_at}
 use Rattle.iox_lanes_ledger.specs.Borrowing.{borrows, UsesBorrowed}
 use Rattle.iox_lanes_ledger.specs.Stored.{between}
 use Rattle.iox_lanes_ledger.specs.Uses.{one_if, count, refers_to, UsesCounted, ChangeFits}

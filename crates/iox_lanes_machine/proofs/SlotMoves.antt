@@ -2,22 +2,22 @@
 use Rattle.std.proofs.Common.{ℕ, ◌≡◌, ◌+◌, ◌<◌, ◌^◌, ◌⊎◌, List, ◌++◌, slice_get, Option, Some, refl, sym, ◌∙◌, ap, subst, inl, inr, arith}
 use Rattle.std.specs.List.{All}
 use Rattle.std.proofs.lemmas.Bool.Decides.{eqb_tells}
-use Rattle.iox_queues_steps.specs.Order.{at}
-use Rattle.iox_queues_steps.specs.declared.access.Word.TheVariants.{Read}
-use Rattle.iox_queues_steps.specs.declared.order.Placed.{Placed}
-use Rattle.iox_queues_refusing.specs.declared.pop.Pop as refusing_pop_type
-use Rattle.iox_queues_rings.specs.Ends.{cells_of}
-use Rattle.iox_queues_rings.specs.declared.ends.Push.{Push}
-use Rattle.iox_lanes_words.specs.Table.{held_by, shared_answer, after_shared, IsOfTable}
-use Rattle.iox_lanes_calls.specs.Publishing.{publisher_next, publisher_take, publisher_change}
-use Rattle.iox_lanes_calls.specs.declared.publisher.Delivery.{Delivery}
-use Rattle.iox_lanes_calls.specs.declared.publisher.PublisherCall.{PublisherCall}
-use Rattle.iox_lanes_calls.specs.declared.publisher.PublisherCall.TheVariants as publishing
-use Rattle.iox_lanes_calls.specs.declared.publisher.PublisherChange.{PublisherChange}
-use Rattle.iox_lanes_calls.specs.declared.route.Route.{Route}
-use Rattle.iox_lanes_parties.specs.Parties.{SubscriberLaneState}
-use Rattle.iox_lanes_parties.specs.Within.{IsPublishing}
-use Rattle.iox_lanes_parties.proofs.Rings.{all_at}
+use Rattle.iox_lanes_ledger.specs.QueuesSteps.Order.{at}
+use Rattle.iox_lanes_ledger.specs.QueuesSteps.declared.access.Word.TheVariants.{Read}
+use Rattle.iox_lanes_ledger.specs.QueuesSteps.declared.order.Placed.{Placed}
+use Rattle.iox_lanes_ledger.specs.QueuesRefusing.declared.pop.Pop as refusing_pop_type
+use Rattle.iox_lanes_ledger.specs.QueuesRings.Ends.{cells_of}
+use Rattle.iox_lanes_ledger.specs.QueuesRings.declared.ends.Push.{Push}
+use Rattle.iox_lanes_ledger.specs.LanesWords.Table.{held_by, shared_answer, after_shared, IsOfTable}
+use Rattle.iox_lanes_ledger.specs.LanesCalls.Publishing.{publisher_next, publisher_take, publisher_change}
+use Rattle.iox_lanes_ledger.specs.LanesCalls.declared.publisher.Delivery.{Delivery}
+use Rattle.iox_lanes_ledger.specs.LanesCalls.declared.publisher.PublisherCall.{PublisherCall}
+use Rattle.iox_lanes_ledger.specs.LanesCalls.declared.publisher.PublisherCall.TheVariants as publishing
+use Rattle.iox_lanes_ledger.specs.LanesCalls.declared.publisher.PublisherChange.{PublisherChange}
+use Rattle.iox_lanes_ledger.specs.LanesCalls.declared.route.Route.{Route}
+use Rattle.iox_lanes_ledger.specs.LanesParties.Parties.{SubscriberLaneState}
+use Rattle.iox_lanes_ledger.specs.LanesParties.Within.{IsPublishing}
+use Rattle.iox_lanes_ledger.proofs.LanesParties.Rings.{all_at}
 use Rattle.iox_lanes_ledger.specs.Stored.{aside}
 use Rattle.iox_lanes_ledger.specs.Uses.{count}
 use Rattle.iox_lanes_ledger.proofs.Changes.{IsChangeAt, IsElse, put_by, lost_by, back_follows, push_change_at}

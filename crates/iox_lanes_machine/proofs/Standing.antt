@@ -1,34 +1,34 @@
 -- What stands at a connection, step by step: a step of an end moves slots from place to place, and any other leaves them.
 use Rattle.std.proofs.Common.{ℕ, ◌≡◌, ◌+◌, ◌<◌, ◌^◌, Bool, List, [], ◌++◌, slice_get, Option, Some, None, refl, sym, ◌∙◌, ap, subst, inl, inr, arith}
 use Rattle.std.specs.List.{All}
-use Rattle.iox_queues_steps.specs.Access.{RingWords, successor, answer_of, after_access}
-use Rattle.iox_queues_steps.specs.Order.{at}
-use Rattle.iox_queues_steps.specs.declared.access.Word.TheVariants.{Read}
-use Rattle.iox_queues_steps.specs.declared.order.Placed.{Placed}
-use Rattle.iox_queues_steps.specs.declared.order.PushAnswer.{PushAnswer}
-use Rattle.iox_queues_refusing.specs.Refusing as refusing
-use Rattle.iox_queues_refusing.specs.declared.push.Push as refusing_push_type
-use Rattle.iox_queues_refusing.specs.declared.pop.Pop as refusing_pop_type
-use Rattle.iox_queues_refusing.proofs.RefusingSteps as refusing_steps
-use Rattle.iox_queues_rings.specs.Ends.{Shape, cells_of, push_next, push_take, placed_by_push, pop_next, pop_take, placed_by_pop}
-use Rattle.iox_queues_rings.specs.declared.ends.RingKind.{RingKind}
-use Rattle.iox_queues_rings.specs.declared.ends.Push.{Push}
-use Rattle.iox_queues_rings.specs.declared.ends.Pop.{Pop}
-use Rattle.iox_queues_rings.proofs.EitherRing.{push_goes, pop_goes}
-use Rattle.iox_lanes_words.specs.Table.{TableWords, held_by, shared_answer, after_shared}
-use Rattle.iox_lanes_words.specs.Words.{on_ring}
-use Rattle.iox_lanes_words.specs.declared.sizes.TableSizes.{TableSizes}
-use Rattle.iox_lanes_words.specs.declared.word.ConnectionRing.TheVariants.{Submission, Completion}
-use Rattle.iox_lanes_words.specs.declared.access.SharedAccess.{SharedAccess}
-use Rattle.iox_lanes_calls.specs.Answers.{push_answer, pop_answer}
-use Rattle.iox_lanes_calls.specs.Publishing.{pushed, counted, push_change}
-use Rattle.iox_lanes_calls.specs.Subscribing.{borrowed_by}
-use Rattle.iox_lanes_calls.specs.declared.publisher.Delivery.{Delivery}
-use Rattle.iox_lanes_calls.specs.declared.publisher.PublisherCall.{PublisherCall}
-use Rattle.iox_lanes_calls.specs.declared.publisher.PublisherCall.TheVariants as publishing
-use Rattle.iox_lanes_calls.specs.declared.route.Route.{Route}
-use Rattle.iox_lanes_calls.specs.declared.subscriber.SubscriberCall.{SubscriberCall}
-use Rattle.iox_lanes_calls.specs.declared.subscriber.SubscriberCall.TheVariants as subscribing
+use Rattle.iox_lanes_ledger.specs.QueuesSteps.Access.{RingWords, successor, answer_of, after_access}
+use Rattle.iox_lanes_ledger.specs.QueuesSteps.Order.{at}
+use Rattle.iox_lanes_ledger.specs.QueuesSteps.declared.access.Word.TheVariants.{Read}
+use Rattle.iox_lanes_ledger.specs.QueuesSteps.declared.order.Placed.{Placed}
+use Rattle.iox_lanes_ledger.specs.QueuesSteps.declared.order.PushAnswer.{PushAnswer}
+use Rattle.iox_lanes_ledger.specs.QueuesRefusing.Refusing as refusing
+use Rattle.iox_lanes_ledger.specs.QueuesRefusing.declared.push.Push as refusing_push_type
+use Rattle.iox_lanes_ledger.specs.QueuesRefusing.declared.pop.Pop as refusing_pop_type
+use Rattle.iox_lanes_ledger.proofs.QueuesRefusing.RefusingSteps as refusing_steps
+use Rattle.iox_lanes_ledger.specs.QueuesRings.Ends.{Shape, cells_of, push_next, push_take, placed_by_push, pop_next, pop_take, placed_by_pop}
+use Rattle.iox_lanes_ledger.specs.QueuesRings.declared.ends.RingKind.{RingKind}
+use Rattle.iox_lanes_ledger.specs.QueuesRings.declared.ends.Push.{Push}
+use Rattle.iox_lanes_ledger.specs.QueuesRings.declared.ends.Pop.{Pop}
+use Rattle.iox_lanes_ledger.proofs.QueuesRings.EitherRing.{push_goes, pop_goes}
+use Rattle.iox_lanes_ledger.specs.LanesWords.Table.{TableWords, held_by, shared_answer, after_shared}
+use Rattle.iox_lanes_ledger.specs.LanesWords.Words.{on_ring}
+use Rattle.iox_lanes_ledger.specs.LanesWords.declared.sizes.TableSizes.{TableSizes}
+use Rattle.iox_lanes_ledger.specs.LanesWords.declared.word.ConnectionRing.TheVariants.{Submission, Completion}
+use Rattle.iox_lanes_ledger.specs.LanesWords.declared.access.SharedAccess.{SharedAccess}
+use Rattle.iox_lanes_ledger.specs.LanesCalls.Answers.{push_answer, pop_answer}
+use Rattle.iox_lanes_ledger.specs.LanesCalls.Publishing.{pushed, counted, push_change}
+use Rattle.iox_lanes_ledger.specs.LanesCalls.Subscribing.{borrowed_by}
+use Rattle.iox_lanes_ledger.specs.LanesCalls.declared.publisher.Delivery.{Delivery}
+use Rattle.iox_lanes_ledger.specs.LanesCalls.declared.publisher.PublisherCall.{PublisherCall}
+use Rattle.iox_lanes_ledger.specs.LanesCalls.declared.publisher.PublisherCall.TheVariants as publishing
+use Rattle.iox_lanes_ledger.specs.LanesCalls.declared.route.Route.{Route}
+use Rattle.iox_lanes_ledger.specs.LanesCalls.declared.subscriber.SubscriberCall.{SubscriberCall}
+use Rattle.iox_lanes_ledger.specs.LanesCalls.declared.subscriber.SubscriberCall.TheVariants as subscribing
 use Rattle.iox_lanes_ledger.specs.Stored.{aside, between}
 use Rattle.iox_lanes_ledger.specs.Uses.{count}
 use Rattle.iox_lanes_ledger.proofs.Changes.{put_by, lost_by, borrowed_in, push_follows, pop_follows}

@@ -2,12 +2,12 @@
 use Rattle.std.proofs.Common.{ℕ, zero, suc, ◌≡◌, ◌+◌, ◌*◌, ◌/◌, ◌%◌, ◌<◌, ◌^◌, Bool, false, List, [], length, replicate, slice_get, Option, Some, None, refl, sym, ◌∙◌, ap, subst, arith}
 use Rattle.std.proofs.lemmas.Nat.{div_below, div-add-mod'}
 use Rattle.std.proofs.lemmas.List.{length-replicate}
-use Rattle.iox_queues_steps.specs.Access.{RingWords}
-use Rattle.iox_queues_steps.specs.declared.order.Placed.{Placed}
-use Rattle.iox_lanes_publisher.specs.declared.slot_book.LoanMark.{LoanMark}
-use Rattle.iox_lanes_publisher.specs.declared.slot_book.LoanMark.TheVariants as mark
-use Rattle.iox_lanes_calls.specs.declared.route.Route.{Route}
-use Rattle.iox_lanes_parties.specs.Parties.{is_out}
+use Rattle.iox_lanes_ledger.specs.QueuesSteps.Access.{RingWords}
+use Rattle.iox_lanes_ledger.specs.QueuesSteps.declared.order.Placed.{Placed}
+use Rattle.iox_lanes_ledger.specs.LanesPublisher.declared.slot_book.LoanMark.{LoanMark}
+use Rattle.iox_lanes_ledger.specs.LanesPublisher.declared.slot_book.LoanMark.TheVariants as mark
+use Rattle.iox_lanes_ledger.specs.LanesCalls.declared.route.Route.{Route}
+use Rattle.iox_lanes_ledger.specs.LanesParties.Parties.{is_out}
 use Rattle.iox_lanes_ledger.specs.Stored.{between}
 use Rattle.iox_lanes_ledger.specs.Uses.{one_if, count, refers, refers_to, UsesCounted}
 use Rattle.iox_lanes_ledger.proofs.Entries.{entry_none, refers_none, total_zero, get_replicated}

@@ -1,17 +1,17 @@
 -- A read gives what its slot held when its message was sent.
 use Rattle.std.proofs.Common.{ℕ, zero, suc, ◌≡◌, ◌+◌, ◌-◌, ◌<◌, ◌≤◌, ◌^◌, nat_lt, List, [], ◌∷◌, ◌++◌, length, get_or, refl, sym, ◌∙◌, ap, subst, inl, inr, arith}
 use Rattle.std.proofs.lemmas.List.{get_or-append-add}
-use Rattle.iox_queues_steps.specs.Access.{successor}
-use Rattle.iox_lanes_words.specs.Numbers.{IsWord}
-use Rattle.iox_lanes_words.specs.Table.{held_by}
-use Rattle.iox_lanes_words.specs.declared.sizes.TableSizes.{TableSizes}
-use Rattle.iox_lanes_words.specs.declared.word.SharedWord.{SharedWord}
-use Rattle.iox_lanes_words.specs.declared.word.SharedWord.TheVariants.{Slot}
-use Rattle.iox_lanes_words.specs.declared.word.SlotWord.{SlotWord}
-use Rattle.iox_lanes_calls.specs.Subscribing.{word_at}
-use Rattle.iox_lanes_parties.specs.declared.call.Entry.{Entry}
-use Rattle.iox_lanes_parties.specs.Within.{IsPublisher}
-use Rattle.iox_lanes_parties.proofs.Rings.{all_at}
+use Rattle.iox_lanes_ledger.specs.QueuesSteps.Access.{successor}
+use Rattle.iox_lanes_ledger.specs.LanesWords.Numbers.{IsWord}
+use Rattle.iox_lanes_ledger.specs.LanesWords.Table.{held_by}
+use Rattle.iox_lanes_ledger.specs.LanesWords.declared.sizes.TableSizes.{TableSizes}
+use Rattle.iox_lanes_ledger.specs.LanesWords.declared.word.SharedWord.{SharedWord}
+use Rattle.iox_lanes_ledger.specs.LanesWords.declared.word.SharedWord.TheVariants.{Slot}
+use Rattle.iox_lanes_ledger.specs.LanesWords.declared.word.SlotWord.{SlotWord}
+use Rattle.iox_lanes_ledger.specs.LanesCalls.Subscribing.{word_at}
+use Rattle.iox_lanes_ledger.specs.LanesParties.declared.call.Entry.{Entry}
+use Rattle.iox_lanes_ledger.specs.LanesParties.Within.{IsPublisher}
+use Rattle.iox_lanes_ledger.proofs.LanesParties.Rings.{all_at}
 use Rattle.iox_lanes_machine.specs.Alone.{IsAtConnection}
 use Rattle.iox_lanes_machine.specs.Held.{extent_of, slot_held}
 use Rattle.iox_lanes_machine.specs.Kept.{IsKept}

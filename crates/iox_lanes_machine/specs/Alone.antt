@@ -1,11 +1,11 @@
 -- A loan is used for nothing else: so the words of a slot stand still from the end of its send until nothing has it any longer.
 use Rattle.std.specs.Prelude.{ℕ, ◌≡◌, ◌<◌, ◌≤◌, ◌^◌, ◌⊎◌, false, slice_get, Some, List}
-use Rattle.iox_queues_steps.specs.declared.order.Placed.{Placed}
-use Rattle.iox_lanes_words.specs.Numbers.{IsWord}
-use Rattle.iox_lanes_words.specs.Table.{held_by}
-use Rattle.iox_lanes_words.specs.declared.word.SlotWord.{SlotWord}
-use Rattle.iox_lanes_words.specs.declared.word.SharedWord.TheVariants.{Slot}
-use Rattle.iox_lanes_parties.specs.Parties.{PublisherLaneState}
+use Rattle.iox_lanes_ledger.specs.QueuesSteps.declared.order.Placed.{Placed}
+use Rattle.iox_lanes_ledger.specs.LanesWords.Numbers.{IsWord}
+use Rattle.iox_lanes_ledger.specs.LanesWords.Table.{held_by}
+use Rattle.iox_lanes_ledger.specs.LanesWords.declared.word.SlotWord.{SlotWord}
+use Rattle.iox_lanes_ledger.specs.LanesWords.declared.word.SharedWord.TheVariants.{Slot}
+use Rattle.iox_lanes_ledger.specs.LanesParties.Parties.{PublisherLaneState}
 use Rattle.iox_lanes_ledger.specs.Borrowing.{borrows}
 use Rattle.iox_lanes_ledger.specs.Uses.{count}
 use Rattle.iox_lanes_machine.specs.Rings.{waiting}

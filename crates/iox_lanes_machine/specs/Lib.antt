@@ -29,3 +29,9 @@ pub mod PermittedLoans
 pub mod Queues
 pub mod Fresh
 pub mod Findings
+pub mod TakenIn
+pub use Rattle.iox_lanes_ledger.specs.LanesCalls as LanesCalls
+pub use Rattle.iox_lanes_ledger.specs.LanesParties as LanesParties
+pub use Rattle.iox_lanes_ledger.specs.LanesPublisher as LanesPublisher
+pub use Rattle.iox_lanes_ledger.specs.LanesWords as LanesWords
+pub use Rattle.iox_lanes_ledger.specs.QueuesSteps as QueuesSteps

@@ -1,12 +1,12 @@
 -- What a loan is answered, by what its publisher's slots are used for.
 use Rattle.std.specs.Prelude.{ℕ, ◌≡◌, ◌+◌, ◌-◌, ◌*◌, ◌<◌, ◌≤◌, ◌^◌, ◌⊎◌, true, false, ◌∷◌, [], ◌++◌, length, slice_get, Some}
-use Rattle.iox_lanes_publisher.specs.Keeping.{loan_of}
-use Rattle.iox_lanes_publisher.specs.declared.slot_book.LoanAnswer.{LoanAnswer}
-use Rattle.iox_lanes_publisher.specs.declared.slot_book.LoanAnswer.TheVariants as loan
-use Rattle.iox_lanes_parties.specs.Parties.{PublisherLaneState, is_out}
-use Rattle.iox_lanes_parties.specs.declared.call.Answer.TheVariants as answer
-use Rattle.iox_lanes_parties.specs.declared.call.FinishedCall.{FinishedCall}
-use Rattle.iox_lanes_parties.specs.declared.call.Party.TheVariants.{Publisher}
+use Rattle.iox_lanes_ledger.specs.LanesPublisher.Keeping.{loan_of}
+use Rattle.iox_lanes_ledger.specs.LanesPublisher.declared.slot_book.LoanAnswer.{LoanAnswer}
+use Rattle.iox_lanes_ledger.specs.LanesPublisher.declared.slot_book.LoanAnswer.TheVariants as loan
+use Rattle.iox_lanes_ledger.specs.LanesParties.Parties.{PublisherLaneState, is_out}
+use Rattle.iox_lanes_ledger.specs.LanesParties.declared.call.Answer.TheVariants as answer
+use Rattle.iox_lanes_ledger.specs.LanesParties.declared.call.FinishedCall.{FinishedCall}
+use Rattle.iox_lanes_ledger.specs.LanesParties.declared.call.Party.TheVariants.{Publisher}
 use Rattle.iox_lanes_ledger.specs.Rooms.{loans_out}
 use Rattle.iox_lanes_ledger.specs.Uses.{count, IsOwn}
 use Rattle.iox_lanes_machine.specs.Alone.{IsAtConnection}

@@ -1,9 +1,9 @@
 -- The samples given back at a connection are a queue: its subscriber's releases put what they borrowed behind the others, and its publisher's calls take the first.
 use Rattle.std.specs.Prelude.{ℕ, ◌≡◌, ◌≤◌, ◌^◌, ◌⊎◌, true, false, [], ◌∷◌, ◌++◌, slice_get, Some}
-use Rattle.iox_lanes_calls.specs.declared.route.Route.{Route}
-use Rattle.iox_lanes_parties.specs.Parties.{PublisherLaneState}
-use Rattle.iox_lanes_parties.specs.declared.call.Party.{Party}
-use Rattle.iox_lanes_parties.specs.declared.call.Party.TheVariants.{Publisher, Subscriber}
+use Rattle.iox_lanes_ledger.specs.LanesCalls.declared.route.Route.{Route}
+use Rattle.iox_lanes_ledger.specs.LanesParties.Parties.{PublisherLaneState}
+use Rattle.iox_lanes_ledger.specs.LanesParties.declared.call.Party.{Party}
+use Rattle.iox_lanes_ledger.specs.LanesParties.declared.call.Party.TheVariants.{Publisher, Subscriber}
 use Rattle.iox_lanes_ledger.specs.Borrowing.{borrows}
 use Rattle.iox_lanes_ledger.specs.Uses.{refers_to}
 use Rattle.iox_lanes_machine.specs.Uses.{given_back}

@@ -1,23 +1,23 @@
 -- The ring of messages of a connection, as it lies in the table of all words, and the two ends that stand at it.
 use Rattle.std.specs.Prelude.{ℕ, ◌==◌, if◌then◌else◌, List, take, drop}
-use Rattle.iox_queues_steps.specs.Access.{RingWords}
-use Rattle.iox_queues_steps.specs.Order.{after_acts, acts_of}
-use Rattle.iox_queues_steps.specs.declared.access.Word.{Word}
-use Rattle.iox_queues_steps.specs.declared.access.Word.TheVariants.{Write, Read, Cell}
-use Rattle.iox_queues_steps.specs.declared.order.Placed.{Placed}
-use Rattle.iox_queues_rings.specs.Ends.{overflows, push_idle, pop_idle}
-use Rattle.iox_queues_rings.specs.declared.ends.RingKind.{RingKind}
-use Rattle.iox_queues_rings.specs.declared.ends.Push.{Push}
-use Rattle.iox_queues_rings.specs.declared.ends.Pop.{Pop}
-use Rattle.iox_lanes_words.specs.Numbers.{number_of}
-use Rattle.iox_lanes_words.specs.Table.{TableWords, held_by}
-use Rattle.iox_lanes_words.specs.declared.word.ConnectionRing.TheVariants.{Submission}
-use Rattle.iox_lanes_words.specs.declared.word.SharedWord.{SharedWord}
-use Rattle.iox_lanes_words.specs.declared.word.SharedWord.TheVariants.{Ring}
-use Rattle.iox_lanes_calls.specs.declared.publisher.PublisherCall.{PublisherCall}
-use Rattle.iox_lanes_calls.specs.declared.publisher.PublisherCall.TheVariants as publishing
-use Rattle.iox_lanes_calls.specs.declared.subscriber.SubscriberCall.{SubscriberCall}
-use Rattle.iox_lanes_calls.specs.declared.subscriber.SubscriberCall.TheVariants as subscribing
+use Rattle.iox_lanes_ledger.specs.QueuesSteps.Access.{RingWords}
+use Rattle.iox_lanes_ledger.specs.QueuesSteps.Order.{after_acts, acts_of}
+use Rattle.iox_lanes_ledger.specs.QueuesSteps.declared.access.Word.{Word}
+use Rattle.iox_lanes_ledger.specs.QueuesSteps.declared.access.Word.TheVariants.{Write, Read, Cell}
+use Rattle.iox_lanes_ledger.specs.QueuesSteps.declared.order.Placed.{Placed}
+use Rattle.iox_lanes_ledger.specs.QueuesRings.Ends.{overflows, push_idle, pop_idle}
+use Rattle.iox_lanes_ledger.specs.QueuesRings.declared.ends.RingKind.{RingKind}
+use Rattle.iox_lanes_ledger.specs.QueuesRings.declared.ends.Push.{Push}
+use Rattle.iox_lanes_ledger.specs.QueuesRings.declared.ends.Pop.{Pop}
+use Rattle.iox_lanes_ledger.specs.LanesWords.Numbers.{number_of}
+use Rattle.iox_lanes_ledger.specs.LanesWords.Table.{TableWords, held_by}
+use Rattle.iox_lanes_ledger.specs.LanesWords.declared.word.ConnectionRing.TheVariants.{Submission}
+use Rattle.iox_lanes_ledger.specs.LanesWords.declared.word.SharedWord.{SharedWord}
+use Rattle.iox_lanes_ledger.specs.LanesWords.declared.word.SharedWord.TheVariants.{Ring}
+use Rattle.iox_lanes_ledger.specs.LanesCalls.declared.publisher.PublisherCall.{PublisherCall}
+use Rattle.iox_lanes_ledger.specs.LanesCalls.declared.publisher.PublisherCall.TheVariants as publishing
+use Rattle.iox_lanes_ledger.specs.LanesCalls.declared.subscriber.SubscriberCall.{SubscriberCall}
+use Rattle.iox_lanes_ledger.specs.LanesCalls.declared.subscriber.SubscriberCall.TheVariants as subscribing
 use Rattle.iox_lanes_machine.specs.Links.{LinkState}
 
 -- a word of the ring of messages of a connection

@@ -1,11 +1,11 @@
 -- Who has which slot: a publisher's record of it is what stands at its connections.
 use Rattle.std.specs.Prelude.{ℕ, ◌≡◌, ◌+◌, ◌<◌, ◌≤◌, ◌^◌, List, length, slice_get, Option, Some}
-use Rattle.iox_queues_steps.specs.declared.access.Word.TheVariants.{Read}
-use Rattle.iox_queues_steps.specs.declared.order.Placed.{Placed}
-use Rattle.iox_lanes_words.specs.Table.{TableWords, held_by}
-use Rattle.iox_lanes_calls.specs.declared.publisher.PublisherCall.{PublisherCall}
-use Rattle.iox_lanes_calls.specs.declared.route.Route.{Route}
-use Rattle.iox_lanes_parties.specs.Parties.{PublisherLaneState, SubscriberLaneState}
+use Rattle.iox_lanes_ledger.specs.QueuesSteps.declared.access.Word.TheVariants.{Read}
+use Rattle.iox_lanes_ledger.specs.QueuesSteps.declared.order.Placed.{Placed}
+use Rattle.iox_lanes_ledger.specs.LanesWords.Table.{TableWords, held_by}
+use Rattle.iox_lanes_ledger.specs.LanesCalls.declared.publisher.PublisherCall.{PublisherCall}
+use Rattle.iox_lanes_ledger.specs.LanesCalls.declared.route.Route.{Route}
+use Rattle.iox_lanes_ledger.specs.LanesParties.Parties.{PublisherLaneState, SubscriberLaneState}
 use Rattle.iox_lanes_ledger.specs.Borrowing.{borrows, UsesBorrowed, ArePlaced}
 use Rattle.iox_lanes_ledger.specs.Sending.{SendsLacking}
 use Rattle.iox_lanes_ledger.specs.Stored.{aside, between}

@@ -1,11 +1,12 @@
 //! What lanes find before their first step.
 ghost use Rattle.std.specs.Prelude.{◌≡◌, ◌+◌, ◌-◌, ◌<◌, ◌^◌, ◌&&◌, true, nat_lt, length, slice_get, option_copied, OnOk, OnErr};
-ghost use Rattle.iox_queues_steps.specs.declared.access.Word.{Word};
-ghost use Rattle.iox_lanes_words.specs.Numbers.{IsWord};
-ghost use Rattle.iox_lanes_words.specs.Table.{stored_in};
+ghost use Rattle.iox_lanes_ledger.specs.QueuesSteps.declared.access.Word.{Word};
+ghost use Rattle.iox_lanes_ledger.specs.LanesWords.Numbers.{IsWord};
+ghost use Rattle.iox_lanes_ledger.specs.LanesWords.Table.{stored_in};
 ghost use Rattle.iox_lanes_machine.specs.Findings.{back_at, back_found, back_of, finds, finds_now, given_at, given_of, has_word, laid, may_be_back, may_wait, newest_of, remembered_of, takes_more, waiting_at, waiting_in, waiting_of, waits_at, waits_of, with_found};
 ghost use Rattle.iox_lanes_machine.specs.Kept.{IsWithin};
 ghost use Rattle.iox_lanes_machine.specs.State.{world_of};
+ghost use Rattle.iox_lanes_machine.specs.TakenIn.{IsAppended};
 
 use crate::link::Link;
 use crate::state::State;
@@ -140,11 +141,12 @@ impl State {
         }
     }
 
-    /// This is found. Memory is wanting only where a message waits.
+    /// This is found. An allocation fails only where a message waits.
     pub(crate) fn find(&mut self, found: Found) -> Result<(), AllocError>
         requires fits { finds_now (world_of self.old) found ≡ true }
         requires within { IsWithin (world_of self.old) }
         ensures found { OnOk result (world_of self.new ≡ with_found (world_of self.old) found) }
+        ensures appended { OnErr result (IsAppended found) }
         ensures same { OnErr result (world_of self.new ≡ world_of self.old) }
     {
         match found {

@@ -50,11 +50,12 @@ impl Lanes {
     ghost use Rattle.iox_lanes_machine.specs.Rooms.{ReleasesFollow};
     ghost use Rattle.iox_lanes_machine.specs.Sends.{SendsFollow};
     ghost use Rattle.iox_lanes_machine.specs.Slots.{LoansApart, SlotsStay};
+    ghost use Rattle.iox_lanes_machine.specs.TakenIn.{TakesIn, WantsMemory};
     ghost use Rattle.iox_lanes_machine.specs.Told.{Told};
     ghost use Rattle.iox_lanes_machine.specs.Mailboxes.{OrderFollows, OrdersFollow, PositionsNear, positions_of};
 
     /// Lanes of these sizes, on which nothing was done yet: each publisher has a connection to each subscriber, numbered publisher by publisher. It fails
-    /// only where memory is wanting; no memory has room for buffers of 2^61 messages, for the rings of as many samples given back, or for as many subscribers.
+    /// only where an allocation fails; no memory has room for buffers of 2^61 messages, for the rings of as many samples given back, or for as many subscribers.
     pub fn new(alloc: Global, sizes: LaneSizes) -> Result<Lanes, AllocError>
         requires { 0 < sizes.buffer }
         ensures { IfOk result (λ made. made ≡ start sizes) }
@@ -78,10 +79,12 @@ impl Lanes {
     /// This is found before the first step: a message that waits, a sample that was given back, the newest of a history, or what a word of a slot holds. Answers
     /// whether it was taken in; else nothing changes. It is taken in before the first step alone, and only if: of a message or a sample, the connection is there
     /// and has not the slot yet, which is one of its publisher's; no more messages wait than may, and together with the samples given back no more than may be
-    /// given back; of a history, the slot is the publisher's, does not stand there yet, and fewer do than may; of a word, the slot has it. It fails, and nothing
-    /// changes, only where memory is wanting.
+    /// given back; of a history, the slot is the publisher's, does not stand there yet, and fewer do than may; of a word, the slot has it. What was taken in stands
+    /// behind what was found there before. It fails, and nothing changes, only where an allocation fails: for a message that would be taken in.
     pub fn find(&mut self, found: Found) -> Result<bool, AllocError>
         ensures finds { IfOk result (λ answer. FindsTo self.old found answer self.new) }
+        ensures takes { IfOk result (λ answer. TakesIn self.old found answer self.new) }
+        ensures memory { OnErr result (WantsMemory self.old found) }
         ensures same { OnErr result (self.new ≡ self.old) }
     {
         if !self.state.finds(found) {
@@ -121,7 +124,7 @@ impl Lanes {
         self.state.step(party, step)
     }
 
-    /// Makes the entries one after the other, leaves out those that do not fit, and stops where no memory is found. The answer is how many were made.
+    /// Makes the entries one after the other, leaves out those that do not fit, and stops where an allocation fails. The answer is how many were made.
     pub fn run(&mut self, schedule: &[Entry]) -> usize
         ensures runs { RunsTo self.old schedule.now result self.new }
         ensures orders { OrdersFollow self.new }

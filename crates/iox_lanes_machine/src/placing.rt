@@ -1,9 +1,9 @@
 //! What stands in the order of a connection at a step.
 ghost use Rattle.std.specs.Prelude.{◌≡◌, if◌then◌else◌, [], None};
 ghost use Rattle.std.specs.Option.{option_to_list};
-ghost use Rattle.iox_queues_rings.specs.Ends.{late_put};
-ghost use Rattle.iox_lanes_words.specs.Numbers.{IsWord};
-ghost use Rattle.iox_lanes_words.specs.Table.{held_by};
+ghost use Rattle.iox_lanes_ledger.specs.QueuesRings.Ends.{late_put};
+ghost use Rattle.iox_lanes_ledger.specs.LanesWords.Numbers.{IsWord};
+ghost use Rattle.iox_lanes_ledger.specs.LanesWords.Table.{held_by};
 ghost use Rattle.iox_lanes_machine.specs.Rings.{push_on, sent_word};
 
 use iox_lanes_calls::PublisherCall;

@@ -1,6 +1,6 @@
 //! How many ports lanes have, and their sizes.
 ghost use Rattle.std.specs.Prelude.{◌≡◌, IfSome};
-ghost use Rattle.iox_queues_rings.specs.Ends.{cells_of};
+ghost use Rattle.iox_lanes_ledger.specs.QueuesRings.Ends.{cells_of};
 ghost use Rattle.iox_lanes_machine.specs.Made.{table_sizes, link_at};
 
 use crate::link::Link;

@@ -5,27 +5,27 @@ use Rattle.std.proofs.lemmas.List.{length-set, length-take, get_or_past}
 use Rattle.std.proofs.lemmas.List.Elements.{All-get_or, All-set}
 use Rattle.std.proofs.lemmas.Option.{slice_get_within}
 use Rattle.std.specs.List.{All}
-use Rattle.iox_queues_steps.specs.Access.{successor}
-use Rattle.iox_queues_steps.specs.declared.order.PushAnswer.{PushAnswer}
-use Rattle.iox_queues_steps.specs.declared.order.PopAnswer.{PopAnswer}
-use Rattle.iox_queues_steps.specs.declared.order.PopAnswer.TheVariants.{Got, Saw}
-use Rattle.iox_queues_refusing.specs.Refusing.{pop_next, pop_take}
-use Rattle.iox_queues_refusing.specs.declared.pop.Pop.{Pop}
-use Rattle.iox_queues_rings.specs.Ends.{push_next, push_take}
-use Rattle.iox_queues_rings.specs.declared.ends.Push.{Push}
-use Rattle.iox_lanes_words.specs.Table.{IsOfTable}
-use Rattle.iox_lanes_words.specs.Numbers.{IsSlotWord}
-use Rattle.iox_lanes_words.specs.declared.sizes.TableSizes.{TableSizes}
-use Rattle.iox_lanes_words.specs.declared.word.ConnectionRing.TheVariants.{Submission, Completion}
-use Rattle.iox_lanes_words.specs.declared.word.SlotWord.TheVariants.{Header, UserHeader}
-use Rattle.iox_lanes_calls.specs.Answers.{refusing_pop_answer, push_answer}
-use Rattle.iox_lanes_calls.specs.Publishing.{publisher_next, publisher_take, publisher_change, publisher_is_idle, header_word, loan_from, loan_at, loan_reclaimed, write_from, write_at, head_from, head_at, push_from, push_at, sweep_from, sweep_at, send_reclaimed, pushed, counted, nothing_sent}
-use Rattle.iox_lanes_calls.specs.declared.publisher.Delivery.{Delivery}
-use Rattle.iox_lanes_calls.specs.declared.publisher.PublisherCall.{PublisherCall}
-use Rattle.iox_lanes_calls.specs.declared.publisher.PublisherCall.TheVariants as publishing
-use Rattle.iox_lanes_calls.specs.declared.publisher.PublisherChange.{PublisherChange}
-use Rattle.iox_lanes_calls.specs.declared.publisher.PublisherChange.TheVariants as change
-use Rattle.iox_lanes_calls.specs.declared.route.Route.{Route}
+use Rattle.iox_lanes_subscriber.specs.QueuesSteps.Access.{successor}
+use Rattle.iox_lanes_subscriber.specs.QueuesSteps.declared.order.PushAnswer.{PushAnswer}
+use Rattle.iox_lanes_subscriber.specs.QueuesSteps.declared.order.PopAnswer.{PopAnswer}
+use Rattle.iox_lanes_subscriber.specs.QueuesSteps.declared.order.PopAnswer.TheVariants.{Got, Saw}
+use Rattle.iox_lanes_subscriber.specs.QueuesRefusing.Refusing.{pop_next, pop_take}
+use Rattle.iox_lanes_subscriber.specs.QueuesRefusing.declared.pop.Pop.{Pop}
+use Rattle.iox_lanes_subscriber.specs.QueuesRings.Ends.{push_next, push_take}
+use Rattle.iox_lanes_subscriber.specs.QueuesRings.declared.ends.Push.{Push}
+use Rattle.iox_lanes_subscriber.specs.LanesWords.Table.{IsOfTable}
+use Rattle.iox_lanes_subscriber.specs.LanesWords.Numbers.{IsSlotWord}
+use Rattle.iox_lanes_subscriber.specs.LanesWords.declared.sizes.TableSizes.{TableSizes}
+use Rattle.iox_lanes_subscriber.specs.LanesWords.declared.word.ConnectionRing.TheVariants.{Submission, Completion}
+use Rattle.iox_lanes_subscriber.specs.LanesWords.declared.word.SlotWord.TheVariants.{Header, UserHeader}
+use Rattle.iox_lanes_subscriber.specs.LanesCalls.Answers.{refusing_pop_answer, push_answer}
+use Rattle.iox_lanes_subscriber.specs.LanesCalls.Publishing.{publisher_next, publisher_take, publisher_change, publisher_is_idle, header_word, loan_from, loan_at, loan_reclaimed, write_from, write_at, head_from, head_at, push_from, push_at, sweep_from, sweep_at, send_reclaimed, pushed, counted, nothing_sent}
+use Rattle.iox_lanes_subscriber.specs.LanesCalls.declared.publisher.Delivery.{Delivery}
+use Rattle.iox_lanes_subscriber.specs.LanesCalls.declared.publisher.PublisherCall.{PublisherCall}
+use Rattle.iox_lanes_subscriber.specs.LanesCalls.declared.publisher.PublisherCall.TheVariants as publishing
+use Rattle.iox_lanes_subscriber.specs.LanesCalls.declared.publisher.PublisherChange.{PublisherChange}
+use Rattle.iox_lanes_subscriber.specs.LanesCalls.declared.publisher.PublisherChange.TheVariants as change
+use Rattle.iox_lanes_subscriber.specs.LanesCalls.declared.route.Route.{Route}
 use Rattle.iox_lanes_publisher.specs.Keeping.{BookState, loan_of, put_at, lent_from, lent, unlent, dropped, newest_of, remembered, changed, first_free}
 use Rattle.iox_lanes_publisher.specs.Publishers.{words_of}
 use Rattle.iox_lanes_publisher.specs.declared.slot_book.LoanMark.{LoanMark}

@@ -3,28 +3,28 @@ use Rattle.std.proofs.Common.{ℕ, ◌≡◌, ◌+◌, ◌-◌, ◌<◌, ◌≤�
 use Rattle.std.proofs.lemmas.Bool.{cases_lt, ltb-true, ltb-false}
 use Rattle.std.proofs.lemmas.List.{length-set, get_or_past}
 use Rattle.std.specs.List.{All}
-use Rattle.iox_queues_steps.specs.Access.{successor}
-use Rattle.iox_queues_steps.specs.declared.order.PushAnswer.{PushAnswer}
-use Rattle.iox_queues_steps.specs.declared.order.PushAnswer.TheVariants.{Kept, LeftOut, Refused}
-use Rattle.iox_queues_steps.specs.declared.order.PopAnswer.{PopAnswer}
-use Rattle.iox_queues_steps.specs.declared.order.PopAnswer.TheVariants.{Got, Saw}
-use Rattle.iox_queues_refusing.specs.Refusing as refusing
-use Rattle.iox_queues_refusing.specs.declared.push.Push.{Push}
-use Rattle.iox_queues_rings.specs.Ends.{pop_next, pop_take}
-use Rattle.iox_queues_rings.specs.declared.ends.Pop.{Pop}
-use Rattle.iox_lanes_words.specs.Table.{IsOfTable}
-use Rattle.iox_lanes_words.specs.Numbers.{IsSlotWord}
-use Rattle.iox_lanes_words.specs.declared.sizes.TableSizes.{TableSizes}
-use Rattle.iox_lanes_words.specs.declared.word.ConnectionRing.TheVariants.{Submission, Completion}
-use Rattle.iox_lanes_words.specs.declared.word.SlotWord.TheVariants.{Header, UserHeader, Payload}
-use Rattle.iox_lanes_calls.specs.Answers.{pop_answer, refusing_push_answer}
-use Rattle.iox_lanes_calls.specs.Subscribing.{subscriber_next, subscriber_take, subscriber_change, subscriber_is_idle, word_at, receive_from, received, is_full_at, read_at, released}
-use Rattle.iox_lanes_calls.specs.declared.route.Route.{Route}
-use Rattle.iox_lanes_calls.specs.declared.subscriber.SlotExtent.{SlotExtent}
-use Rattle.iox_lanes_calls.specs.declared.subscriber.SubscriberCall.{SubscriberCall}
-use Rattle.iox_lanes_calls.specs.declared.subscriber.SubscriberCall.TheVariants as subscribing
-use Rattle.iox_lanes_calls.specs.declared.subscriber.SubscriberChange.{SubscriberChange}
-use Rattle.iox_lanes_calls.specs.declared.subscriber.SubscriberChange.TheVariants as change
+use Rattle.iox_lanes_subscriber.specs.QueuesSteps.Access.{successor}
+use Rattle.iox_lanes_subscriber.specs.QueuesSteps.declared.order.PushAnswer.{PushAnswer}
+use Rattle.iox_lanes_subscriber.specs.QueuesSteps.declared.order.PushAnswer.TheVariants.{Kept, LeftOut, Refused}
+use Rattle.iox_lanes_subscriber.specs.QueuesSteps.declared.order.PopAnswer.{PopAnswer}
+use Rattle.iox_lanes_subscriber.specs.QueuesSteps.declared.order.PopAnswer.TheVariants.{Got, Saw}
+use Rattle.iox_lanes_subscriber.specs.QueuesRefusing.Refusing as refusing
+use Rattle.iox_lanes_subscriber.specs.QueuesRefusing.declared.push.Push.{Push}
+use Rattle.iox_lanes_subscriber.specs.QueuesRings.Ends.{pop_next, pop_take}
+use Rattle.iox_lanes_subscriber.specs.QueuesRings.declared.ends.Pop.{Pop}
+use Rattle.iox_lanes_subscriber.specs.LanesWords.Table.{IsOfTable}
+use Rattle.iox_lanes_subscriber.specs.LanesWords.Numbers.{IsSlotWord}
+use Rattle.iox_lanes_subscriber.specs.LanesWords.declared.sizes.TableSizes.{TableSizes}
+use Rattle.iox_lanes_subscriber.specs.LanesWords.declared.word.ConnectionRing.TheVariants.{Submission, Completion}
+use Rattle.iox_lanes_subscriber.specs.LanesWords.declared.word.SlotWord.TheVariants.{Header, UserHeader, Payload}
+use Rattle.iox_lanes_subscriber.specs.LanesCalls.Answers.{pop_answer, refusing_push_answer}
+use Rattle.iox_lanes_subscriber.specs.LanesCalls.Subscribing.{subscriber_next, subscriber_take, subscriber_change, subscriber_is_idle, word_at, receive_from, received, is_full_at, read_at, released}
+use Rattle.iox_lanes_subscriber.specs.LanesCalls.declared.route.Route.{Route}
+use Rattle.iox_lanes_subscriber.specs.LanesCalls.declared.subscriber.SlotExtent.{SlotExtent}
+use Rattle.iox_lanes_subscriber.specs.LanesCalls.declared.subscriber.SubscriberCall.{SubscriberCall}
+use Rattle.iox_lanes_subscriber.specs.LanesCalls.declared.subscriber.SubscriberCall.TheVariants as subscribing
+use Rattle.iox_lanes_subscriber.specs.LanesCalls.declared.subscriber.SubscriberChange.{SubscriberChange}
+use Rattle.iox_lanes_subscriber.specs.LanesCalls.declared.subscriber.SubscriberChange.TheVariants as change
 use Rattle.iox_lanes_subscriber.specs.Keeping.{SubscriberState, put_at, changed}
 use Rattle.iox_lanes_parties.specs.Parties.{SubscriberLaneState, place_of, route_at, is_borrowed, subscriber_may, subscriber_fits, subscriber_begun, subscriber_after, release_begun}
 use Rattle.iox_lanes_parties.specs.Within.{IsRoute, IsAt, IsExtent, IsSubscribing, IsSubscriber, SubscribersStayWithin}

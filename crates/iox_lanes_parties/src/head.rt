@@ -19,7 +19,7 @@ impl Model for Head {
 }
 
 impl Head {
-    /// This header, and so many words of user header that are 0. It fails only where memory is wanting.
+    /// This header, and so many words of user header that are 0. It fails only where an allocation fails.
     pub fn new(alloc: Global, header: &[u64], user_header_words: usize) -> Result<Head, AllocError>
         ensures { IfOk result (λ made. made ≡ header.now ++ replicate user_header_words 0) }
     {

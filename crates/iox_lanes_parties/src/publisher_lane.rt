@@ -1,7 +1,7 @@
 //! A publisher, its call in hand, and the headers of its slots.
 ghost use Rattle.std.specs.Prelude.{◌≡◌, ◌+◌, ◌<◌, ◌&&◌, ◌==◌, true, false, [], length, slice_get, IsSome, is_some};
 ghost use Rattle.std.specs.List.{All};
-ghost use Rattle.iox_lanes_calls.specs.Publishing.{publisher_next, publisher_is_idle, publisher_is_over};
+ghost use Rattle.iox_lanes_subscriber.specs.LanesCalls.Publishing.{publisher_next, publisher_is_idle, publisher_is_over};
 ghost use Rattle.iox_lanes_publisher.specs.Keeping.{may_have, may_remember};
 ghost use Rattle.iox_lanes_parties.specs.Parties.{lane_found, lane_remembers, name_of, is_out, is_written, publisher_may, publisher_fits, publisher_begun, publisher_after, publisher_answer, lent, index_of, head_of, kept, send_begun};
 

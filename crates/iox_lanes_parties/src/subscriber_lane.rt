@@ -1,6 +1,6 @@
 //! A subscriber and its call in hand.
 ghost use Rattle.std.specs.Prelude.{◌≡◌, ◌&&◌, true, false, is_some};
-ghost use Rattle.iox_lanes_calls.specs.Subscribing.{subscriber_next, subscriber_is_idle, subscriber_is_over};
+ghost use Rattle.iox_lanes_subscriber.specs.LanesCalls.Subscribing.{subscriber_next, subscriber_is_idle, subscriber_is_over};
 ghost use Rattle.iox_lanes_parties.specs.Parties.{subscriber_may, subscriber_fits, subscriber_begun, subscriber_after, subscriber_answer, words_read, place_of, route_at, is_route, is_borrowed, release_begun};
 
 use crate::call::{Answer, Call, CallName, Move};

@@ -1,6 +1,6 @@
 -- What the slots of a publisher are used for, and what a step changes of it.
 use Rattle.std.specs.Prelude.{ℕ, ◌+◌, ◌-◌, ◌*◌, ◌^◌, min, List, [], ◌∷◌, ◌++◌, length, set, get_or, remove, replicate, Option, None, Some, Bool, true, false, not, ◌&&◌, if◌then◌else◌, ◌==◌, nat_lt}
-use Rattle.iox_queues_steps.specs.Access.{successor}
+use Rattle.iox_lanes_calls.specs.QueuesSteps.Access.{successor}
 use Rattle.iox_lanes_calls.specs.declared.publisher.PublisherChange.{PublisherChange}
 use Rattle.iox_lanes_calls.specs.declared.publisher.PublisherChange.TheVariants.{Nothing, Lend, Mark, Remember, TakenBack, Put, LeftOut, DropLoan}
 use Rattle.iox_lanes_publisher.specs.declared.slot_book.LoanMark.{LoanMark}

@@ -40,7 +40,7 @@ impl Model for LanePublisher {
 }
 
 impl LanePublisher {
-    /// A publisher with these connections and slots, whose payloads and headers have so many words. It fails only where memory is wanting.
+    /// A publisher with these connections and slots, whose payloads and headers have so many words. It fails only where an allocation fails.
     pub fn new(
         alloc: Global,
         routes: &[Route],

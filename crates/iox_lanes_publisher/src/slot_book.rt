@@ -68,7 +68,7 @@ impl Model for SlotBook {
 }
 
 impl SlotBook {
-    /// So many slots from `first` on, of which none is used, for so many connections. It fails only where memory is wanting.
+    /// So many slots from `first` on, of which none is used, for so many connections. It fails only where an allocation fails.
     pub fn new(
         alloc: Global,
         first: u64,

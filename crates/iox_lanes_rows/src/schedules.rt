@@ -5,7 +5,7 @@ use crate::calls::{
     PUBLISHER, SUBSCRIBER, begin, go_on, last_answer, read, received, released, sent, written,
 };
 use iox_lanes_calls::Delivery;
-use iox_lanes_machine::{Found, LaneSizes, Lanes};
+use iox_lanes_machine::{LaneSizes, Lanes};
 use iox_lanes_parties::{Answer, Call, Move};
 use iox_queues_rings::RingKind;
 use iox_queues_steps::Stepped;
@@ -21,8 +21,8 @@ const REFUSED: Delivery = Delivery {
     refused: 1,
 };
 
-// One publisher and one subscriber, payloads of one word.
-fn sizes(kind: RingKind, most_borrowed: u64, slots: u64) -> LaneSizes
+/// One publisher and one subscriber, payloads of one word.
+pub(crate) fn sizes(kind: RingKind, most_borrowed: u64, slots: u64) -> LaneSizes
     ensures { result.buffer ≡ 1 }
 {
     LaneSizes {
@@ -72,8 +72,8 @@ fn a_receive_inside_a_send_takes_the_oldest(rt: HostRuntime) -> Result<(), Fail>
     Ok(())
 }
 
-// How many samples of the first connection are given back and not taken back.
-fn given_back(lanes: &Lanes) -> Option<u64> {
+/// How many samples of the first connection are given back and not taken back.
+pub(crate) fn given_back(lanes: &Lanes) -> Option<u64> {
     if lanes.links().is_empty() {
         return None;
     }
@@ -175,26 +175,5 @@ fn lanes_are_made_at_all_sizes(rt: HostRuntime) -> Result<(), Fail> {
     assert!(rt; begin(&mut lanes, PUBLISHER, Call::LoanUninit));
     assert!(rt; !begin(&mut lanes, PUBLISHER, Call::LoanUninit));
     assert_eq!(rt; lanes.moments(), 1);
-    Ok(())
-}
-
-// A message that waits in this slot of the first publisher at its first connection.
-fn waits(slot: u64) -> Found {
-    Found::Waiting {
-        publisher: 0,
-        place: 0,
-        slot,
-    }
-}
-
-#[test]
-fn a_message_that_was_found_is_received(rt: HostRuntime) -> Result<(), Fail> {
-    let alloc = rt.alloc();
-    let mut lanes = Lanes::new(alloc, sizes(RingKind::Overflowing, 2, 5))?;
-    assert!(rt; lanes.find(waits(3))?);
-    // One may wait, and it is there already; and after a step nothing is found.
-    assert!(rt; !lanes.find(waits(2))?);
-    assert_eq!(rt; received(&mut lanes), Some(3));
-    assert!(rt; !lanes.find(waits(1))?);
     Ok(())
 }

@@ -1,7 +1,7 @@
 -- A subscriber with the call that it is in, and what it keeps for itself.
 use Rattle.std.specs.Prelude.{ℕ, ◌-◌, List, length, set, get_or, replicate, Option, None, Some, if◌then◌else◌, nat_lt, false}
-use Rattle.iox_queues_steps.specs.Access.{successor}
-use Rattle.iox_queues_refusing.specs.declared.push.Push.TheVariants.{Begun}
+use Rattle.iox_lanes_calls.specs.QueuesSteps.Access.{successor}
+use Rattle.iox_lanes_calls.specs.QueuesRefusing.declared.push.Push.TheVariants.{Begun}
 use Rattle.iox_lanes_calls.specs.Subscribing.{subscriber_take, subscriber_change, receive_at, read_at}
 use Rattle.iox_lanes_calls.specs.declared.route.Route.{Route}
 use Rattle.iox_lanes_calls.specs.declared.subscriber.SlotExtent.{SlotExtent}

@@ -43,7 +43,7 @@ impl Model for LaneSubscriber {
 }
 
 impl LaneSubscriber {
-    /// A subscriber that borrows nothing, of a service with so many slots. It fails only where memory is wanting.
+    /// A subscriber that borrows nothing, of a service with so many slots. It fails only where an allocation fails.
     pub fn new(
         alloc: Global,
         routes: &[Route],

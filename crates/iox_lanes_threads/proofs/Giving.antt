@@ -6,10 +6,10 @@ use lib.ListN.{get_elem?}
 use Rattle.atomic_table.specs.Table.{State, Me, Splits, opening}
 use Rattle.atomic_table.proofs.Lists.{at_set}
 use Rattle.iox_lanes_machine.specs.World.{World}
-use Rattle.iox_lanes_threads_rule.specs.Rule.{Sits, Ruled, one}
-use Rattle.iox_lanes_threads_rule.specs.Acts.{FitSome, Holds, first_port}
-use Rattle.iox_lanes_threads_rule.specs.declared.view.Port.{Port}
-use Rattle.iox_lanes_threads_rule.specs.declared.view.View.{View}
+use Rattle.iox_lanes_threads_ports.specs.LanesThreadsRule.Rule.{Sits, Ruled, one}
+use Rattle.iox_lanes_threads_ports.specs.LanesThreadsRule.Acts.{FitSome, Holds, first_port}
+use Rattle.iox_lanes_threads_ports.specs.LanesThreadsRule.declared.view.Port.{Port}
+use Rattle.iox_lanes_threads_ports.specs.LanesThreadsRule.declared.view.View.{View}
 use Rattle.iox_lanes_threads.specs.Opening.{service_of, ports_of, waits, behind_first, others_wait, first_waits, first_view, Fitting, IsWaiting}
 use Rattle.iox_lanes_threads.proofs.Lists.{none_there, in_either}
 

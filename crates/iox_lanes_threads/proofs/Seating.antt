@@ -5,14 +5,14 @@ use Rattle.std.specs.Option.{option_to_list}
 use Rattle.std.proofs.lemmas.List.Elements.{All-pop}
 use Rattle.atomic_table.specs.Seated.{TableId}
 use Rattle.atomic_table.specs.Table.{Me}
-use Rattle.iox_lanes_words.specs.declared.sizes.TableSizes.{TableSizes}
-use Rattle.iox_lanes_parties.specs.Parties.{PublisherLaneState, SubscriberLaneState}
-use Rattle.iox_lanes_parties.specs.declared.call.Move.{Move}
-use Rattle.iox_lanes_parties.specs.declared.call.Party.TheVariants.{Publisher, Subscriber}
+use Rattle.iox_lanes_machine.specs.LanesWords.declared.sizes.TableSizes.{TableSizes}
+use Rattle.iox_lanes_machine.specs.LanesParties.Parties.{PublisherLaneState, SubscriberLaneState}
+use Rattle.iox_lanes_machine.specs.LanesParties.declared.call.Move.{Move}
+use Rattle.iox_lanes_machine.specs.LanesParties.declared.call.Party.TheVariants.{Publisher, Subscriber}
 use Rattle.iox_lanes_machine.specs.World.{World}
-use Rattle.iox_lanes_threads_rule.specs.Acts.{first_port}
-use Rattle.iox_lanes_threads_rule.specs.declared.view.PortParty.TheVariants as party
-use Rattle.iox_lanes_threads_rule.specs.declared.view.View.{View}
+use Rattle.iox_lanes_threads_ports.specs.LanesThreadsRule.Acts.{first_port}
+use Rattle.iox_lanes_threads_ports.specs.LanesThreadsRule.declared.view.PortParty.TheVariants as party
+use Rattle.iox_lanes_threads_ports.specs.LanesThreadsRule.declared.view.View.{View}
 use Rattle.iox_lanes_threads_ports.specs.Values.{HasRoom}
 use Rattle.iox_lanes_threads.specs.Opening.{opened, waits, others_wait, publishers_from, subscribers_from, IsWaiting}
 use Rattle.iox_lanes_threads.specs.Ports.{BoardPublisher, BoardSubscriber, opened_publishers, opened_subscribers}

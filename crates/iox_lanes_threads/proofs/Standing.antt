@@ -5,33 +5,34 @@ use Rattle.std.proofs.lemmas.List.Elements.{All-weaker, All-head, All-tail}
 use Rattle.std.proofs.lemmas.List.{length-map}
 use mathlib.Core.Option.{some, some-injective}
 use lib.ListN.{get_elem?}
-use Rattle.iox_queues_steps.specs.declared.access.Word.TheVariants.{Write, Read, Cell}
-use Rattle.iox_lanes_words.specs.Numbers.{IsWord}
-use Rattle.iox_lanes_words.specs.declared.word.SharedWord.{SharedWord}
-use Rattle.iox_lanes_words.specs.declared.word.SharedWord.TheVariants.{Ring, Slot}
-use Rattle.iox_lanes_calls.specs.Publishing.{publisher_is_idle}
-use Rattle.iox_lanes_calls.specs.Subscribing.{subscriber_is_idle}
-use Rattle.iox_lanes_calls.specs.declared.publisher.PublisherCall.{PublisherCall}
-use Rattle.iox_lanes_calls.specs.declared.publisher.PublisherCall.TheVariants as publishing
-use Rattle.iox_lanes_calls.specs.declared.subscriber.SubscriberCall.{SubscriberCall}
-use Rattle.iox_lanes_calls.specs.declared.subscriber.SubscriberCall.TheVariants as subscribing
-use Rattle.iox_lanes_calls.specs.declared.route.Route.{Route}
-use Rattle.iox_lanes_publisher.specs.Keeping.{BookState}
-use Rattle.iox_lanes_parties.specs.Parties.{PublisherLaneState, SubscriberLaneState}
-use Rattle.iox_lanes_parties.specs.Within.{IsPublisher, IsSubscriber}
-use Rattle.iox_lanes_parties.specs.declared.call.Party.TheVariants.{Publisher, Subscriber}
-use Rattle.iox_lanes_parties.proofs.Rings.{all_at}
+use Rattle.iox_lanes_machine.specs.QueuesSteps.declared.access.Word.TheVariants.{Write, Read, Cell}
+use Rattle.iox_lanes_machine.specs.LanesWords.Numbers.{IsWord}
+use Rattle.iox_lanes_machine.specs.LanesWords.declared.word.SharedWord.{SharedWord}
+use Rattle.iox_lanes_machine.specs.LanesWords.declared.word.SharedWord.TheVariants.{Ring, Slot}
+use Rattle.iox_lanes_machine.specs.LanesCalls.Publishing.{publisher_is_idle}
+use Rattle.iox_lanes_machine.specs.LanesCalls.Subscribing.{subscriber_is_idle}
+use Rattle.iox_lanes_machine.specs.LanesCalls.declared.publisher.PublisherCall.{PublisherCall}
+use Rattle.iox_lanes_machine.specs.LanesCalls.declared.publisher.PublisherCall.TheVariants as publishing
+use Rattle.iox_lanes_machine.specs.LanesCalls.declared.subscriber.SubscriberCall.{SubscriberCall}
+use Rattle.iox_lanes_machine.specs.LanesCalls.declared.subscriber.SubscriberCall.TheVariants as subscribing
+use Rattle.iox_lanes_machine.specs.LanesCalls.declared.route.Route.{Route}
+use Rattle.iox_lanes_machine.specs.LanesPublisher.Keeping.{BookState}
+use Rattle.iox_lanes_machine.specs.LanesParties.Parties.{PublisherLaneState, SubscriberLaneState}
+use Rattle.iox_lanes_machine.specs.LanesParties.Within.{IsPublisher, IsSubscriber}
+use Rattle.iox_lanes_machine.specs.LanesParties.declared.call.Party.TheVariants.{Publisher, Subscriber}
+use Rattle.iox_lanes_machine.proofs.LanesParties.Rings.{all_at}
 use Rattle.iox_lanes_machine.specs.Kept.{IsLinkOf, IsWithin, sender, receiver}
 use Rattle.iox_lanes_machine.specs.Mailboxes.{PositionsNear, positions_of}
 use Rattle.iox_lanes_machine.specs.Opening.{SlotsNamed}
+use Rattle.iox_lanes_machine.specs.Reads.{width}
 use Rattle.iox_lanes_machine.specs.Slots.{SlotsInRows}
 use Rattle.iox_lanes_machine.specs.World.{World}
-use Rattle.iox_lanes_threads_rule.specs.Service.{IsCell, read_word}
-use Rattle.iox_lanes_threads_rule.specs.Rule.{held, IsPort}
-use Rattle.iox_lanes_threads_rule.specs.declared.service.SlotRange.{SlotRange}
-use Rattle.iox_lanes_threads_rule.specs.declared.view.Port.{Port}
-use Rattle.iox_lanes_threads_rule.specs.declared.view.PortParty.{PortParty}
-use Rattle.iox_lanes_threads_rule.specs.declared.view.PortParty.TheVariants as party
+use Rattle.iox_lanes_threads_ports.specs.LanesThreadsRule.Service.{IsCell, read_word}
+use Rattle.iox_lanes_threads_ports.specs.LanesThreadsRule.Rule.{held, IsPort}
+use Rattle.iox_lanes_threads_ports.specs.LanesThreadsRule.declared.service.SlotRange.{SlotRange}
+use Rattle.iox_lanes_threads_ports.specs.LanesThreadsRule.declared.view.Port.{Port}
+use Rattle.iox_lanes_threads_ports.specs.LanesThreadsRule.declared.view.PortParty.{PortParty}
+use Rattle.iox_lanes_threads_ports.specs.LanesThreadsRule.declared.view.PortParty.TheVariants as party
 use Rattle.iox_lanes_threads_ports.specs.Ports.{sender_of, receiver_of, EachOnce, IsEnd, PublisherKnows, SubscriberKnows, PublisherStands, SubscriberStands}
 use Rattle.iox_lanes_threads.specs.Opening.{line_of, range_of, service_of, opened, publishers_from, subscribers_from, ports_of, Fitting}
 use Rattle.iox_lanes_threads.specs.Standing.{PublishersStand, SubscribersStand}
@@ -47,6 +48,10 @@ pub record Sound (m : World) : Type 0 where
 -- and of their publishers: each has each of its connections once
 abbrev pub Apart : World → Type 0
 Apart m = (who : ℕ) (lane : PublisherLaneState) → slice_get m.publishers who ≡ Some lane → EachOnce lane.port.routes
+
+-- each subscriber has room for the words of a read
+abbrev pub HaveRoom : World → Type 0
+HaveRoom m = (place : ℕ) (lane : SubscriberLaneState) → slice_get m.subscribers place ≡ Some lane → length lane.port.words ≡ width m.table.sizes
 
 -- a port at its number that knows each word
 record IsOpened (m : World) (at : ℕ) (p : Port) : Type 0 where
@@ -174,10 +179,11 @@ module _ (m : World) (k : Sound m) where
     knows = idle_publisher (opened m place (Publisher place) (party.Publisher lane)) lane.port.book lane.port.call idle;
   }
 
-  pub subscriber_stands : (place : ℕ) (lane : SubscriberLaneState) → slice_get m.subscribers place ≡ Some lane → subscriber_is_idle lane.port.call ≡ true
+  pub subscriber_stands : HaveRoom m → (place : ℕ) (lane : SubscriberLaneState) → slice_get m.subscribers place ≡ Some lane → subscriber_is_idle lane.port.call ≡ true
       → SubscriberStands (opened m (length m.publishers + place) (Subscriber place) (party.Subscriber lane)) lane
-  subscriber_stands place lane found idle = record {
+  subscriber_stands rooms place lane found idle = record {
     wide = k.within.words;
+    room = rooms place lane found;
     within = all_at (IsSubscriber m.table.sizes) m.subscribers place lane found k.within.subscribers;
     routes = All-weaker (IsLinkOf m.links receiver place) (IsEnd (service_of m) receiver_of (Subscriber place)) (receiving_end place) lane.port.routes (k.within.receivers place lane found);
     knows = idle_subscriber (opened m (length m.publishers + place) (Subscriber place) (party.Subscriber lane)) lane.port.call idle;
@@ -207,13 +213,13 @@ publishers_stand m k apart (lane ∷ lanes) place there idle =
       publishers_stand m k apart lanes (place + 1) (λ i x e. let next : place + 1 + i ≡ place + suc i = omega arith in ap (slice_get m.publishers) next ∙ there (suc i) x e) (All-tail IdlePublisher lane lanes idle),
     )
 
-pub subscribers_stand : (m : World) → Sound m → (lanes : List SubscriberLaneState) (place : ℕ) → ((i : ℕ) (lane : SubscriberLaneState) → slice_get lanes i ≡ Some lane → slice_get m.subscribers (place + i) ≡ Some lane)
+pub subscribers_stand : (m : World) → Sound m → HaveRoom m → (lanes : List SubscriberLaneState) (place : ℕ) → ((i : ℕ) (lane : SubscriberLaneState) → slice_get lanes i ≡ Some lane → slice_get m.subscribers (place + i) ≡ Some lane)
     → All IdleSubscriber lanes → SubscribersStand m place lanes
-subscribers_stand m k [] place there idle = tt
-subscribers_stand m k (lane ∷ lanes) place there idle =
+subscribers_stand m k rooms [] place there idle = tt
+subscribers_stand m k rooms (lane ∷ lanes) place there idle =
     let here : place ≡ place + 0 = omega arith in (
-      (subscriber_stands m k place lane (ap (slice_get m.subscribers) here ∙ there 0 lane refl) (All-head IdleSubscriber lane lanes idle), idle_is lane.port.call (All-head IdleSubscriber lane lanes idle)),
-      subscribers_stand m k lanes (place + 1) (λ i x e. let next : place + 1 + i ≡ place + suc i = omega arith in ap (slice_get m.subscribers) next ∙ there (suc i) x e) (All-tail IdleSubscriber lane lanes idle),
+      (subscriber_stands m k rooms place lane (ap (slice_get m.subscribers) here ∙ there 0 lane refl) (All-head IdleSubscriber lane lanes idle), idle_is lane.port.call (All-head IdleSubscriber lane lanes idle)),
+      subscribers_stand m k rooms lanes (place + 1) (λ i x e. let next : place + 1 + i ≡ place + suc i = omega arith in ap (slice_get m.subscribers) next ∙ there (suc i) x e) (All-tail IdleSubscriber lane lanes idle),
     )
 
 -- those of lanes between calls, as they are handed in
@@ -222,7 +228,7 @@ all_publishers_stand m seen lanes k apart idle same are =
     let stand : PublishersStand m 0 m.publishers = publishers_stand m k apart m.publishers 0 (λ i lane e. let here : 0 + i ≡ i = omega arith in ap (slice_get m.publishers) here ∙ e) idle in
     subst (λ (z : World × List PublisherLaneState). (z.1 ≡ z.0.publishers) × PublishersStand z.0 0 z.1) (λ i. (sym same i, sym are i)) (refl, stand)
 
-pub all_subscribers_stand : (m seen : World) (lanes : List SubscriberLaneState) → Sound m → All IdleSubscriber m.subscribers → seen ≡ m → lanes ≡ m.subscribers → (lanes ≡ seen.subscribers) × SubscribersStand seen 0 lanes
-all_subscribers_stand m seen lanes k idle same are =
-    let stand : SubscribersStand m 0 m.subscribers = subscribers_stand m k m.subscribers 0 (λ i lane e. let here : 0 + i ≡ i = omega arith in ap (slice_get m.subscribers) here ∙ e) idle in
+pub all_subscribers_stand : (m seen : World) (lanes : List SubscriberLaneState) → Sound m → HaveRoom m → All IdleSubscriber m.subscribers → seen ≡ m → lanes ≡ m.subscribers → (lanes ≡ seen.subscribers) × SubscribersStand seen 0 lanes
+all_subscribers_stand m seen lanes k rooms idle same are =
+    let stand : SubscribersStand m 0 m.subscribers = subscribers_stand m k rooms m.subscribers 0 (λ i lane e. let here : 0 + i ≡ i = omega arith in ap (slice_get m.subscribers) here ∙ e) idle in
     subst (λ (z : World × List SubscriberLaneState). (z.1 ≡ z.0.subscribers) × SubscribersStand z.0 0 z.1) (λ i. (sym same i, sym are i)) (refl, stand)

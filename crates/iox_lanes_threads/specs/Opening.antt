@@ -2,20 +2,20 @@
 use Rattle.std.specs.Prelude.{ℕ, ◌≡◌, ◌+◌, List, [], ◌∷◌, ◌++◌, map, length}
 use Rattle.atomic_table.specs.Seated.{TableId}
 use Rattle.atomic_table.specs.Table.{Me}
-use Rattle.iox_lanes_parties.specs.Parties.{PublisherLaneState, SubscriberLaneState}
-use Rattle.iox_lanes_parties.specs.declared.call.Party.{Party}
-use Rattle.iox_lanes_parties.specs.declared.call.Party.TheVariants.{Publisher, Subscriber}
+use Rattle.iox_lanes_machine.specs.LanesParties.Parties.{PublisherLaneState, SubscriberLaneState}
+use Rattle.iox_lanes_machine.specs.LanesParties.declared.call.Party.{Party}
+use Rattle.iox_lanes_machine.specs.LanesParties.declared.call.Party.TheVariants.{Publisher, Subscriber}
 use Rattle.iox_lanes_machine.specs.World.{World}
 use Rattle.iox_lanes_machine.specs.Links.{LinkState}
-use Rattle.iox_lanes_threads_rule.specs.Rule.{Fits, one}
-use Rattle.iox_lanes_threads_rule.specs.Acts.{first_port}
-use Rattle.iox_lanes_threads_rule.specs.declared.service.Line.{Line}
-use Rattle.iox_lanes_threads_rule.specs.declared.service.Service.{Service}
-use Rattle.iox_lanes_threads_rule.specs.declared.service.SlotRange.{SlotRange}
-use Rattle.iox_lanes_threads_rule.specs.declared.view.Port.{Port}
-use Rattle.iox_lanes_threads_rule.specs.declared.view.PortParty.{PortParty}
-use Rattle.iox_lanes_threads_rule.specs.declared.view.PortParty.TheVariants as party
-use Rattle.iox_lanes_threads_rule.specs.declared.view.View.{View}
+use Rattle.iox_lanes_threads_ports.specs.LanesThreadsRule.Rule.{Fits, one}
+use Rattle.iox_lanes_threads_ports.specs.LanesThreadsRule.Acts.{first_port}
+use Rattle.iox_lanes_threads_ports.specs.LanesThreadsRule.declared.service.Line.{Line}
+use Rattle.iox_lanes_threads_ports.specs.LanesThreadsRule.declared.service.Service.{Service}
+use Rattle.iox_lanes_threads_ports.specs.LanesThreadsRule.declared.service.SlotRange.{SlotRange}
+use Rattle.iox_lanes_threads_ports.specs.LanesThreadsRule.declared.view.Port.{Port}
+use Rattle.iox_lanes_threads_ports.specs.LanesThreadsRule.declared.view.PortParty.{PortParty}
+use Rattle.iox_lanes_threads_ports.specs.LanesThreadsRule.declared.view.PortParty.TheVariants as party
+use Rattle.iox_lanes_threads_ports.specs.LanesThreadsRule.declared.view.View.{View}
 
 -- a link as a connection of the service
 abbrev pub line_of : LinkState → Line

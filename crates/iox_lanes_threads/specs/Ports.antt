@@ -2,13 +2,13 @@
 use Rattle.std.specs.Prelude.{ℕ, ◌≡◌, ◌+◌, ◌≤◌, ◌^◌, true, false, List, [], ◌∷◌, length}
 use Rattle.std.specs.List.{All}
 use Rattle.atomic_table.specs.Seated.{TableId}
-use Rattle.iox_lanes_calls.specs.Publishing.{publisher_is_idle}
-use Rattle.iox_lanes_calls.specs.Subscribing.{subscriber_is_idle}
-use Rattle.iox_lanes_publisher.specs.Keeping.{loan_of}
-use Rattle.iox_lanes_parties.specs.Parties.{PublisherLaneState, SubscriberLaneState, is_out, is_borrowed, place_of}
-use Rattle.iox_lanes_parties.specs.declared.call.Party.TheVariants.{Publisher, Subscriber}
+use Rattle.iox_lanes_machine.specs.LanesCalls.Publishing.{publisher_is_idle}
+use Rattle.iox_lanes_machine.specs.LanesCalls.Subscribing.{subscriber_is_idle}
+use Rattle.iox_lanes_machine.specs.LanesPublisher.Keeping.{loan_of}
+use Rattle.iox_lanes_machine.specs.LanesParties.Parties.{PublisherLaneState, SubscriberLaneState, is_out, is_borrowed, place_of}
+use Rattle.iox_lanes_machine.specs.LanesParties.declared.call.Party.TheVariants.{Publisher, Subscriber}
 use Rattle.iox_lanes_machine.specs.World.{World}
-use Rattle.iox_lanes_threads_rule.specs.declared.view.PortParty.TheVariants as party
+use Rattle.iox_lanes_threads_ports.specs.LanesThreadsRule.declared.view.PortParty.TheVariants as party
 use Rattle.iox_lanes_threads_ports.specs.Values.{PublisherPort, SubscriberPort, SamePublisher, SameSubscriber}
 use Rattle.iox_lanes_threads.specs.Opening.{opened}
 

@@ -1,4 +1,4 @@
-//! From threads to ports that stand still.
+//! From threads to ports that exist still.
 ghost use Rattle.std.specs.Prelude.{◌≡◌, ◌<◌, ◌≤◌, ℕ, true, false, [], map, length, IfOk, IfErr, vec_capacity};
 ghost use Rattle.iox_lanes_threads.specs.Ending.{has_publisher, has_subscriber, AreAll};
 

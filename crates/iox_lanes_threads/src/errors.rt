@@ -13,7 +13,7 @@ pub enum OpenError {
     /// The lanes made more than 2^63 steps, behind which they promise nothing. No program comes so far.
     #[error("OpenError::TooManySteps")]
     TooManySteps,
-    /// Memory is wanting.
+    /// An allocation fails.
     #[error("OpenError::OutOfMemory")]
     OutOfMemory,
 }

@@ -6,7 +6,7 @@
 //! - [`errors`]: why they are not opened or ended.
 //! - [`opening`]: from lanes to threads.
 //! - `room`: the room that the ports need.
-//! - [`ending`]: from threads to ports that stand still.
+//! - [`ending`]: from threads to ports that exist still.
 //!
 //! First calls, of lanes that stand between calls.
 //!

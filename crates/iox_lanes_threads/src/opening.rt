@@ -1,10 +1,10 @@
 //! From lanes to threads.
 ghost use Rattle.std.specs.Prelude.{◌≡◌, ◌<◌, ◌≤◌, ◌+◌, ℕ, true, false, IsTrue, ◌↔◌, [], length, IfOk, IfErr, IfSome, IfNone};
 ghost use Rattle.std.specs.List.{All};
-ghost use Rattle.iox_lanes_calls.specs.Publishing.{publisher_is_idle};
-ghost use Rattle.iox_lanes_calls.specs.Subscribing.{subscriber_is_idle};
-ghost use Rattle.iox_lanes_publisher.specs.Keeping.{loan_of};
-ghost use Rattle.iox_lanes_parties.specs.Parties.{is_out, is_borrowed, place_of};
+ghost use Rattle.iox_lanes_machine.specs.LanesCalls.Publishing.{publisher_is_idle};
+ghost use Rattle.iox_lanes_machine.specs.LanesCalls.Subscribing.{subscriber_is_idle};
+ghost use Rattle.iox_lanes_machine.specs.LanesPublisher.Keeping.{loan_of};
+ghost use Rattle.iox_lanes_machine.specs.LanesParties.Parties.{is_out, is_borrowed, place_of};
 ghost use Rattle.iox_lanes_threads.specs.Opening.{Fitting};
 ghost use Rattle.iox_lanes_threads.specs.Ports.{AllBetween, NoneOut, MayOpen};
 ghost use Rattle.iox_lanes_threads.specs.Threads.{RefusesToOpen, OpenedAs};
@@ -111,7 +111,7 @@ fn refusal(lanes: &Lanes) -> Option<OpenError>
 
 /// Threads take over from lanes: each publisher and subscriber gets its share of the words, which stay as the lanes left them, and may go to a thread of its own.
 /// The board has this number, by which it knows its ports: whoever opens two gives them two. The lanes come back where a party is inside a call
-/// (`PartyInCall`), a loan or a sample is out (`SamplesOut`), more than 2^63 steps were made (`TooManySteps`), or memory is wanting (`OutOfMemory`), in this order. The
+/// (`PartyInCall`), a loan or a sample is out (`SamplesOut`), more than 2^63 steps were made (`TooManySteps`), or an allocation fails (`OutOfMemory`), in this order. The
 /// ports take no memory from here on.
 pub fn open_threads(
     alloc: Global,

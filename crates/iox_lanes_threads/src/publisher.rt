@@ -1,7 +1,7 @@
 //! A publisher with its share of the words.
-ghost use Rattle.std.specs.Prelude.{◌≡◌, true, is_some};
-ghost use Rattle.iox_lanes_parties.specs.Parties.{head_of};
-ghost use Rattle.iox_lanes_threads_ports.specs.Known.{KeepsPayload, KnowsHead, KnowsPayload};
+ghost use Rattle.std.specs.Prelude.{◌≡◌, true, is_some, IfSome};
+ghost use Rattle.iox_lanes_machine.specs.LanesParties.Parties.{head_of, with_user_header};
+ghost use Rattle.iox_lanes_threads_ports.specs.Known.{KeepsPayload, KnowsHead, KnowsPayload, KnowsSent};
 ghost use Rattle.iox_lanes_threads_ports.specs.Values.{Loans, Sends, Writes};
 ghost use Rattle.iox_lanes_threads.specs.Ports.{StaysPublisher};
 
@@ -74,6 +74,7 @@ impl LanePublisher {
         ensures same { StaysPublisher self.old self.new }
         ensures call { Writes self.old.own loan payload.now user_header.now self.new.own result }
         ensures payload { result ≡ true → KnowsPayload self.new.own.port loan payload.now }
+        ensures header { result ≡ true → head_of loan self.new.own.lane ≡ with_user_header (head_of loan self.old.own.lane) user_header.now }
     {
         self.port
             .write(self.words.words(), loan, payload, user_header)
@@ -84,6 +85,7 @@ impl LanePublisher {
         ensures same { StaysPublisher self.old self.new }
         ensures call { Sends self.old.own loan self.new.own result }
         ensures slot { is_some result ≡ true → KnowsHead self.new.own.port loan (head_of loan self.old.own.lane) × KeepsPayload self.old.own.port self.new.own.port loan }
+        ensures sent { IfSome result (λ delivery. KnowsSent self.old.own.port self.new.own.port self.old.own.lane.port.routes loan delivery) }
     {
         self.port.send(self.words.words(), loan)
     }

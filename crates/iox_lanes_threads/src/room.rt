@@ -1,10 +1,10 @@
 //! The room for ports in threads, and how they take their seats.
 ghost use Rattle.std.specs.Prelude.{◌≡◌, ◌<◌, ◌≤◌, ◌+◌, ◌++◌, ℕ, List, [], length, IfOk, vec_len, vec_capacity};
 ghost use Rattle.std.specs.List.{All};
-ghost use Rattle.iox_lanes_words.specs.Numbers.{words_of, IsSmall};
-ghost use Rattle.iox_lanes_calls.specs.declared.subscriber.SubscriberCall.TheVariants as subscribing;
-ghost use Rattle.iox_lanes_threads_rule.specs.Acts.{first_port};
-ghost use Rattle.iox_lanes_threads_rule.specs.declared.view.Port.{Port};
+ghost use Rattle.iox_lanes_machine.specs.LanesWords.Numbers.{words_of, IsSmall};
+ghost use Rattle.iox_lanes_machine.specs.LanesCalls.declared.subscriber.SubscriberCall.TheVariants as subscribing;
+ghost use Rattle.iox_lanes_threads_ports.specs.LanesThreadsRule.Acts.{first_port};
+ghost use Rattle.iox_lanes_threads_ports.specs.LanesThreadsRule.declared.view.Port.{Port};
 ghost use Rattle.iox_lanes_threads_ports.specs.Ports.{PublisherStands, SubscriberStands};
 ghost use Rattle.iox_lanes_threads_ports.specs.Values.{HasRoom};
 ghost use Rattle.iox_lanes_threads.specs.Opening.{others_wait, waits, publishers_from, subscribers_from, ports_of, first_view, Fitting, IsWaiting, WaitsFor};
@@ -176,7 +176,7 @@ fn seat_subscribers(
 }
 
 impl Room {
-    /// Room for the ports of these lanes. It fails only where memory is wanting.
+    /// Room for the ports of these lanes. It fails only where an allocation fails.
     pub(crate) fn new(alloc: Global, lanes: &Lanes) -> Result<Room, AllocError>
         requires { MayOpen lanes.now }
         ensures { IfOk result (λ room. IsRoomFor lanes.now room) }

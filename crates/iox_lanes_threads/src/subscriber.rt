@@ -1,8 +1,8 @@
 //! A subscriber with its share of the words.
-ghost use Rattle.std.specs.Prelude.{◌≡◌, true, Some};
-ghost use Rattle.iox_lanes_parties.specs.Parties.{subscriber_begun};
+ghost use Rattle.std.specs.Prelude.{◌≡◌, ◌+◌, true, false, length, Some};
+ghost use Rattle.iox_lanes_machine.specs.LanesParties.Parties.{subscriber_begun};
 ghost use Rattle.iox_lanes_threads_ports.specs.Courses.{SubscriberEnds};
-ghost use Rattle.iox_lanes_threads_ports.specs.Known.{KnowsRead, KnowsGivenBack};
+ghost use Rattle.iox_lanes_threads_ports.specs.Known.{KnowsRead, KnowsGivenBack, KeepsGivenBack};
 ghost use Rattle.iox_lanes_threads_ports.specs.Values.{Releases, Reads};
 ghost use Rattle.iox_lanes_threads.specs.Ports.{StaysSubscriber};
 
@@ -73,6 +73,7 @@ impl LaneSubscriber {
         ensures same { StaysSubscriber self.old self.new }
         ensures call { Reads self.old.own sample self.new.own result }
         ensures words { result ≡ true → KnowsRead self.new.own.port self.old.own.lane.port.extent sample self.new.own.words }
+        ensures whole { result ≡ true → length self.new.own.words ≡ 3 + self.old.own.lane.port.extent.user_header_words + self.old.own.lane.port.extent.payload_words }
     {
         self.port.read(self.words.words(), sample)
     }
@@ -89,6 +90,7 @@ impl LaneSubscriber {
         ensures same { StaysSubscriber self.old self.new }
         ensures call { Releases self.old.own sample self.new.own result }
         ensures put { result ≡ Some true → KnowsGivenBack self.old.own.port self.new.own.port self.old.own.lane sample }
+        ensures kept { result ≡ Some false → KeepsGivenBack self.old.own.port self.new.own.port self.old.own.lane sample }
     {
         self.port.release(self.words.words(), sample)
     }

@@ -1,6 +1,6 @@
 //! The table of words that the ports of a service share, and the seats that they step with.
 ghost use Rattle.std.specs.Prelude.{◌≡◌, ◌<◌, [], IfOk};
-ghost use Rattle.iox_lanes_threads_rule.specs.Acts.{first_port, single};
+ghost use Rattle.iox_lanes_threads_ports.specs.LanesThreadsRule.Acts.{first_port, single};
 ghost use Rattle.iox_lanes_threads.specs.Opening.{ports_of, others_wait, Fitting, IsWaiting, WaitsFor};
 
 use atomic_table::{Split, Table};
@@ -42,7 +42,7 @@ impl Model for Share {
 }
 
 impl Share {
-    /// The first share of a table. It fails only where memory is wanting.
+    /// The first share of a table. It fails only where an allocation fails.
     pub(crate) fn new(alloc: Global, table: LaneTable) -> Result<Share, AllocError>
         ensures { IfOk result (λ share. share ≡ table.shared.table_id) }
     {
@@ -80,7 +80,7 @@ impl Split<View> for GiveOut {
     ghost right = { first_waits };
 }
 
-/// A table that starts from the words of lanes, with a seat at which all their ports wait. It fails only where memory is wanting.
+/// A table that starts from the words of lanes, with a seat at which all their ports wait. It fails only where an allocation fails.
 pub(crate) fn open_table(alloc: Global, lanes: &Lanes) -> Result<(LaneTable, WordSeat), AllocError>
     requires { Fitting lanes.now }
     ensures { IfOk result (λ made. (made.1.table_id ≡ made.0.shared.table_id) × WaitsFor lanes.now made.0.shared.table_id made.1.me 0 (ports_of lanes.now)) }

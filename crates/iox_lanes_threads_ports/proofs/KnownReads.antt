@@ -2,21 +2,22 @@
 use Rattle.std.proofs.Common.{ℕ, ◌≡◌, ◌+◌, ◌-◌, ◌*◌, ◌<◌, ◌≤◌, ◌⊎◌, Bool, true, false, if◌then◌else◌, nat_lt, List, length, length-set, set, slice_index, refl, sym, ◌∙◌, ap, subst, inl, inr, arith}
 use Rattle.std.proofs.lemmas.Bool.{cases_order, ltb-true, ltb-false, lt-ltb}
 use Rattle.std.proofs.lemmas.List.{get_or-set_same, get_or-set_other}
-use Rattle.iox_queues_steps.specs.Access.{successor}
-use Rattle.iox_lanes_words.specs.Numbers.{slot_words, slots_first, slot_word_number, number_of, words_of, IsSlotWord, IsWord}
-use Rattle.iox_lanes_words.specs.declared.sizes.TableSizes.{TableSizes}
-use Rattle.iox_lanes_words.specs.declared.word.SharedWord.TheVariants.{Slot}
-use Rattle.iox_lanes_words.specs.declared.word.SlotWord.TheVariants.{Header, UserHeader, Payload}
-use Rattle.iox_lanes_calls.specs.Subscribing.{word_at, subscriber_next, subscriber_take, subscriber_change, subscriber_is_over, read_at}
-use Rattle.iox_lanes_calls.specs.declared.route.Route.{Route}
-use Rattle.iox_lanes_calls.specs.declared.subscriber.SlotExtent.{SlotExtent}
-use Rattle.iox_lanes_calls.specs.declared.subscriber.SubscriberCall.{SubscriberCall}
-use Rattle.iox_lanes_calls.specs.declared.subscriber.SubscriberCall.TheVariants as subscribing
-use Rattle.iox_lanes_subscriber.specs.Keeping.{SubscriberState, put_at, changed}
-use Rattle.iox_lanes_parties.specs.Parties.{SubscriberLaneState, subscriber_begun, subscriber_after, words_read}
-use Rattle.iox_lanes_parties.specs.Within.{IsSubscribing, IsExtent}
-use Rattle.iox_lanes_parties.specs.declared.call.Call.TheVariants as call
+use Rattle.iox_lanes_ledger.specs.QueuesSteps.Access.{successor}
+use Rattle.iox_lanes_ledger.specs.LanesWords.Numbers.{slot_words, slots_first, slot_word_number, number_of, words_of, IsSlotWord, IsWord}
+use Rattle.iox_lanes_ledger.specs.LanesWords.declared.sizes.TableSizes.{TableSizes}
+use Rattle.iox_lanes_ledger.specs.LanesWords.declared.word.SharedWord.TheVariants.{Slot}
+use Rattle.iox_lanes_ledger.specs.LanesWords.declared.word.SlotWord.TheVariants.{Header, UserHeader, Payload}
+use Rattle.iox_lanes_ledger.specs.LanesCalls.Subscribing.{word_at, subscriber_next, subscriber_take, subscriber_change, subscriber_is_over, read_at}
+use Rattle.iox_lanes_ledger.specs.LanesCalls.declared.route.Route.{Route}
+use Rattle.iox_lanes_ledger.specs.LanesCalls.declared.subscriber.SlotExtent.{SlotExtent}
+use Rattle.iox_lanes_ledger.specs.LanesCalls.declared.subscriber.SubscriberCall.{SubscriberCall}
+use Rattle.iox_lanes_ledger.specs.LanesCalls.declared.subscriber.SubscriberCall.TheVariants as subscribing
+use Rattle.iox_lanes_ledger.specs.LanesSubscriber.Keeping.{SubscriberState, put_at, changed}
+use Rattle.iox_lanes_ledger.specs.LanesParties.Parties.{SubscriberLaneState, subscriber_begun, subscriber_after, words_read}
+use Rattle.iox_lanes_ledger.specs.LanesParties.Within.{IsSubscribing, IsExtent}
+use Rattle.iox_lanes_ledger.specs.LanesParties.declared.call.Call.TheVariants as call
 use Rattle.iox_lanes_threads_rule.specs.Acts.{stepped, ToldBy}
+use Rattle.iox_lanes_threads_rule.specs.declared.service.Service.{Service}
 use Rattle.iox_lanes_threads_rule.specs.declared.view.Port.{Port}
 use Rattle.iox_lanes_threads_rule.specs.declared.view.PortParty.{PortParty}
 use Rattle.iox_lanes_threads_rule.proofs.Held as held_words
@@ -179,3 +180,16 @@ read_words_known p q old mine begun last sample words stands same begins run ove
     subst (λ (z : SlotExtent × List ℕ). KnowsRead q z.0 sample z.1)
     (λ i. (ap (λ (l : SubscriberLaneState). l.port.extent) (sym same) i, sym (are ∙ words_at_end last.port.call last.port.words sample ends) i))
     (read_known p mine sample q last stands' run' ends)
+
+-- and they are all of them
+pub read_whole : (p q : Port) (old mine begun last : SubscriberLaneState) (sample : ℕ) (words : List ℕ) → SubscriberStands p begun → SubscriberStands q last → q.service ≡ p.service → old ≡ mine → begun ≡ subscriber_begun 0 (call.Read sample) mine
+    → SubscriberGoes p begun q last → subscriber_is_over last.port.call ≡ true → words ≡ words_read last.port.call last.port.words → length words ≡ 3 + old.port.extent.user_header_words + old.port.extent.payload_words
+read_whole p q old mine begun last sample words stands ended service same begins run over are =
+    let run' : SubscriberGoes p (subscriber_begun 0 (call.Read sample) mine) q last = subst (λ (l : SubscriberLaneState). SubscriberGoes p l q last) begins run in
+    let ends : last.port.call ≡ subscribing.WasRead sample = read_at_end p mine sample q last run' over in
+    let all : length words ≡ length last.port.words = ap (λ (xs : List ℕ). length xs) (are ∙ words_at_end last.port.call last.port.words sample ends) in
+    let extent : IsExtent p.service.sizes old.port.extent = subst (λ (l : SubscriberLaneState). IsExtent p.service.sizes l.port.extent) (begins ∙ ap (subscriber_begun 0 (call.Read sample)) (sym same)) stands.within.extent in
+    let room : length last.port.words ≡ slot_words p.service.sizes = subst (λ (s : Service). length last.port.words ≡ slot_words s.sizes) service ended.room in
+    let u = extent.user_header in
+    let v = extent.payload in
+    omega (arith, all, room, u, v)

@@ -1,34 +1,34 @@
 -- After a release that was taken the port knows its sample in the ring of what was given back.
-use Rattle.std.proofs.Common.{ℕ, ◌≡◌, ◌-◌, ◌%◌, Bool, true, false, if◌then◌else◌, nat_lt, length, Option, Some, None, refl, sym, ◌∙◌, ap, subst, arith}
+use Rattle.std.proofs.Common.{ℕ, ◌≡◌, ◌-◌, ◌%◌, Bool, true, false, if◌then◌else◌, nat_lt, length, slice_get, Option, Some, None, refl, sym, ◌∙◌, ap, subst, arith}
 use Rattle.std.proofs.lemmas.Nat.{mod_below}
-use Rattle.iox_queues_steps.specs.Access.{successor}
-use Rattle.iox_queues_steps.specs.declared.access.Word.TheVariants.{Write, Cell}
-use Rattle.iox_queues_steps.specs.declared.order.PushAnswer.TheVariants.{Kept, LeftOut, Refused}
-use Rattle.iox_queues_refusing.specs.Refusing as refusing
-use Rattle.iox_queues_refusing.specs.declared.push.Push as push_type
-use Rattle.iox_queues_refusing.specs.declared.push.Push.TheVariants as push
-use Rattle.iox_lanes_words.specs.Numbers.{words_of, IsWord}
-use Rattle.iox_lanes_words.specs.Words.{on_ring}
-use Rattle.iox_lanes_words.specs.declared.word.ConnectionRing.{ConnectionRing}
-use Rattle.iox_lanes_words.specs.declared.word.ConnectionRing.TheVariants.{Completion}
-use Rattle.iox_lanes_words.specs.declared.word.SharedWord.TheVariants.{Ring}
-use Rattle.iox_lanes_calls.specs.Answers.{refusing_push_answer}
-use Rattle.iox_lanes_calls.specs.Subscribing.{subscriber_next, subscriber_take, released}
-use Rattle.iox_lanes_calls.specs.declared.route.Route.{Route}
-use Rattle.iox_lanes_calls.specs.declared.subscriber.SubscriberCall.{SubscriberCall}
-use Rattle.iox_lanes_calls.specs.declared.subscriber.SubscriberCall.TheVariants as subscribing
-use Rattle.iox_lanes_parties.specs.Parties.{SubscriberLaneState, subscriber_begun, subscriber_after, subscriber_answer, release_begun, place_of, route_at}
-use Rattle.iox_lanes_parties.specs.Within.{IsSubscribing, IsRoute}
-use Rattle.iox_lanes_parties.specs.declared.call.Answer.TheVariants as answer
-use Rattle.iox_lanes_parties.specs.declared.call.Call.TheVariants as call
+use Rattle.iox_lanes_ledger.specs.QueuesSteps.Access.{successor}
+use Rattle.iox_lanes_ledger.specs.QueuesSteps.declared.access.Word.TheVariants.{Write, Read, Cell}
+use Rattle.iox_lanes_ledger.specs.QueuesSteps.declared.order.PushAnswer.TheVariants.{Kept, LeftOut, Refused}
+use Rattle.iox_lanes_ledger.specs.QueuesRefusing.Refusing as refusing
+use Rattle.iox_lanes_ledger.specs.QueuesRefusing.declared.push.Push as push_type
+use Rattle.iox_lanes_ledger.specs.QueuesRefusing.declared.push.Push.TheVariants as push
+use Rattle.iox_lanes_ledger.specs.LanesWords.Numbers.{words_of, IsWord}
+use Rattle.iox_lanes_ledger.specs.LanesWords.Words.{on_ring}
+use Rattle.iox_lanes_ledger.specs.LanesWords.declared.word.ConnectionRing.{ConnectionRing}
+use Rattle.iox_lanes_ledger.specs.LanesWords.declared.word.ConnectionRing.TheVariants.{Completion}
+use Rattle.iox_lanes_ledger.specs.LanesWords.declared.word.SharedWord.TheVariants.{Ring}
+use Rattle.iox_lanes_ledger.specs.LanesCalls.Answers.{refusing_push_answer}
+use Rattle.iox_lanes_ledger.specs.LanesCalls.Subscribing.{subscriber_next, subscriber_take, released}
+use Rattle.iox_lanes_ledger.specs.LanesCalls.declared.route.Route.{Route}
+use Rattle.iox_lanes_ledger.specs.LanesCalls.declared.subscriber.SubscriberCall.{SubscriberCall}
+use Rattle.iox_lanes_ledger.specs.LanesCalls.declared.subscriber.SubscriberCall.TheVariants as subscribing
+use Rattle.iox_lanes_ledger.specs.LanesParties.Parties.{SubscriberLaneState, subscriber_begun, subscriber_after, subscriber_answer, release_begun, place_of, route_at}
+use Rattle.iox_lanes_ledger.specs.LanesParties.Within.{IsSubscribing, IsRoute}
+use Rattle.iox_lanes_ledger.specs.LanesParties.declared.call.Answer.TheVariants as answer
+use Rattle.iox_lanes_ledger.specs.LanesParties.declared.call.Call.TheVariants as call
 use Rattle.iox_lanes_threads_rule.specs.Service.{Stores}
 use Rattle.iox_lanes_threads_rule.specs.Acts.{stepped, ToldBy}
 use Rattle.iox_lanes_threads_rule.specs.declared.view.Port.{Port}
 use Rattle.iox_lanes_threads_rule.specs.declared.view.PortParty.{PortParty}
 use Rattle.iox_lanes_threads_rule.proofs.Held.{at_same, at_other}
-use Rattle.iox_lanes_threads_ports.specs.Courses.{subscriber_party, subscriber_stepped, SubscriberEnds}
+use Rattle.iox_lanes_threads_ports.specs.Courses.{subscriber_party, subscriber_stepped, SubscriberGoes, SubscriberEnds}
 use Rattle.iox_lanes_threads_ports.specs.Ends.{knows}
-use Rattle.iox_lanes_threads_ports.specs.Known.{KnowsPut, KnowsGivenBack}
+use Rattle.iox_lanes_threads_ports.specs.Known.{KnowsPut, KeepsWrite, KnowsGivenBack, KeepsGivenBack}
 use Rattle.iox_lanes_threads_ports.specs.Ports.{SubscriberStands}
 use Rattle.iox_lanes_threads_ports.specs.Values.{SubscriberPort, Releases}
 use Rattle.iox_lanes_threads_ports.proofs.Between.{call_after}
@@ -39,30 +39,35 @@ use Rattle.iox_lanes_threads_ports.proofs.SubscriberSteps.{begins, is_receiver, 
 abbrev pub Putting : Port → ℕ → ConnectionRing → ℕ → ℕ → Port → push_type.Push → Type 0
 Putting p c ring cells value q push.Idle = Unit {0}
 Putting p c ring cells value q (push.Begun limit v) = (v ≡ value) × (knows q (Ring c ring Write) ≡ knows p (Ring c ring Write))
-Putting p c ring cells value q (push.SawWrite limit v write next) = (v ≡ value) × (write ≡ knows p (Ring c ring Write)) × (next ≡ successor write)
+Putting p c ring cells value q (push.SawWrite limit v write next) = (v ≡ value) × (write ≡ knows p (Ring c ring Write)) × (next ≡ successor write) × KeepsWrite p q c ring
 Putting p c ring cells value q (push.SawRoom v write next) = (v ≡ value) × (write ≡ knows p (Ring c ring Write)) × (next ≡ successor write)
 Putting p c ring cells value q (push.Filled v next) =
     (next ≡ successor (knows p (Ring c ring Write))) × (knows q (Ring c ring (Cell (knows p (Ring c ring Write) % cells))) ≡ value)
 Putting p c ring cells value q (push.Pushed v Kept) = KnowsPut p q c ring cells value
 Putting p c ring cells value q (push.Pushed v (LeftOut oldest)) = ⊥
-Putting p c ring cells value q (push.Pushed v Refused) = Unit {0}
+Putting p c ring cells value q (push.Pushed v Refused) = KeepsWrite p q c ring
 
-write_cell : (c k : ℕ) (ring : ConnectionRing) → Ring c ring (Cell k) ≡ Ring c ring Write → ⊥
+pub read_write : (c : ℕ) (ring : ConnectionRing) → Ring c ring Read ≡ Ring c ring Write → ⊥
+read_write c ring e = cc e
+
+pub write_cell : (c k : ℕ) (ring : ConnectionRing) → Ring c ring (Cell k) ≡ Ring c ring Write → ⊥
 write_cell c k ring e = cc e
 
 module _ (p : Port) (c : ℕ) (ring : ConnectionRing) (cells value : ℕ) (q : Port) (n : ℕ) (after : ℕ → PortParty) (wide : length q.known ≡ words_of q.service.sizes) (write : IsWord q.service.sizes (Ring c ring Write))
+    (read : IsWord q.service.sizes (Ring c ring Read))
     (cell : (k : ℕ) → IsWord q.service.sizes (Ring c ring (Cell (k % cells)))) (mine : Stores q.service q.name (Ring c ring Write)) where
-  measured : (q' : Port) (limit v at next read : ℕ) (b : Bool) → v ≡ value → at ≡ knows p (Ring c ring Write) → next ≡ successor at
+  measured : (q' : Port) (limit v at next seen : ℕ) (b : Bool) → v ≡ value → at ≡ knows p (Ring c ring Write) → next ≡ successor at → KeepsWrite p q' c ring
       → Putting p c ring cells value q' (if b then push.SawRoom v at next else push.Pushed v Refused)
-  measured q' limit v at next read true e f g = (e, f, g)
-  measured q' limit v at next read false e f g = tt
+  measured q' limit v at next seen true e f g k = (e, f, g)
+  measured q' limit v at next seen false e f g k = k
 
   pub put_goes : (push : push_type.Push) → Putting p c ring cells value q push → ToldBy q (on_ring c ring cells (refusing.push_next push)) n
       → Putting p c ring cells value (stepped q (on_ring c ring cells (refusing.push_next push)) n after) (refusing.push_take push n)
   put_goes push.Idle h told = tt
-  put_goes (push.Begun limit v) h told = (h.0, sym (told.own mine) ∙ h.1, refl)
+  put_goes (push.Begun limit v) h told = (h.0, sym (told.own mine) ∙ h.1, refl, at_same q.service q.known (Ring c ring Write) n wide write ∙ sym (told.own mine) ∙ h.1)
   put_goes (push.SawWrite limit v at next) h told =
       measured (stepped q (on_ring c ring cells (refusing.push_next (push.SawWrite limit v at next))) n after) limit v at next n (nat_lt (at - n) limit) h.0 h.1 h.2
+      (at_other q.service q.known (Ring c ring Read) (Ring c ring Write) n read write (λ e. read_write c ring (sym e)) ∙ h.3)
   put_goes (push.SawRoom v at next) h told = (
     h.2 ∙ ap successor h.1,
     subst (λ (k : ℕ). knows (stepped q (on_ring c ring cells (refusing.push_next (push.SawRoom v at next))) n after) (Ring c ring (Cell (k % cells))) ≡ value) h.1
@@ -83,7 +88,7 @@ InGiving p route sample q (subscribing.Reading slot word extent) = ⊥
 InGiving p route sample q (subscribing.WasRead slot) = ⊥
 InGiving p route sample q (subscribing.Releasing place r push) = (r ≡ route) × Putting p r.connection Completion r.completion_cells sample q push
 InGiving p route sample q (subscribing.Released true) = KnowsPut p q route.connection Completion route.completion_cells sample
-InGiving p route sample q (subscribing.Released false) = Unit {0}
+InGiving p route sample q (subscribing.Released false) = KeepsWrite p q route.connection Completion
 
 released_from : (p : Port) (route : Route) (sample : ℕ) (q : Port) (place : ℕ) (r : Route) (push : push_type.Push) → r ≡ route → Putting p r.connection Completion r.completion_cells sample q push
     → InGiving p route sample q (released place r push (refusing_push_answer push))
@@ -94,7 +99,7 @@ released_from p route sample q place r (push.SawRoom v at next) e h = (e, h)
 released_from p route sample q place r (push.Filled v next) e h = (e, h)
 released_from p route sample q place r (push.Pushed v Kept) e h = subst (λ (z : Route). KnowsPut p q z.connection Completion z.completion_cells sample) e h
 released_from p route sample q place r (push.Pushed v (LeftOut oldest)) e h = absurd h
-released_from p route sample q place r (push.Pushed v Refused) e h = tt
+released_from p route sample q place r (push.Pushed v Refused) e h = subst (λ (z : Route). KeepsWrite p q z.connection Completion) e h
 
 module _ (p : Port) (route : Route) (sample : ℕ) (q : Port) (now : SubscriberLaneState) (stands : SubscriberStands q now) (n : ℕ) (after : ℕ → PortParty) where
   giving_goes : (c : SubscriberCall) → IsSubscribing q.service.sizes now.port.routes c → ToldBy q (subscriber_next c) n → InGiving p route sample q c
@@ -107,7 +112,7 @@ module _ (p : Port) (route : Route) (sample : ℕ) (q : Port) (now : SubscriberL
   giving_goes (subscribing.Releasing place r push) is told h =
       let own : IsRoute q.service.sizes r = is_route_at q now stands place r is in
       released_from p route sample (stepped q (subscriber_next (subscribing.Releasing place r push)) n after) place r (refusing.push_take push n) h.0
-      (put_goes p r.connection Completion r.completion_cells sample q n after stands.wide (own.connection, tt)
+      (put_goes p r.connection Completion r.completion_cells sample q n after stands.wide (own.connection, tt) (own.connection, tt)
       (λ k. (own.connection, omega (arith, mod_below k r.completion_cells own.gives_back, own.completion)))
       (is_receiver q.service q.name r (end_at q now stands place r is)) push h.1 told)
   giving_goes (subscribing.Released done) is told h = tt
@@ -125,6 +130,16 @@ giving_begins p lane sample place route (Some x) (Some y) e f = (same f, (refl, 
     same : Some y ≡ Some route → y ≡ route
     same h = cc h
 
+not_given : (p : Port) (route : Route) (sample : ℕ) (q : Port) (c : SubscriberCall) → InGiving p route sample q c → subscriber_answer c 0 ≡ Some (answer.Released false) → KeepsWrite p q route.connection Completion
+not_given p route sample q subscribing.Idle h e = absurd (cc e)
+not_given p route sample q (subscribing.Receiving place r pop waits) h e = absurd h
+not_given p route sample q (subscribing.Received receipt) h e = absurd h
+not_given p route sample q (subscribing.Reading slot word extent) h e = absurd h
+not_given p route sample q (subscribing.WasRead slot) h e = absurd h
+not_given p route sample q (subscribing.Releasing place r push) h e = absurd (cc e)
+not_given p route sample q (subscribing.Released true) h e = absurd (cc e)
+not_given p route sample q (subscribing.Released false) h e = h
+
 given_back : (p : Port) (route : Route) (sample : ℕ) (q : Port) (c : SubscriberCall) → InGiving p route sample q c → subscriber_answer c 0 ≡ Some (answer.Released true) → KnowsPut p q route.connection Completion route.completion_cells sample
 given_back p route sample q subscribing.Idle h e = absurd (cc e)
 given_back p route sample q (subscribing.Receiving place r pop waits) h e = absurd h
@@ -135,16 +150,28 @@ given_back p route sample q (subscribing.Releasing place r push) h e = absurd (c
 given_back p route sample q (subscribing.Released true) h e = h
 given_back p route sample q (subscribing.Released false) h e = absurd (cc e)
 
-ends_known : (p : Port) (lane : SubscriberLaneState) (sample : ℕ) (q : Port) (now : SubscriberLaneState) → SubscriberStands p (subscriber_begun 0 (call.Release sample) lane)
-    → SubscriberEnds p (subscriber_begun 0 (call.Release sample) lane) q now (answer.Released true) → KnowsGivenBack p q lane sample
-ends_known p lane sample q now stands ends place route at found =
-    let r : route_at (place_of sample lane) lane ≡ Some route = ap (λ (o : Option ℕ). route_at o lane) at ∙ found in
-    let end = subscriber_along (λ z l. InGiving p route sample z l.port.call) (giving_on p route sample) p (subscriber_begun 0 (call.Release sample) lane) q ends.last ends.goes stands
-    (giving_begins p lane sample place route (place_of sample lane) (route_at (place_of sample lane) lane) at r) in
-    given_back p route sample q ends.last.port.call end.1 ends.answers
+module _ (p : Port) (lane : SubscriberLaneState) (sample : ℕ) (q : Port) (now : SubscriberLaneState) (stands : SubscriberStands p (subscriber_begun 0 (call.Release sample) lane)) (place : ℕ) (route : Route) (at : place_of sample lane ≡ Some place)
+    (found : slice_get lane.port.routes place ≡ Some route) where
+  last_stage : (last : SubscriberLaneState) → SubscriberGoes p (subscriber_begun 0 (call.Release sample) lane) q last → InGiving p route sample q last.port.call
+  last_stage last run =
+      let r : route_at (place_of sample lane) lane ≡ Some route = ap (λ (o : Option ℕ). route_at o lane) at ∙ found in
+      (subscriber_along (λ z l. InGiving p route sample z l.port.call) (giving_on p route sample) p (subscriber_begun 0 (call.Release sample) lane) q last run stands
+      (giving_begins p lane sample place route (place_of sample lane) (route_at (place_of sample lane) lane) at r)).1
+
+  ends_known : SubscriberEnds p (subscriber_begun 0 (call.Release sample) lane) q now (answer.Released true) → KnowsPut p q route.connection Completion route.completion_cells sample
+  ends_known ends = given_back p route sample q ends.last.port.call (last_stage ends.last ends.goes) ends.answers
+
+  ends_kept : SubscriberEnds p (subscriber_begun 0 (call.Release sample) lane) q now (answer.Released false) → KeepsWrite p q route.connection Completion
+  ends_kept ends = not_given p route sample q ends.last.port.call (last_stage ends.last ends.goes) ends.answers
 
 -- a release that answers that its sample went back
 pub release_known : (old new : SubscriberPort) (sample : ℕ) (given : Option Bool) → SubscriberStands old.port old.lane → Releases old sample new given → given ≡ Some true → KnowsGivenBack old.port new.port old.lane sample
 release_known old new sample None stands h e = absurd (cc e)
-release_known old new sample (Some true) stands h e = ends_known old.port old.lane sample new.port new.lane (begins old.port old.lane 0 (call.Release sample) stands h.0) h.1
+release_known old new sample (Some true) stands h e = λ place route at found. ends_known old.port old.lane sample new.port new.lane (begins old.port old.lane 0 (call.Release sample) stands h.0) place route at found h.1
 release_known old new sample (Some false) stands h e = absurd (cc e)
+
+-- and one that answers that it did not
+pub release_kept : (old new : SubscriberPort) (sample : ℕ) (given : Option Bool) → SubscriberStands old.port old.lane → Releases old sample new given → given ≡ Some false → KeepsGivenBack old.port new.port old.lane sample
+release_kept old new sample None stands h e = absurd (cc e)
+release_kept old new sample (Some true) stands h e = absurd (cc e)
+release_kept old new sample (Some false) stands h e = λ place route at found. ends_kept old.port old.lane sample new.port new.lane (begins old.port old.lane 0 (call.Release sample) stands h.0) place route at found h.1

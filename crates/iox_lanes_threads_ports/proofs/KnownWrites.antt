@@ -1,26 +1,27 @@
 -- After a write the port knows its payload in the slot.
-use Rattle.std.proofs.Common.{ℕ, ◌≡◌, ◌+◌, ◌<◌, ◌≤◌, ◌⊎◌, ◌==◌, ◌&&◌, Bool, true, false, if◌then◌else◌, List, length, set, slice_get, slice_index, Option, Some, None, is_some, refl, sym, ◌∙◌, ap, subst, inl, inr, arith}
+use Rattle.std.proofs.Common.{ℕ, ◌≡◌, ◌+◌, ◌-◌, ◌<◌, ◌≤◌, ◌⊎◌, ◌==◌, ◌&&◌, Bool, true, false, if◌then◌else◌, List, [], length, set, get_or, slice_get, slice_index, Option, Some, None, is_some, refl, sym, ◌∙◌, ap, subst, inl, inr, arith}
 use Rattle.std.proofs.lemmas.Bool.{cases_lt, cases_order, eqb-true}
+use Rattle.std.proofs.lemmas.List.{get_or-set_same}
 use Rattle.std.proofs.lemmas.Option.{slice_get-get_or, slice_get_within}
-use Rattle.iox_queues_steps.specs.Access.{successor}
-use Rattle.iox_lanes_words.specs.Numbers.{number_of, words_of, IsWord}
-use Rattle.iox_lanes_words.specs.declared.word.SharedWord.TheVariants.{Slot}
-use Rattle.iox_lanes_words.specs.declared.word.SlotWord.TheVariants.{Payload}
-use Rattle.iox_lanes_calls.specs.Publishing.{publisher_is_idle, publisher_next, publisher_take, publisher_change, publisher_is_over, write_from}
-use Rattle.iox_lanes_calls.specs.declared.publisher.PublisherCall.{PublisherCall}
-use Rattle.iox_lanes_calls.specs.declared.publisher.PublisherCall.TheVariants as publishing
-use Rattle.iox_lanes_calls.specs.declared.route.Route.{Route}
-use Rattle.iox_lanes_publisher.specs.Keeping.{loan_of}
-use Rattle.iox_lanes_publisher.specs.Publishers.{words_of as call_words}
-use Rattle.iox_lanes_publisher.specs.declared.slot_book.LoanAnswer.{LoanAnswer}
-use Rattle.iox_lanes_parties.specs.Parties.{PublisherLaneState, is_out, publisher_fits, publisher_after, publisher_answer}
-use Rattle.iox_lanes_parties.specs.Within.{IsPublishing}
-use Rattle.iox_lanes_parties.specs.declared.call.Answer.{Answer}
-use Rattle.iox_lanes_parties.specs.declared.call.Answer.TheVariants as answer
-use Rattle.iox_lanes_parties.specs.declared.call.Call.TheVariants as call
-use Rattle.iox_lanes_parties.specs.declared.call.Move.{Move}
-use Rattle.iox_lanes_parties.specs.declared.call.Move.TheVariants.{Begin, GoOn}
-use Rattle.iox_lanes_parties.proofs.Rings.{and_left, and_right}
+use Rattle.iox_lanes_ledger.specs.QueuesSteps.Access.{successor}
+use Rattle.iox_lanes_ledger.specs.LanesWords.Numbers.{number_of, words_of, IsWord}
+use Rattle.iox_lanes_ledger.specs.LanesWords.declared.word.SharedWord.TheVariants.{Slot}
+use Rattle.iox_lanes_ledger.specs.LanesWords.declared.word.SlotWord.TheVariants.{Payload}
+use Rattle.iox_lanes_ledger.specs.LanesCalls.Publishing.{publisher_is_idle, publisher_next, publisher_take, publisher_change, publisher_is_over, write_from}
+use Rattle.iox_lanes_ledger.specs.LanesCalls.declared.publisher.PublisherCall.{PublisherCall}
+use Rattle.iox_lanes_ledger.specs.LanesCalls.declared.publisher.PublisherCall.TheVariants as publishing
+use Rattle.iox_lanes_ledger.specs.LanesCalls.declared.route.Route.{Route}
+use Rattle.iox_lanes_ledger.specs.LanesPublisher.Keeping.{loan_of}
+use Rattle.iox_lanes_ledger.specs.LanesPublisher.Publishers.{words_of as call_words}
+use Rattle.iox_lanes_ledger.specs.LanesPublisher.declared.slot_book.LoanAnswer.{LoanAnswer}
+use Rattle.iox_lanes_ledger.specs.LanesParties.Parties.{PublisherLaneState, is_out, publisher_fits, publisher_after, publisher_answer, head_of, with_user_header}
+use Rattle.iox_lanes_ledger.specs.LanesParties.Within.{IsPublishing}
+use Rattle.iox_lanes_ledger.specs.LanesParties.declared.call.Answer.{Answer}
+use Rattle.iox_lanes_ledger.specs.LanesParties.declared.call.Answer.TheVariants as answer
+use Rattle.iox_lanes_ledger.specs.LanesParties.declared.call.Call.TheVariants as call
+use Rattle.iox_lanes_ledger.specs.LanesParties.declared.call.Move.{Move}
+use Rattle.iox_lanes_ledger.specs.LanesParties.declared.call.Move.TheVariants.{Begin, GoOn}
+use Rattle.iox_lanes_ledger.proofs.LanesParties.Rings.{and_left, and_right}
 use Rattle.iox_lanes_threads_rule.specs.Acts.{stepped, ToldBy}
 use Rattle.iox_lanes_threads_rule.specs.declared.view.Port.{Port}
 use Rattle.iox_lanes_threads_rule.specs.declared.view.PortParty.{PortParty}
@@ -259,3 +260,35 @@ write_refused old loan payload user_header stands off = by_test (write_fits old.
         let body : length payload ≡ length old.lane.port.payload = eqb-true (length payload) (length old.lane.port.payload) (and_right (is_out (loan_of loan old.lane.port.book)) (length payload == length old.lane.port.payload) first) in
         let wide = stands.within.head in
         absurd (off (body ∙ stands.within.payload) (omega (arith, head, wide)))
+
+-- what a publisher keeps for its sends
+record KeepsHeads (lane : PublisherLaneState) (now : PublisherLaneState) : Type 0 where
+  heads : now.heads ≡ lane.heads
+  first : now.port.book.first ≡ lane.port.book.first
+
+heads_stay : (lane now : PublisherLaneState) (n : ℕ) → KeepsHeads lane now → KeepsHeads lane (publisher_after n now)
+heads_stay lane now n h = record { heads = h.heads; first = (publishers.changed_slots (publisher_change now.port.call n) now.port.book).first ∙ h.first }
+
+head_there : (lane now : PublisherLaneState) (loan : ℕ) (payload user_header : List ℕ) → loan - lane.port.book.first < length lane.heads → KeepsHeads (write_begins lane loan payload user_header) now
+    → head_of loan now ≡ with_user_header (head_of loan lane) user_header
+head_there lane now loan payload user_header less h =
+    (λ i. get_or (h.heads i) (loan - h.first i) []) ∙ get_or-set_same lane.heads (loan - lane.port.book.first) (with_user_header (head_of loan lane) user_header) [] less
+
+-- a write that was made keeps its user header for the send
+pub write_keeps : (old new : PublisherPort) (loan : ℕ) (payload user_header : List ℕ) (done : Bool) → PublisherStands old.port old.lane → Writes old loan payload user_header new done → done ≡ true
+    → head_of loan new.lane ≡ with_user_header (head_of loan old.lane) user_header
+write_keeps old new loan payload user_header false stands h e = absurd (cc e)
+write_keeps old new loan payload user_header true stands h e =
+    let run = h.1 in
+    let along = heads_along old.port (write_begins old.lane loan payload user_header) new.port run.last run.goes in
+    let ended : KeepsHeads (write_begins old.lane loan payload user_header) new.lane =
+    subst (KeepsHeads (write_begins old.lane loan payload user_header)) (sym run.after) (heads_stay (write_begins old.lane loan payload user_header) run.last 0 along) in
+    let may = and_right (publisher_is_idle old.lane.port.call) (is_out (loan_of loan old.lane.port.book) && (length payload == length old.lane.port.payload) && (3 + length user_header == length old.lane.port.head)) h.0 in
+    let first = and_left (is_out (loan_of loan old.lane.port.book) && (length payload == length old.lane.port.payload)) (3 + length user_header == length old.lane.port.head) may in
+    let mine = publishers.out_is_own old.lane.port.book loan (and_left (is_out (loan_of loan old.lane.port.book)) (length payload == length old.lane.port.payload) first) in
+    let heads = stands.within.heads in
+    head_there old.lane new.lane loan payload user_header (omega (arith, mine.0, mine.1, heads)) ended
+  where
+    heads_along : (p : Port) (lane : PublisherLaneState) (q : Port) (now : PublisherLaneState) → PublisherGoes p lane q now → KeepsHeads lane now
+    heads_along p lane _ _ stays = record { heads = refl; first = refl }
+    heads_along p lane _ _ (goes q now n run told) = heads_stay lane now n (heads_along p lane q now run)

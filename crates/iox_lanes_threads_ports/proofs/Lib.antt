@@ -12,3 +12,4 @@ pub mod KnownLoans
 pub mod KnownReads
 pub mod KnownReleases
 pub mod KnownSends
+pub mod KnownPushes

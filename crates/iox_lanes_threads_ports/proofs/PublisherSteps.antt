@@ -3,44 +3,44 @@ use Rattle.std.proofs.Common.{ℕ, ◌≡◌, ◌+◌, ◌-◌, ◌<◌, ◌≤�
 use Rattle.std.proofs.lemmas.Bool.{cases_lt, ltb-false}
 use Rattle.std.proofs.lemmas.List.{get_or_past}
 use Rattle.std.specs.List.{All}
-use Rattle.iox_queues_steps.specs.Access.{successor}
-use Rattle.iox_queues_steps.specs.declared.order.PushAnswer.{PushAnswer}
-use Rattle.iox_queues_steps.specs.declared.order.PopAnswer.{PopAnswer}
-use Rattle.iox_queues_steps.specs.declared.order.PopAnswer.TheVariants.{Got, Saw}
-use Rattle.iox_queues_refusing.specs.Refusing as refusing
-use Rattle.iox_queues_refusing.specs.declared.pop.Pop as refusing_pop_type
-use Rattle.iox_queues_rings.specs.Ends.{push_begun, push_next, push_take}
-use Rattle.iox_queues_rings.specs.declared.ends.RingKind.{RingKind}
-use Rattle.iox_queues_rings.specs.declared.ends.RingKind.TheVariants as kind
-use Rattle.iox_queues_rings.specs.declared.ends.Push.{Push}
-use Rattle.iox_queues_rings.specs.declared.ends.Push.TheVariants as ring_push
-use Rattle.iox_lanes_words.specs.Numbers.{number_of, words_of}
-use Rattle.iox_lanes_words.specs.Table.{IsOfTable}
-use Rattle.iox_lanes_words.specs.Words.{on_ring}
-use Rattle.iox_lanes_words.specs.declared.access.SharedAccess.{SharedAccess}
-use Rattle.iox_lanes_words.specs.declared.access.SharedAccess.TheVariants.{Load, Store, Exchange, Local}
-use Rattle.iox_lanes_words.specs.declared.word.ConnectionRing.TheVariants.{Submission, Completion}
-use Rattle.iox_lanes_calls.specs.Answers.{refusing_pop_answer, push_answer}
-use Rattle.iox_lanes_calls.specs.Publishing.{publisher_is_idle, publisher_next, publisher_take, publisher_change, loan_from, loan_reclaimed, write_from, head_from, push_from, sweep_from, send_reclaimed, pushed, counted, nothing_sent}
-use Rattle.iox_lanes_calls.specs.declared.publisher.Delivery.{Delivery}
-use Rattle.iox_lanes_calls.specs.declared.publisher.PublisherCall.{PublisherCall}
-use Rattle.iox_lanes_calls.specs.declared.publisher.PublisherCall.TheVariants as publishing
-use Rattle.iox_lanes_calls.specs.declared.publisher.PublisherChange.{PublisherChange}
-use Rattle.iox_lanes_calls.specs.declared.publisher.PublisherChange.TheVariants as change
-use Rattle.iox_lanes_calls.specs.declared.route.Route.{Route}
-use Rattle.iox_lanes_publisher.specs.Keeping.{BookState, changed, put_at, lent_from, first_free, dropped, loan_of, newest_of, unlent}
-use Rattle.iox_lanes_publisher.specs.Publishers.{words_of as call_words}
-use Rattle.iox_lanes_publisher.specs.declared.slot_book.LoanMark.{LoanMark}
-use Rattle.iox_lanes_publisher.specs.declared.slot_book.LoanMark.TheVariants as mark
-use Rattle.iox_lanes_parties.specs.Parties.{PublisherLaneState, is_out, is_written, publisher_may, publisher_fits, publisher_begun, publisher_after, head_of}
-use Rattle.iox_lanes_parties.specs.Within.{IsAt, IsPublishing, IsPublisher, IsRoute}
-use Rattle.iox_lanes_parties.specs.declared.call.Call.{Call}
-use Rattle.iox_lanes_parties.specs.declared.call.Call.TheVariants as call
-use Rattle.iox_lanes_parties.specs.declared.call.Move.TheVariants.{Begin}
-use Rattle.iox_lanes_parties.specs.declared.call.Party.{Party}
-use Rattle.iox_lanes_parties.specs.declared.call.Party.TheVariants.{Publisher, Subscriber}
-use Rattle.iox_lanes_parties.proofs.Rings.{and_left, and_right, all_at}
-use Rattle.iox_lanes_parties.proofs.PublishersWithin.{publishers_stay_within}
+use Rattle.iox_lanes_ledger.specs.QueuesSteps.Access.{successor}
+use Rattle.iox_lanes_ledger.specs.QueuesSteps.declared.order.PushAnswer.{PushAnswer}
+use Rattle.iox_lanes_ledger.specs.QueuesSteps.declared.order.PopAnswer.{PopAnswer}
+use Rattle.iox_lanes_ledger.specs.QueuesSteps.declared.order.PopAnswer.TheVariants.{Got, Saw}
+use Rattle.iox_lanes_ledger.specs.QueuesRefusing.Refusing as refusing
+use Rattle.iox_lanes_ledger.specs.QueuesRefusing.declared.pop.Pop as refusing_pop_type
+use Rattle.iox_lanes_ledger.specs.QueuesRings.Ends.{push_begun, push_next, push_take}
+use Rattle.iox_lanes_ledger.specs.QueuesRings.declared.ends.RingKind.{RingKind}
+use Rattle.iox_lanes_ledger.specs.QueuesRings.declared.ends.RingKind.TheVariants as kind
+use Rattle.iox_lanes_ledger.specs.QueuesRings.declared.ends.Push.{Push}
+use Rattle.iox_lanes_ledger.specs.QueuesRings.declared.ends.Push.TheVariants as ring_push
+use Rattle.iox_lanes_ledger.specs.LanesWords.Numbers.{number_of, words_of}
+use Rattle.iox_lanes_ledger.specs.LanesWords.Table.{IsOfTable}
+use Rattle.iox_lanes_ledger.specs.LanesWords.Words.{on_ring}
+use Rattle.iox_lanes_ledger.specs.LanesWords.declared.access.SharedAccess.{SharedAccess}
+use Rattle.iox_lanes_ledger.specs.LanesWords.declared.access.SharedAccess.TheVariants.{Load, Store, Exchange, Local}
+use Rattle.iox_lanes_ledger.specs.LanesWords.declared.word.ConnectionRing.TheVariants.{Submission, Completion}
+use Rattle.iox_lanes_ledger.specs.LanesCalls.Answers.{refusing_pop_answer, push_answer}
+use Rattle.iox_lanes_ledger.specs.LanesCalls.Publishing.{publisher_is_idle, publisher_next, publisher_take, publisher_change, loan_from, loan_reclaimed, write_from, head_from, push_from, sweep_from, send_reclaimed, pushed, counted, nothing_sent}
+use Rattle.iox_lanes_ledger.specs.LanesCalls.declared.publisher.Delivery.{Delivery}
+use Rattle.iox_lanes_ledger.specs.LanesCalls.declared.publisher.PublisherCall.{PublisherCall}
+use Rattle.iox_lanes_ledger.specs.LanesCalls.declared.publisher.PublisherCall.TheVariants as publishing
+use Rattle.iox_lanes_ledger.specs.LanesCalls.declared.publisher.PublisherChange.{PublisherChange}
+use Rattle.iox_lanes_ledger.specs.LanesCalls.declared.publisher.PublisherChange.TheVariants as change
+use Rattle.iox_lanes_ledger.specs.LanesCalls.declared.route.Route.{Route}
+use Rattle.iox_lanes_ledger.specs.LanesPublisher.Keeping.{BookState, changed, put_at, lent_from, first_free, dropped, loan_of, newest_of, unlent}
+use Rattle.iox_lanes_ledger.specs.LanesPublisher.Publishers.{words_of as call_words}
+use Rattle.iox_lanes_ledger.specs.LanesPublisher.declared.slot_book.LoanMark.{LoanMark}
+use Rattle.iox_lanes_ledger.specs.LanesPublisher.declared.slot_book.LoanMark.TheVariants as mark
+use Rattle.iox_lanes_ledger.specs.LanesParties.Parties.{PublisherLaneState, is_out, is_written, publisher_may, publisher_fits, publisher_begun, publisher_after, head_of}
+use Rattle.iox_lanes_ledger.specs.LanesParties.Within.{IsAt, IsPublishing, IsPublisher, IsRoute}
+use Rattle.iox_lanes_ledger.specs.LanesParties.declared.call.Call.{Call}
+use Rattle.iox_lanes_ledger.specs.LanesParties.declared.call.Call.TheVariants as call
+use Rattle.iox_lanes_ledger.specs.LanesParties.declared.call.Move.TheVariants.{Begin}
+use Rattle.iox_lanes_ledger.specs.LanesParties.declared.call.Party.{Party}
+use Rattle.iox_lanes_ledger.specs.LanesParties.declared.call.Party.TheVariants.{Publisher, Subscriber}
+use Rattle.iox_lanes_ledger.proofs.LanesParties.Rings.{and_left, and_right, all_at}
+use Rattle.iox_lanes_ledger.proofs.LanesParties.PublishersWithin.{publishers_stay_within}
 use Rattle.iox_lanes_threads_rule.specs.Service.{IsSender, HasSlot}
 use Rattle.iox_lanes_threads_rule.specs.Rule.{Overflows}
 use Rattle.iox_lanes_threads_rule.specs.Steps.{known_lost}
@@ -59,17 +59,17 @@ sends : (at : Option Line) (line : Line) (name : Party) → at ≡ Some line →
 sends None line name e own = absurd (cc e)
 sends (Some other) line name e own = let same : other ≡ line = cc e in own ∙ ap sender_of (sym same)
 
-is_sender : (s : Service) (name : Party) (route : Route) → IsEnd s sender_of name route → IsSender (slice_get s.lines route.connection) name
+pub is_sender : (s : Service) (name : Party) (route : Route) → IsEnd s sender_of name route → IsSender (slice_get s.lines route.connection) name
 is_sender s name route end = sends (slice_get s.lines route.connection) end.line name end.found end.own
 
 overflows : (s : Service) (name : Party) (route : Route) (end : IsEnd s sender_of name route) → IsRoute s.sizes route → route.kind ≡ kind.Overflowing → Overflows s route.connection end.line
 overflows s name route end is k = record { there = is.connection; found = end.found; kind = sym end.kind ∙ k }
 
 module _ (p : Port) (lane : PublisherLaneState) (stands : PublisherStands p lane) where
-  end_at : (place : ℕ) (route : Route) → IsAt lane.port.routes place route → IsEnd p.service sender_of p.name route
+  pub end_at : (place : ℕ) (route : Route) → IsAt lane.port.routes place route → IsEnd p.service sender_of p.name route
   end_at place route at = all_at (IsEnd p.service sender_of p.name) lane.port.routes place route at stands.routes
 
-  route_at : (place : ℕ) (route : Route) → IsAt lane.port.routes place route → IsRoute p.service.sizes route
+  pub route_at : (place : ℕ) (route : Route) → IsAt lane.port.routes place route → IsRoute p.service.sizes route
   route_at place route at = all_at (IsRoute p.service.sizes) lane.port.routes place route at stands.within.routes
 
   has_slot : (slot : ℕ) → IsOwnSlot lane.port.book slot → HasSlot p.service p.name slot
@@ -115,8 +115,8 @@ pub record SamePort (p q : Port) : Type 0 where
   pub wide : length q.known ≡ length p.known
 
 -- a publisher's slots stay
-record SameSlots (book now : BookState) : Type 0 where
-  first : now.first ≡ book.first
+pub record SameSlots (book now : BookState) : Type 0 where
+  pub first : now.first ≡ book.first
   loans : length now.loans ≡ length book.loans
 
 put_at_length : {X : Type 0} (xs : List X) (at : ℕ) (x : X) → length (put_at xs at x) ≡ length xs
@@ -144,7 +144,7 @@ newest_slots slot book before h =
 dropped_slots : (slot : ℕ) (book : BookState) → SameSlots book (dropped slot book)
 dropped_slots slot book = record { first = refl; loans = put_at_length book.loans (slot - book.first) mark.No }
 
-changed_slots : (c : PublisherChange) (book : BookState) → SameSlots book (changed c book)
+pub changed_slots : (c : PublisherChange) (book : BookState) → SameSlots book (changed c book)
 changed_slots change.Nothing book = record { first = refl; loans = refl }
 changed_slots change.Lend book = either_slots book _ _ (nat_lt book.out book.most_loans) (lent_slots book (first_free book.uses 0)) (record { first = refl; loans = refl })
 changed_slots (change.Mark slot) book = record { first = refl; loans = put_at_length book.loans (slot - book.first) mark.Written }
@@ -298,7 +298,7 @@ own_at book slot false e h =
       | inr past ↦ absurd (cc (h, get_or_past book.loans (slot - book.first) mark.No past))
     ]
 
-out_is_own : (book : BookState) (slot : ℕ) → is_out (loan_of slot book) ≡ true → IsOwnSlot book slot
+pub out_is_own : (book : BookState) (slot : ℕ) → is_out (loan_of slot book) ≡ true → IsOwnSlot book slot
 out_is_own book slot h = own_at book slot (nat_lt slot book.first) refl h
 
 written_is_out : (m : LoanMark) → is_written m ≡ true → is_out m ≡ true

@@ -1,41 +1,41 @@
 -- A subscriber stands where its port knows what the next step needs, from one step to the next.
-use Rattle.std.proofs.Common.{ℕ, ◌≡◌, ◌+◌, ◌<◌, ◌||◌, Bool, true, false, if◌then◌else◌, nat_lt, List, length, get_or, slice_get, Option, Some, None, refl, sym, ◌∙◌, ap, subst, inl, inr, arith}
+use Rattle.std.proofs.Common.{ℕ, ◌≡◌, ◌+◌, ◌<◌, ◌||◌, Bool, true, false, if◌then◌else◌, nat_lt, List, length, get_or, slice_get, Option, Some, None, refl, sym, ◌∙◌, ap, subst, inl, inr, arith, set, length-set}
 use Rattle.std.proofs.lemmas.Bool.{cases_lt}
 use Rattle.std.proofs.lemmas.List.{get_or_past}
 use Rattle.std.specs.List.{All}
-use Rattle.iox_queues_steps.specs.Access.{successor}
-use Rattle.iox_queues_steps.specs.declared.order.PushAnswer.{PushAnswer}
-use Rattle.iox_queues_steps.specs.declared.order.PushAnswer.TheVariants.{Kept, LeftOut, Refused}
-use Rattle.iox_queues_steps.specs.declared.order.PopAnswer.{PopAnswer}
-use Rattle.iox_queues_steps.specs.declared.order.PopAnswer.TheVariants.{Got, Saw}
-use Rattle.iox_queues_refusing.specs.Refusing as refusing
-use Rattle.iox_queues_refusing.specs.declared.push.Push as refusing_push_type
-use Rattle.iox_queues_rings.specs.Ends.{pop_first, pop_next, pop_take}
-use Rattle.iox_queues_rings.specs.declared.ends.RingKind.{RingKind}
-use Rattle.iox_queues_rings.specs.declared.ends.RingKind.TheVariants as kind
-use Rattle.iox_queues_rings.specs.declared.ends.Pop.{Pop}
-use Rattle.iox_queues_rings.specs.declared.ends.Pop.TheVariants as ring_pop
-use Rattle.iox_lanes_words.specs.Numbers.{words_of}
-use Rattle.iox_lanes_words.specs.Table.{IsOfTable}
-use Rattle.iox_lanes_words.specs.Words.{on_ring}
-use Rattle.iox_lanes_words.specs.declared.word.ConnectionRing.TheVariants.{Submission, Completion}
-use Rattle.iox_lanes_calls.specs.Answers.{refusing_push_answer, pop_answer}
-use Rattle.iox_lanes_calls.specs.Subscribing.{subscriber_is_idle, subscriber_next, subscriber_take, subscriber_change, is_full_at, receive_from, received, released}
-use Rattle.iox_lanes_calls.specs.declared.route.Route.{Route}
-use Rattle.iox_lanes_calls.specs.declared.subscriber.SlotExtent.{SlotExtent}
-use Rattle.iox_lanes_calls.specs.declared.subscriber.SubscriberCall.{SubscriberCall}
-use Rattle.iox_lanes_calls.specs.declared.subscriber.SubscriberCall.TheVariants as subscribing
-use Rattle.iox_lanes_calls.specs.declared.subscriber.SubscriberChange.{SubscriberChange}
-use Rattle.iox_lanes_calls.specs.declared.subscriber.SubscriberChange.TheVariants as change
-use Rattle.iox_lanes_subscriber.specs.Keeping.{SubscriberState, changed}
-use Rattle.iox_lanes_parties.specs.Parties.{SubscriberLaneState, subscriber_may, subscriber_fits, subscriber_begun, subscriber_after, release_begun, place_of, route_at}
-use Rattle.iox_lanes_parties.specs.Within.{IsAt, IsSubscribing, IsSubscriber, IsRoute}
-use Rattle.iox_lanes_parties.specs.declared.call.Call.{Call}
-use Rattle.iox_lanes_parties.specs.declared.call.Call.TheVariants as call
-use Rattle.iox_lanes_parties.specs.declared.call.Move.TheVariants.{Begin}
-use Rattle.iox_lanes_parties.specs.declared.call.Party.{Party}
-use Rattle.iox_lanes_parties.proofs.Rings.{and_right, all_at}
-use Rattle.iox_lanes_parties.proofs.SubscribersWithin.{subscribers_stay_within}
+use Rattle.iox_lanes_ledger.specs.QueuesSteps.Access.{successor}
+use Rattle.iox_lanes_ledger.specs.QueuesSteps.declared.order.PushAnswer.{PushAnswer}
+use Rattle.iox_lanes_ledger.specs.QueuesSteps.declared.order.PushAnswer.TheVariants.{Kept, LeftOut, Refused}
+use Rattle.iox_lanes_ledger.specs.QueuesSteps.declared.order.PopAnswer.{PopAnswer}
+use Rattle.iox_lanes_ledger.specs.QueuesSteps.declared.order.PopAnswer.TheVariants.{Got, Saw}
+use Rattle.iox_lanes_ledger.specs.QueuesRefusing.Refusing as refusing
+use Rattle.iox_lanes_ledger.specs.QueuesRefusing.declared.push.Push as refusing_push_type
+use Rattle.iox_lanes_ledger.specs.QueuesRings.Ends.{pop_first, pop_next, pop_take}
+use Rattle.iox_lanes_ledger.specs.QueuesRings.declared.ends.RingKind.{RingKind}
+use Rattle.iox_lanes_ledger.specs.QueuesRings.declared.ends.RingKind.TheVariants as kind
+use Rattle.iox_lanes_ledger.specs.QueuesRings.declared.ends.Pop.{Pop}
+use Rattle.iox_lanes_ledger.specs.QueuesRings.declared.ends.Pop.TheVariants as ring_pop
+use Rattle.iox_lanes_ledger.specs.LanesWords.Numbers.{slot_words, words_of}
+use Rattle.iox_lanes_ledger.specs.LanesWords.Table.{IsOfTable}
+use Rattle.iox_lanes_ledger.specs.LanesWords.Words.{on_ring}
+use Rattle.iox_lanes_ledger.specs.LanesWords.declared.word.ConnectionRing.TheVariants.{Submission, Completion}
+use Rattle.iox_lanes_ledger.specs.LanesCalls.Answers.{refusing_push_answer, pop_answer}
+use Rattle.iox_lanes_ledger.specs.LanesCalls.Subscribing.{subscriber_is_idle, subscriber_next, subscriber_take, subscriber_change, is_full_at, receive_from, received, released}
+use Rattle.iox_lanes_ledger.specs.LanesCalls.declared.route.Route.{Route}
+use Rattle.iox_lanes_ledger.specs.LanesCalls.declared.subscriber.SlotExtent.{SlotExtent}
+use Rattle.iox_lanes_ledger.specs.LanesCalls.declared.subscriber.SubscriberCall.{SubscriberCall}
+use Rattle.iox_lanes_ledger.specs.LanesCalls.declared.subscriber.SubscriberCall.TheVariants as subscribing
+use Rattle.iox_lanes_ledger.specs.LanesCalls.declared.subscriber.SubscriberChange.{SubscriberChange}
+use Rattle.iox_lanes_ledger.specs.LanesCalls.declared.subscriber.SubscriberChange.TheVariants as change
+use Rattle.iox_lanes_ledger.specs.LanesSubscriber.Keeping.{SubscriberState, changed, put_at}
+use Rattle.iox_lanes_ledger.specs.LanesParties.Parties.{SubscriberLaneState, subscriber_may, subscriber_fits, subscriber_begun, subscriber_after, release_begun, place_of, route_at}
+use Rattle.iox_lanes_ledger.specs.LanesParties.Within.{IsAt, IsSubscribing, IsSubscriber, IsRoute}
+use Rattle.iox_lanes_ledger.specs.LanesParties.declared.call.Call.{Call}
+use Rattle.iox_lanes_ledger.specs.LanesParties.declared.call.Call.TheVariants as call
+use Rattle.iox_lanes_ledger.specs.LanesParties.declared.call.Move.TheVariants.{Begin}
+use Rattle.iox_lanes_ledger.specs.LanesParties.declared.call.Party.{Party}
+use Rattle.iox_lanes_ledger.proofs.LanesParties.Rings.{and_right, all_at}
+use Rattle.iox_lanes_ledger.proofs.LanesParties.SubscribersWithin.{subscribers_stay_within}
 use Rattle.iox_lanes_threads_rule.specs.Service.{Refuses, IsReceiver, IsLoneReader}
 use Rattle.iox_lanes_threads_rule.specs.Rule.{Overflows}
 use Rattle.iox_lanes_threads_rule.specs.Acts.{stepped, MayAct, ToldBy}
@@ -95,6 +95,20 @@ changed_stays change.Nothing state = (refl, refl)
 changed_stays (change.Borrow place slot) state = (refl, refl)
 changed_stays (change.Note word value) state = (refl, refl)
 changed_stays (change.GiveBack place slot) state = (refl, refl)
+
+-- a step leaves the room for the words that are read
+put_length : {X : Type 0} (xs : List X) (w : ℕ) (x : X) → length (put_at xs w x) ≡ length xs
+put_length xs w x = by_test (nat_lt w (length xs))
+  where
+    by_test : (b : Bool) → length (if b then set xs w x else xs) ≡ length xs
+    by_test true = length-set xs w x
+    by_test false = refl
+
+changed_words : (c : SubscriberChange) (state : SubscriberState) → length (changed c state).words ≡ length state.words
+changed_words change.Nothing state = refl
+changed_words (change.Borrow place slot) state = refl
+changed_words (change.Note word value) state = put_length state.words word value
+changed_words (change.GiveBack place slot) state = refl
 
 module _ (p : Port) (lane : SubscriberLaneState) (stands : SubscriberStands p lane) where
   pub end_at : (place : ℕ) (route : Route) → IsAt lane.port.routes place route → IsEnd p.service receiver_of p.name route
@@ -162,6 +176,8 @@ module _ (p : Port) (lane : SubscriberLaneState) (stands : SubscriberStands p la
       let stays = changed_stays (subscriber_change lane.port.call n) (record lane.port { call = subscriber_take lane.port.routes lane.port.borrowed lane.port.most_borrowed lane.port.call n }) in
       record {
         wide = same.wide ∙ stands.wide ∙ ap (λ (s : Service). words_of s.sizes) (sym same.service);
+        room = changed_words (subscriber_change lane.port.call n) (record lane.port { call = subscriber_take lane.port.routes lane.port.borrowed lane.port.most_borrowed lane.port.call n })
+            ∙ stands.room ∙ ap (λ (s : Service). slot_words s.sizes) (sym same.service);
         within = subst (λ (s : Service). IsSubscriber s.sizes (subscriber_after n lane)) (sym same.service) ((subscribers_stay_within p.service.sizes lane stands.within).1 n);
         routes = subst (All (IsEnd (subscriber_stepped p lane n).service receiver_of (subscriber_stepped p lane n).name)) (sym stays.0) (moved_over (λ s name. All (IsEnd s receiver_of name) lane.port.routes) same stands.routes);
         knows = subst (SubscriberKnows (subscriber_stepped p lane n)) (sym stays.1) (goes_at n (subscriber_party lane) lane.port.call stands.within.call stands.knows of_table told);
@@ -174,26 +190,27 @@ borrowed_below samples sample place e = elim (cases_lt sample (length samples)) 
   | inr past ↦ absurd (cc (e, get_or_past samples sample None past))
 ]
 
-begun_at : (p : Port) (moment : ℕ) (c : Call) (lane : SubscriberLaneState) → subscriber_fits lane (Begin c) ≡ true → SubscriberStands p lane → SubscriberKnows p (subscriber_begun moment c lane).port.call × ((subscriber_begun moment c lane).port.routes ≡ lane.port.routes)
+begun_at : (p : Port) (moment : ℕ) (c : Call) (lane : SubscriberLaneState) → subscriber_fits lane (Begin c) ≡ true → SubscriberStands p lane → SubscriberKnows p (subscriber_begun moment c lane).port.call × ((subscriber_begun moment c lane).port.routes ≡ lane.port.routes) × ((subscriber_begun moment c lane).port.words ≡ lane.port.words)
 begun_at p moment call.LoanUninit lane fit stands = absurd (cc (and_right (subscriber_is_idle lane.port.call) (subscriber_may lane call.LoanUninit) fit))
 begun_at p moment (call.Write loan payload user_header) lane fit stands = absurd (cc (and_right (subscriber_is_idle lane.port.call) (subscriber_may lane (call.Write loan payload user_header)) fit))
 begun_at p moment (call.Send loan) lane fit stands = absurd (cc (and_right (subscriber_is_idle lane.port.call) (subscriber_may lane (call.Send loan)) fit))
 begun_at p moment (call.DropLoan loan) lane fit stands = absurd (cc (and_right (subscriber_is_idle lane.port.call) (subscriber_may lane (call.DropLoan loan)) fit))
-begun_at p moment call.Receive lane fit stands = (receive_knows p 0 (is_full_at lane.port.borrowed lane.port.most_borrowed 0) false (slice_get lane.port.routes 0), refl)
-begun_at p moment (call.Read sample) lane fit stands = (read_knows p sample 0 lane.port.extent (nat_lt 0 (3 + lane.port.extent.user_header_words + lane.port.extent.payload_words)), refl)
+begun_at p moment call.Receive lane fit stands = (receive_knows p 0 (is_full_at lane.port.borrowed lane.port.most_borrowed 0) false (slice_get lane.port.routes 0), refl, refl)
+begun_at p moment (call.Read sample) lane fit stands = (read_knows p sample 0 lane.port.extent (nat_lt 0 (3 + lane.port.extent.user_header_words + lane.port.extent.payload_words)), refl, refl)
 begun_at p moment (call.Release sample) lane fit stands = release_at (place_of sample lane) (route_at (place_of sample lane) lane) refl
   where
     release_at : (place : Option ℕ) (route : Option Route) → place_of sample lane ≡ place
-        → SubscriberKnows p (release_begun moment sample place route lane).port.call × ((release_begun moment sample place route lane).port.routes ≡ lane.port.routes)
-    release_at None route e = (stands.knows, refl)
-    release_at (Some place) None e = (stands.knows, refl)
-    release_at (Some place) (Some route) e = ((λ some_slot. omega (arith, borrowed_below lane.port.samples sample place e, stands.within.slots)), refl)
+        → SubscriberKnows p (release_begun moment sample place route lane).port.call × ((release_begun moment sample place route lane).port.routes ≡ lane.port.routes) × ((release_begun moment sample place route lane).port.words ≡ lane.port.words)
+    release_at None route e = (stands.knows, refl, refl)
+    release_at (Some place) None e = (stands.knows, refl, refl)
+    release_at (Some place) (Some route) e = ((λ some_slot. omega (arith, borrowed_below lane.port.samples sample place e, stands.within.slots)), refl, refl)
 
 pub begins : (p : Port) (lane : SubscriberLaneState) (moment : ℕ) (c : Call) → SubscriberStands p lane → subscriber_fits lane (Begin c) ≡ true → SubscriberStands p (subscriber_begun moment c lane)
 begins p lane moment c stands fit =
     let b = begun_at p moment c lane fit stands in
     record {
       wide = stands.wide;
+      room = ap (λ (words : List ℕ). length words) b.2 ∙ stands.room;
       within = (subscribers_stay_within p.service.sizes lane stands.within).0 moment c fit;
       routes = subst (All (IsEnd p.service receiver_of p.name)) (sym b.1) stands.routes;
       knows = b.0;

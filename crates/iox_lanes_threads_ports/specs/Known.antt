@@ -1,17 +1,20 @@
 -- What a port knows of the words of a slot.
-use Rattle.std.specs.Prelude.{ℕ, ◌≡◌, ◌+◌, ◌<◌, ◌%◌, List, length, slice_get, slice_index, Some}
-use Rattle.iox_queues_steps.specs.Access.{successor}
-use Rattle.iox_queues_steps.specs.declared.access.Word.TheVariants.{Write, Cell}
-use Rattle.iox_lanes_words.specs.declared.word.ConnectionRing.{ConnectionRing}
-use Rattle.iox_lanes_words.specs.declared.word.ConnectionRing.TheVariants.{Completion}
-use Rattle.iox_lanes_words.specs.declared.word.SharedWord.{SharedWord}
-use Rattle.iox_lanes_words.specs.declared.word.SharedWord.TheVariants.{Ring, Slot}
-use Rattle.iox_lanes_words.specs.declared.word.SlotWord.TheVariants.{Payload}
-use Rattle.iox_lanes_calls.specs.Publishing.{header_word}
-use Rattle.iox_lanes_calls.specs.Subscribing.{word_at}
-use Rattle.iox_lanes_calls.specs.declared.route.Route.{Route}
-use Rattle.iox_lanes_calls.specs.declared.subscriber.SlotExtent.{SlotExtent}
-use Rattle.iox_lanes_parties.specs.Parties.{SubscriberLaneState, place_of}
+use Rattle.std.specs.Prelude.{ℕ, ◌≡◌, ◌+◌, ◌<◌, ◌%◌, Bool, true, false, not, List, length, slice_get, slice_index, Some}
+use Rattle.iox_lanes_ledger.specs.QueuesSteps.Access.{successor}
+use Rattle.iox_lanes_ledger.specs.QueuesSteps.declared.access.Word.TheVariants.{Write, Cell}
+use Rattle.iox_lanes_ledger.specs.QueuesRings.declared.ends.RingKind.TheVariants.{Refusing}
+use Rattle.iox_lanes_ledger.specs.LanesWords.declared.word.ConnectionRing.{ConnectionRing}
+use Rattle.iox_lanes_ledger.specs.LanesWords.declared.word.ConnectionRing.TheVariants.{Submission, Completion}
+use Rattle.iox_lanes_ledger.specs.LanesWords.declared.word.SharedWord.{SharedWord}
+use Rattle.iox_lanes_ledger.specs.LanesWords.declared.word.SharedWord.TheVariants.{Ring, Slot}
+use Rattle.iox_lanes_ledger.specs.LanesWords.declared.word.SlotWord.TheVariants.{Payload}
+use Rattle.iox_lanes_ledger.specs.LanesCalls.Publishing.{header_word}
+use Rattle.iox_lanes_ledger.specs.LanesCalls.Subscribing.{word_at}
+use Rattle.iox_lanes_ledger.specs.LanesCalls.declared.publisher.Delivery.{Delivery}
+use Rattle.iox_lanes_ledger.specs.LanesCalls.declared.route.Route.{Route}
+use Rattle.iox_lanes_ledger.specs.LanesCalls.declared.subscriber.SlotExtent.{SlotExtent}
+use Rattle.iox_lanes_ledger.specs.Uses.{total}
+use Rattle.iox_lanes_ledger.specs.LanesParties.Parties.{SubscriberLaneState, place_of}
 use Rattle.iox_lanes_threads_rule.specs.declared.view.Port.{Port}
 use Rattle.iox_lanes_threads_ports.specs.Ends.{knows}
 
@@ -39,6 +42,10 @@ KnowsPut old new connection ring cells value =
     (knows new (Ring connection ring Write) ≡ successor (knows old (Ring connection ring Write)))
     × (knows new (Ring connection ring (Cell (knows old (Ring connection ring Write) % cells))) ≡ value)
 
+-- the write position of a ring is as it was
+abbrev pub KeepsWrite : Port → Port → ℕ → ConnectionRing → Type 0
+KeepsWrite old new connection ring = knows new (Ring connection ring Write) ≡ knows old (Ring connection ring Write)
+
 -- a sample was given back at the connection that it was borrowed of
 abbrev pub KnowsGivenBack : Port → Port → SubscriberLaneState → ℕ → Type 0
 KnowsGivenBack old new lane sample =
@@ -47,3 +54,17 @@ KnowsGivenBack old new lane sample =
 -- a slot's payload is as it was
 abbrev pub KeepsPayload : Port → Port → ℕ → Type 0
 KeepsPayload old new slot = (k : ℕ) → k < old.service.sizes.payload_words → knows new (payload_word slot k) ≡ knows old (payload_word slot k)
+
+-- a sample was not given back: the ring at the connection that it is borrowed of is as it was
+abbrev pub KeepsGivenBack : Port → Port → SubscriberLaneState → ℕ → Type 0
+KeepsGivenBack old new lane sample =
+    (place : ℕ) (route : Route) → place_of sample lane ≡ Some place → slice_get lane.port.routes place ≡ Some route → KeepsWrite old new route.connection Completion
+
+-- What a send did, by the places of its connections: those that got the slot have it in their rings of messages, and they are as many as took it; the others refuse,
+-- and their rings are as they were.
+pub record KnowsSent (old new : Port) (routes : List Route) (slot : ℕ) (delivery : Delivery) : Type 0 where
+  pub got : ℕ → Bool
+  pub puts : (place : ℕ) (route : Route) → slice_get routes place ≡ Some route → got place ≡ true → KnowsPut old new route.connection Submission route.submission_cells slot
+  pub left : (place : ℕ) (route : Route) → slice_get routes place ≡ Some route → got place ≡ false → (route.kind ≡ Refusing) × KeepsWrite old new route.connection Submission
+  pub taken : delivery.taken ≡ total got (length routes)
+  pub refused : delivery.refused ≡ total (λ place. not (got place)) (length routes)

@@ -6,3 +6,4 @@ pub mod Values
 pub mod Courses
 pub mod Pace
 pub mod Paces
+pub use Rattle.iox_lanes_threads_rule.specs as LanesThreadsRule

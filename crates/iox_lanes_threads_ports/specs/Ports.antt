@@ -1,27 +1,27 @@
 -- A port in threads: its lane, what it knows, and how the two fit.
 use Rattle.std.specs.Prelude.{ℕ, ◌≡◌, ◌+◌, ◌<◌, ◌≤◌, List, length, slice_get, Some, true}
 use Rattle.std.specs.List.{All}
-use Rattle.iox_queues_steps.specs.declared.access.Word.TheVariants.{Write, Read}
-use Rattle.iox_lanes_words.specs.Numbers.{words_of}
-use Rattle.iox_lanes_words.specs.declared.word.ConnectionRing.TheVariants.{Completion}
-use Rattle.iox_lanes_words.specs.declared.word.SharedWord.{SharedWord}
-use Rattle.iox_lanes_words.specs.declared.word.SharedWord.TheVariants.{Ring}
-use Rattle.iox_lanes_calls.specs.declared.publisher.PublisherCall.{PublisherCall}
-use Rattle.iox_lanes_calls.specs.declared.publisher.PublisherCall.TheVariants as publishing
-use Rattle.iox_lanes_calls.specs.declared.route.Route.{Route}
-use Rattle.iox_lanes_calls.specs.declared.subscriber.SubscriberCall.{SubscriberCall}
-use Rattle.iox_lanes_calls.specs.declared.subscriber.SubscriberCall.TheVariants as subscribing
-use Rattle.iox_lanes_publisher.specs.Keeping.{BookState}
-use Rattle.iox_lanes_calls.specs.Publishing.{publisher_next}
-use Rattle.iox_lanes_calls.specs.Subscribing.{subscriber_next}
-use Rattle.iox_lanes_parties.specs.Parties.{PublisherLaneState, SubscriberLaneState, publisher_fits, publisher_begun, publisher_after, subscriber_fits, subscriber_begun, subscriber_after}
-use Rattle.iox_lanes_parties.specs.declared.call.Call.{Call}
-use Rattle.iox_lanes_parties.specs.declared.call.Move.TheVariants.{Begin}
+use Rattle.iox_lanes_ledger.specs.QueuesSteps.declared.access.Word.TheVariants.{Write, Read}
+use Rattle.iox_lanes_ledger.specs.LanesWords.Numbers.{slot_words, words_of}
+use Rattle.iox_lanes_ledger.specs.LanesWords.declared.word.ConnectionRing.TheVariants.{Completion}
+use Rattle.iox_lanes_ledger.specs.LanesWords.declared.word.SharedWord.{SharedWord}
+use Rattle.iox_lanes_ledger.specs.LanesWords.declared.word.SharedWord.TheVariants.{Ring}
+use Rattle.iox_lanes_ledger.specs.LanesCalls.declared.publisher.PublisherCall.{PublisherCall}
+use Rattle.iox_lanes_ledger.specs.LanesCalls.declared.publisher.PublisherCall.TheVariants as publishing
+use Rattle.iox_lanes_ledger.specs.LanesCalls.declared.route.Route.{Route}
+use Rattle.iox_lanes_ledger.specs.LanesCalls.declared.subscriber.SubscriberCall.{SubscriberCall}
+use Rattle.iox_lanes_ledger.specs.LanesCalls.declared.subscriber.SubscriberCall.TheVariants as subscribing
+use Rattle.iox_lanes_ledger.specs.LanesPublisher.Keeping.{BookState}
+use Rattle.iox_lanes_ledger.specs.LanesCalls.Publishing.{publisher_next}
+use Rattle.iox_lanes_ledger.specs.LanesCalls.Subscribing.{subscriber_next}
+use Rattle.iox_lanes_ledger.specs.LanesParties.Parties.{PublisherLaneState, SubscriberLaneState, publisher_fits, publisher_begun, publisher_after, subscriber_fits, subscriber_begun, subscriber_after}
+use Rattle.iox_lanes_ledger.specs.LanesParties.declared.call.Call.{Call}
+use Rattle.iox_lanes_ledger.specs.LanesParties.declared.call.Move.TheVariants.{Begin}
 use Rattle.iox_lanes_threads_rule.specs.Acts.{MayAct, ToldBy}
 use Rattle.iox_lanes_threads_ports.specs.Courses.{publisher_stepped, subscriber_stepped}
-use Rattle.iox_lanes_parties.specs.Within.{IsPublisher, IsSubscriber}
-use Rattle.iox_lanes_parties.specs.declared.call.Party.{Party}
-use Rattle.iox_lanes_parties.specs.declared.call.Party.TheVariants.{Publisher, Subscriber}
+use Rattle.iox_lanes_ledger.specs.LanesParties.Within.{IsPublisher, IsSubscriber}
+use Rattle.iox_lanes_ledger.specs.LanesParties.declared.call.Party.{Party}
+use Rattle.iox_lanes_ledger.specs.LanesParties.declared.call.Party.TheVariants.{Publisher, Subscriber}
 use Rattle.iox_lanes_threads_rule.specs.declared.service.Line.{Line}
 use Rattle.iox_lanes_threads_rule.specs.declared.service.Service.{Service}
 use Rattle.iox_lanes_threads_rule.specs.declared.service.SlotRange.{SlotRange}
@@ -101,6 +101,7 @@ pub record PublisherStands (p : Port) (lane : PublisherLaneState) : Type 0 where
 -- a subscriber's lane likewise
 pub record SubscriberStands (p : Port) (lane : SubscriberLaneState) : Type 0 where
   pub wide : length p.known ≡ words_of p.service.sizes
+  pub room : length lane.port.words ≡ slot_words p.service.sizes
   pub within : IsSubscriber p.service.sizes lane
   pub routes : All (IsEnd p.service receiver_of p.name) lane.port.routes
   pub knows : SubscriberKnows p lane.port.call

@@ -1,10 +1,10 @@
 //! A publisher that steps in threads.
-ghost use Rattle.std.specs.Prelude.{◌≡◌, true, false, length, is_some, IfOk};
-ghost use Rattle.iox_lanes_words.specs.Numbers.{IsSmall};
+ghost use Rattle.std.specs.Prelude.{◌≡◌, true, false, length, is_some, IfOk, IfSome};
+ghost use Rattle.iox_lanes_ledger.specs.LanesWords.Numbers.{IsSmall};
 ghost use Rattle.std.specs.List.{All};
-ghost use Rattle.iox_lanes_parties.specs.Parties.{head_of, publisher_fits};
+ghost use Rattle.iox_lanes_ledger.specs.LanesParties.Parties.{head_of, with_user_header, publisher_fits};
 ghost use Rattle.iox_lanes_threads_rule.specs.Acts.{single, port_of};
-ghost use Rattle.iox_lanes_threads_ports.specs.Known.{KeepsPayload, KnowsHead, KnowsPayload};
+ghost use Rattle.iox_lanes_threads_ports.specs.Known.{KeepsPayload, KnowsHead, KnowsPayload, KnowsSent};
 ghost use Rattle.iox_lanes_threads_ports.specs.Ports.{PublisherStands};
 ghost use Rattle.iox_lanes_threads_ports.specs.Pace.{HasSteps};
 ghost use Rattle.iox_lanes_threads_ports.specs.Paces.{sweep_steps, loan_steps, write_steps, send_steps};
@@ -41,7 +41,7 @@ impl Model for ThreadedPublisher {
     ghost invariant = { λ t. IsSeated t.seat.table_id t.seat.me t.sizes × PublisherStands (port_of t.seat.me) t.lane × HasRoom t.sizes t.asked };
 }
 
-/// Room for a write. It fails only where memory is wanting.
+/// Room for a write. It fails only where an allocation fails.
 pub fn write_room(alloc: Global, sizes: &TableSizes) -> Result<Move, AllocError>
     ensures { IfOk result (λ room. HasRoom sizes.now room) }
 {
@@ -227,6 +227,7 @@ impl ThreadedPublisher {
         ensures same { SamePublisher self.old self.new }
         ensures call { Writes self.old loan payload.now user_header.now self.new result }
         ensures payload { result ≡ true → KnowsPayload self.new.port loan payload.now }
+        ensures header { result ≡ true → head_of loan self.new.lane ≡ with_user_header (head_of loan self.old.lane) user_header.now }
     {
         if !fill(&mut self.asked, loan, payload, user_header) {
             return false;
@@ -249,6 +250,7 @@ impl ThreadedPublisher {
         ensures same { SamePublisher self.old self.new }
         ensures call { Sends self.old loan self.new result }
         ensures slot { is_some result ≡ true → KnowsHead self.new.port loan (head_of loan self.old.lane) × KeepsPayload self.old.port self.new.port loan }
+        ensures sent { IfSome result (λ delivery. KnowsSent self.old.port self.new.port self.old.lane.port.routes loan delivery) }
     {
         let most = send_steps(&self.sizes);
         let step = Move::Begin(Call::Send { loan });

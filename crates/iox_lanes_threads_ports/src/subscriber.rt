@@ -1,10 +1,10 @@
 //! A subscriber that steps in threads.
-ghost use Rattle.std.specs.Prelude.{◌≡◌, ◌||◌, true, None, Some};
-ghost use Rattle.iox_lanes_calls.specs.Subscribing.{subscriber_is_idle, subscriber_is_over};
-ghost use Rattle.iox_lanes_parties.specs.Parties.{subscriber_begun, words_read};
+ghost use Rattle.std.specs.Prelude.{◌≡◌, ◌+◌, ◌||◌, true, false, length, None, Some};
+ghost use Rattle.iox_lanes_ledger.specs.LanesCalls.Subscribing.{subscriber_is_idle, subscriber_is_over};
+ghost use Rattle.iox_lanes_ledger.specs.LanesParties.Parties.{subscriber_begun, words_read};
 ghost use Rattle.iox_lanes_threads_rule.specs.Acts.{single, port_of};
 ghost use Rattle.iox_lanes_threads_ports.specs.Courses.{SubscriberEnds};
-ghost use Rattle.iox_lanes_threads_ports.specs.Known.{KnowsRead, KnowsGivenBack};
+ghost use Rattle.iox_lanes_threads_ports.specs.Known.{KnowsRead, KnowsGivenBack, KeepsGivenBack};
 ghost use Rattle.iox_lanes_threads_ports.specs.Ports.{SubscriberStands};
 ghost use Rattle.iox_lanes_threads_ports.specs.Values.{IsSeated, IsBetween, SameSubscriber, received_of, released_of, settled, Releases, Reads};
 
@@ -28,7 +28,7 @@ pub struct ThreadedSubscriber {
 impl Model for ThreadedSubscriber {
     ghost use Rattle.iox_lanes_threads_rule.specs.Acts.{port_of};
     ghost use Rattle.iox_lanes_threads_ports.specs.Ports.{SubscriberStands};
-    ghost use Rattle.iox_lanes_parties.specs.Parties.{words_read};
+    ghost use Rattle.iox_lanes_ledger.specs.LanesParties.Parties.{words_read};
     ghost use Rattle.iox_lanes_threads_ports.specs.Values.{SubscriberPort, IsSeated, IsBetween, settled};
 
     ghost Value = { SubscriberPort };
@@ -96,6 +96,7 @@ impl ThreadedSubscriber {
         ensures same { SameSubscriber self.old self.new }
         ensures call { Reads self.old sample self.new result }
         ensures words { result ≡ true → KnowsRead self.new.port self.old.lane.port.extent sample self.new.words }
+        ensures whole { result ≡ true → length self.new.words ≡ 3 + self.old.lane.port.extent.user_header_words + self.old.lane.port.extent.payload_words }
     {
         settle(&mut self.lane);
         if !self.lane.fits(&Move::Begin(Call::Read { sample })) {
@@ -119,6 +120,7 @@ impl ThreadedSubscriber {
         ensures same { SameSubscriber self.old self.new }
         ensures call { Releases self.old sample self.new result }
         ensures put { result ≡ Some true → KnowsGivenBack self.old.port self.new.port self.old.lane sample }
+        ensures kept { result ≡ Some false → KeepsGivenBack self.old.port self.new.port self.old.lane sample }
     {
         settle(&mut self.lane);
         if !self.lane.fits(&Move::Begin(Call::Release { sample })) {

@@ -1,7 +1,7 @@
 //! The steps of a subscriber's call.
 ghost use Rattle.std.specs.Prelude.{◌≡◌, true};
-ghost use Rattle.iox_lanes_words.specs.Numbers.{words_of, IsSmall};
-ghost use Rattle.iox_lanes_calls.specs.Subscribing.{subscriber_is_over};
+ghost use Rattle.iox_lanes_ledger.specs.LanesWords.Numbers.{words_of, IsSmall};
+ghost use Rattle.iox_lanes_ledger.specs.LanesCalls.Subscribing.{subscriber_is_over};
 ghost use Rattle.iox_lanes_threads_rule.specs.Acts.{single, port_of};
 ghost use Rattle.iox_lanes_threads_ports.specs.Courses.{subscriber_party, SubscriberSteps, SubscriberGoes};
 ghost use Rattle.iox_lanes_threads_ports.specs.Ports.{SubscriberStands};

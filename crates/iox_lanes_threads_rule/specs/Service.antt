@@ -1,11 +1,11 @@
 -- Which port of a service stores which of its words.
 use Rattle.std.specs.Prelude.{ℕ, ◌≡◌, ◌+◌, ◌<◌, ◌≤◌, length, slice_get, Option, None, Some}
-use Rattle.iox_queues_steps.specs.declared.access.Word.TheVariants.{Write, Read, Cell}
-use Rattle.iox_queues_rings.specs.declared.ends.RingKind.{RingKind}
-use Rattle.iox_queues_rings.specs.declared.ends.RingKind.TheVariants as kind
-use Rattle.iox_lanes_words.specs.declared.word.ConnectionRing.TheVariants.{Submission, Completion}
-use Rattle.iox_lanes_words.specs.declared.word.SharedWord.{SharedWord}
-use Rattle.iox_lanes_words.specs.declared.word.SharedWord.TheVariants.{Ring, Slot}
+use Rattle.iox_lanes_parties.specs.QueuesSteps.declared.access.Word.TheVariants.{Write, Read, Cell}
+use Rattle.iox_lanes_parties.specs.QueuesRings.declared.ends.RingKind.{RingKind}
+use Rattle.iox_lanes_parties.specs.QueuesRings.declared.ends.RingKind.TheVariants as kind
+use Rattle.iox_lanes_parties.specs.LanesWords.declared.word.ConnectionRing.TheVariants.{Submission, Completion}
+use Rattle.iox_lanes_parties.specs.LanesWords.declared.word.SharedWord.{SharedWord}
+use Rattle.iox_lanes_parties.specs.LanesWords.declared.word.SharedWord.TheVariants.{Ring, Slot}
 use Rattle.iox_lanes_parties.specs.declared.call.Party.{Party}
 use Rattle.iox_lanes_parties.specs.declared.call.Party.TheVariants.{Publisher, Subscriber}
 use Rattle.iox_lanes_threads_rule.specs.declared.service.Line.{Line}

@@ -2,3 +2,4 @@
 pub mod Words
 pub mod Numbers
 pub mod Table
+pub use Rattle.iox_queues_steps.specs as QueuesSteps

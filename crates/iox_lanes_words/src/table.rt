@@ -29,7 +29,7 @@ impl Model for WordTable {
 }
 
 impl WordTable {
-    /// A table whose words are all 0. It fails only where memory is wanting.
+    /// A table whose words are all 0. It fails only where an allocation fails.
     pub fn new(alloc: Global, sizes: TableSizes) -> Result<WordTable, AllocError>
         ensures { IfOk result (λ made. made ≡ record { sizes = sizes; words = replicate (words_of sizes) 0 }) }
     {

@@ -1,19 +1,19 @@
 -- What is read of words is what they write, and what is written is read.
 use Rattle.std.proofs.Common.{◌≡◌, ℕ, ◌<◌, List, [], ◌∷◌, Option, None, Some, refl, cond, sym, ap, ◌∙◌, subst, length, decimal, map, codes}
 use Rattle.std.specs.Option.{option_map}
-use Rattle.iox_command.specs.declared.command.Command.{Command}
-use Rattle.iox_command.specs.declared.command.Command.TheVariants as command
-use Rattle.iox_command.specs.declared.port.PortNumber.{PortNumber}
-use Rattle.iox_command.specs.declared.port.PortNumber.TheVariants as port
-use Rattle.iox_command.specs.declared.service.ServiceOptions.{ServiceOptions}
-use Rattle.iox_describe_base.specs.declared.pattern.MessagingPattern.{MessagingPattern}
-use Rattle.iox_command.specs.declared.step.ForeignStep.{ForeignStep}
-use Rattle.iox_command.specs.declared.step.StepBefore.{StepBefore}
-use Rattle.iox_command.specs.Patterns.{pattern_of}
-use Rattle.iox_line_services.specs.declared.service.NamedService.{NamedService}
-use Rattle.iox_line_services.specs.Services.{pattern_word, IsName, ServiceFits, Names}
-use Rattle.iox_line_services.specs.Reading.{pattern_named, name_of, named_service, service_of}
-use Rattle.iox_line_services.proofs.ServiceLemmas.{pattern_some, pattern_own, name_some, name_own, service_some, service_own}
+use Rattle.iox_line_steps.specs.Command.declared.command.Command.{Command}
+use Rattle.iox_line_steps.specs.Command.declared.command.Command.TheVariants as command
+use Rattle.iox_line_steps.specs.Command.declared.port.PortNumber.{PortNumber}
+use Rattle.iox_line_steps.specs.Command.declared.port.PortNumber.TheVariants as port
+use Rattle.iox_line_steps.specs.Command.declared.service.ServiceOptions.{ServiceOptions}
+use Rattle.iox_line_attributes.specs.DescribeBase.declared.pattern.MessagingPattern.{MessagingPattern}
+use Rattle.iox_line_steps.specs.Command.declared.step.ForeignStep.{ForeignStep}
+use Rattle.iox_line_steps.specs.Command.declared.step.StepBefore.{StepBefore}
+use Rattle.iox_line_steps.specs.Command.Patterns.{pattern_of}
+use Rattle.iox_line_steps.specs.LineServices.declared.service.NamedService.{NamedService}
+use Rattle.iox_line_steps.specs.LineServices.Services.{pattern_word, IsName, ServiceFits, Names}
+use Rattle.iox_line_steps.specs.LineServices.Reading.{pattern_named, name_of, named_service, service_of}
+use Rattle.iox_line_steps.proofs.LineServices.ServiceLemmas.{pattern_some, pattern_own, name_some, name_own, service_some, service_own}
 use Rattle.iox_line_attributes.specs.Attributes.{SpecifierFits, VerifierFits, Defines, Requires}
 use Rattle.iox_line_attributes.specs.Reading.{specifier_of, verifier_of}
 use Rattle.iox_line_attributes.proofs.SpellingLemmas.{specifier_some, specifier_own, verifier_some, verifier_own, AreMarked, defined_marked, required_marked, marked_unbarred, marked_starts}
@@ -21,11 +21,11 @@ use Rattle.iox_line_steps.specs.Steps.{StepFits, WritesSteps, WritesLists, Lists
 use Rattle.iox_line_steps.specs.Reading.{steps_of, lists_of}
 use Rattle.iox_line_steps.proofs.StepLemmas.{steps_some, steps_own}
 use Rattle.iox_line_steps.proofs.ListLemmas.{lists_some, lists_own, lists_start}
-use Rattle.iox_command_text.specs.Words.{AllOf, no_words, AreWritten}
-use Rattle.iox_command_text.specs.Numbers.{IsNumber, tag, number_of, tagged}
-use Rattle.iox_command_text.specs.Options.{or_else}
-use Rattle.iox_command_text.proofs.NumberLemmas.{number_some, number_own, tagged_some, tagged_own}
-use Rattle.iox_command_text.proofs.ChoiceLemmas.{choice_some, map_some}
+use Rattle.iox_line_attributes.specs.CommandText.Words.{AllOf, no_words, AreWritten}
+use Rattle.iox_line_attributes.specs.CommandText.Numbers.{IsNumber, tag, number_of, tagged}
+use Rattle.iox_line_attributes.specs.CommandText.Options.{or_else}
+use Rattle.iox_line_attributes.proofs.CommandText.NumberLemmas.{number_some, number_own, tagged_some, tagged_own}
+use Rattle.iox_line_attributes.proofs.CommandText.ChoiceLemmas.{choice_some, map_some}
 use Rattle.iox_line.specs.declared.verb.Verb.{Verb}
 use Rattle.iox_line.specs.declared.verb.Verb.TheVariants as verb
 use Rattle.iox_line.specs.declared.verb.ServiceVerb.{ServiceVerb}

@@ -1,7 +1,7 @@
 //! From the bytes of a line to the command that they spell.
 ghost use Rattle.std.specs.Prelude.{◌≡◌, ◌≤◌, length};
 ghost use Rattle.iox_line.specs.Reading.{of_verb, of_words, publisher_command, subscriber_command};
-ghost use Rattle.iox_command_text.specs.Memory.{MayLack};
+ghost use Rattle.iox_line_attributes.specs.CommandText.Memory.{MayLack};
 ghost use Rattle.iox_line.specs.Outcome.{Answers, takes_memory};
 
 use crate::arguments::{only, port, with_number, with_two, with_values};

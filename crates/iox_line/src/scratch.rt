@@ -28,7 +28,7 @@ impl Model for Scratch {
 }
 
 impl Scratch {
-    /// Room for the values of any line. Fails only where no memory is found.
+    /// Room for the values of any line. Fails only where an allocation fails.
     pub fn new(alloc: Global) -> Result<Self, AllocError>
         ensures { IfOk result (λ scratch. scratch ≡ []) }
     {

@@ -1,6 +1,6 @@
 //! Lines that name a service.
 ghost use Rattle.std.specs.Prelude.{◌≡◌};
-ghost use Rattle.iox_command_text.specs.Memory.{MayLack};
+ghost use Rattle.iox_line_attributes.specs.CommandText.Memory.{MayLack};
 ghost use Rattle.iox_line.specs.Reading.{of_service, create_command, open_command, open_or_create_command, foreign_command, together};
 ghost use Rattle.iox_line.specs.Outcome.{takes_memory};
 

@@ -1,11 +1,11 @@
 -- Steps that are gathered one after the other.
 use Rattle.std.proofs.Common.{◌≡◌, ℕ, Bool, true, false, List, [], ◌∷◌, ◌++◌, Option, None, Some, sym, ap, ◌∙◌}
-use Rattle.iox_describe_base.specs.declared.pattern.MessagingPattern.{MessagingPattern}
-use Rattle.iox_command.specs.declared.step.ForeignStep.{ForeignStep}
-use Rattle.iox_command.specs.declared.step.StepBefore.{StepBefore}
-use Rattle.iox_command_text.specs.Options.{after}
-use Rattle.iox_command_text.specs.Memory.{prepend}
-use Rattle.iox_command_text.proofs.GatherLemmas.{onto, onto_more}
+use Rattle.iox_line_services.specs.DescribeBase.declared.pattern.MessagingPattern.{MessagingPattern}
+use Rattle.iox_line_services.specs.Command.declared.step.ForeignStep.{ForeignStep}
+use Rattle.iox_line_services.specs.Command.declared.step.StepBefore.{StepBefore}
+use Rattle.iox_line_services.specs.CommandText.Options.{after}
+use Rattle.iox_line_services.specs.CommandText.Memory.{prepend}
+use Rattle.iox_line_services.proofs.CommandText.GatherLemmas.{onto, onto_more}
 use Rattle.iox_line_steps.specs.Reading.{step_of, each_step, next_access, and_then, listed_step, bar_or_step, lists_from}
 
 -- one more step

@@ -2,17 +2,17 @@
 use Rattle.std.proofs.Common.{◌≡◌, ℕ, ◌≤◌, ◌<◌, ◌==◌, Bool, true, false, nat_lt, List, [], ◌∷◌, ◌++◌, Option, None, Some, refl, cond, sym, ap, ◌∙◌, subst, decimal, arith, rules, eqb-true}
 use Rattle.std.specs.Option.{option_map}
 use Rattle.std.proofs.lemmas.Grind.{common_steps}
-use Rattle.iox_describe_base.specs.declared.pattern.MessagingPattern.{MessagingPattern}
-use Rattle.iox_command.specs.declared.step.ForeignStep.{ForeignStep}
-use Rattle.iox_command.specs.declared.step.ForeignStep.TheVariants as step
-use Rattle.iox_command.specs.declared.step.StepBefore.{StepBefore}
-use Rattle.iox_command_text.specs.Numbers.{IsNumber, number_of}
-use Rattle.iox_command_text.specs.Options.{after}
-use Rattle.iox_command_text.specs.Memory.{prepend}
-use Rattle.iox_command_text.proofs.MarkLemmas.{starts}
-use Rattle.iox_command_text.proofs.NumberLemmas.{number_some, number_own}
-use Rattle.iox_command_text.proofs.ChoiceLemmas.{map_some}
-use Rattle.iox_command_text.proofs.AfterLemmas.{after_some}
+use Rattle.iox_line_services.specs.DescribeBase.declared.pattern.MessagingPattern.{MessagingPattern}
+use Rattle.iox_line_services.specs.Command.declared.step.ForeignStep.{ForeignStep}
+use Rattle.iox_line_services.specs.Command.declared.step.ForeignStep.TheVariants as step
+use Rattle.iox_line_services.specs.Command.declared.step.StepBefore.{StepBefore}
+use Rattle.iox_line_services.specs.CommandText.Numbers.{IsNumber, number_of}
+use Rattle.iox_line_services.specs.CommandText.Options.{after}
+use Rattle.iox_line_services.specs.CommandText.Memory.{prepend}
+use Rattle.iox_line_services.proofs.CommandText.MarkLemmas.{starts}
+use Rattle.iox_line_services.proofs.CommandText.NumberLemmas.{number_some, number_own}
+use Rattle.iox_line_services.proofs.CommandText.ChoiceLemmas.{map_some}
+use Rattle.iox_line_services.proofs.CommandText.AfterLemmas.{after_some}
 use Rattle.iox_line_steps.specs.Steps.{WritesStep, StepFits, beginning, WritesLists, ListsFit}
 use Rattle.iox_line_steps.specs.Reading.{step_of, step_before, above, next_access, listed_step, and_then, bar_or_step, lists_from, lists_of}
 use Rattle.iox_line_steps.proofs.StepLemmas.{prepend_some, step_some, step_own}

@@ -2,20 +2,20 @@
 use Rattle.std.proofs.Common.{◌≡◌, ℕ, ◌<◌, true, List, [], ◌∷◌, ◌++◌, Option, None, Some, refl, sym, ap, ◌∙◌, subst, codes, arith, length}
 use Rattle.std.specs.Option.{option_map}
 use Rattle.std.proofs.lemmas.List.{append-nil}
-use Rattle.iox_describe_base.specs.declared.pattern.MessagingPattern.{MessagingPattern}
-use Rattle.iox_command.specs.declared.service.ServiceOptions.{ServiceOptions}
-use Rattle.iox_command.specs.declared.step.ForeignStep.{ForeignStep}
-use Rattle.iox_command.specs.declared.step.ForeignStep.TheVariants as step
-use Rattle.iox_command.specs.Patterns.{pattern_of}
-use Rattle.iox_command_text.specs.Words.{AllOf, AllLack, AreWritten, lacks, joined, pieces_of, pieces_left, before, beyond}
-use Rattle.iox_command_text.specs.Numbers.{IsNumber, tag, tagged}
-use Rattle.iox_command_text.specs.Options.{AnyOrder}
-use Rattle.iox_command_text.specs.Memory.{prepend}
-use Rattle.iox_command_text.proofs.WordLemmas.{whole, whole_text, before-separated, beyond-separated, before-alone, beyond-alone}
-use Rattle.iox_command_text.proofs.SpacedLemmas.{joined-pieces_of, pieces_some, pieces_of-joined}
-use Rattle.iox_command_text.proofs.MarkLemmas.{all_anyhow}
-use Rattle.iox_command_text.proofs.NumberLemmas.{tagged_some, tagged_own, decimal_lacks}
-use Rattle.iox_command_text.proofs.ChoiceLemmas.{choice_some, map_some}
+use Rattle.iox_line_services.specs.DescribeBase.declared.pattern.MessagingPattern.{MessagingPattern}
+use Rattle.iox_line_services.specs.Command.declared.service.ServiceOptions.{ServiceOptions}
+use Rattle.iox_line_services.specs.Command.declared.step.ForeignStep.{ForeignStep}
+use Rattle.iox_line_services.specs.Command.declared.step.ForeignStep.TheVariants as step
+use Rattle.iox_line_services.specs.Command.Patterns.{pattern_of}
+use Rattle.iox_line_services.specs.CommandText.Words.{AllOf, AllLack, AreWritten, lacks, joined, pieces_of, pieces_left, before, beyond}
+use Rattle.iox_line_services.specs.CommandText.Numbers.{IsNumber, tag, tagged}
+use Rattle.iox_line_services.specs.CommandText.Options.{AnyOrder}
+use Rattle.iox_line_services.specs.CommandText.Memory.{prepend}
+use Rattle.iox_line_services.proofs.CommandText.WordLemmas.{whole, whole_text, before-separated, beyond-separated, before-alone, beyond-alone}
+use Rattle.iox_line_services.proofs.CommandText.SpacedLemmas.{joined-pieces_of, pieces_some, pieces_of-joined}
+use Rattle.iox_line_services.proofs.CommandText.MarkLemmas.{all_anyhow}
+use Rattle.iox_line_services.proofs.CommandText.NumberLemmas.{tagged_some, tagged_own, decimal_lacks}
+use Rattle.iox_line_services.proofs.CommandText.ChoiceLemmas.{choice_some, map_some}
 use Rattle.iox_line_services.specs.Services.{service_words, ServiceFits}
 use Rattle.iox_line_services.specs.Reading.{options_of}
 use Rattle.iox_line_services.proofs.ServiceLemmas.{options_some, options_own}

@@ -1,12 +1,12 @@
 -- Words for steps.
 use Rattle.std.proofs.Common.{◌≡◌, ℕ, ◌==◌, Bool, true, false, List, [], ◌∷◌, ◌++◌, refl, cond, codes, decimal}
-use Rattle.iox_describe_base.specs.declared.pattern.MessagingPattern.{MessagingPattern}
-use Rattle.iox_command.specs.declared.step.ForeignStep.{ForeignStep}
-use Rattle.iox_command.specs.declared.step.ForeignStep.TheVariants as step
-use Rattle.iox_command.specs.declared.step.StepBefore.{StepBefore}
-use Rattle.iox_command_text.specs.Words.{AllOf, AreWords, has_no_space, joined}
-use Rattle.iox_command_text.specs.Numbers.{IsNumber, tag}
-use Rattle.iox_command_text.proofs.NumberLemmas.{decimal_no_space}
+use Rattle.iox_line_services.specs.DescribeBase.declared.pattern.MessagingPattern.{MessagingPattern}
+use Rattle.iox_line_services.specs.Command.declared.step.ForeignStep.{ForeignStep}
+use Rattle.iox_line_services.specs.Command.declared.step.ForeignStep.TheVariants as step
+use Rattle.iox_line_services.specs.Command.declared.step.StepBefore.{StepBefore}
+use Rattle.iox_line_services.specs.CommandText.Words.{AllOf, AreWords, has_no_space, joined}
+use Rattle.iox_line_services.specs.CommandText.Numbers.{IsNumber, tag}
+use Rattle.iox_line_services.proofs.CommandText.NumberLemmas.{decimal_no_space}
 use Rattle.iox_line_services.specs.Services.{service_words}
 use Rattle.iox_line_services.proofs.NoSpaceLemmas.{any_own, both_parts, both_words, service_are_words}
 use Rattle.iox_line_steps.specs.Steps.{option_tail, WritesStep, StepFits, WritesSteps, beginning, WritesLists, ListsFit}

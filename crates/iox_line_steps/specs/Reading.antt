@@ -1,16 +1,16 @@
 -- How foreign steps are read, word for word.
 use Rattle.std.specs.Prelude.{ℕ, ◌==◌, Bool, true, false, nat_lt, List, [], ◌∷◌, Option, None, Some, codes, if◌then◌else◌}
 use Rattle.std.specs.Option.{option_map}
-use Rattle.iox_describe_base.specs.declared.pattern.MessagingPattern.{MessagingPattern}
-use Rattle.iox_command.specs.declared.service.ServiceOptions.{ServiceOptions}
-use Rattle.iox_command.specs.declared.step.ForeignStep.{ForeignStep}
-use Rattle.iox_command.specs.declared.step.ForeignStep.TheVariants as step
-use Rattle.iox_command.specs.declared.step.StepBefore.{StepBefore}
-use Rattle.iox_command_text.specs.Words.{before, beyond, pieces_left, choice}
-use Rattle.iox_command_text.specs.Numbers.{number_of, tagged}
-use Rattle.iox_command_text.specs.Options.{after}
-use Rattle.iox_command_text.specs.Memory.{prepend}
-use Rattle.iox_command_text.specs.Letters.{bar, colon, comma, foreign_letter}
+use Rattle.iox_line_services.specs.DescribeBase.declared.pattern.MessagingPattern.{MessagingPattern}
+use Rattle.iox_line_services.specs.Command.declared.service.ServiceOptions.{ServiceOptions}
+use Rattle.iox_line_services.specs.Command.declared.step.ForeignStep.{ForeignStep}
+use Rattle.iox_line_services.specs.Command.declared.step.ForeignStep.TheVariants as step
+use Rattle.iox_line_services.specs.Command.declared.step.StepBefore.{StepBefore}
+use Rattle.iox_line_services.specs.CommandText.Words.{before, beyond, pieces_left, choice}
+use Rattle.iox_line_services.specs.CommandText.Numbers.{number_of, tagged}
+use Rattle.iox_line_services.specs.CommandText.Options.{after}
+use Rattle.iox_line_services.specs.CommandText.Memory.{prepend}
+use Rattle.iox_line_services.specs.CommandText.Letters.{bar, colon, comma, foreign_letter}
 use Rattle.iox_line_services.specs.Reading.{options_of}
 use Rattle.iox_line_steps.specs.declared.step.StepVerb.{StepVerb}
 use Rattle.iox_line_steps.specs.declared.step.StepVerb.TheVariants as verb

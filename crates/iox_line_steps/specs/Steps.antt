@@ -1,14 +1,14 @@
 -- How steps of foreign processes are written in a line.
 use Rattle.std.specs.Prelude.{ℕ, ◌≡◌, ◌≤◌, ◌==◌, List, [], ◌∷◌, ◌++◌, codes, decimal, if◌then◌else◌}
-use Rattle.iox_describe_base.specs.declared.pattern.MessagingPattern.{MessagingPattern}
-use Rattle.iox_command.specs.declared.step.ForeignStep.{ForeignStep}
-use Rattle.iox_command.specs.declared.step.ForeignStep.TheVariants as step
-use Rattle.iox_command.specs.declared.step.StepBefore.{StepBefore}
-use Rattle.iox_command.specs.Patterns.{pattern_of}
-use Rattle.iox_command_text.specs.Words.{joined}
-use Rattle.iox_command_text.specs.Numbers.{IsNumber, tag}
-use Rattle.iox_command_text.specs.Options.{AnyOrder}
-use Rattle.iox_command_text.specs.Letters.{bar, colon, comma, foreign_letter}
+use Rattle.iox_line_services.specs.DescribeBase.declared.pattern.MessagingPattern.{MessagingPattern}
+use Rattle.iox_line_services.specs.Command.declared.step.ForeignStep.{ForeignStep}
+use Rattle.iox_line_services.specs.Command.declared.step.ForeignStep.TheVariants as step
+use Rattle.iox_line_services.specs.Command.declared.step.StepBefore.{StepBefore}
+use Rattle.iox_line_services.specs.Command.Patterns.{pattern_of}
+use Rattle.iox_line_services.specs.CommandText.Words.{joined}
+use Rattle.iox_line_services.specs.CommandText.Numbers.{IsNumber, tag}
+use Rattle.iox_line_services.specs.CommandText.Options.{AnyOrder}
+use Rattle.iox_line_services.specs.CommandText.Letters.{bar, colon, comma, foreign_letter}
 use Rattle.iox_line_services.specs.Services.{service_words, ServiceFits}
 
 -- options after a colon, with a comma between each two; nothing where there are none

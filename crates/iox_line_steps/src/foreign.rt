@@ -1,6 +1,6 @@
 //! The steps of a line of their own.
 ghost use Rattle.std.specs.Prelude.{◌≡◌, [], ◌∷◌, ◌++◌, false};
-ghost use Rattle.iox_command_text.specs.Memory.{MayLack, some};
+ghost use Rattle.iox_line_services.specs.CommandText.Memory.{MayLack, some};
 ghost use Rattle.iox_line_steps.specs.Reading.{steps_of};
 
 use crate::step::step;

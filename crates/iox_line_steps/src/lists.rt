@@ -1,6 +1,6 @@
 //! The lists of steps before the accesses of a call.
 ghost use Rattle.std.specs.Prelude.{◌≡◌};
-ghost use Rattle.iox_command_text.specs.Memory.{MayLack, some};
+ghost use Rattle.iox_line_services.specs.CommandText.Memory.{MayLack, some};
 ghost use Rattle.iox_line_steps.specs.Reading.{next_access, listed_step, lists_of};
 
 use crate::foreign::append;

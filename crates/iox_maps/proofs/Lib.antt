@@ -4,3 +4,4 @@ pub mod Made
 pub mod Padding
 pub mod Pairs
 pub mod Tables
+pub use Rattle.iox_container.proofs as Container

@@ -11,3 +11,4 @@ pub mod Places
 pub mod PlacesLends
 pub mod SlotMapLends
 pub mod SlotTable
+pub use Rattle.iox_container.specs as Container

@@ -49,7 +49,7 @@ impl<K: Eq, V> Model for FlatMap<K, V> {
 impl<K: Eq, V> FlatMap<K, V> {
     ghost use Rattle.iox_maps.specs.FlatMapLends.{LendsOf};
 
-    /// An empty map of this capacity. It fails only where memory is wanting.
+    /// An empty map of this capacity. It fails only where an allocation fails.
     pub fn new(alloc: Global, capacity: usize) -> Result<Self, AllocError>
         ensures empty { IfOk result (λ m. m.values ≡ replicate capacity None) }
         ensures free { IfOk result (λ m. m.free ≡ range_with_len 0 capacity) }
@@ -142,7 +142,7 @@ impl<K: Eq, V> FlatMap<K, V> {
     }
 
     /// A clone of the value of the key, if the map has it. It fails only where the map has the key and the clone of its
-    /// value fails, as for want of memory.
+    /// value fails, as where an allocation fails.
     pub fn get(&self, key: &K) -> Result<Option<V>, AllocError>
     where
         V: Clone,

@@ -35,7 +35,7 @@ impl Model for LinkedKeys {
 }
 
 impl LinkedKeys {
-    /// No key, and room for so many. It fails only where memory is wanting.
+    /// No key, and room for so many. It fails only where an allocation fails.
     pub(crate) fn new(alloc: Global, room: usize) -> Result<Self, AllocError>
         requires { room + 1 < 2 ^ 64 }
         ensures { IfOk result (λ l. l ≡ record { keys = []; made = 0; room = room }) }

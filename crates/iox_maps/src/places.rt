@@ -31,7 +31,7 @@ impl<T> Model for Places<T> {
 impl<T> Places<T> {
     ghost use Rattle.iox_maps.specs.PlacesLends.{LendsPlace};
 
-    /// So many empty places. It fails only where memory is wanting.
+    /// So many empty places. It fails only where an allocation fails.
     pub(crate) fn new(alloc: Global, count: usize) -> Result<Self, AllocError>
         ensures { IfOk result (λ places. places ≡ replicate count None) }
     {

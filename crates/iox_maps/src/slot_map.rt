@@ -51,7 +51,7 @@ impl<T> Model for SlotMap<T> {
 impl<T> SlotMap<T> {
     ghost use Rattle.iox_maps.specs.SlotMapLends.{LendsAt, LendsHeld};
 
-    /// An empty map of this capacity. It fails only where memory is wanting.
+    /// An empty map of this capacity. It fails only where an allocation fails.
     pub fn new(alloc: Global, capacity: usize) -> Result<Self, AllocError>
         ensures empty { IfOk result (λ m. m.values ≡ replicate capacity None) }
         ensures free { IfOk result (λ m. m.free ≡ range_with_len 0 capacity) }
@@ -140,7 +140,7 @@ impl<T> SlotMap<T> {
         self.values.value_mut(key.value())
     }
 
-    /// Stores the value under the key that `next_free_key` tells, and returns it. If the map is full, the value is
+    /// Stores the value under the key that `next_free_key` returns, and returns it. If the map is full, the value is
     /// dropped.
     pub fn insert(&mut self, value: T) -> Option<SlotMapKey>
     where

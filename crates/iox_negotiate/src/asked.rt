@@ -1,7 +1,7 @@
 //! What a builder asks of a service, as a request of the rounds.
 ghost use Rattle.std.specs.Prelude.{◌≡◌};
-ghost use Rattle.iox_describe_base.specs.Hash.{service_hash_of};
-ghost use Rattle.iox_describe_settings.specs.Agreement.{agreement};
+ghost use Rattle.iox_negotiate_errors.specs.DescribeBase.Hash.{service_hash_of};
+ghost use Rattle.iox_negotiate_errors.specs.DescribeSettings.Agreement.{agreement};
 ghost use Rattle.iox_negotiate.specs.Asked.{IsRefusal};
 
 use iox_describe::pattern::{Pattern, describe};

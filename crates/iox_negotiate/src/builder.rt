@@ -1,13 +1,13 @@
 //! Builders: what is asked of a service is said setting by setting, and the service then created or opened.
 ghost use Rattle.std.specs.Prelude.{◌≡◌, [], IsOk, IfOk};
 ghost use Rattle.std.specs.Result.{result_map_both};
-ghost use Rattle.iox_describe_base.specs.Attributes.{required};
-ghost use Rattle.iox_describe_base.specs.Hash.{service_hash_of};
-ghost use Rattle.iox_describe_settings.specs.Agreement.{agreement};
-ghost use Rattle.iox_describe_verdict.specs.PublishSubscribeClauses as publish_subscribe_of;
-ghost use Rattle.iox_describe_verdict.specs.EventClauses as event_of;
-ghost use Rattle.iox_describe_verdict.specs.RequestResponseClauses as request_response_of;
-ghost use Rattle.iox_negotiate_rounds.specs.Opening.{Opens};
+ghost use Rattle.iox_negotiate_errors.specs.DescribeBase.Attributes.{required};
+ghost use Rattle.iox_negotiate_errors.specs.DescribeBase.Hash.{service_hash_of};
+ghost use Rattle.iox_negotiate_errors.specs.DescribeSettings.Agreement.{agreement};
+ghost use Rattle.iox_negotiate_errors.specs.DescribeVerdict.PublishSubscribeClauses as publish_subscribe_of;
+ghost use Rattle.iox_negotiate_errors.specs.DescribeVerdict.EventClauses as event_of;
+ghost use Rattle.iox_negotiate_errors.specs.DescribeVerdict.RequestResponseClauses as request_response_of;
+ghost use Rattle.iox_negotiate_errors.specs.NegotiateRounds.Opening.{Opens};
 ghost use Rattle.iox_negotiate.specs.Negotiation.{Negotiates, Creates, Either};
 ghost use Rattle.iox_negotiate.specs.Types.{types_of};
 
@@ -136,7 +136,7 @@ impl<P: Negotiated> ServiceBuilder<P> {
         self.hub
     }
 
-    /// The same builder, in memory of its own. Refused only for want of memory, which one that asks for no attributes takes
+    /// The same builder, in memory of its own. Refused only where an allocation fails, which one that asks for no attributes takes
     /// none of.
     pub fn try_clone(&self, alloc: Global) -> Result<Self, AllocError>
         ensures same { IfOk result (λ builder. builder ≡ self.now) }

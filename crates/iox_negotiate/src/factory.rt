@@ -1,8 +1,8 @@
 //! What an open service is to a node: a factory of ports.
 ghost use Rattle.std.specs.Prelude.{◌≡◌, ◌≢◌, Some, None, Ok, Err, IsSome, MatchResult};
 ghost use Rattle.std.specs.Result.{result_map_both};
-ghost use Rattle.iox_describe.specs.Within.{HasForm};
-ghost use Rattle.iox_negotiate_rounds.specs.Runs.{Does};
+ghost use Rattle.iox_negotiate_errors.specs.Describe.Within.{HasForm};
+ghost use Rattle.iox_negotiate_errors.specs.NegotiateRounds.Runs.{Does};
 ghost use Rattle.iox_negotiate_errors.specs.declared.close.CloseError.TheVariants.{NotThisStorage};
 ghost use Rattle.iox_negotiate.specs.Factory.{membership, segment_removed, RemovesSegment, RemovalGoes, Removes, Closes};
 

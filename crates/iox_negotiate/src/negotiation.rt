@@ -1,9 +1,9 @@
 //! From what is asked to a factory of ports.
 ghost use Rattle.std.specs.Result.{result_map_both};
-ghost use Rattle.iox_describe_base.specs.Hash.{service_hash_of};
-ghost use Rattle.iox_describe_settings.specs.Agreement.{agreement};
-ghost use Rattle.iox_negotiate_rounds.specs.Creating.{CreatesIf};
-ghost use Rattle.iox_negotiate_rounds.specs.Opening.{Opens, OpensOrCreates};
+ghost use Rattle.iox_negotiate_errors.specs.DescribeBase.Hash.{service_hash_of};
+ghost use Rattle.iox_negotiate_errors.specs.DescribeSettings.Agreement.{agreement};
+ghost use Rattle.iox_negotiate_errors.specs.NegotiateRounds.Creating.{CreatesIf};
+ghost use Rattle.iox_negotiate_errors.specs.NegotiateRounds.Opening.{Opens, OpensOrCreates};
 ghost use Rattle.iox_negotiate.specs.Negotiation.{Negotiates};
 
 use crate::asked::Asked;

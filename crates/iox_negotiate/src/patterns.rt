@@ -1,9 +1,9 @@
 //! The patterns with their errors, so that one builder serves all of them.
 ghost use Rattle.std.specs.Prelude.{◌≡◌};
-ghost use Rattle.iox_describe_base.specs.Attributes.{Required};
-ghost use Rattle.iox_negotiate_rounds.specs.declared.failure.CreateFailure.{CreateFailure};
-ghost use Rattle.iox_negotiate_rounds.specs.declared.failure.OpenFailure.{OpenFailure};
-ghost use Rattle.iox_negotiate_rounds.specs.declared.failure.OpenOrCreateFailure.{OpenOrCreateFailure};
+ghost use Rattle.iox_negotiate_errors.specs.DescribeBase.Attributes.{Required};
+ghost use Rattle.iox_negotiate_errors.specs.NegotiateRounds.declared.failure.CreateFailure.{CreateFailure};
+ghost use Rattle.iox_negotiate_errors.specs.NegotiateRounds.declared.failure.OpenFailure.{OpenFailure};
+ghost use Rattle.iox_negotiate_errors.specs.NegotiateRounds.declared.failure.OpenOrCreateFailure.{OpenOrCreateFailure};
 
 use iox_describe::AttributeVerifier;
 use iox_describe::pattern::{Event, Pattern, PublishSubscribe, RequestResponse};

@@ -1,7 +1,7 @@
 //! What messages carry: a type, or a slice of one.
 ghost use Rattle.std.specs.Prelude.{◌≡◌, codes};
-ghost use Rattle.iox_describe_base.specs.Detail.{Detail, detail};
-ghost use Rattle.iox_describe_base.specs.declared.type_detail.TypeVariant.TheVariants.{FixedSize, Dynamic};
+ghost use Rattle.iox_negotiate_errors.specs.DescribeBase.Detail.{Detail, detail};
+ghost use Rattle.iox_negotiate_errors.specs.DescribeBase.declared.type_detail.TypeVariant.TheVariants.{FixedSize, Dynamic};
 ghost use Rattle.iox_negotiate.specs.Types.{types_of, no_header, aligned};
 
 use iox_describe::{Header, MessageTypeDetails, TypeDetail, TypeVariant, ZeroCopySend};

@@ -1,6 +1,6 @@
 -- The errors of request-response services, of the failures of any pattern.
-use Rattle.iox_describe_verdict.specs.declared.requirement.request_response.ClauseError.{ClauseError}
-use Rattle.iox_describe_verdict.specs.declared.requirement.request_response.ClauseError.TheVariants as clause
+use Rattle.iox_negotiate_rounds.specs.DescribeVerdict.declared.requirement.request_response.ClauseError.{ClauseError}
+use Rattle.iox_negotiate_rounds.specs.DescribeVerdict.declared.requirement.request_response.ClauseError.TheVariants as clause
 use Rattle.iox_negotiate_rounds.specs.declared.failure.OpenFailure.{OpenFailure}
 use Rattle.iox_negotiate_rounds.specs.declared.failure.OpenFailure.TheVariants as unopened
 use Rattle.iox_negotiate_rounds.specs.declared.failure.CreateFailure.{CreateFailure}

@@ -1,13 +1,13 @@
 -- What is opened under a number is just what was agreed under it before.
 use Rattle.std.proofs.Common.{◌≡◌, ◌++◌, ℕ, List, [], ◌∷◌, None, Some, Result, Ok, Err, refl, sym, ap, subst, inl}
 use Rattle.std.specs.declared.alloc.AllocError.{AllocError}
-use Rattle.iox_describe_base.specs.declared.hash.ServiceHash.{ServiceHash}
-use Rattle.iox_describe_settings.specs.Agreement.{Agreement}
-use Rattle.iox_describe.specs.Line.{line}
-use Rattle.iox_describe.specs.Within.{IsWithinLimits}
-use Rattle.iox_negotiate_rounds.specs.Access.{Access, Look, Lock, MakeSegment, Publish, Unlock, OpenSegment, Leave, RemoveDescription, RemoveSegment}
-use Rattle.iox_negotiate_rounds.specs.Runs.{Went}
-use Rattle.iox_negotiate_rounds.specs.declared.request.Opened.{Opened}
+use Rattle.iox_negotiate_table.specs.DescribeBase.declared.hash.ServiceHash.{ServiceHash}
+use Rattle.iox_negotiate_table.specs.DescribeSettings.Agreement.{Agreement}
+use Rattle.iox_negotiate_table.specs.Describe.Line.{line}
+use Rattle.iox_negotiate_table.specs.Describe.Within.{IsWithinLimits}
+use Rattle.iox_negotiate_table.specs.NegotiateRounds.Access.{Access, Look, Lock, MakeSegment, Publish, Unlock, OpenSegment, Leave, RemoveDescription, RemoveSegment}
+use Rattle.iox_negotiate_table.specs.NegotiateRounds.Runs.{Went}
+use Rattle.iox_negotiate_table.specs.NegotiateRounds.declared.request.Opened.{Opened}
 use Rattle.iox_negotiate_table.specs.declared.entry.Entry.TheVariants.{Described}
 use Rattle.iox_negotiate_table.specs.Contents.{Contents}
 use Rattle.iox_negotiate_table.specs.Sights.{Sight}

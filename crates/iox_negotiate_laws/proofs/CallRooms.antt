@@ -1,8 +1,8 @@
 -- After any whole calls the segment of each published service has room for the agreed number of nodes.
 use Rattle.std.proofs.Common.{◌≡◌, ◌++◌, ℕ, List, [], ◌∷◌, sym, subst}
-use Rattle.iox_negotiate_rounds.specs.Access.{Access}
-use Rattle.iox_negotiate_rounds.specs.Runs.{Went}
-use Rattle.iox_negotiate_rounds.specs.Opening.{OpenRound, EitherRound}
+use Rattle.iox_negotiate_table.specs.NegotiateRounds.Access.{Access}
+use Rattle.iox_negotiate_table.specs.NegotiateRounds.Runs.{Went}
+use Rattle.iox_negotiate_table.specs.NegotiateRounds.Opening.{OpenRound, EitherRound}
 use Rattle.iox_negotiate_table.specs.Contents.{Contents, empty_table}
 use Rattle.iox_negotiate_table.specs.Stepped.{Steps, SteppedSight}
 use Rattle.iox_negotiate_laws.specs.Factories.{Factory}

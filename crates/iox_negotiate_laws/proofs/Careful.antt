@@ -1,29 +1,29 @@
 -- What creating, opening and closing publish, they publish right after its segment was made, with room for the agreed nodes.
 use Rattle.std.proofs.Common.{◌≡◌, ℕ, zero, suc, List, [], ◌∷◌, ◌++◌, Option, None, Some, Result, Ok, Err, refl, sym, ap, subst, ◌∙◌, ◌⊎◌, inl, inr}
 use Rattle.std.proofs.Math.Logic.{⊎_elim}
-use Rattle.iox_describe_base.specs.declared.hash.ServiceHash.{ServiceHash}
-use Rattle.iox_describe_settings.specs.Agreement.{Agreement, max_nodes_of}
-use Rattle.iox_describe.specs.Line.{line}
-use Rattle.iox_describe.specs.Within.{IsWithinLimits}
-use Rattle.iox_negotiate_rounds.specs.Access.{Access, Look, Lock, MakeSegment, Publish, Unlock, OpenSegment, Leave, RemoveDescription, RemoveSegment}
-use Rattle.iox_negotiate_rounds.specs.Creating.{Unlocks, Undoes, Publishes, Makes, LockGoes, Locks, CreatesSeen, CreatesIf}
-use Rattle.iox_negotiate_rounds.specs.Failing.{refusal_seen, lock_gives}
-use Rattle.iox_negotiate_rounds.specs.Opening.{Registers, OpensJudged, OpensSeen, OpenRound, EitherCreates, EitherSeen, EitherRound}
-use Rattle.iox_negotiate_rounds.specs.Runs.{Went, Led, Rounds}
-use Rattle.iox_negotiate_rounds.specs.declared.answer.MakeSegmentAnswer.TheVariants as making
-use Rattle.iox_negotiate_rounds.specs.declared.answer.PublishAnswer.TheVariants as publishing
-use Rattle.iox_negotiate_rounds.specs.declared.answer.LeaveAnswer.{LeaveAnswer}
-use Rattle.iox_negotiate_rounds.specs.declared.answer.LeaveAnswer.TheVariants as leaving
-use Rattle.iox_negotiate_rounds.specs.declared.answer.RemoveAnswer.{RemoveAnswer}
-use Rattle.iox_negotiate_rounds.specs.declared.answer.RemoveAnswer.TheVariants as removing
-use Rattle.iox_negotiate_rounds.specs.declared.creation.Attempt.{Attempt}
-use Rattle.iox_negotiate_rounds.specs.declared.failure.CreateFailure.{CreateFailure}
-use Rattle.iox_negotiate_rounds.specs.declared.failure.OpenFailure.{OpenFailure}
-use Rattle.iox_negotiate_rounds.specs.declared.failure.OpenOrCreateFailure.{OpenOrCreateFailure}
-use Rattle.iox_negotiate_rounds.specs.declared.request.Opened.{Opened}
-use Rattle.iox_negotiate_rounds.specs.declared.sight.Sight.{Sight}
-use Rattle.iox_negotiate_rounds.specs.declared.sight.Sight.TheVariants as sight
-use Rattle.iox_negotiate_errors.specs.declared.close.CloseError.{CloseError}
+use Rattle.iox_negotiate_table.specs.DescribeBase.declared.hash.ServiceHash.{ServiceHash}
+use Rattle.iox_negotiate_table.specs.DescribeSettings.Agreement.{Agreement, max_nodes_of}
+use Rattle.iox_negotiate_table.specs.Describe.Line.{line}
+use Rattle.iox_negotiate_table.specs.Describe.Within.{IsWithinLimits}
+use Rattle.iox_negotiate_table.specs.NegotiateRounds.Access.{Access, Look, Lock, MakeSegment, Publish, Unlock, OpenSegment, Leave, RemoveDescription, RemoveSegment}
+use Rattle.iox_negotiate_table.specs.NegotiateRounds.Creating.{Unlocks, Undoes, Publishes, Makes, LockGoes, Locks, CreatesSeen, CreatesIf}
+use Rattle.iox_negotiate_table.specs.NegotiateRounds.Failing.{refusal_seen, lock_gives}
+use Rattle.iox_negotiate_table.specs.NegotiateRounds.Opening.{Registers, OpensJudged, OpensSeen, OpenRound, EitherCreates, EitherSeen, EitherRound}
+use Rattle.iox_negotiate_table.specs.NegotiateRounds.Runs.{Went, Led, Rounds}
+use Rattle.iox_negotiate_table.specs.NegotiateRounds.declared.answer.MakeSegmentAnswer.TheVariants as making
+use Rattle.iox_negotiate_table.specs.NegotiateRounds.declared.answer.PublishAnswer.TheVariants as publishing
+use Rattle.iox_negotiate_table.specs.NegotiateRounds.declared.answer.LeaveAnswer.{LeaveAnswer}
+use Rattle.iox_negotiate_table.specs.NegotiateRounds.declared.answer.LeaveAnswer.TheVariants as leaving
+use Rattle.iox_negotiate_table.specs.NegotiateRounds.declared.answer.RemoveAnswer.{RemoveAnswer}
+use Rattle.iox_negotiate_table.specs.NegotiateRounds.declared.answer.RemoveAnswer.TheVariants as removing
+use Rattle.iox_negotiate_table.specs.NegotiateRounds.declared.creation.Attempt.{Attempt}
+use Rattle.iox_negotiate_table.specs.NegotiateRounds.declared.failure.CreateFailure.{CreateFailure}
+use Rattle.iox_negotiate_table.specs.NegotiateRounds.declared.failure.OpenFailure.{OpenFailure}
+use Rattle.iox_negotiate_table.specs.NegotiateRounds.declared.failure.OpenOrCreateFailure.{OpenOrCreateFailure}
+use Rattle.iox_negotiate_table.specs.NegotiateRounds.declared.request.Opened.{Opened}
+use Rattle.iox_negotiate_table.specs.NegotiateRounds.declared.sight.Sight.{Sight}
+use Rattle.iox_negotiate_table.specs.NegotiateRounds.declared.sight.Sight.TheVariants as sight
+use Rattle.iox_negotiate.specs.NegotiateErrors.declared.close.CloseError.{CloseError}
 use Rattle.iox_negotiate.specs.Factory.{RemovesSegment, RemovalGoes, Removes, LeaveGoes, Closes}
 use Rattle.iox_negotiate_table.specs.Stepped.{Steps, SteppedSight}
 use Rattle.iox_negotiate_laws.proofs.Stepping.{stepped-keeps}

@@ -7,16 +7,16 @@ use Rattle.std.specs.Ordering.{nat_cmp, is_eq}
 use Rattle.std.specs.Cmp.{nat_cmp_total}
 use Rattle.std.specs.Cmp.Lexicographic.{slice_cmp, nat_list_cmp_total}
 use Rattle.std.specs.BTreeMap.{is_at}
-use Rattle.iox_describe_base.specs.declared.hash.ServiceHash.{ServiceHash}
-use Rattle.iox_describe_settings.specs.Agreement.{Agreement, max_nodes_of}
-use Rattle.iox_describe.specs.Line.{line}
-use Rattle.iox_negotiate_rounds.specs.Access.{Access, Look, Lock, MakeSegment, Publish, Unlock, OpenSegment, Leave, RemoveDescription, RemoveSegment}
-use Rattle.iox_negotiate_rounds.specs.declared.answer.LockAnswer.{LockAnswer}
-use Rattle.iox_negotiate_rounds.specs.declared.answer.MakeSegmentAnswer.{MakeSegmentAnswer}
-use Rattle.iox_negotiate_rounds.specs.declared.answer.PublishAnswer.{PublishAnswer}
-use Rattle.iox_negotiate_rounds.specs.declared.answer.OpenSegmentAnswer.{OpenSegmentAnswer}
-use Rattle.iox_negotiate_rounds.specs.declared.answer.LeaveAnswer.{LeaveAnswer}
-use Rattle.iox_negotiate_rounds.specs.declared.answer.RemoveAnswer.{RemoveAnswer}
+use Rattle.iox_negotiate_table.specs.DescribeBase.declared.hash.ServiceHash.{ServiceHash}
+use Rattle.iox_negotiate_table.specs.DescribeSettings.Agreement.{Agreement, max_nodes_of}
+use Rattle.iox_negotiate_table.specs.Describe.Line.{line}
+use Rattle.iox_negotiate_table.specs.NegotiateRounds.Access.{Access, Look, Lock, MakeSegment, Publish, Unlock, OpenSegment, Leave, RemoveDescription, RemoveSegment}
+use Rattle.iox_negotiate_table.specs.NegotiateRounds.declared.answer.LockAnswer.{LockAnswer}
+use Rattle.iox_negotiate_table.specs.NegotiateRounds.declared.answer.MakeSegmentAnswer.{MakeSegmentAnswer}
+use Rattle.iox_negotiate_table.specs.NegotiateRounds.declared.answer.PublishAnswer.{PublishAnswer}
+use Rattle.iox_negotiate_table.specs.NegotiateRounds.declared.answer.OpenSegmentAnswer.{OpenSegmentAnswer}
+use Rattle.iox_negotiate_table.specs.NegotiateRounds.declared.answer.LeaveAnswer.{LeaveAnswer}
+use Rattle.iox_negotiate_table.specs.NegotiateRounds.declared.answer.RemoveAnswer.{RemoveAnswer}
 use Rattle.iox_negotiate_table.specs.declared.node.Node.{Node}
 use Rattle.iox_negotiate_table.specs.declared.node.Node.TheVariants.{Own, Foreign}
 use Rattle.iox_negotiate_table.specs.declared.entry.Entry.{Entry}

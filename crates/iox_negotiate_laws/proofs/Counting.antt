@@ -1,17 +1,17 @@
 -- After whole calls as many factories are registered as are open.
 use Rattle.std.proofs.Common.{◌≡◌, ◌≢◌, ℕ, ◌+◌, ◌-◌, ◌≤◌, Bool, true, false, cond, List, [], ◌∷◌, ◌++◌, Option, None, Some, Result, Ok, Err, nat_lt, unwrap_or, refl, sym, ap, subst, ◌∙◌, inl, inr, arith}
 use Rattle.std.specs.BTreeMap.{is_at}
-use Rattle.iox_describe_base.specs.declared.hash.ServiceHash.{ServiceHash}
-use Rattle.iox_describe.specs.Line.{line}
-use Rattle.iox_negotiate_rounds.specs.Access.{Access, MakeSegment, Publish, OpenSegment, Leave}
-use Rattle.iox_negotiate_rounds.specs.Opening.{OpenRound, EitherRound}
-use Rattle.iox_negotiate_rounds.specs.Runs.{Went}
-use Rattle.iox_negotiate_rounds.specs.declared.answer.LeaveAnswer.{LeaveAnswer}
-use Rattle.iox_negotiate_rounds.specs.declared.answer.OpenSegmentAnswer.TheVariants as opening
-use Rattle.iox_negotiate_rounds.specs.declared.answer.MakeSegmentAnswer.TheVariants as making
-use Rattle.iox_negotiate_rounds.specs.declared.answer.PublishAnswer.TheVariants as publishing
-use Rattle.iox_negotiate_rounds.specs.declared.request.Opened.{Opened}
-use Rattle.iox_negotiate_errors.specs.declared.close.CloseError.{CloseError}
+use Rattle.iox_negotiate_table.specs.DescribeBase.declared.hash.ServiceHash.{ServiceHash}
+use Rattle.iox_negotiate_table.specs.Describe.Line.{line}
+use Rattle.iox_negotiate_table.specs.NegotiateRounds.Access.{Access, MakeSegment, Publish, OpenSegment, Leave}
+use Rattle.iox_negotiate_table.specs.NegotiateRounds.Opening.{OpenRound, EitherRound}
+use Rattle.iox_negotiate_table.specs.NegotiateRounds.Runs.{Went}
+use Rattle.iox_negotiate_table.specs.NegotiateRounds.declared.answer.LeaveAnswer.{LeaveAnswer}
+use Rattle.iox_negotiate_table.specs.NegotiateRounds.declared.answer.OpenSegmentAnswer.TheVariants as opening
+use Rattle.iox_negotiate_table.specs.NegotiateRounds.declared.answer.MakeSegmentAnswer.TheVariants as making
+use Rattle.iox_negotiate_table.specs.NegotiateRounds.declared.answer.PublishAnswer.TheVariants as publishing
+use Rattle.iox_negotiate_table.specs.NegotiateRounds.declared.request.Opened.{Opened}
+use Rattle.iox_negotiate.specs.NegotiateErrors.declared.close.CloseError.{CloseError}
 use Rattle.iox_negotiate.specs.Factory.{Closes}
 use Rattle.iox_negotiate_table.specs.declared.node.Node.TheVariants.{Own}
 use Rattle.iox_negotiate_table.specs.declared.entry.Entry.TheVariants.{Described}

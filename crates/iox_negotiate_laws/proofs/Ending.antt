@@ -2,29 +2,29 @@
 use Rattle.std.proofs.Common.{◌≡◌, ℕ, List, [], ◌∷◌, ◌++◌, Option, None, Some, Result, Ok, Err, refl, sym, ap, subst, ◌∙◌, inl, inr}
 use Rattle.std.specs.declared.alloc.AllocError.{AllocError}
 use Rattle.std.proofs.Math.Logic.{⊎_elim}
-use Rattle.iox_describe_base.specs.declared.hash.ServiceHash.{ServiceHash}
-use Rattle.iox_describe_settings.specs.Agreement.{Agreement, max_nodes_of}
-use Rattle.iox_describe.specs.Line.{line}
-use Rattle.iox_negotiate_rounds.specs.Access.{Access, Look, MakeSegment, Publish, OpenSegment}
-use Rattle.iox_negotiate_rounds.specs.Creating.{CreatesIf}
-use Rattle.iox_negotiate_rounds.specs.Failing.{opened, entered, created, created_or_again, opened_or_again}
-use Rattle.iox_negotiate_rounds.specs.Opening.{Registers, OpensJudged, OpensSeen, OpenRound, Opens, EitherCreates, EitherSeen, EitherRound, OpensOrCreates}
-use Rattle.iox_negotiate_rounds.specs.Runs.{Went, Rounds}
-use Rattle.iox_negotiate_rounds.specs.Sight.{IsSight, Describes}
-use Rattle.iox_negotiate_rounds.specs.declared.answer.LookAnswer.{LookAnswer}
-use Rattle.iox_negotiate_rounds.specs.declared.answer.LookAnswer.TheVariants as look
-use Rattle.iox_negotiate_rounds.specs.declared.answer.OpenSegmentAnswer.{OpenSegmentAnswer}
-use Rattle.iox_negotiate_rounds.specs.declared.answer.OpenSegmentAnswer.TheVariants as opening
-use Rattle.iox_negotiate_rounds.specs.declared.answer.MakeSegmentAnswer.TheVariants as making
-use Rattle.iox_negotiate_rounds.specs.declared.answer.PublishAnswer.TheVariants as publishing
-use Rattle.iox_negotiate_rounds.specs.declared.creation.Attempt.{Attempt}
-use Rattle.iox_negotiate_rounds.specs.declared.creation.Attempt.TheVariants as attempt
-use Rattle.iox_negotiate_rounds.specs.declared.failure.CreateFailure.{CreateFailure}
-use Rattle.iox_negotiate_rounds.specs.declared.failure.OpenFailure.{OpenFailure}
-use Rattle.iox_negotiate_rounds.specs.declared.request.Opened.{Opened}
-use Rattle.iox_negotiate_rounds.specs.declared.sight.Sight.{Sight as Shown}
-use Rattle.iox_negotiate_rounds.specs.declared.sight.Sight.TheVariants as sight
-use Rattle.iox_negotiate_rounds.proofs.Counting.{creates-service}
+use Rattle.iox_negotiate_table.specs.DescribeBase.declared.hash.ServiceHash.{ServiceHash}
+use Rattle.iox_negotiate_table.specs.DescribeSettings.Agreement.{Agreement, max_nodes_of}
+use Rattle.iox_negotiate_table.specs.Describe.Line.{line}
+use Rattle.iox_negotiate_table.specs.NegotiateRounds.Access.{Access, Look, MakeSegment, Publish, OpenSegment}
+use Rattle.iox_negotiate_table.specs.NegotiateRounds.Creating.{CreatesIf}
+use Rattle.iox_negotiate_table.specs.NegotiateRounds.Failing.{opened, entered, created, created_or_again, opened_or_again}
+use Rattle.iox_negotiate_table.specs.NegotiateRounds.Opening.{Registers, OpensJudged, OpensSeen, OpenRound, Opens, EitherCreates, EitherSeen, EitherRound, OpensOrCreates}
+use Rattle.iox_negotiate_table.specs.NegotiateRounds.Runs.{Went, Rounds}
+use Rattle.iox_negotiate_table.specs.NegotiateRounds.Sight.{IsSight, Describes}
+use Rattle.iox_negotiate_table.specs.NegotiateRounds.declared.answer.LookAnswer.{LookAnswer}
+use Rattle.iox_negotiate_table.specs.NegotiateRounds.declared.answer.LookAnswer.TheVariants as look
+use Rattle.iox_negotiate_table.specs.NegotiateRounds.declared.answer.OpenSegmentAnswer.{OpenSegmentAnswer}
+use Rattle.iox_negotiate_table.specs.NegotiateRounds.declared.answer.OpenSegmentAnswer.TheVariants as opening
+use Rattle.iox_negotiate_table.specs.NegotiateRounds.declared.answer.MakeSegmentAnswer.TheVariants as making
+use Rattle.iox_negotiate_table.specs.NegotiateRounds.declared.answer.PublishAnswer.TheVariants as publishing
+use Rattle.iox_negotiate_table.specs.NegotiateRounds.declared.creation.Attempt.{Attempt}
+use Rattle.iox_negotiate_table.specs.NegotiateRounds.declared.creation.Attempt.TheVariants as attempt
+use Rattle.iox_negotiate_table.specs.NegotiateRounds.declared.failure.CreateFailure.{CreateFailure}
+use Rattle.iox_negotiate_table.specs.NegotiateRounds.declared.failure.OpenFailure.{OpenFailure}
+use Rattle.iox_negotiate_table.specs.NegotiateRounds.declared.request.Opened.{Opened}
+use Rattle.iox_negotiate_table.specs.NegotiateRounds.declared.sight.Sight.{Sight as Shown}
+use Rattle.iox_negotiate_table.specs.NegotiateRounds.declared.sight.Sight.TheVariants as sight
+use Rattle.iox_negotiate_table.proofs.NegotiateRounds.Counting.{creates-service}
 use Rattle.iox_negotiate_table.specs.declared.entry.Entry.{Entry}
 use Rattle.iox_negotiate_table.specs.declared.entry.Entry.TheVariants.{Locked, Described}
 use Rattle.iox_negotiate_table.specs.declared.step.ForeignStep.{ForeignStep}

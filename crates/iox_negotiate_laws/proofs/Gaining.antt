@@ -1,32 +1,32 @@
 -- What a call registers: one that answers no service registers nothing, and one that answers a service registers it with its last accesses.
 use Rattle.std.proofs.Common.{◌≡◌, ℕ, zero, suc, cond, ◌&&◌, List, [], ◌∷◌, ◌++◌, Option, None, Some, Result, Ok, Err, nat_eq, refl, sym, ap, subst, ◌∙◌, ◌⊎◌, inl, inr}
 use Rattle.std.proofs.Math.Logic.{⊎_elim}
-use Rattle.iox_describe_base.specs.declared.hash.ServiceHash.{ServiceHash}
-use Rattle.iox_describe_settings.specs.Agreement.{Agreement}
-use Rattle.iox_negotiate_rounds.specs.Access.{Access, Look, Lock, MakeSegment, Publish, Unlock, OpenSegment, RemoveDescription, RemoveSegment}
-use Rattle.iox_negotiate_rounds.specs.Creating.{Unlocks, Undoes, Publishes, Makes, LockGoes, Locks, CreatesSeen, CreatesIf}
-use Rattle.iox_negotiate_rounds.specs.Failing.{refusal_seen, lock_gives, brought_about, entered, created, created_or_again, opened_or_again}
-use Rattle.iox_negotiate_rounds.specs.Opening.{Registers, OpensJudged, OpensSeen, OpenRound, EitherCreates, EitherSeen, EitherRound}
-use Rattle.iox_negotiate_rounds.specs.Runs.{Led, Rounds}
-use Rattle.iox_negotiate_rounds.specs.declared.answer.LockAnswer.{LockAnswer}
-use Rattle.iox_negotiate_rounds.specs.declared.answer.LockAnswer.TheVariants as lock
-use Rattle.iox_negotiate_rounds.specs.declared.answer.MakeSegmentAnswer.TheVariants as making
-use Rattle.iox_negotiate_rounds.specs.declared.answer.PublishAnswer.TheVariants as publishing
-use Rattle.iox_negotiate_rounds.specs.declared.answer.OpenSegmentAnswer.{OpenSegmentAnswer}
-use Rattle.iox_negotiate_rounds.specs.declared.answer.OpenSegmentAnswer.TheVariants as opening
-use Rattle.iox_negotiate_rounds.specs.declared.answer.LeaveAnswer.{LeaveAnswer}
-use Rattle.iox_negotiate_rounds.specs.declared.answer.LeaveAnswer.TheVariants as leaving
-use Rattle.iox_negotiate_rounds.specs.declared.answer.RemoveAnswer.{RemoveAnswer}
-use Rattle.iox_negotiate_rounds.specs.declared.answer.RemoveAnswer.TheVariants as removing
-use Rattle.iox_negotiate_rounds.specs.declared.creation.Attempt.{Attempt}
-use Rattle.iox_negotiate_rounds.specs.declared.creation.Attempt.TheVariants as attempt
-use Rattle.iox_negotiate_rounds.specs.declared.failure.CreateFailure.{CreateFailure}
-use Rattle.iox_negotiate_rounds.specs.declared.failure.OpenFailure.{OpenFailure}
-use Rattle.iox_negotiate_rounds.specs.declared.failure.OpenOrCreateFailure.{OpenOrCreateFailure}
-use Rattle.iox_negotiate_rounds.specs.declared.request.Opened.{Opened}
-use Rattle.iox_negotiate_rounds.specs.declared.sight.Sight.{Sight}
-use Rattle.iox_negotiate_rounds.specs.declared.sight.Sight.TheVariants as sight
-use Rattle.iox_negotiate_errors.specs.declared.close.CloseError.{CloseError}
+use Rattle.iox_negotiate_table.specs.DescribeBase.declared.hash.ServiceHash.{ServiceHash}
+use Rattle.iox_negotiate_table.specs.DescribeSettings.Agreement.{Agreement}
+use Rattle.iox_negotiate_table.specs.NegotiateRounds.Access.{Access, Look, Lock, MakeSegment, Publish, Unlock, OpenSegment, RemoveDescription, RemoveSegment}
+use Rattle.iox_negotiate_table.specs.NegotiateRounds.Creating.{Unlocks, Undoes, Publishes, Makes, LockGoes, Locks, CreatesSeen, CreatesIf}
+use Rattle.iox_negotiate_table.specs.NegotiateRounds.Failing.{refusal_seen, lock_gives, brought_about, entered, created, created_or_again, opened_or_again}
+use Rattle.iox_negotiate_table.specs.NegotiateRounds.Opening.{Registers, OpensJudged, OpensSeen, OpenRound, EitherCreates, EitherSeen, EitherRound}
+use Rattle.iox_negotiate_table.specs.NegotiateRounds.Runs.{Led, Rounds}
+use Rattle.iox_negotiate_table.specs.NegotiateRounds.declared.answer.LockAnswer.{LockAnswer}
+use Rattle.iox_negotiate_table.specs.NegotiateRounds.declared.answer.LockAnswer.TheVariants as lock
+use Rattle.iox_negotiate_table.specs.NegotiateRounds.declared.answer.MakeSegmentAnswer.TheVariants as making
+use Rattle.iox_negotiate_table.specs.NegotiateRounds.declared.answer.PublishAnswer.TheVariants as publishing
+use Rattle.iox_negotiate_table.specs.NegotiateRounds.declared.answer.OpenSegmentAnswer.{OpenSegmentAnswer}
+use Rattle.iox_negotiate_table.specs.NegotiateRounds.declared.answer.OpenSegmentAnswer.TheVariants as opening
+use Rattle.iox_negotiate_table.specs.NegotiateRounds.declared.answer.LeaveAnswer.{LeaveAnswer}
+use Rattle.iox_negotiate_table.specs.NegotiateRounds.declared.answer.LeaveAnswer.TheVariants as leaving
+use Rattle.iox_negotiate_table.specs.NegotiateRounds.declared.answer.RemoveAnswer.{RemoveAnswer}
+use Rattle.iox_negotiate_table.specs.NegotiateRounds.declared.answer.RemoveAnswer.TheVariants as removing
+use Rattle.iox_negotiate_table.specs.NegotiateRounds.declared.creation.Attempt.{Attempt}
+use Rattle.iox_negotiate_table.specs.NegotiateRounds.declared.creation.Attempt.TheVariants as attempt
+use Rattle.iox_negotiate_table.specs.NegotiateRounds.declared.failure.CreateFailure.{CreateFailure}
+use Rattle.iox_negotiate_table.specs.NegotiateRounds.declared.failure.OpenFailure.{OpenFailure}
+use Rattle.iox_negotiate_table.specs.NegotiateRounds.declared.failure.OpenOrCreateFailure.{OpenOrCreateFailure}
+use Rattle.iox_negotiate_table.specs.NegotiateRounds.declared.request.Opened.{Opened}
+use Rattle.iox_negotiate_table.specs.NegotiateRounds.declared.sight.Sight.{Sight}
+use Rattle.iox_negotiate_table.specs.NegotiateRounds.declared.sight.Sight.TheVariants as sight
+use Rattle.iox_negotiate.specs.NegotiateErrors.declared.close.CloseError.{CloseError}
 use Rattle.iox_negotiate.specs.Factory.{RemovesSegment, RemovalGoes, Removes, LeaveGoes}
 use Rattle.iox_negotiate_laws.specs.Histories.{Event, Accesses}
 use Rattle.iox_negotiate_laws.proofs.Rooming.{Unpublishing}

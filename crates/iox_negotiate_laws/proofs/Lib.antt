@@ -21,3 +21,5 @@ pub mod Owning
 pub mod Counting
 pub mod CountingInside
 pub mod Agreements
+pub use Rattle.iox_negotiate.proofs as Negotiate
+pub use Rattle.iox_negotiate_table.proofs.NegotiateRounds as NegotiateRounds

@@ -5,29 +5,30 @@ use Rattle.serde_json.specs.Data.{Data, Items, boolean, string, array}
 use Rattle.serde_json.specs.Find.{get}
 use Rattle.serde_json.specs.Read.{read}
 use Rattle.serde_json.specs.View.{items_of}
-use Rattle.iox_describe_base.specs.declared.attribute.Attribute.{Attribute}
-use Rattle.iox_describe_base.specs.declared.message_type.MessageTypeDetails.{MessageTypeDetails}
-use Rattle.iox_describe_base.specs.declared.type_detail.TypeVariant.{TypeVariant}
-use Rattle.iox_describe_base.specs.declared.type_detail.TypeVariant.TheVariants.{FixedSize, Dynamic}
-use Rattle.iox_describe_base.specs.Detail.{Detail}
-use Rattle.iox_describe_settings.specs.Agreement.{Agreement, pattern_of}
-use Rattle.iox_describe_settings.specs.declared.static_config.Settings.{Settings}
-use Rattle.iox_describe_settings.specs.declared.static_config.Settings.TheVariants.{RequestResponse, PublishSubscribe, Event}
-use Rattle.iox_describe_settings.specs.declared.static_config.publish_subscribe.StaticConfig.{StaticConfig as PublishSubscribeConfig}
-use Rattle.iox_describe_settings.specs.declared.static_config.publish_subscribe.Setting.{Setting as PublishSubscribeSetting}
-use Rattle.iox_describe_settings.specs.declared.static_config.publish_subscribe.Setting.TheVariants as publish_subscribe_setting
-use Rattle.iox_describe_settings.specs.declared.static_config.event.StaticConfig.{StaticConfig as EventConfig}
-use Rattle.iox_describe_settings.specs.declared.static_config.event.Setting.{Setting as EventSetting}
-use Rattle.iox_describe_settings.specs.declared.static_config.event.Setting.TheVariants as event_setting
-use Rattle.iox_describe_settings.specs.declared.static_config.request_response.StaticConfig.{StaticConfig as RequestResponseConfig}
-use Rattle.iox_describe_settings.specs.declared.static_config.request_response.Setting.{Setting as RequestResponseSetting}
-use Rattle.iox_describe_settings.specs.declared.static_config.request_response.Setting.TheVariants as request_response_setting
-use Rattle.iox_describe_settings.specs.PublishSubscribeSettings as publish_subscribe
-use Rattle.iox_describe_settings.specs.EventSettings as event
-use Rattle.iox_describe_settings.specs.RequestResponseSettings as request_response
-use Rattle.iox_describe.specs.Line.{line, tree, settings_tree, types_tree, detail_tree, value_tree, option_tree, variant_word, pattern_word, attribute_tree}
-use Rattle.iox_describe.specs.Within.{IsWithinLimits}
-use Rattle.iox_describe.proofs.Plain.{line-read}
+use Rattle.iox_negotiate_table.specs.DescribeBase.declared.attribute.Attribute.{Attribute}
+use Rattle.iox_negotiate_table.specs.DescribeBase.declared.message_type.MessageTypeDetails.{MessageTypeDetails}
+use Rattle.iox_negotiate_table.specs.DescribeBase.declared.type_detail.TypeVariant.{TypeVariant}
+use Rattle.iox_negotiate_table.specs.DescribeBase.declared.type_detail.TypeVariant.TheVariants.{FixedSize, Dynamic}
+use Rattle.iox_negotiate_table.specs.DescribeBase.Detail.{Detail}
+use Rattle.iox_negotiate_table.specs.DescribeSettings.Agreement.{Agreement, pattern_of}
+use Rattle.iox_negotiate_table.specs.DescribeSettings.declared.static_config.Settings.{Settings}
+use Rattle.iox_negotiate_table.specs.DescribeSettings.declared.static_config.Settings.TheVariants.{RequestResponse, PublishSubscribe, Event}
+use Rattle.iox_negotiate_table.specs.DescribeSettings.declared.static_config.publish_subscribe.StaticConfig.{StaticConfig as PublishSubscribeConfig}
+use Rattle.iox_negotiate_table.specs.DescribeSettings.declared.static_config.publish_subscribe.Setting.{Setting as PublishSubscribeSetting}
+use Rattle.iox_negotiate_table.specs.DescribeSettings.declared.static_config.publish_subscribe.Setting.TheVariants as publish_subscribe_setting
+use Rattle.iox_negotiate_table.specs.DescribeSettings.declared.static_config.event.StaticConfig.{StaticConfig as EventConfig}
+use Rattle.iox_negotiate_table.specs.DescribeSettings.declared.static_config.event.Setting.{Setting as EventSetting}
+use Rattle.iox_negotiate_table.specs.DescribeSettings.declared.static_config.event.Setting.TheVariants as event_setting
+use Rattle.iox_negotiate_table.specs.DescribeSettings.declared.static_config.request_response.StaticConfig.{StaticConfig as RequestResponseConfig}
+use Rattle.iox_negotiate_table.specs.DescribeSettings.declared.static_config.request_response.Setting.{Setting as RequestResponseSetting}
+use Rattle.iox_negotiate_table.specs.DescribeSettings.declared.static_config.request_response.Setting.TheVariants as request_response_setting
+use Rattle.iox_negotiate_table.specs.DescribeSettings.PublishSubscribeSettings as publish_subscribe
+use Rattle.iox_negotiate_table.specs.DescribeSettings.EventSettings as event
+use Rattle.iox_negotiate_table.specs.DescribeSettings.RequestResponseSettings as request_response
+use Rattle.iox_negotiate_table.specs.Describe.Line.{line, tree, settings_tree, types_tree, detail_tree, value_tree, option_tree, variant_word, pattern_word, attribute_tree}
+use Rattle.iox_negotiate_table.specs.Describe.Within.{IsWithinLimits}
+use Rattle.iox_negotiate_table.proofs.Describe.Plain.{line-read}
+use Rattle.iox_negotiate_table.proofs.Describe.Trees.{same_items}
 use Rattle.iox_negotiate_laws.proofs.Rooms.{same-data, same-natural}
 
 same-boolean : (one other : Bool) → Some (boolean one) ≡ Some (boolean other) → one ≡ other
@@ -166,16 +167,6 @@ same-settings (RequestResponse one) (RequestResponse other) trees words = ap (λ
 
 -- ---- attributes
 
-same-items : (xs ys : List Data) → items_of xs ≡ items_of ys → xs ≡ ys
-same-items [] [] e = refl
-same-items [] (y ∷ ys) e = absurd cc
-same-items (x ∷ xs) [] e = absurd cc
-same-items (x ∷ xs) (y ∷ ys) e =
-    let first : x ≡ y = cc in
-    let rest : items_of xs ≡ items_of ys = cc in
-    let more = same-items xs ys rest in
-    λ i. first i ∷ more i
-
 same-array : (one other : Items) → Some (array one) ≡ Some (array other) → one ≡ other
 same-array one other e = cc
 
@@ -205,5 +196,5 @@ same-line one other first second same service_hash =
     let words = same-string (pattern_word (pattern_of one.settings)) (pattern_word (pattern_of other.settings)) (ap (λ t. get (codes "pattern") t) trees) in
     let settings = same-settings one.settings other.settings (same-data (settings_tree one.settings) (settings_tree other.settings) (ap (λ t. get (codes "settings") t) trees)) words in
     let items = same-array (items_of (map attribute_tree one.attributes)) (items_of (map attribute_tree other.attributes)) (ap (λ t. get (codes "attributes") t) trees) in
-    let attributes = same-attributes one.attributes other.attributes (same-items (map attribute_tree one.attributes) (map attribute_tree other.attributes) items) in
+    let attributes = same-attributes one.attributes other.attributes (same_items (map attribute_tree one.attributes) (map attribute_tree other.attributes) items) in
     λ i. record { name = name i; service_hash = service_hash i; settings = settings i; attributes = attributes i }

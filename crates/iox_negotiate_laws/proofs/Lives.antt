@@ -4,11 +4,11 @@ use Rattle.std.specs.List.{AllByRecursion}
 use Rattle.std.specs.declared.alloc.AllocError.{AllocError}
 use Rattle.std.specs.BTreeMap.{is_at}
 use Rattle.std.specs.Map.{lookup, set_value, remove_entry}
-use Rattle.iox_describe_base.specs.declared.hash.ServiceHash.{ServiceHash}
-use Rattle.iox_describe.specs.Line.{line}
-use Rattle.iox_negotiate_rounds.specs.Access.{Lock}
-use Rattle.iox_negotiate_rounds.specs.declared.answer.LockAnswer.{LockAnswer}
-use Rattle.iox_negotiate_rounds.specs.declared.answer.LockAnswer.TheVariants as lock
+use Rattle.iox_negotiate_table.specs.DescribeBase.declared.hash.ServiceHash.{ServiceHash}
+use Rattle.iox_negotiate_table.specs.Describe.Line.{line}
+use Rattle.iox_negotiate_table.specs.NegotiateRounds.Access.{Lock}
+use Rattle.iox_negotiate_table.specs.NegotiateRounds.declared.answer.LockAnswer.{LockAnswer}
+use Rattle.iox_negotiate_table.specs.NegotiateRounds.declared.answer.LockAnswer.TheVariants as lock
 use Rattle.iox_negotiate_table.specs.declared.node.Node.{Node}
 use Rattle.iox_negotiate_table.specs.declared.node.Node.TheVariants.{Own, Foreign}
 use Rattle.iox_negotiate_table.specs.declared.entry.Entry.{Entry}

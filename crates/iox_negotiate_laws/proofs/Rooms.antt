@@ -5,13 +5,13 @@ use Rattle.std.specs.declared.alloc.AllocError.{AllocError}
 use Rattle.serde_json.specs.Data.{Data}
 use Rattle.serde_json.specs.Find.{get}
 use Rattle.serde_json.specs.Read.{read}
-use Rattle.iox_describe_settings.specs.Agreement.{Agreement, max_nodes_of}
-use Rattle.iox_describe_settings.specs.declared.static_config.Settings.{Settings}
-use Rattle.iox_describe_settings.specs.declared.static_config.Settings.TheVariants.{RequestResponse, PublishSubscribe, Event}
-use Rattle.iox_describe.specs.Line.{line, tree, settings_tree, natural}
-use Rattle.iox_describe.specs.Within.{IsWithinLimits}
-use Rattle.iox_describe.proofs.Plain.{line-read}
-use Rattle.iox_negotiate_rounds.specs.declared.answer.OpenSegmentAnswer.{OpenSegmentAnswer}
+use Rattle.iox_negotiate_table.specs.DescribeSettings.Agreement.{Agreement, max_nodes_of}
+use Rattle.iox_negotiate_table.specs.DescribeSettings.declared.static_config.Settings.{Settings}
+use Rattle.iox_negotiate_table.specs.DescribeSettings.declared.static_config.Settings.TheVariants.{RequestResponse, PublishSubscribe, Event}
+use Rattle.iox_negotiate_table.specs.Describe.Line.{line, tree, settings_tree, natural}
+use Rattle.iox_negotiate_table.specs.Describe.Within.{IsWithinLimits}
+use Rattle.iox_negotiate_table.proofs.Describe.Plain.{line-read}
+use Rattle.iox_negotiate_table.specs.NegotiateRounds.declared.answer.OpenSegmentAnswer.{OpenSegmentAnswer}
 use Rattle.iox_negotiate_table.specs.declared.node.Node.{Node}
 use Rattle.iox_negotiate_table.specs.declared.segment.Segment.{Segment}
 use Rattle.iox_negotiate_table.specs.declared.segment.Segment.TheVariants.{Open, Emptied}

@@ -6,7 +6,7 @@ use Rattle.std.specs.Ordering.{nat_cmp}
 use Rattle.std.specs.Cmp.{nat_cmp_total}
 use Rattle.std.specs.BTreeMap.{is_at}
 use Rattle.std.proofs.lemmas.Map.Lookups.{exact_unsigned}
-use Rattle.iox_negotiate_rounds.specs.declared.answer.OpenSegmentAnswer.{OpenSegmentAnswer}
+use Rattle.iox_negotiate_table.specs.NegotiateRounds.declared.answer.OpenSegmentAnswer.{OpenSegmentAnswer}
 use Rattle.iox_negotiate_table.specs.declared.node.Node.{Node}
 use Rattle.iox_negotiate_table.specs.declared.segment.Segment.{Segment}
 use Rattle.iox_negotiate_table.specs.declared.segment.Segment.TheVariants.{Open, Emptied}

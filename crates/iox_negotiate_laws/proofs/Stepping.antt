@@ -1,9 +1,9 @@
 -- Accesses with foreign steps before them.
 use Rattle.std.proofs.Common.{◌≡◌, ℕ, Bool, true, false, is_some, ◌∙◌, List, [], ◌∷◌, ◌++◌, Some, Result, Ok, Err, refl, sym, subst}
 use Rattle.std.specs.declared.alloc.AllocError.{AllocError}
-use Rattle.iox_describe_base.specs.declared.hash.ServiceHash.{ServiceHash}
-use Rattle.iox_negotiate_rounds.specs.Access.{Access, Look, Lock, MakeSegment, Publish, Unlock, OpenSegment, Leave, RemoveDescription, RemoveSegment}
-use Rattle.iox_negotiate_rounds.specs.Runs.{Went}
+use Rattle.iox_negotiate_table.specs.DescribeBase.declared.hash.ServiceHash.{ServiceHash}
+use Rattle.iox_negotiate_table.specs.NegotiateRounds.Access.{Access, Look, Lock, MakeSegment, Publish, Unlock, OpenSegment, Leave, RemoveDescription, RemoveSegment}
+use Rattle.iox_negotiate_table.specs.NegotiateRounds.Runs.{Went}
 use Rattle.iox_negotiate_table.specs.declared.node.Node.TheVariants.{Own, Foreign}
 use Rattle.iox_negotiate_table.specs.declared.entry.Entry.TheVariants.{Locked}
 use Rattle.iox_negotiate_table.specs.declared.step.ForeignStep.{ForeignStep}

@@ -1,9 +1,9 @@
 -- What was agreed under a number is agreed for good.
 use Rattle.std.specs.Prelude.{◌≡◌, ℕ, List, Option, None, Some, Ok}
-use Rattle.iox_describe_settings.specs.Agreement.{Agreement}
-use Rattle.iox_describe.specs.Line.{line}
-use Rattle.iox_describe.specs.Within.{IsWithinLimits}
-use Rattle.iox_negotiate_rounds.specs.declared.request.Opened.{Opened}
+use Rattle.iox_negotiate_table.specs.DescribeSettings.Agreement.{Agreement}
+use Rattle.iox_negotiate_table.specs.Describe.Line.{line}
+use Rattle.iox_negotiate_table.specs.Describe.Within.{IsWithinLimits}
+use Rattle.iox_negotiate_table.specs.NegotiateRounds.declared.request.Opened.{Opened}
 use Rattle.iox_negotiate_table.specs.declared.entry.Entry.TheVariants.{Described}
 use Rattle.iox_negotiate_table.specs.Contents.{Contents, entry_at}
 use Rattle.iox_negotiate_laws.specs.Histories.{Event, Ran, IsReached}

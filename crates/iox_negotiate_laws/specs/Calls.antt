@@ -1,17 +1,17 @@
 -- Whole calls of a table's own nodes, one after the other, with steps of foreign nodes before their accesses and between them.
 use Rattle.std.specs.Prelude.{◌≡◌, ℕ, zero, suc, List, [], ◌∷◌, ◌++◌, Option, Result, Ok, Err}
 use Rattle.std.specs.declared.alloc.AllocError.{AllocError}
-use Rattle.iox_describe_base.specs.declared.hash.ServiceHash.{ServiceHash}
-use Rattle.iox_describe_settings.specs.Agreement.{Agreement}
-use Rattle.iox_negotiate_rounds.specs.Access.{Access}
-use Rattle.iox_negotiate_rounds.specs.Runs.{Went, Does}
-use Rattle.iox_negotiate_rounds.specs.Creating.{CreatesIf}
-use Rattle.iox_negotiate_rounds.specs.Opening.{Opens, OpensOrCreates}
-use Rattle.iox_negotiate_rounds.specs.declared.request.Opened.{Opened}
-use Rattle.iox_negotiate_rounds.specs.declared.failure.CreateFailure.{CreateFailure}
-use Rattle.iox_negotiate_rounds.specs.declared.failure.OpenFailure.{OpenFailure}
-use Rattle.iox_negotiate_rounds.specs.declared.failure.OpenOrCreateFailure.{OpenOrCreateFailure}
-use Rattle.iox_negotiate_errors.specs.declared.close.CloseError.{CloseError}
+use Rattle.iox_negotiate_table.specs.DescribeBase.declared.hash.ServiceHash.{ServiceHash}
+use Rattle.iox_negotiate_table.specs.DescribeSettings.Agreement.{Agreement}
+use Rattle.iox_negotiate_table.specs.NegotiateRounds.Access.{Access}
+use Rattle.iox_negotiate_table.specs.NegotiateRounds.Runs.{Went, Does}
+use Rattle.iox_negotiate_table.specs.NegotiateRounds.Creating.{CreatesIf}
+use Rattle.iox_negotiate_table.specs.NegotiateRounds.Opening.{Opens, OpensOrCreates}
+use Rattle.iox_negotiate_table.specs.NegotiateRounds.declared.request.Opened.{Opened}
+use Rattle.iox_negotiate_table.specs.NegotiateRounds.declared.failure.CreateFailure.{CreateFailure}
+use Rattle.iox_negotiate_table.specs.NegotiateRounds.declared.failure.OpenFailure.{OpenFailure}
+use Rattle.iox_negotiate_table.specs.NegotiateRounds.declared.failure.OpenOrCreateFailure.{OpenOrCreateFailure}
+use Rattle.iox_negotiate.specs.NegotiateErrors.declared.close.CloseError.{CloseError}
 use Rattle.iox_negotiate.specs.Factory.{Closes as ClosesBy}
 use Rattle.iox_negotiate_table.specs.declared.step.ForeignStep.{ForeignStep}
 use Rattle.iox_negotiate_table.specs.Contents.{Contents, empty_table}

@@ -1,9 +1,9 @@
 -- What a whole closing of a factory leaves.
 use Rattle.std.specs.Prelude.{◌≡◌, ◌≢◌, ◌-◌, ℕ, Bool, true, false, List, Option, None, Some, Result, Ok, nat_eq, nat_lt, if◌then◌else◌}
-use Rattle.iox_describe_base.specs.declared.hash.ServiceHash.{ServiceHash}
-use Rattle.iox_negotiate_rounds.specs.Access.{Access}
-use Rattle.iox_negotiate_rounds.specs.Runs.{Went}
-use Rattle.iox_negotiate_errors.specs.declared.close.CloseError.{CloseError}
+use Rattle.iox_negotiate_table.specs.DescribeBase.declared.hash.ServiceHash.{ServiceHash}
+use Rattle.iox_negotiate_table.specs.NegotiateRounds.Access.{Access}
+use Rattle.iox_negotiate_table.specs.NegotiateRounds.Runs.{Went}
+use Rattle.iox_negotiate.specs.NegotiateErrors.declared.close.CloseError.{CloseError}
 use Rattle.iox_negotiate.specs.Factory.{Closes}
 use Rattle.iox_negotiate_table.specs.declared.entry.Entry.TheVariants.{Described}
 use Rattle.iox_negotiate_table.specs.declared.segment.Segment.TheVariants.{Open}

@@ -1,8 +1,8 @@
 -- Registered are just the factories that are open.
 use Rattle.std.specs.Prelude.{◌≡◌, ℕ, List, [], ◌++◌, ◌⊎◌, Option, None, Some, nat_lt, if◌then◌else◌}
-use Rattle.iox_describe_base.specs.declared.hash.ServiceHash.{ServiceHash}
-use Rattle.iox_negotiate_rounds.specs.Access.{Access}
-use Rattle.iox_negotiate_rounds.specs.Runs.{Went}
+use Rattle.iox_negotiate_table.specs.DescribeBase.declared.hash.ServiceHash.{ServiceHash}
+use Rattle.iox_negotiate_table.specs.NegotiateRounds.Access.{Access}
+use Rattle.iox_negotiate_table.specs.NegotiateRounds.Runs.{Went}
 use Rattle.iox_negotiate_table.specs.declared.step.ForeignStep.{ForeignStep}
 use Rattle.iox_negotiate_table.specs.Stepped.{Steps, SteppedSight}
 use Rattle.iox_negotiate_table.specs.declared.entry.Entry.TheVariants.{Described}

@@ -1,7 +1,7 @@
 -- Open factories, and what each of them can rely on.
 use Rattle.std.specs.Prelude.{◌≡◌, ◌≤◌, ◌+◌, ℕ, Bool, ◌&&◌, List, [], ◌∷◌, ◌⊎◌, nat_eq, if◌then◌else◌, unwrap_or}
-use Rattle.iox_describe_settings.specs.Agreement.{Agreement}
-use Rattle.iox_describe.specs.Line.{line}
+use Rattle.iox_negotiate_table.specs.DescribeSettings.Agreement.{Agreement}
+use Rattle.iox_negotiate_table.specs.Describe.Line.{line}
 use Rattle.iox_negotiate_table.specs.Contents.{Contents}
 use Rattle.iox_negotiate_table.specs.Nodes.{factories_of}
 use Rattle.iox_negotiate_table.specs.Laws.{IsOpenIn}

@@ -1,11 +1,11 @@
 -- The lives of services: each has a number, a lock, and one description.
 use Rattle.std.specs.Prelude.{◌≡◌, ◌<◌, ℕ, List, Some, None, ◌⊎◌}
-use Rattle.iox_describe_base.specs.declared.hash.ServiceHash.{ServiceHash}
-use Rattle.iox_describe.specs.Line.{line}
-use Rattle.iox_negotiate_rounds.specs.Access.{Lock, Publish, OpenSegment}
-use Rattle.iox_negotiate_rounds.specs.declared.answer.LockAnswer.TheVariants.{Taken}
-use Rattle.iox_negotiate_rounds.specs.declared.answer.PublishAnswer.TheVariants.{Published}
-use Rattle.iox_negotiate_rounds.specs.declared.answer.OpenSegmentAnswer.TheVariants.{Registered}
+use Rattle.iox_negotiate_table.specs.DescribeBase.declared.hash.ServiceHash.{ServiceHash}
+use Rattle.iox_negotiate_table.specs.Describe.Line.{line}
+use Rattle.iox_negotiate_table.specs.NegotiateRounds.Access.{Lock, Publish, OpenSegment}
+use Rattle.iox_negotiate_table.specs.NegotiateRounds.declared.answer.LockAnswer.TheVariants.{Taken}
+use Rattle.iox_negotiate_table.specs.NegotiateRounds.declared.answer.PublishAnswer.TheVariants.{Published}
+use Rattle.iox_negotiate_table.specs.NegotiateRounds.declared.answer.OpenSegmentAnswer.TheVariants.{Registered}
 use Rattle.iox_negotiate_table.specs.declared.node.Node.TheVariants.{Own, Foreign}
 use Rattle.iox_negotiate_table.specs.declared.entry.Entry.{Entry}
 use Rattle.iox_negotiate_table.specs.declared.entry.Entry.TheVariants.{Locked, Described}

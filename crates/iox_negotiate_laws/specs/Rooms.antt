@@ -1,11 +1,11 @@
 -- The room of segments is the agreed number of nodes.
 use Rattle.std.specs.Prelude.{◌≡◌, ℕ, List, [], ◌∷◌, ◌++◌, None, Some}
-use Rattle.iox_describe_base.specs.declared.hash.ServiceHash.{ServiceHash}
-use Rattle.iox_describe_settings.specs.Agreement.{Agreement, max_nodes_of}
-use Rattle.iox_describe.specs.Line.{line}
-use Rattle.iox_describe.specs.Within.{IsWithinLimits}
-use Rattle.iox_negotiate_rounds.specs.Access.{Access}
-use Rattle.iox_negotiate_rounds.specs.Runs.{Went}
+use Rattle.iox_negotiate_table.specs.DescribeBase.declared.hash.ServiceHash.{ServiceHash}
+use Rattle.iox_negotiate_table.specs.DescribeSettings.Agreement.{Agreement, max_nodes_of}
+use Rattle.iox_negotiate_table.specs.Describe.Line.{line}
+use Rattle.iox_negotiate_table.specs.Describe.Within.{IsWithinLimits}
+use Rattle.iox_negotiate_table.specs.NegotiateRounds.Access.{Access}
+use Rattle.iox_negotiate_table.specs.NegotiateRounds.Runs.{Went}
 use Rattle.iox_negotiate_table.specs.declared.step.ForeignStep.{ForeignStep}
 use Rattle.iox_negotiate_table.specs.Stepped.{Steps, SteppedSight}
 use Rattle.iox_negotiate_table.specs.declared.entry.Entry.TheVariants.{Described}

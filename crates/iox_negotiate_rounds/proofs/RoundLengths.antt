@@ -1,8 +1,8 @@
 -- How many accesses openings make.
 use Rattle.std.proofs.Common.{◌≡◌, Bool, true, false, ℕ, zero, suc, ◌+◌, ◌*◌, ◌≤◌, List, ◌∷◌, Option, None, Some, Result, Ok, Err, length, length-append, ap, arith}
 use Rattle.std.proofs.Math.Logic.{⊎_elim}
-use Rattle.iox_describe_base.specs.declared.hash.ServiceHash.{ServiceHash}
-use Rattle.iox_describe_settings.specs.Agreement.{Agreement}
+use Rattle.iox_describe.specs.DescribeBase.declared.hash.ServiceHash.{ServiceHash}
+use Rattle.iox_describe.specs.DescribeSettings.Agreement.{Agreement}
 use Rattle.iox_negotiate_rounds.specs.Access.{Access, Look, Lock, MakeSegment, Publish, OpenSegment, RemoveSegment}
 use Rattle.iox_negotiate_rounds.specs.Creating.{Publishes, Makes, Locks}
 use Rattle.iox_negotiate_rounds.specs.Failing.{created_or_again}

@@ -1,6 +1,6 @@
 -- The accesses to a storage: what was asked, and what was answered.
 use Rattle.std.specs.Prelude.{ℕ, List}
-use Rattle.iox_describe_base.specs.declared.hash.ServiceHash.{ServiceHash}
+use Rattle.iox_describe.specs.DescribeBase.declared.hash.ServiceHash.{ServiceHash}
 use Rattle.iox_negotiate_rounds.specs.declared.answer.LookAnswer.{LookAnswer}
 use Rattle.iox_negotiate_rounds.specs.declared.answer.LockAnswer.{LockAnswer}
 use Rattle.iox_negotiate_rounds.specs.declared.answer.MakeSegmentAnswer.{MakeSegmentAnswer}

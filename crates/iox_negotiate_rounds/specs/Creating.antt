@@ -1,7 +1,7 @@
 -- Which accesses create a service: a lock, its segment, its description; and which take back what was made.
 use Rattle.std.specs.Prelude.{◌≡◌, ℕ, List, [], ◌∷◌, Option, None, Some, Result, Ok, Err}
-use Rattle.iox_describe_base.specs.declared.hash.ServiceHash.{ServiceHash}
-use Rattle.iox_describe_settings.specs.Agreement.{Agreement, max_nodes_of}
+use Rattle.iox_describe.specs.DescribeBase.declared.hash.ServiceHash.{ServiceHash}
+use Rattle.iox_describe.specs.DescribeSettings.Agreement.{Agreement, max_nodes_of}
 use Rattle.iox_describe.specs.Line.{line}
 use Rattle.iox_negotiate_rounds.specs.Access.{Access, Look, Lock, MakeSegment, Publish, Unlock, RemoveSegment}
 use Rattle.iox_negotiate_rounds.specs.Failing.{brought_about, refusal_seen, lock_gives, making_failure, publishing_failure, created}

@@ -1,6 +1,6 @@
 -- What a refusing answer means to who creates and to who opens a service.
 use Rattle.std.specs.Prelude.{ℕ, true, false, Option, None, Some, Result, Ok, Err}
-use Rattle.iox_describe_settings.specs.Agreement.{Agreement}
+use Rattle.iox_describe.specs.DescribeSettings.Agreement.{Agreement}
 use Rattle.iox_negotiate_rounds.specs.declared.answer.LockAnswer.{LockAnswer}
 use Rattle.iox_negotiate_rounds.specs.declared.answer.LockAnswer.TheVariants as lock
 use Rattle.iox_negotiate_rounds.specs.declared.answer.MakeSegmentAnswer.{MakeSegmentAnswer}

@@ -1,7 +1,7 @@
 -- What holds of every creation and every opening, said in other words than their accesses one by one.
 use Rattle.std.specs.Prelude.{◌≡◌, ℕ, ◌+◌, ◌≤◌, List, [], ◌∷◌, ◌++◌, Option, Result, Ok, Err, length}
-use Rattle.iox_describe_base.specs.declared.hash.ServiceHash.{ServiceHash}
-use Rattle.iox_describe_settings.specs.Agreement.{Agreement, max_nodes_of}
+use Rattle.iox_describe.specs.DescribeBase.declared.hash.ServiceHash.{ServiceHash}
+use Rattle.iox_describe.specs.DescribeSettings.Agreement.{Agreement, max_nodes_of}
 use Rattle.iox_describe.specs.Line.{line}
 use Rattle.iox_negotiate_rounds.specs.Access.{Access, Lock, MakeSegment, Publish, Unlock, RemoveSegment}
 use Rattle.iox_negotiate_rounds.specs.Creating.{CreatesIf}

@@ -5,3 +5,7 @@ pub mod Laws
 pub mod Opening
 pub mod Runs
 pub mod Sight
+pub use Rattle.iox_describe.specs as Describe
+pub use Rattle.iox_describe.specs.DescribeBase as DescribeBase
+pub use Rattle.iox_describe.specs.DescribeSettings as DescribeSettings
+pub use Rattle.iox_describe.specs.DescribeVerdict as DescribeVerdict

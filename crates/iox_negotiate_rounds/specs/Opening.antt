@@ -1,7 +1,7 @@
 -- Which accesses open a service: a look, and its segment if it meets what is asked.
 use Rattle.std.specs.Prelude.{◌≡◌, ℕ, List, [], ◌∷◌, Option, None, Some, Result, Ok, Err}
-use Rattle.iox_describe_base.specs.declared.hash.ServiceHash.{ServiceHash}
-use Rattle.iox_describe_settings.specs.Agreement.{Agreement}
+use Rattle.iox_describe.specs.DescribeBase.declared.hash.ServiceHash.{ServiceHash}
+use Rattle.iox_describe.specs.DescribeSettings.Agreement.{Agreement}
 use Rattle.iox_negotiate_rounds.specs.Access.{Access, Look, OpenSegment}
 use Rattle.iox_negotiate_rounds.specs.Creating.{Locks}
 use Rattle.iox_negotiate_rounds.specs.Failing.{open_failure_of, entered, created_or_again, opened_or_again}

@@ -1,7 +1,7 @@
 -- What a look shows to who asks for a service.
 use Rattle.std.specs.Prelude.{◌≡◌, ℕ, List}
-use Rattle.iox_describe_base.specs.declared.hash.ServiceHash.{ServiceHash}
-use Rattle.iox_describe_settings.specs.Agreement.{Agreement}
+use Rattle.iox_describe.specs.DescribeBase.declared.hash.ServiceHash.{ServiceHash}
+use Rattle.iox_describe.specs.DescribeSettings.Agreement.{Agreement}
 use Rattle.iox_describe.specs.Line.{line}
 use Rattle.iox_describe.specs.Within.{IsWithinLimits}
 use Rattle.iox_negotiate_rounds.specs.declared.answer.LookAnswer.{LookAnswer}

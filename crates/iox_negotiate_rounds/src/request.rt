@@ -1,7 +1,7 @@
 //! What is asked of a service, whatever its pattern.
 ghost use Rattle.std.specs.Prelude.{◌≡◌, ℕ, Option, Result, IfOk};
-ghost use Rattle.iox_describe_base.specs.declared.hash.ServiceHash.{ServiceHash};
-ghost use Rattle.iox_describe_settings.specs.Agreement.{Agreement, max_nodes_of};
+ghost use Rattle.iox_describe.specs.DescribeBase.declared.hash.ServiceHash.{ServiceHash};
+ghost use Rattle.iox_describe.specs.DescribeSettings.Agreement.{Agreement, max_nodes_of};
 ghost use Rattle.iox_negotiate_rounds.specs.declared.failure.CreateFailure.{CreateFailure};
 
 use crate::failure::CreateFailure;
@@ -59,7 +59,7 @@ pub trait Request {
     fn max_nodes(&self) -> u64
         ensures { result ≡ max_nodes_of (created self.now).settings };
 
-    /// What the service is agreed to be where it is created. It fails only where memory is wanting.
+    /// What the service is agreed to be where it is created. It fails only where an allocation fails.
     fn describe(&self, alloc: Global) -> Result<Description, AllocError>
         ensures { IfOk result (λ description. description ≡ created self.now) };
 }

@@ -1,6 +1,6 @@
 -- What is done to a segment that was found.
 use Rattle.std.proofs.Common.{◌≡◌, ℕ, Option, Some}
-use Rattle.iox_describe_base.specs.declared.hash.ServiceHash.{ServiceHash}
+use Rattle.iox_negotiate_rounds.specs.DescribeBase.declared.hash.ServiceHash.{ServiceHash}
 use Rattle.iox_negotiate_rounds.specs.declared.answer.OpenSegmentAnswer.{OpenSegmentAnswer}
 use Rattle.iox_negotiate_rounds.specs.declared.answer.LeaveAnswer.{LeaveAnswer}
 use Rattle.iox_negotiate_table.specs.declared.segment.Segment.{Segment}

@@ -1,7 +1,7 @@
 -- What holds of every table, said in other words than its accesses one by one.
 use Rattle.std.specs.Prelude.{ℕ, ◌≡◌, ◌≤◌, List, Some, IsSome, Result}
 use Rattle.std.specs.declared.alloc.AllocError.{AllocError}
-use Rattle.iox_describe_base.specs.declared.hash.ServiceHash.{ServiceHash}
+use Rattle.iox_negotiate_rounds.specs.DescribeBase.declared.hash.ServiceHash.{ServiceHash}
 use Rattle.iox_negotiate_rounds.specs.Access.{MakeSegment, Publish, OpenSegment}
 use Rattle.iox_negotiate_rounds.specs.declared.answer.MakeSegmentAnswer.TheVariants.{Made}
 use Rattle.iox_negotiate_rounds.specs.declared.answer.PublishAnswer.TheVariants.{Published}

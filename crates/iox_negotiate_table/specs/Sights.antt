@@ -1,6 +1,6 @@
 -- What each access finds in a table, and what it leaves.
 use Rattle.std.specs.Prelude.{ℕ, ◌≡◌, ◌-◌, ◌^◌, Bool, true, false, List, Option, None, Some, nat_eq, ◌⊎◌}
-use Rattle.iox_describe_base.specs.declared.hash.ServiceHash.{ServiceHash}
+use Rattle.iox_negotiate_rounds.specs.DescribeBase.declared.hash.ServiceHash.{ServiceHash}
 use Rattle.iox_negotiate_rounds.specs.Access.{Access, Look, Lock, MakeSegment, Publish, Unlock, OpenSegment, Leave, RemoveDescription, RemoveSegment}
 use Rattle.iox_negotiate_rounds.specs.declared.answer.LookAnswer.{LookAnswer}
 use Rattle.iox_negotiate_rounds.specs.declared.answer.LookAnswer.TheVariants as look

@@ -1,7 +1,7 @@
 -- A table on which nodes of others act before an access.
 use Rattle.std.specs.Prelude.{◌≡◌, List, [], ◌∷◌, Result, Ok, Err, drop}
 use Rattle.std.specs.declared.alloc.AllocError.{AllocError}
-use Rattle.iox_describe_base.specs.declared.hash.ServiceHash.{ServiceHash}
+use Rattle.iox_negotiate_rounds.specs.DescribeBase.declared.hash.ServiceHash.{ServiceHash}
 use Rattle.iox_negotiate_rounds.specs.Access.{Access, Look, Lock, MakeSegment, Publish, Unlock, OpenSegment, Leave, RemoveDescription, RemoveSegment}
 use Rattle.iox_negotiate_rounds.specs.declared.answer.LookAnswer.TheVariants as look
 use Rattle.iox_negotiate_rounds.specs.declared.answer.LockAnswer.TheVariants as lock

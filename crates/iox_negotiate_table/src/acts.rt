@@ -15,7 +15,7 @@ use iox_negotiate_rounds::{LockAnswer, StoredDescription};
 use std::alloc::AllocError;
 
 impl Table {
-    /// Does the step of a foreign node under a hash. Where it doesn't fit, nothing changes; where memory is wanting,
+    /// Does the step of a foreign node under a hash. Where it doesn't fit, nothing changes; where an allocation fails,
     /// nothing changes and the error says so.
     pub fn act(&mut self, hash: &ServiceHash, step: &ForeignStep) -> Result<(), AllocError>
         ensures { Acts hash.now step.now self.old result self.new }

@@ -118,7 +118,7 @@ impl Registry {
     /// Opens the service once more for an own node.
     ///
     /// A node that is in gets one factory more; `Fault` where its count stands at 2^64 - 1. Another is let in with its
-    /// first factory; `Full` where there is no room, and `OutOfMemory` where memory is wanting.
+    /// first factory; `Full` where there is no room, and `OutOfMemory` where an allocation fails.
     pub fn enter(&mut self, node: u64) -> OpenSegmentAnswer
         ensures { Enters node self.old result self.new }
     {

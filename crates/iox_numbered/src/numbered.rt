@@ -66,7 +66,7 @@ impl<V> Numbered<V> {
         }
     }
 
-    /// Makes room for so many values in all; where there is as much already, nothing happens. Fails only where no memory is found, and
+    /// Makes room for so many values in all; where there is as much already, nothing happens. Fails only where an allocation fails, and
     /// then nothing has changed.
     pub fn reserve(&mut self, room: usize) -> Result<(), AllocError>
         ensures ok { OnOk result (self.new ≡ with_room self.old room) }

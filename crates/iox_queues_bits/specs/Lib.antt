@@ -5,3 +5,4 @@ pub mod Told
 pub mod Machine
 pub mod Kept
 pub mod State
+pub use Rattle.iox_queues_steps.specs as QueuesSteps

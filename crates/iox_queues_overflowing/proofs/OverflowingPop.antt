@@ -131,8 +131,25 @@ pub record LateGoes (limit : ℕ) (rest : List ℕ) (write read next : ℕ) (cel
   pub in_hand : put_in_hand next push ≡ put_in_hand read push ++ put_values (late_put read push)
   pub no_takes : take_values (late_put read push) ≡ []
 
+-- what a put that waited did once the oldest is taken: it was made and kept, or waits on
+abbrev made_late : Bool → ℕ → List Act
+made_late b value = if b then Put value Kept ∷ [] else []
+
+-- the same of a put that knew a read position, by whether it was still that of the ring
+record LateComes (limit : ℕ) (words : RingWords) (rest : List ℕ) (next value seen : ℕ) (b : Bool) : Type 0 where
+  list : List ℕ
+  acts : Acts true limit rest (made_late b value)
+  after : after_acts true limit rest (made_late b value) ≡ list
+  longer : length rest ≤ length list
+  room : length list ≤ limit
+  held : Held (limit + 1) words.cells next list
+  is_late : IsLate limit (record words { read = next }) list value seen
+  in_hand : put_in_hand next (push.Full value seen next) ≡ (if b then [] else record { value = value; answer = Kept } ∷ []) ++ put_values (made_late b value)
+  no_takes : take_values (made_late b value) ≡ []
+  before : seen < next
+
 late : (limit : ℕ) (words : RingWords) (x : ℕ) (rest : List ℕ) (next value seen : ℕ) (b : Bool) → (words.read == seen) ≡ b → next ≡ words.read + 1 → length (x ∷ rest) ≤ limit → Held (limit + 1) words.cells words.read (x ∷ rest) → IsLate limit words (x ∷ rest) value seen
-    → (list : List ℕ) × (Acts true limit rest (if b then Put value Kept ∷ [] else [])) × (after_acts true limit rest (if b then Put value Kept ∷ [] else []) ≡ list) × (length rest ≤ length list) × (length list ≤ limit) × (Held (limit + 1) words.cells next list) × (IsLate limit (record words { read = next }) list value seen) × (put_in_hand next (push.Full value seen next) ≡ (if b then [] else record { value = value; answer = Kept } ∷ []) ++ put_values (if b then Put value Kept ∷ [] else [])) × (take_values (if b then Put value Kept ∷ [] else []) ≡ []) × (seen < next)
+    → LateComes limit words rest next value seen b
 late limit words x rest next value seen true e on room held l =
     let same : seen ≡ words.read = sym (eqb-true words.read seen e) in
     let full : length (x ∷ rest) ≡ limit = l.full same in
@@ -140,46 +157,46 @@ late limit words x rest next value seen true e on room held l =
     let space : length rest < limit = omega arith in
     let there : slice_index words.cells ((words.read + limit) % (limit + 1)) ≡ value = l.behind same in
     let dropped : Held (limit + 1) words.cells next rest = subst (λ (r : ℕ). Held (limit + 1) words.cells r rest) (sym on) (held-drop (limit + 1) words.cells words.read (x ∷ rest) held) in
-    let place : next + length rest ≡ words.read + limit = omega arith in (
-      rest ++ value ∷ [],
-      (sym (put_answer-room limit rest value space), tt),
-      put_over-room limit rest value space,
-      omega (arith, length-append rest (value ∷ [])),
-      omega (arith, length-append rest (value ∷ [])),
-      held-push (limit + 1) words.cells next rest value dropped (rw place there),
-      record {
+    let place : next + length rest ≡ words.read + limit = omega arith in record {
+      list = rest ++ value ∷ [];
+      acts = (sym (put_answer-room limit rest value space), tt);
+      after = put_over-room limit rest value space;
+      longer = omega (arith, length-append rest (value ∷ []));
+      room = omega (arith, length-append rest (value ∷ []));
+      held = held-push (limit + 1) words.cells next rest value dropped (rw place there);
+      is_late = record {
         written = w;
         seen_before = omega arith;
         moved = λ _. omega (arith, length-append rest (value ∷ []));
         full = λ same'. absurd (omega arith);
         behind = λ same'. absurd (omega arith);
-      },
-      cond-false (next == seen) _ _ (ne_eqb next seen (λ same'. omega arith)),
-      refl,
-      omega arith,
-    )
+      };
+      in_hand = cond-false (next == seen) _ _ (ne_eqb next seen (λ same'. omega arith));
+      no_takes = refl;
+      before = omega arith;
+    }
 late limit words x rest next value seen false e on room held l =
     let differ : words.read ≡ seen → ⊥ = eqb-false words.read seen e in
     let before : seen ≤ words.read = l.seen_before in
     let less : seen < words.read = omega arith in
-    let level : words.read + length (x ∷ rest) ≡ words.write = l.moved less in (
-      rest,
-      tt,
-      refl,
-      omega arith,
-      omega arith,
-      subst (λ (r : ℕ). Held (limit + 1) words.cells r rest) (sym on) (held-drop (limit + 1) words.cells words.read (x ∷ rest) held),
-      record {
+    let level : words.read + length (x ∷ rest) ≡ words.write = l.moved less in record {
+      list = rest;
+      acts = tt;
+      after = refl;
+      longer = omega arith;
+      room = omega arith;
+      held = subst (λ (r : ℕ). Held (limit + 1) words.cells r rest) (sym on) (held-drop (limit + 1) words.cells words.read (x ∷ rest) held);
+      is_late = record {
         written = l.written;
         seen_before = omega arith;
         moved = λ _. omega arith;
         full = λ same'. absurd (omega arith);
         behind = λ same'. absurd (omega arith);
-      },
-      cond-false (next == seen) _ _ (ne_eqb next seen (λ same'. omega arith)),
-      refl,
-      omega arith,
-    )
+      };
+      in_hand = cond-false (next == seen) _ _ (ne_eqb next seen (λ same'. omega arith));
+      no_takes = refl;
+      before = omega arith;
+    }
 
 -- a push that has no put waiting
 level_goes : (limit : ℕ) (words : RingWords) (x : ℕ) (rest : List ℕ) (next : ℕ) (push : Push) → next ≡ words.read + 1 → length (x ∷ rest) ≤ limit → Held (limit + 1) words.cells words.read (x ∷ rest) → PushKnows limit (record words { read = next }) rest push → late_put words.read push ≡ [] → put_in_hand next push ≡ put_in_hand words.read push → LateGoes limit rest words.write words.read next words.cells push
@@ -203,10 +220,10 @@ late_goes limit words x rest next (push.SawRead l value write n seen) on room he
 late_goes limit words x rest next (push.Filled l value write n seen) on room held k = level_goes limit words x rest next (push.Filled l value write n seen) on room held (omega arith, k.1, k.2, k.3, omega arith, k.5, k.6) refl refl
 late_goes limit words x rest next (push.Full value seen n) on room held k =
     let g = late limit words x rest next value seen (words.read == seen) refl on room held k.0 in
-    record { list = g.0; acts = g.1; after = g.2; longer = g.3; room = g.4; held = g.5; push_knows = (g.6, k.1); in_hand = g.7; no_takes = g.8 }
+    record { list = g.list; acts = g.acts; after = g.after; longer = g.longer; room = g.room; held = g.held; push_knows = (g.is_late, k.1); in_hand = g.in_hand; no_takes = g.no_takes }
 late_goes limit words x rest next (push.SawOldest value seen n oldest) on room held k =
     let g = late limit words x rest next value seen (words.read == seen) refl on room held k.0 in
-    record { list = g.0; acts = g.1; after = g.2; longer = g.3; room = g.4; held = g.5; push_knows = (g.6, k.1, λ same. absurd (let less : seen < next = g.9 in omega arith)); in_hand = g.7; no_takes = g.8 }
+    record { list = g.list; acts = g.acts; after = g.after; longer = g.longer; room = g.room; held = g.held; push_knows = (g.is_late, k.1, λ same. absurd (let less : seen < next = g.before in omega arith)); in_hand = g.in_hand; no_takes = g.no_takes }
 late_goes limit words x rest next (push.Pushed value answer) on room held k = level_goes limit words x rest next (push.Pushed value answer) on room held (omega arith) refl refl
 
 swapped : (limit : ℕ) (words : RingWords) (q : List ℕ) (push : Push) (seen next value : ℕ) (b : Bool) → (words.read == seen) ≡ b → words.write + 1 < 2 ^ 64

@@ -2,7 +2,7 @@
 use Rattle.std.proofs.Common.{◌≡◌, ℕ, ◌+◌, ◌-◌, ◌^◌, ◌%◌, ◌<◌, ◌≤◌, Bool, true, false, if◌then◌else◌, ◌==◌, nat_lt, List, [], ◌∷◌, ◌++◌, length, set, drop, slice_index, refl, sym, ◌∙◌, ap, subst, arith, length-append, length-set, append-nil}
 use Rattle.std.proofs.Math.ListN.{get_or-append}
 use Rattle.std.proofs.lemmas.Bool.{ltb-true, ltb-false, lt-ltb, le-ltb, eqb-true, eqb-false, eq-eqb, ne_eqb, cond-true, cond-false}
-use Rattle.iox_queues_base.specs.Waiting.{put_over}
+use Rattle.iox_queues_steps.specs.QueuesBase.Waiting.{put_over}
 use Rattle.iox_queues_steps.specs.Access.{RingWords, successor, after_access, answer_of}
 use Rattle.iox_queues_steps.specs.Order.{Acts, after_acts, put_answer, put_values, take_values, PutNow}
 use Rattle.iox_queues_steps.specs.Kept.{Held}

@@ -6,7 +6,7 @@ ghost use Rattle.iox_queues_overflowing.specs.Overflowing.{pop_is_idle, pop_is_o
 
 use iox_queues_steps::{Access, Act, End, PopAnswer, Word};
 
-/// Where a pop stands, or a look that only tells whether something waits. Between `Begun` and
+/// Where a pop stands, or a look that only asks whether something waits. Between `Begun` and
 /// `Popped`, or `LookBegun` and `Looked`, each stage is one access.
 #[derive(Clone, Copy, Debug, PartialEq, Eq)]
 pub enum Pop {

@@ -10,7 +10,7 @@ use Rattle.iox_queues_steps.specs.declared.order.PopAnswer.TheVariants.{Got, Saw
 use Rattle.iox_queues_steps.specs.declared.order.Act.{Act}
 use Rattle.iox_queues_steps.specs.declared.order.Act.TheVariants.{Put, Take}
 use Rattle.iox_queues_steps.proofs.Held.{held-push, held-drop, store_cell, successor_fits}
-use Rattle.iox_queues_base.specs.Waiting.{put}
+use Rattle.iox_queues_steps.specs.QueuesBase.Waiting.{put}
 use Rattle.iox_queues_refusing.specs.Refusing.{push_next, push_take, push_measured, pop_next, pop_take, pop_emptied, placed_by_push, placed_by_pop, push_ended, pop_ended, push_is_idle, push_is_over, pop_is_idle, pop_is_over, PushKnows, PopKnows, Shape}
 use Rattle.iox_queues_refusing.specs.declared.push.Push.{Push}
 use Rattle.iox_queues_refusing.specs.declared.push.Push.TheVariants as push

@@ -5,7 +5,7 @@ ghost use Rattle.iox_queues_refusing.specs.Refusing.{pop_is_idle, pop_is_over, p
 
 use iox_queues_steps::{Access, Act, End, PopAnswer, Word};
 
-/// Where a pop stands, or a look that only tells whether something waits. Between `Begun` and
+/// Where a pop stands, or a look that only asks whether something waits. Between `Begun` and
 /// `Popped`, or `LookBegun` and `Looked`, each stage is one access.
 #[derive(Clone, Copy, Debug, PartialEq, Eq)]
 pub enum Pop {

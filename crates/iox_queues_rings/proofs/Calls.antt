@@ -1,16 +1,16 @@
 -- One more step of an end goes on with its call in hand, or ends it.
 use Rattle.std.proofs.Common.{◌≡◌, ℕ, ◌-◌, Bool, true, false, if◌then◌else◌, ◌==◌, ◌%◌, nat_lt, Some, None, slice_index, List, [], ◌∷◌, ◌++◌, map, length, refl, sym, ◌∙◌, ap, subst, arith, append-nil}
-use Rattle.iox_queues_steps.specs.Access.{RingWords, answer_of, successor}
-use Rattle.iox_queues_steps.specs.Order.{push_call, pop_call}
-use Rattle.iox_queues_steps.specs.Told.{Timed, InHand, local, own, own_one}
-use Rattle.iox_queues_steps.specs.declared.order.PushAnswer.TheVariants.{Kept, Refused}
-use Rattle.iox_queues_steps.specs.declared.order.PopAnswer.TheVariants.{Got, Saw}
-use Rattle.iox_queues_steps.specs.declared.order.PushCall.{PushCall}
-use Rattle.iox_queues_steps.specs.declared.order.PopCall.{PopCall}
-use Rattle.iox_queues_steps.specs.declared.schedule.Event.{Event}
-use Rattle.iox_queues_steps.specs.declared.schedule.Party.{Party}
-use Rattle.iox_queues_steps.specs.declared.schedule.Party.TheVariants.{Producer, Consumer}
-use Rattle.iox_queues_steps.proofs.Told.{own_more, spans_on, spans_end, open_begun, open_more, open_end}
+use Rattle.iox_queues_overflowing.specs.QueuesSteps.Access.{RingWords, answer_of, successor}
+use Rattle.iox_queues_overflowing.specs.QueuesSteps.Order.{push_call, pop_call}
+use Rattle.iox_queues_overflowing.specs.QueuesSteps.Told.{Timed, InHand, local, own, own_one}
+use Rattle.iox_queues_overflowing.specs.QueuesSteps.declared.order.PushAnswer.TheVariants.{Kept, Refused}
+use Rattle.iox_queues_overflowing.specs.QueuesSteps.declared.order.PopAnswer.TheVariants.{Got, Saw}
+use Rattle.iox_queues_overflowing.specs.QueuesSteps.declared.order.PushCall.{PushCall}
+use Rattle.iox_queues_overflowing.specs.QueuesSteps.declared.order.PopCall.{PopCall}
+use Rattle.iox_queues_overflowing.specs.QueuesSteps.declared.schedule.Event.{Event}
+use Rattle.iox_queues_overflowing.specs.QueuesSteps.declared.schedule.Party.{Party}
+use Rattle.iox_queues_overflowing.specs.QueuesSteps.declared.schedule.Party.TheVariants.{Producer, Consumer}
+use Rattle.iox_queues_overflowing.proofs.QueuesSteps.Told.{own_more, spans_on, spans_end, open_begun, open_more, open_end}
 use Rattle.iox_queues_overflowing.specs.Overflowing as overflowing
 use Rattle.iox_queues_overflowing.specs.declared.push.Push.TheVariants as ov_push
 use Rattle.iox_queues_overflowing.specs.declared.pop.Pop.TheVariants as ov_pop

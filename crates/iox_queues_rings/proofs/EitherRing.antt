@@ -3,9 +3,9 @@ use Rattle.std.proofs.Common.{◌≡◌, ℕ, ◌+◌, ◌-◌, ◌^◌, ◌%◌
 use Rattle.std.proofs.Math.ListN.{get_or-append}
 use Rattle.std.proofs.lemmas.List.{length-replicate}
 use Rattle.std.proofs.lemmas.Bool.{ltb-true, ltb-false}
-use Rattle.iox_queues_steps.specs.Access.{RingWords, answer_of, after_access}
-use Rattle.iox_queues_steps.specs.Order.{Acts, after_acts, put_values, take_values, PutNow}
-use Rattle.iox_queues_steps.specs.declared.order.Act.{Act}
+use Rattle.iox_queues_overflowing.specs.QueuesSteps.Access.{RingWords, answer_of, after_access}
+use Rattle.iox_queues_overflowing.specs.QueuesSteps.Order.{Acts, after_acts, put_values, take_values, PutNow}
+use Rattle.iox_queues_overflowing.specs.QueuesSteps.declared.order.Act.{Act}
 use Rattle.iox_queues_overflowing.specs.OverflowingRing as overflowing_ring
 use Rattle.iox_queues_overflowing.specs.declared.push.Push.TheVariants as overflowing_push
 use Rattle.iox_queues_overflowing.specs.declared.pop.Pop.TheVariants as overflowing_pop

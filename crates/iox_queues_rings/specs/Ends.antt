@@ -1,12 +1,12 @@
 -- The two ends of a ring of either kind, by the stage where each stands.
 use Rattle.std.specs.Prelude.{ℕ, ◌+◌, ◌++◌, Bool, true, false, if◌then◌else◌, List, []}
-use Rattle.iox_queues_steps.specs.Access.{RingWords}
-use Rattle.iox_queues_steps.specs.Order.{PutNow}
-use Rattle.iox_queues_steps.specs.declared.access.Access.{Access}
-use Rattle.iox_queues_steps.specs.declared.order.PushAnswer.{PushAnswer}
-use Rattle.iox_queues_steps.specs.declared.order.PopAnswer.{PopAnswer}
-use Rattle.iox_queues_steps.specs.declared.order.PopAnswer.TheVariants.{Got, Saw}
-use Rattle.iox_queues_steps.specs.declared.order.Act.{Act}
+use Rattle.iox_queues_overflowing.specs.QueuesSteps.Access.{RingWords}
+use Rattle.iox_queues_overflowing.specs.QueuesSteps.Order.{PutNow}
+use Rattle.iox_queues_overflowing.specs.QueuesSteps.declared.access.Access.{Access}
+use Rattle.iox_queues_overflowing.specs.QueuesSteps.declared.order.PushAnswer.{PushAnswer}
+use Rattle.iox_queues_overflowing.specs.QueuesSteps.declared.order.PopAnswer.{PopAnswer}
+use Rattle.iox_queues_overflowing.specs.QueuesSteps.declared.order.PopAnswer.TheVariants.{Got, Saw}
+use Rattle.iox_queues_overflowing.specs.QueuesSteps.declared.order.Act.{Act}
 use Rattle.iox_queues_overflowing.specs.Overflowing as overflowing
 use Rattle.iox_queues_overflowing.specs.OverflowingRing as overflowing_ring
 use Rattle.iox_queues_overflowing.specs.declared.push.Push.TheVariants as overflowing_push

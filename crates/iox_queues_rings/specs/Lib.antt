@@ -2,3 +2,5 @@
 pub mod Ends
 pub mod RingMachine
 pub mod Machine
+pub use Rattle.iox_queues_overflowing.specs as QueuesOverflowing
+pub use Rattle.iox_queues_refusing.specs as QueuesRefusing

@@ -105,7 +105,7 @@ impl Push {
     }
 }
 
-/// Where a pop stands, or a look that only tells whether something waits.
+/// Where a pop stands, or a look that only asks whether something waits.
 #[derive(Clone, Copy, Debug, PartialEq, Eq)]
 pub enum Pop {
     Overflowing(OverflowingPop),

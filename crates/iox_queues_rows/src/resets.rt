@@ -1,4 +1,4 @@
-//! What a reset of all tells, and that it tells it once: both kinds of sets, and their fixed forms.
+//! What a reset of all reports, and that it reports it once: both kinds of sets, and their fixed forms.
 use iox_queues::{BitSet, BitState, CountingBitSet, FixedSizeBitSet, FixedSizeCountingBitSet};
 use std::alloc::Global;
 use std::test::Fail;

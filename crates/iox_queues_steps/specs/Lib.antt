@@ -6,3 +6,4 @@ pub mod Told
 pub mod Recorded
 pub mod Kept
 pub mod Runs
+pub use Rattle.iox_queues_base.specs as QueuesBase

@@ -1,7 +1,7 @@
 //! What one step of either end of a ring does to the numbers that wait.
 //!
 //! A number lies aside while its push stored the write position, but its put waits for the next move
-//! of the read position. The two laws stand on functions that do nothing.
+//! of the read position. The two laws are the contracts of functions that do nothing.
 //!
 //! A proof cites a law by a call of its function, which does nothing; what it states is then among the facts of the caller:
 //!

@@ -1,14 +1,17 @@
 -- What a script is answered, line by line.
 use Rattle.std.specs.Prelude.{◌≡◌, ◌++◌, ℕ, List, [], Option, Result, Ok, Err, codes}
 use Rattle.std.specs.declared.alloc.AllocError.{AllocError}
-use Rattle.iox_command.specs.declared.command.Command.{Command}
-use Rattle.iox_command.specs.declared.reply.Reply.{Reply}
+use Rattle.iox_hub_run.specs.Command.declared.command.Command.{Command}
+use Rattle.iox_hub_run.specs.Command.declared.reply.Reply.{Reply}
 use Rattle.iox_conversation.specs.Conversation.{BreaksOff}
 use Rattle.iox_conversation.specs.declared.error.ServeError.{ServeError}
-use Rattle.iox_describe_base.specs.Detail.{Detail, detail}
-use Rattle.iox_describe_base.specs.declared.type_detail.TypeVariant.TheVariants.{FixedSize}
-use Rattle.iox_domain_values.specs.Actions.{decision_of}
-use Rattle.iox_hub_run.specs.Passed.{HubConfig, FixedDegradation, FixedHandlers, types_of}
+use Rattle.iox_line.specs.DescribeBase.Detail.{Detail, detail}
+use Rattle.iox_line.specs.DescribeBase.declared.type_detail.TypeVariant.TheVariants.{FixedSize}
+use Rattle.iox_line.specs.DomainValues.Actions.{decision_of}
+use Rattle.iox_hub_run.specs.HubBase.declared.hub.HubConfig.{HubConfig}
+use Rattle.iox_hub_run.specs.HubCommands.declared.handlers.FixedDegradation.{FixedDegradation}
+use Rattle.iox_hub_run.specs.HubCommands.declared.handlers.FixedHandlers.{FixedHandlers}
+use Rattle.iox_hub_run.specs.HubRequests.Asked.{types_of}
 use Rattle.iox_hub_run.specs.Numbers.{IsNew, numbers_used}
 use Rattle.iox_hub_run.specs.Steps.{Step}
 use Rattle.iox_hub_run.specs.declared.numbered_hub.NumberedHub.{NumberedHub}

@@ -22,6 +22,6 @@
 pub mod script;
 
 pub use iox_conversation::{Input, Output, READ_CALLS, ServeError, status};
-pub use iox_hub_run::iox_hub_base::HubConfig;
+pub use iox_hub_run::HubConfig;
 pub use iox_line::{LineError, Scratch, print_reply, read_command};
 pub use script::{Script, serve};

@@ -9,8 +9,7 @@ ghost use Rattle.iox_script.specs.Conversation.{AnswersLine, IsNewScript, Breaks
 ghost use Rattle.iox_script.specs.declared.script.Script.{Script};
 
 use iox_conversation::{AnswersLines, Input, Output, ServeError};
-use iox_hub_run::iox_hub_base::HubConfig;
-use iox_hub_run::{FixedDegradation, FixedHandlers, NumberedHub};
+use iox_hub_run::{FixedDegradation, FixedHandlers, HubConfig, NumberedHub};
 use iox_line::{LineError, Scratch, print_reply, read_command};
 use std::alloc::{AllocError, Global};
 use std::io::{Read, Write};

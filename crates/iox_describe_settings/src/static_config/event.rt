@@ -19,11 +19,11 @@ pub struct StaticConfig {
     pub max_nodes: u64,
     /// How many notifiers it may have.
     pub max_notifiers: u64,
-    /// The event that tells of a new notifier.
+    /// The event that announces a new notifier.
     pub notifier_created_event: Option<u64>,
-    /// The event that tells of a notifier that died.
+    /// The event that announces a notifier that died.
     pub notifier_dead_event: Option<u64>,
-    /// The event that tells of a notifier that left.
+    /// The event that announces a notifier that left.
     pub notifier_dropped_event: Option<u64>,
 }
 

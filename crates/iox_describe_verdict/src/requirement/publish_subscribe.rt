@@ -1,6 +1,6 @@
 //! What an opener requires of a publish-subscribe service.
 ghost use Rattle.std.specs.Prelude.{◌≡◌, [], None, IsOk, IfOk};
-ghost use Rattle.iox_describe_base.specs.Attributes.{required};
+ghost use Rattle.iox_describe_settings.specs.DescribeBase.Attributes.{required};
 
 use crate::requirement::{RequiredSetting, asked, first_unmet};
 use iox_describe_base::attribute::AttributeSpecifier;
@@ -93,7 +93,7 @@ impl Requirement {
         }
     }
 
-    /// The same requirement, in memory of its own. Refused only for want of memory, which one of no attributes takes none of.
+    /// The same requirement, in memory of its own. Refused only where an allocation fails; for no attributes there is none.
     pub fn try_clone(&self, alloc: Global) -> Result<Self, AllocError>
         ensures same { IfOk result (λ requirement. requirement ≡ self.now) }
         ensures empty { self.now.attributes ≡ required [] [] → IsOk result }

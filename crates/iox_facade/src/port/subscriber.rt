@@ -1,2 +1,2 @@
 //! A subscriber of single values.
-pub use iox_hub_run::iox_hub_base::iox_delivery_factories::iox_delivery::Subscriber;
+pub use iox_delivery::Subscriber;

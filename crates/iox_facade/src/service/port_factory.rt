@@ -1,4 +1,4 @@
 //! Builders of ports, over the domain of a service.
-pub use iox_hub_run::iox_hub_base::iox_delivery_factories::{
+pub use iox_delivery_factories::{
     PortFactoryPublisher, PortFactorySubscriber, publisher_builder, subscriber_builder,
 };

@@ -39,7 +39,7 @@ impl<K: Eq, V, const CAPACITY: usize> Model for FixedSizeFlatMap<K, V, CAPACITY>
 impl<K: Eq, V, const CAPACITY: usize> FixedSizeFlatMap<K, V, CAPACITY> {
     ghost use Rattle.iox_maps.specs.FixedSizeFlatMapLends.{LendsOf};
 
-    /// An empty map. It fails only where memory is wanting.
+    /// An empty map. It fails only where an allocation fails.
     pub fn new(alloc: Global) -> Result<Self, AllocError>
         ensures empty { IfOk result (λ m. m.values ≡ replicate CAPACITY None) }
         ensures free { IfOk result (λ m. m.free ≡ range_with_len 0 CAPACITY) }
@@ -106,7 +106,7 @@ impl<K: Eq, V, const CAPACITY: usize> FixedSizeFlatMap<K, V, CAPACITY> {
     }
 
     /// A clone of the value of the key, if the map has it. It fails only where the map has the key and the clone of its
-    /// value fails, as for want of memory.
+    /// value fails, as where an allocation fails.
     pub fn get(&self, key: &K) -> Result<Option<V>, AllocError>
     where
         V: Clone,

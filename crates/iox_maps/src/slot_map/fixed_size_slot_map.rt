@@ -36,7 +36,7 @@ impl<T, const CAPACITY: usize> Model for FixedSizeSlotMap<T, CAPACITY> {
 impl<T, const CAPACITY: usize> FixedSizeSlotMap<T, CAPACITY> {
     ghost use Rattle.iox_maps.specs.FixedSizeSlotMapLends.{LendsAt};
 
-    /// An empty map. It fails only where memory is wanting.
+    /// An empty map. It fails only where an allocation fails.
     pub fn new(alloc: Global) -> Result<Self, AllocError>
         ensures empty { IfOk result (λ m. m.values ≡ replicate CAPACITY None) }
         ensures free { IfOk result (λ m. m.free ≡ range_with_len 0 CAPACITY) }
@@ -108,7 +108,7 @@ impl<T, const CAPACITY: usize> FixedSizeSlotMap<T, CAPACITY> {
         self.map.get_mut(key)
     }
 
-    /// Stores the value under the key that `next_free_key` tells, and returns it. If the map is full, the value is
+    /// Stores the value under the key that `next_free_key` returns, and returns it. If the map is full, the value is
     /// dropped.
     pub fn insert(&mut self, value: T) -> Option<SlotMapKey>
     where

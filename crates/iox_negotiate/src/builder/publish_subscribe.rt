@@ -1,7 +1,7 @@
 //! Setters of a builder of publish-subscribe services. Each names one thing, and all else stays.
 ghost use Rattle.std.specs.Prelude.{◌≡◌, Some};
-ghost use Rattle.iox_describe_base.specs.Detail.{detail};
-ghost use Rattle.iox_describe_base.specs.declared.type_detail.TypeVariant.TheVariants.{FixedSize};
+ghost use Rattle.iox_negotiate_errors.specs.DescribeBase.Detail.{detail};
+ghost use Rattle.iox_negotiate_errors.specs.DescribeBase.declared.type_detail.TypeVariant.TheVariants.{FixedSize};
 ghost use Rattle.iox_negotiate.specs.Types.{aligned};
 
 use crate::builder::ServiceBuilder;

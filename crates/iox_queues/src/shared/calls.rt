@@ -1,13 +1,13 @@
 //! Pushes and pops on shared words, each one run of its party value: it makes the accesses that the
 //! value asks for, in that order, and no other.
 ghost use Rattle.std.specs.Prelude.{◌≡◌, ◌+◌, ◌^◌, ◌<◌, ℕ, List, length, true, false, Some};
-ghost use Rattle.iox_queues_steps.specs.Runs.{Runs};
-ghost use Rattle.iox_queues_overflowing.specs.Overflowing as overflowing;
-ghost use Rattle.iox_queues_refusing.specs.Refusing as refusing;
-ghost use Rattle.iox_queues_overflowing.specs.declared.push.Push.TheVariants as overflowing_push;
-ghost use Rattle.iox_queues_overflowing.specs.declared.pop.Pop.TheVariants as overflowing_pop;
-ghost use Rattle.iox_queues_refusing.specs.declared.push.Push.TheVariants as refusing_push;
-ghost use Rattle.iox_queues_refusing.specs.declared.pop.Pop.TheVariants as refusing_pop;
+ghost use Rattle.iox_queues_bits.specs.QueuesSteps.Runs.{Runs};
+ghost use Rattle.iox_queues_rings.specs.QueuesOverflowing.Overflowing as overflowing;
+ghost use Rattle.iox_queues_rings.specs.QueuesRefusing.Refusing as refusing;
+ghost use Rattle.iox_queues_rings.specs.QueuesOverflowing.declared.push.Push.TheVariants as overflowing_push;
+ghost use Rattle.iox_queues_rings.specs.QueuesOverflowing.declared.pop.Pop.TheVariants as overflowing_pop;
+ghost use Rattle.iox_queues_rings.specs.QueuesRefusing.declared.push.Push.TheVariants as refusing_push;
+ghost use Rattle.iox_queues_rings.specs.QueuesRefusing.declared.pop.Pop.TheVariants as refusing_pop;
 ghost use Rattle.iox_queues.specs.Calls.{is_kept, left_by, popped, taken};
 ghost use Rattle.iox_queues.specs.Single.{EndsUnmoved, load_is_over, load_next, load_take, store_next, store_take, store_is_over};
 ghost use Rattle.iox_queues.specs.declared.shared.single.Storing.TheVariants as storing;

@@ -1,6 +1,6 @@
 //! A store and a load of the shared single value, one access at a time.
 //!
-//! The write position tells which cell holds the value: the one before it. A store fills the next cell and then moves the
+//! The write position says which cell holds the value: the one before it. A store fills the next cell and then moves the
 //! position. A load looks at the position, at the cell, and at the position again.
 ghost use Rattle.std.specs.Prelude.{◌≡◌};
 ghost use Rattle.iox_queues.specs.Single.{load_is_over, load_next, load_seen, load_take, store_is_over, store_next, store_take};

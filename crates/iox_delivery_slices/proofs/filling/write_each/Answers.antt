@@ -1,7 +1,7 @@
 use Rattle.std.proofs.Common.{arith, ◌∷◌, [], ◌++◌}
 use Rattle.std.proofs.lemmas.List.{length_push}
 use borrow.Author.Rules.{of_calls}
-use Rattle.iox_container.proofs.VectorLemmas.{MakesInTurn-push}
+use Rattle.iox_delivery.proofs.Container.VectorLemmas.{MakesInTurn-push}
 use Rattle.iox_delivery_slices.proofs.Filled.{made_more}
 use Rattle.iox_delivery_slices.proofs.filling.write_each.Goals as goal
 

@@ -1,7 +1,7 @@
 use Rattle.std.proofs.Common.{◌≡◌, List, length}
 use denote.Param.Always.{always_mut}
 use denote.Param.Members.{Called}
-use Rattle.iox_container.specs.Vectors.{MakesInTurn}
+use Rattle.iox_delivery.specs.Container.Vectors.{MakesInTurn}
 use Rattle.iox_delivery_slices.specs.Slices.{each_written}
 use Rattle.iox_delivery_slices.proofs.filling.write_each.Given as goal
 

@@ -1,6 +1,6 @@
 -- Bytes that are more than any line are the line of no description.
 use Rattle.std.proofs.Common.{◌≡◌, ◌<◌, ℕ, List, length, ap, arith}
-use Rattle.iox_describe_settings.specs.Agreement.{Agreement}
+use Rattle.iox_describe_verdict.specs.DescribeSettings.Agreement.{Agreement}
 use Rattle.iox_describe.specs.Line.{line}
 use Rattle.iox_describe.specs.Within.{IsWithinLimits}
 use Rattle.iox_describe.proofs.Length.{line_length}

@@ -3,7 +3,7 @@ use Rattle.std.proofs.Common.{◌≡◌, [], get_or, map, Result, Ok, Err, sym, 
 use Rattle.std.specs.Prelude.{IsErrAnd, MatchResult}
 use Rattle.std.proofs.lemmas.List.{take_all}
 use Rattle.serde_json.specs.View.{view}
-use Rattle.iox_describe_base.specs.Attributes.{attribute}
+use Rattle.iox_describe_verdict.specs.DescribeBase.Attributes.{attribute}
 use Rattle.iox_describe.specs.Line.{attribute_tree}
 use Rattle.iox_describe.proofs.Trees.{as_many, items_are, next}
 use Rattle.iox_describe.proofs.reader.defined.Goals as goal

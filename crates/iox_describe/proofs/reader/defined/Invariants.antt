@@ -1,7 +1,7 @@
 use Rattle.std.proofs.Common.{◌≡◌, List, take}
 use Rattle.serde_json.specs.View.{view}
-use Rattle.iox_describe_base.specs.declared.attribute.Attribute.{Attribute}
-use Rattle.iox_describe_base.specs.Attributes.{AreAttributes}
+use Rattle.iox_describe_verdict.specs.DescribeBase.declared.attribute.Attribute.{Attribute}
+use Rattle.iox_describe_verdict.specs.DescribeBase.Attributes.{AreAttributes}
 use Rattle.iox_describe.specs.Line.{attributes_tree}
 use Rattle.iox_describe.proofs.reader.defined.Given as goal
 

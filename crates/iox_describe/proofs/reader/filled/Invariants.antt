@@ -1,6 +1,6 @@
 use Rattle.std.proofs.Common.{◌≡◌, drop}
 use Rattle.serde_json.specs.View.{view}
-use Rattle.iox_describe_settings.specs.Setting as all_settings
+use Rattle.iox_describe_verdict.specs.DescribeSettings.Setting as all_settings
 use Rattle.iox_describe.specs.Reading.{AreFound}
 use Rattle.iox_describe.specs.Within.{AreValues}
 use Rattle.iox_describe.proofs.reader.filled.Given as goal

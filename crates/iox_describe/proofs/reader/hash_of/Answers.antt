@@ -3,7 +3,7 @@ use Rattle.std.proofs.Common.{◌≡◌, ℕ, List, ap, ◌∙◌}
 use Rattle.std.specs.Prelude.{Ok}
 use Rattle.hex.specs.Hex.{decode_sized}
 use Rattle.hex.proofs.HexLemmas.{decode_sized-encode_lower}
-use Rattle.iox_describe_base.specs.declared.hash.ServiceHash.{ServiceHash}
+use Rattle.iox_describe_verdict.specs.DescribeBase.declared.hash.ServiceHash.{ServiceHash}
 use Rattle.iox_describe.proofs.reader.hash_of.Goals as goal
 
 abbrev of_digest : List ℕ → ServiceHash

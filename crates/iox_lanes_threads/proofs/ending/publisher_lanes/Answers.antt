@@ -1,7 +1,7 @@
 use Rattle.std.proofs.Common.{ℕ, ◌∷◌, ◌++◌, [], List, sym, ap, subst, ◌∙◌}
 use Rattle.std.specs.Vec.{vec_capacity}
 use Rattle.std.specs.Vec.Iter.{into_iter_items}
-use Rattle.iox_lanes_parties.specs.Parties.{PublisherLaneState}
+use Rattle.iox_lanes_machine.specs.LanesParties.Parties.{PublisherLaneState}
 use Rattle.iox_lanes_threads.specs.Ports.{BoardPublisher}
 use Rattle.iox_lanes_threads.proofs.Leaving.{Left, leaves}
 use Rattle.iox_lanes_threads.proofs.ending.publisher_lanes.Goals as goal

@@ -1,6 +1,6 @@
 use Rattle.std.specs.Vec.{vec_capacity}
 use Rattle.std.specs.Vec.Iter.{into_iter_items, into_iter_len}
-use Rattle.iox_lanes_parties.specs.Parties.{PublisherLaneState}
+use Rattle.iox_lanes_machine.specs.LanesParties.Parties.{PublisherLaneState}
 use Rattle.iox_lanes_threads.specs.Ports.{BoardPublisher}
 use Rattle.iox_lanes_threads.proofs.Leaving.{Left}
 use Rattle.iox_lanes_threads.proofs.ending.publisher_lanes.Given as goal

@@ -1,6 +1,6 @@
 use Rattle.std.proofs.Common.{ℕ, ◌≡◌, ◌<◌, false}
-use Rattle.iox_lanes_publisher.specs.Keeping.{loan_of}
-use Rattle.iox_lanes_parties.specs.Parties.{is_out}
+use Rattle.iox_lanes_machine.specs.LanesPublisher.Keeping.{loan_of}
+use Rattle.iox_lanes_machine.specs.LanesParties.Parties.{is_out}
 use Rattle.iox_lanes_threads.proofs.opening.has_loan.Given as goal
 
 abbrev pub invariant-loop-slot : goal.invariant-loop-slot

@@ -1,8 +1,8 @@
 use Rattle.std.proofs.Common.{ℕ, ◌≡◌, ◌+◌, ◌≤◌, false, length, sym, subst}
 use Rattle.std.proofs.lemmas.List.{take_all}
 use Rattle.std.proofs.lemmas.List.Elements.{All-get_or, All-more, All-same}
-use Rattle.iox_lanes_publisher.specs.Keeping.{loan_of}
-use Rattle.iox_lanes_parties.specs.Parties.{PublisherLaneState, is_out}
+use Rattle.iox_lanes_machine.specs.LanesPublisher.Keeping.{loan_of}
+use Rattle.iox_lanes_machine.specs.LanesParties.Parties.{PublisherLaneState, is_out}
 use Rattle.iox_lanes_threads.proofs.Refusing.{free_beyond}
 use Rattle.iox_lanes_threads.proofs.opening.have_loans.Goals as goal
 

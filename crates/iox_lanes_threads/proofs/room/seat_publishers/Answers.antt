@@ -2,7 +2,7 @@ use Rattle.std.proofs.Common.{ℕ, ◌≡◌, [], ◌∷◌, ◌++◌, length, L
 use Rattle.std.specs.Vec.{vec_capacity}
 use Rattle.std.specs.Vec.Iter.{into_iter_items}
 use Rattle.atomic_table.specs.Seated.{TableId}
-use Rattle.iox_lanes_parties.specs.Parties.{PublisherLaneState}
+use Rattle.iox_lanes_machine.specs.LanesParties.Parties.{PublisherLaneState}
 use Rattle.iox_lanes_machine.specs.World.{World}
 use Rattle.iox_lanes_threads.specs.Ports.{BoardPublisher}
 use Rattle.iox_lanes_threads.proofs.Seating.{Publishers, opened_publisher, publisher_seated, publisher_waits}

@@ -1,6 +1,6 @@
 use Rattle.std.proofs.Common.{◌∙◌, refl, sym}
-use Rattle.iox_command.specs.declared.command.Command.TheVariants as command
-use Rattle.iox_command_text.specs.Memory.{some}
+use Rattle.iox_line_steps.specs.Command.declared.command.Command.TheVariants as command
+use Rattle.iox_line_attributes.specs.CommandText.Memory.{some}
 use Rattle.iox_line_attributes.specs.Reading.{specifier_of}
 use Rattle.iox_line.proofs.MemoryLemmas.{service_lacks}
 use Rattle.iox_line.proofs.service.create_line.Goals as goal

@@ -1,5 +1,5 @@
 use Rattle.std.proofs.Common.{◌∙◌, [], ◌∷◌, ◌++◌, sym}
-use Rattle.iox_command_text.proofs.GatherLemmas.{gathers_more}
+use Rattle.iox_line_services.proofs.CommandText.GatherLemmas.{gathers_more}
 use Rattle.iox_line_steps.specs.Reading.{steps_of}
 use Rattle.iox_line_steps.proofs.GatherStepLemmas.{step_more}
 use Rattle.iox_line_steps.proofs.foreign.foreign_steps.Goals as goal

@@ -1,6 +1,6 @@
 use Rattle.std.proofs.Common.{◌∙◌, [], ◌∷◌, ◌++◌, ap, sym}
 use Rattle.std.specs.Option.{option_map}
-use Rattle.iox_command_text.proofs.GatherLemmas.{gathers_more}
+use Rattle.iox_line_services.proofs.CommandText.GatherLemmas.{gathers_more}
 use Rattle.iox_line_steps.specs.Reading.{lists_of}
 use Rattle.iox_line_steps.proofs.GatherStepLemmas.{listed_more}
 use Rattle.iox_line_steps.proofs.lists.listed_steps.Goals as goal

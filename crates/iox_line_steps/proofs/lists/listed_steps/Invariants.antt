@@ -1,7 +1,7 @@
 use Rattle.std.proofs.Common.{◌≡◌, List, length}
-use Rattle.iox_command.specs.declared.step.StepBefore.{StepBefore}
-use Rattle.iox_command_text.specs.Memory.{some}
-use Rattle.iox_command_text.proofs.GatherLemmas.{Gathers, onto}
+use Rattle.iox_line_services.specs.Command.declared.step.StepBefore.{StepBefore}
+use Rattle.iox_line_services.specs.CommandText.Memory.{some}
+use Rattle.iox_line_services.proofs.CommandText.GatherLemmas.{Gathers, onto}
 use Rattle.iox_line_steps.specs.Reading.{lists_from, lists_of}
 use Rattle.iox_line_steps.proofs.lists.listed_steps.Given as goal
 

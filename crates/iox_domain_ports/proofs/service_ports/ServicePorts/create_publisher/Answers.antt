@@ -1,5 +1,5 @@
 use Rattle.std.proofs.Common.{sym, ◌∙◌, Ok}
-use Rattle.iox_domain_values.specs.declared.degradation.DegradationCause.TheVariants as cause
+use Rattle.iox_domain_subscriber.specs.DomainValues.declared.degradation.DegradationCause.TheVariants as cause
 use Rattle.iox_domain_ports.proofs.Coming.{creates_publisher}
 use Rattle.iox_domain_ports.proofs.service_ports.ServicePorts.create_publisher.Goals as goal
 

@@ -1,5 +1,5 @@
 use Rattle.std.proofs.Common.{rules, refl, ap, ◌≡◌, Some}
-use Rattle.iox_domain_values.specs.declared.degradation.DegradationCause.TheVariants as cause
+use Rattle.iox_domain_subscriber.specs.DomainValues.declared.degradation.DegradationCause.TheVariants as cause
 use Rattle.iox_domain_subscriber.specs.Publishers.{port_of}
 use Rattle.iox_domain_ports.specs.Publishing.{SendsOne}
 use Rattle.iox_domain_ports.proofs.Lifting.{at_publisher, at_publisher-none}

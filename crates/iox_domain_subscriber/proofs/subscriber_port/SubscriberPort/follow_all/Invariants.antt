@@ -1,4 +1,4 @@
-use Rattle.iox_domain_values.specs.declared.degradation.DegradationCause.TheVariants as cause
+use Rattle.iox_domain_publisher.specs.DomainValues.declared.degradation.DegradationCause.TheVariants as cause
 use Rattle.iox_domain_subscriber.proofs.Walking.{Following}
 use Rattle.iox_domain_subscriber.proofs.subscriber_port.SubscriberPort.follow_all.Given as goal
 

@@ -1,6 +1,6 @@
 use Rattle.std.proofs.Common.{rules, ◌≡◌, ap, ap₂, subst, ◌∙◌, false, is_err, Ok}
-use Rattle.iox_describe_base.specs.Detail.{detail}
-use Rattle.iox_describe_base.specs.declared.type_detail.TypeVariant.TheVariants.{FixedSize}
+use Rattle.iox_delivery_factories.specs.DescribeBase.Detail.{detail}
+use Rattle.iox_delivery_factories.specs.DescribeBase.declared.type_detail.TypeVariant.TheVariants.{FixedSize}
 use Rattle.iox_hub_services.specs.Opening.{Opens}
 use Rattle.iox_hub_base.specs.Hubs.{factories_of, with_factory, one_more}
 use Rattle.iox_hub_base.proofs.OpenedWell.{opens_well}

@@ -1,5 +1,5 @@
 use Rattle.std.proofs.Common.{refl, le_refl, Some, Err}
-use Rattle.iox_domain_home.specs.Steps.{why_no_publisher}
+use Rattle.iox_delivery_slices.specs.DomainHome.Steps.{why_no_publisher}
 use Rattle.iox_hub_ports.proofs.Refused.{refused}
 use Rattle.iox_hub_ports.proofs.made.Made.make_publisher.Goals as goal
 

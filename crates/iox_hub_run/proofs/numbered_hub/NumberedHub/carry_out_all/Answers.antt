@@ -1,9 +1,9 @@
 use Rattle.std.proofs.Common.{arith, ◌+◌, ◌≡◌, [], ◌∷◌, ◌++◌, length, ap, ◌∙◌, append_assoc}
 use Rattle.std.specs.Vec.Iter.{into_iter_items}
 use Rattle.std.proofs.lemmas.List.{length-append}
-use Rattle.iox_describe_base.specs.Detail.{detail}
-use Rattle.iox_describe_base.specs.declared.type_detail.TypeVariant.TheVariants.{FixedSize}
-use Rattle.iox_hub_factories.specs.Requests.{types_of}
+use Rattle.iox_hub_commands.specs.DescribeBase.Detail.{detail}
+use Rattle.iox_hub_commands.specs.DescribeBase.declared.type_detail.TypeVariant.TheVariants.{FixedSize}
+use Rattle.iox_hub_factories.specs.HubRequests.Asked.{types_of}
 use Rattle.iox_hub_run.specs.Steps.{Step}
 use Rattle.iox_hub_run.proofs.RunLemmas.{runs_more}
 use Rattle.iox_hub_run.proofs.numbered_hub.NumberedHub.carry_out_all.Goals as goal

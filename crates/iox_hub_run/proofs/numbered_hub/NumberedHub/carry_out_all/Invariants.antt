@@ -1,8 +1,8 @@
 use Rattle.std.proofs.Common.{◌≡◌, ◌+◌, ◌≤◌, ◌++◌, length, vec_len, vec_capacity}
 use Rattle.std.specs.Vec.Iter.{into_iter_items, into_iter_len}
-use Rattle.iox_describe_base.specs.Detail.{detail}
-use Rattle.iox_describe_base.specs.declared.type_detail.TypeVariant.TheVariants.{FixedSize}
-use Rattle.iox_hub_factories.specs.Requests.{types_of}
+use Rattle.iox_hub_commands.specs.DescribeBase.Detail.{detail}
+use Rattle.iox_hub_commands.specs.DescribeBase.declared.type_detail.TypeVariant.TheVariants.{FixedSize}
+use Rattle.iox_hub_factories.specs.HubRequests.Asked.{types_of}
 use Rattle.iox_hub_run.specs.Numbers.{numbers_used}
 use Rattle.iox_hub_run.specs.Runs.{Runs}
 use Rattle.iox_hub_run.specs.Steps.{Step}

@@ -1,6 +1,6 @@
-use Rattle.iox_describe_base.specs.Detail.{detail}
-use Rattle.iox_describe_base.specs.declared.type_detail.TypeVariant.TheVariants.{FixedSize}
-use Rattle.iox_hub_factories.specs.Requests.{types_of}
+use Rattle.iox_hub_commands.specs.DescribeBase.Detail.{detail}
+use Rattle.iox_hub_commands.specs.DescribeBase.declared.type_detail.TypeVariant.TheVariants.{FixedSize}
+use Rattle.iox_hub_factories.specs.HubRequests.Asked.{types_of}
 use Rattle.iox_hub_run.proofs.AsAgreed.{are_as_agreed}
 use Rattle.iox_hub_run.proofs.RunLemmas.{run_goes}
 use Rattle.iox_hub_run.proofs.StepChanges.{step_changes, numbers_still, numbers_go_on, numbers_on_and_on}

@@ -1,6 +1,6 @@
 use Rattle.std.proofs.Common.{rules, ap}
 use Rattle.iox_domain.specs.Handling.{kept_degrades}
-use Rattle.iox_domain_home.specs.Steps.{TellsBy}
+use Rattle.iox_domain.specs.DomainHome.Steps.{TellsBy}
 use Rattle.iox_hub_services.specs.AsHome.{subscriber_handler_in}
 use Rattle.iox_hub_services.proofs.Homely.{at_here}
 use Rattle.iox_hub_services.proofs.Own.{own_stepped}

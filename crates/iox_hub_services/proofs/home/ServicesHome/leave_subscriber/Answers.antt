@@ -1,5 +1,5 @@
 use Rattle.std.proofs.Common.{rules, ap, ◌∙◌}
-use Rattle.iox_domain_home.specs.Steps.{SubscriberLeaves}
+use Rattle.iox_domain.specs.DomainHome.Steps.{SubscriberLeaves}
 use Rattle.iox_hub_services.specs.AsHome.{subscriber_forgotten}
 use Rattle.iox_hub_services.proofs.Homely.{leaves_here, subscriber_dropped}
 use Rattle.iox_hub_services.proofs.Own.{own_stepped}

@@ -1,5 +1,5 @@
 use Rattle.std.proofs.Common.{rules, ap}
-use Rattle.iox_domain_home.specs.Steps.{LoansBy}
+use Rattle.iox_domain.specs.DomainHome.Steps.{LoansBy}
 use Rattle.iox_hub_services.proofs.Homely.{at_here}
 use Rattle.iox_hub_services.proofs.Own.{own_stepped}
 use Rattle.iox_hub_services.proofs.home.ServicesHome.loan.Goals as goal

@@ -1,6 +1,6 @@
 use Rattle.std.proofs.Common.{rules, ap}
 use Rattle.iox_domain.specs.Handling.{kept_decides}
-use Rattle.iox_domain_home.specs.Steps.{RetriesBy}
+use Rattle.iox_domain.specs.DomainHome.Steps.{RetriesBy}
 use Rattle.iox_hub_services.specs.AsHome.{publisher_handlers_in}
 use Rattle.iox_hub_services.proofs.Homely.{at_here}
 use Rattle.iox_hub_services.proofs.Own.{own_stepped}

@@ -1,6 +1,6 @@
 use Rattle.std.proofs.Common.{rules}
-use Rattle.iox_domain_home.specs.Steps.{PublisherComes, why_no_publisher}
-use Rattle.iox_domain_values.specs.declared.degradation.DegradationCause.TheVariants.{FailedToEstablishConnection}
+use Rattle.iox_domain.specs.DomainHome.Steps.{PublisherComes, why_no_publisher}
+use Rattle.iox_domain.specs.DomainValues.declared.degradation.DegradationCause.TheVariants.{FailedToEstablishConnection}
 use Rattle.iox_hub_services.specs.AsHome.{publisher_kept}
 use Rattle.iox_hub_services.proofs.Homely.{comes_here, publisher_comes, publisher_keeps_id}
 use Rattle.iox_hub_services.proofs.Own.{own_stepped}

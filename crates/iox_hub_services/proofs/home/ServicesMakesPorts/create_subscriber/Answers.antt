@@ -1,6 +1,6 @@
 use Rattle.std.proofs.Common.{rules}
-use Rattle.iox_domain_home.specs.Steps.{SubscriberComes, why_no_subscriber}
-use Rattle.iox_domain_values.specs.declared.degradation.DegradationCause.TheVariants.{FailedToEstablishConnection}
+use Rattle.iox_domain.specs.DomainHome.Steps.{SubscriberComes, why_no_subscriber}
+use Rattle.iox_domain.specs.DomainValues.declared.degradation.DegradationCause.TheVariants.{FailedToEstablishConnection}
 use Rattle.iox_hub_services.specs.AsHome.{subscriber_kept}
 use Rattle.iox_hub_services.proofs.Homely.{comes_here, subscriber_comes, subscriber_keeps_id}
 use Rattle.iox_hub_services.proofs.Own.{own_stepped}

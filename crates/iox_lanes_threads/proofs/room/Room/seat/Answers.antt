@@ -15,7 +15,7 @@ pub seat_subscribers-subscribers-requires-clause-lanes : goal.seat_subscribers-s
 seat_subscribers-subscribers-requires-clause-lanes c =
     let own = c.are_of_one_service.ensures in
     let sound : Sound c.args.lanes = record { within = own.within; rows = own.rows; named = own.named; near = own.near } in
-    all_subscribers_stand c.args.lanes c.args.self.of.value c.into_ports-publisher_lanes.result.1.items sound c.requires.may.between.subscribers c.requires.room.of_is c.into_ports-publisher_lanes.ensures.1
+    all_subscribers_stand c.args.lanes c.args.self.of.value c.into_ports-publisher_lanes.result.1.items sound c.finished.ensures.reads.rooms c.requires.may.between.subscribers c.requires.room.of_is c.into_ports-publisher_lanes.ensures.1
 
 pub seat_subscribers-subscribers-requires-clause-shares : goal.seat_subscribers-subscribers-requires-clause-shares
 seat_subscribers-subscribers-requires-clause-shares c =

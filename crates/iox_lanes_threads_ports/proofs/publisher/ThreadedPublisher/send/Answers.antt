@@ -1,11 +1,14 @@
 use Rattle.std.proofs.Common.{ℕ, is_some, sym, ap, subst, ◌∙◌}
-use Rattle.iox_lanes_parties.specs.Parties.{head_of}
-use Rattle.iox_lanes_parties.specs.declared.call.Call.TheVariants as call
-use Rattle.iox_lanes_parties.specs.declared.call.Move.TheVariants.{Begin}
+use Rattle.iox_lanes_ledger.specs.LanesWords.Numbers.{IsSmall}
+use Rattle.iox_lanes_ledger.specs.LanesParties.Parties.{head_of}
+use Rattle.iox_lanes_ledger.specs.LanesParties.declared.call.Call.TheVariants as call
+use Rattle.iox_lanes_ledger.specs.LanesParties.declared.call.Move.TheVariants.{Begin}
 use Rattle.iox_lanes_threads_rule.specs.Acts.{port_of}
 use Rattle.iox_lanes_threads_ports.specs.Known.{KnowsHead, KeepsPayload}
 use Rattle.iox_lanes_threads_ports.specs.Paces.{send_steps}
+use Rattle.iox_lanes_threads_ports.specs.Ports.{PublisherStands}
 use Rattle.iox_lanes_threads_ports.specs.Values.{PublisherPort, PublisherDoes, Sends}
+use Rattle.iox_lanes_threads_ports.proofs.KnownPushes.{send_sent}
 use Rattle.iox_lanes_threads_ports.proofs.KnownSends.{send_known, send_called}
 use Rattle.iox_lanes_threads_ports.proofs.publisher.ThreadedPublisher.send.Goals as goal
 
@@ -22,3 +25,10 @@ returns-clause-slot g c = λ e.
     subst (λ (v : PublisherPort). KnowsHead (port_of c.does-answer.new.seat.me) c.args.loan (head_of c.args.loan v.lane) × KeepsPayload v.port (port_of c.does-answer.new.seat.me) c.args.loan) c.self.view_is
     (send_known c.send_steps-most.result (port_of c.self.inside.seat.me) c.self.inside.lane c.args.loan (port_of c.does-answer.new.seat.me) c.does-answer.new.lane c.does-answer.result c.self.invariant.1 c.does-answer.ensures.does
     (sym (ap is_some c.sent.ensures) ∙ e))
+
+pub returns-clause-sent : goal.returns-clause-sent
+returns-clause-sent g c =
+    let now : PublisherPort = record { table = c.does-answer.new.seat.table_id; port = port_of c.does-answer.new.seat.me; lane = c.does-answer.new.lane } in
+    send_sent c.args.self.now now c.args.loan c.sent.result
+    (subst (λ (v : PublisherPort). IsSmall v.port.service.sizes) c.self.view_is (subst IsSmall (sym c.self.invariant.0.sizes_are) c.self.invariant.0.small))
+    (subst (λ (v : PublisherPort). PublisherStands v.port v.lane) c.self.view_is c.self.invariant.1) (returns-clause-call g c)

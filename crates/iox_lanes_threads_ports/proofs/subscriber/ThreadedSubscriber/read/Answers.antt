@@ -1,11 +1,11 @@
 use Rattle.std.proofs.Common.{refl, sym, ap, subst, ◌∙◌}
-use Rattle.iox_lanes_parties.specs.Parties.{words_read}
-use Rattle.iox_lanes_parties.specs.declared.call.Call.TheVariants as call
+use Rattle.iox_lanes_ledger.specs.LanesParties.Parties.{words_read}
+use Rattle.iox_lanes_ledger.specs.LanesParties.declared.call.Call.TheVariants as call
 use Rattle.iox_lanes_threads_rule.specs.Acts.{port_of}
 use Rattle.iox_lanes_threads_ports.specs.Ports.{SubscriberStands}
 use Rattle.iox_lanes_threads_ports.specs.Values.{SubscriberPort, settled}
 use Rattle.iox_lanes_threads_ports.proofs.Between as lemmas
-use Rattle.iox_lanes_threads_ports.proofs.KnownReads.{read_words_known}
+use Rattle.iox_lanes_threads_ports.proofs.KnownReads.{read_words_known, read_whole}
 use Rattle.iox_lanes_threads_ports.proofs.subscriber.ThreadedSubscriber.read.Goals as goal
 
 pub invariant_of-self : goal.invariant_of-self
@@ -36,3 +36,9 @@ returns-clause-words g c = λ e.
     let begun = lemmas.begun_stands (port_of c.self.inside.seat.me) c.self.inside.lane c.settle.new.lane c.begin.new.self (call.Read c.args.sample) c.self.invariant.1 c.settle.ensures.lane c.begin.ensures (sym c.fits.ensures ∙ c.if-not-fits.false) in
     read_words_known (port_of c.self.inside.seat.me) (port_of c.finish.new.seat.me) c.args.self.now.lane c.settle.new.lane c.begin.new.self c.finish.new.lane c.args.sample (words_read c.finish.new.lane.port.call c.finish.new.lane.port.words) begun
     (ap (λ (v : SubscriberPort). v.lane) (sym c.self.view_is) ∙ sym c.settle.ensures.lane) c.begin.ensures c.finish.ensures.goes c.finish.ensures.over refl
+
+pub returns-clause-whole : goal.returns-clause-whole
+returns-clause-whole g c = λ e.
+    let begun = lemmas.begun_stands (port_of c.self.inside.seat.me) c.self.inside.lane c.settle.new.lane c.begin.new.self (call.Read c.args.sample) c.self.invariant.1 c.settle.ensures.lane c.begin.ensures (sym c.fits.ensures ∙ c.if-not-fits.false) in
+    read_whole (port_of c.self.inside.seat.me) (port_of c.finish.new.seat.me) c.args.self.now.lane c.settle.new.lane c.begin.new.self c.finish.new.lane c.args.sample (words_read c.finish.new.lane.port.call c.finish.new.lane.port.words) begun
+    c.finish.ensures.stands c.finish.ensures.seat.1 (ap (λ (v : SubscriberPort). v.lane) (sym c.self.view_is) ∙ sym c.settle.ensures.lane) c.begin.ensures c.finish.ensures.goes c.finish.ensures.over refl

@@ -1,11 +1,11 @@
 use Rattle.std.proofs.Common.{refl, sym, ap, subst, ◌∙◌}
-use Rattle.iox_lanes_parties.specs.Parties.{words_read}
-use Rattle.iox_lanes_parties.specs.declared.call.Call.TheVariants as call
+use Rattle.iox_lanes_ledger.specs.LanesParties.Parties.{words_read}
+use Rattle.iox_lanes_ledger.specs.LanesParties.declared.call.Call.TheVariants as call
 use Rattle.iox_lanes_threads_rule.specs.Acts.{port_of}
 use Rattle.iox_lanes_threads_ports.specs.Ports.{SubscriberStands}
 use Rattle.iox_lanes_threads_ports.specs.Values.{SubscriberPort, settled, Releases}
 use Rattle.iox_lanes_threads_ports.proofs.Between as lemmas
-use Rattle.iox_lanes_threads_ports.proofs.KnownReleases.{release_known}
+use Rattle.iox_lanes_threads_ports.proofs.KnownReleases.{release_known, release_kept}
 use Rattle.iox_lanes_threads_ports.proofs.subscriber.ThreadedSubscriber.release.Goals as goal
 
 pub invariant_of-self : goal.invariant_of-self
@@ -48,4 +48,15 @@ returns-clause-put g c = λ e.
       words = words_read c.go_on.new.self.port.call c.go_on.new.self.port.words;
     } in
     release_known c.args.self.now new c.args.sample c.released.result
+    (subst (λ (v : SubscriberPort). SubscriberStands v.port v.lane) c.self.view_is (lemmas.settled_stands (port_of c.self.inside.seat.me) c.self.inside.lane c.self.invariant.1)) (returns-clause-call g c) e
+
+pub returns-clause-kept : goal.returns-clause-kept
+returns-clause-kept g c = λ e.
+    let new : SubscriberPort = record {
+      table = c.finish.new.seat.table_id;
+      port = port_of c.finish.new.seat.me;
+      lane = settled c.go_on.new.self;
+      words = words_read c.go_on.new.self.port.call c.go_on.new.self.port.words;
+    } in
+    release_kept c.args.self.now new c.args.sample c.released.result
     (subst (λ (v : SubscriberPort). SubscriberStands v.port v.lane) c.self.view_is (lemmas.settled_stands (port_of c.self.inside.seat.me) c.self.inside.lane c.self.invariant.1)) (returns-clause-call g c) e

@@ -1,6 +1,6 @@
 -- The settings and attributes that were judged are those of the description.
 use Rattle.std.proofs.Common.{sym, ap, ◌∙◌, List}
-use Rattle.iox_describe_base.specs.declared.attribute.Attribute.{Attribute}
+use Rattle.iox_describe_settings.specs.DescribeBase.declared.attribute.Attribute.{Attribute}
 use Rattle.iox_describe_settings.specs.declared.static_config.Settings.{Settings}
 use Rattle.iox_describe_verdict.specs.Verdict.{first_unmet, unmet_clause}
 use Rattle.iox_describe_verdict.specs.PublishSubscribeClauses.{clauses_on, clauses_of}

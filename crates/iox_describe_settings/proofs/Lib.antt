@@ -1,0 +1,1 @@
+pub use Rattle.iox_describe_base.proofs as DescribeBase

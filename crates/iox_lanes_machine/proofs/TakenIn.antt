@@ -1,0 +1,490 @@
+-- What lanes take in stands at the end of what it is about, and it is taken in just where it may be.
+use Rattle.std.proofs.Common.{ℕ, ◌≡◌, ◌+◌, ◌-◌, ◌*◌, ◌<◌, ◌≤◌, ◌^◌, ◌==◌, ◌&&◌, not, Bool, true, false, nat_lt, List, [], ◌∷◌, ◌++◌, length, set, get_or, replicate, slice_get, Option, Some, None, refl, sym, ◌∙◌, ap, subst, inl, inr, arith, length-append}
+use Rattle.std.proofs.lemmas.Bool.{lt-ltb, le-ltb}
+use Rattle.std.proofs.lemmas.Bool.Decides.{eqb_tells}
+use Rattle.std.proofs.lemmas.List.{append-nil, length-set, get_or-set_same, get_or-set_other}
+use Rattle.std.proofs.lemmas.Option.{slice_get_within}
+use Rattle.iox_lanes_ledger.specs.QueuesSteps.Access.{RingWords, successor}
+use Rattle.iox_lanes_ledger.specs.QueuesSteps.declared.access.Word.TheVariants.{Write, Cell}
+use Rattle.iox_lanes_ledger.specs.QueuesRings.Ends.{cells_of}
+use Rattle.iox_lanes_ledger.specs.QueuesRings.RingMachine.{first_words}
+use Rattle.iox_lanes_ledger.specs.QueuesRings.declared.ends.RingKind.{RingKind}
+use Rattle.iox_lanes_ledger.specs.QueuesRings.declared.ends.RingKind.TheVariants as kind
+use Rattle.iox_lanes_ledger.proofs.QueuesRings.EitherRing.{start_refusing}
+use Rattle.iox_lanes_ledger.specs.QueuesRefusing.declared.pop.Pop.TheVariants as refusing_pop
+use Rattle.iox_lanes_ledger.specs.QueuesRefusing.declared.push.Push.TheVariants as refusing_push
+use Rattle.iox_lanes_ledger.specs.LanesWords.Numbers.{IsWord, number_of}
+use Rattle.iox_lanes_ledger.specs.LanesWords.Table.{TableWords, held_by, stored_in}
+use Rattle.iox_lanes_ledger.specs.LanesWords.declared.access.SharedAccess.TheVariants.{Store}
+use Rattle.iox_lanes_ledger.specs.LanesWords.declared.sizes.TableSizes.{TableSizes}
+use Rattle.iox_lanes_ledger.specs.LanesWords.declared.word.ConnectionRing.{ConnectionRing}
+use Rattle.iox_lanes_ledger.specs.LanesWords.declared.word.ConnectionRing.TheVariants.{Submission, Completion}
+use Rattle.iox_lanes_ledger.specs.LanesWords.declared.word.SharedWord.{SharedWord}
+use Rattle.iox_lanes_ledger.specs.LanesWords.declared.word.SharedWord.TheVariants.{Ring, Slot}
+use Rattle.iox_lanes_ledger.specs.LanesWords.declared.word.SlotWord.{SlotWord}
+use Rattle.iox_lanes_ledger.specs.LanesWords.declared.word.SlotWord.TheVariants.{Header, UserHeader, Payload}
+use Rattle.iox_lanes_ledger.proofs.LanesWords.Numbering.{apart, within}
+use Rattle.iox_lanes_ledger.specs.LanesCalls.declared.route.Route.{Route}
+use Rattle.iox_lanes_ledger.specs.LanesPublisher.Keeping.{BookState, is_own, may_have, may_remember, stands_in, counted_up, referred_at}
+use Rattle.iox_lanes_ledger.specs.LanesParties.Parties.{PublisherLaneState, lane_found, lane_remembers}
+use Rattle.iox_lanes_ledger.proofs.LanesParties.Rings.{and_left, and_right}
+use Rattle.iox_lanes_ledger.specs.Borrowing.{is_at}
+use Rattle.iox_lanes_ledger.specs.Stored.{between}
+use Rattle.iox_lanes_ledger.specs.Uses.{one_if, count, entry, refers_to, IsOwn, UsesCounted, MayBeReferred}
+use Rattle.iox_lanes_ledger.proofs.Books.{up_same, uses_few}
+use Rattle.iox_lanes_ledger.proofs.Entries.{choose_one, choose_other, entry_other, refers_is}
+use Rattle.iox_lanes_ledger.proofs.Findings.{lacks_is, newest_is, found_refers, found_refers_elsewhere, newest_refers}
+use Rattle.iox_lanes_ledger.proofs.Rings.{between_is}
+use Rattle.iox_lanes_machine.specs.Findings.{laid, back_found, takes_more, may_wait, may_be_back, waits_at, waits_of, back_at, back_of, newest_of, has_word, finds, finds_now, waiting_in, waiting_of, given_at, given_of, remembered_of, with_found, FindsTo}
+use Rattle.iox_lanes_machine.specs.Fresh.{IsFreshPublisher, IsFresh}
+use Rattle.iox_lanes_machine.specs.Kept.{IsWithin, IsKept}
+use Rattle.iox_lanes_machine.specs.Links.{LinkState}
+use Rattle.iox_lanes_machine.specs.TakenIn.{MayStand, MayBeNewest, MayBeMessage, MayBeFound, IsFirst, leads_of, slot_if, more_messages, more_samples, more_history, more_referred, more_uses, RingGrows, link_with, PublisherGrows, IsTakenIn, TakesIn}
+use Rattle.iox_lanes_machine.specs.Uses.{given_back}
+use Rattle.iox_lanes_machine.specs.World.{World}
+use Rattle.iox_lanes_machine.specs.declared.found.Found.{Found}
+use Rattle.iox_lanes_machine.specs.declared.found.Found.TheVariants as found
+use Rattle.iox_lanes_machine.proofs.Ends.{some_is}
+use Rattle.iox_lanes_machine.proofs.Fresh.{returned_is}
+use Rattle.iox_lanes_machine.proofs.Findings.{MayWait, may_wait_is, MayBeBack, may_be_back_is, cell_below}
+use Rattle.iox_lanes_machine.proofs.FoundFresh.{after}
+use Rattle.iox_lanes_machine.proofs.FoundKept.{back_seat, back_count, back_away, back_grows, found_both, waiting_is, given_is, word_there, finds_first}
+use Rattle.iox_lanes_machine.proofs.InBack.{back_stays}
+use Rattle.iox_lanes_machine.proofs.Within.{set_same, set_other}
+
+-- what stands in a ring whose list lies in its first cells
+some_cells : (n : ℕ) → 0 < n → cells_of kind.Refusing n ≡ n
+some_cells n some = choose_one (nat_lt 0 n) n 1 (lt-ltb 0 n some)
+
+first_refusing : (cells : ℕ) (q : List ℕ) → cells < 2 ^ 62 → length q ≤ cells → between (first_words kind.Refusing cells q) ≡ q
+first_refusing cells q small room = between_is cells (first_words kind.Refusing cells q) q refusing_push.Idle refusing_pop.Idle (start_refusing cells q small room)
+
+between_first : (k : RingKind) (limit : ℕ) (q : List ℕ) → limit + 1 < 2 ^ 62 → length q ≤ limit → between (first_words k limit q) ≡ q
+between_first kind.Overflowing limit q small room =
+    let same : first_words kind.Refusing (limit + 1) q ≡ first_words kind.Overflowing limit q =
+    ap (λ (n : ℕ). record { cells = q ++ replicate {A = ℕ} (n - length q) 0; write = length q; read = 0 }) (some_cells (limit + 1) (omega arith)) in
+    ap between (sym same) ∙ first_refusing (limit + 1) q small (omega (arith, room))
+between_first kind.Refusing limit q small room = first_refusing limit q (omega (arith, small)) room
+
+-- a ring grows where its list does
+ring_grows : (k : RingKind) (limit : ℕ) (q more : List ℕ) (was now : RingWords) → ((list : List ℕ) → length list ≤ limit → between (first_words k limit list) ≡ list) → length (q ++ more) ≤ limit → was ≡ first_words k limit q → now ≡ first_words k limit (q ++ more)
+    → RingGrows was now more
+ring_grows k limit q more was now stands room before behind =
+    let size : length (q ++ more) ≡ length q + length more = length-append q more in
+    record {
+      list = ap between behind ∙ stands (q ++ more) room ∙ ap (λ (xs : List ℕ). xs ++ more) (sym (ap between before ∙ stands q (omega (arith, room, size))));
+      read = ap (λ (words : RingWords). words.read) behind ∙ sym (ap (λ (words : RingWords). words.read) before);
+      write = ap (λ (words : RingWords). words.write) behind ∙ size ∙ ap (λ (n : ℕ). n + length more) (sym (ap (λ (words : RingWords). words.write) before));
+    }
+
+-- what lanes take in, by the words, links and publishers that they have behind it
+taken_in : (m : World) (f : Found) (words : List ℕ) (links : List LinkState) (publishers : List PublisherLaneState) → IsFresh m → IsFresh (after m words links publishers)
+    → ((c : ℕ) → slice_get links c ≡ link_with (more_messages m f c) (slice_get m.links c))
+    → ((c : ℕ) (link : LinkState) → slice_get m.links c ≡ Some link → given_back (record m.table { words = words }) c ≡ given_back m.table c ++ more_samples m f c)
+    → ((slot : ℕ) (word : SlotWord) (value : ℕ) → f ≡ found.Held slot word value → held_by (record m.table { words = words }) (Slot slot word) ≡ value)
+    → ((slot : ℕ) (word : SlotWord) → IsWord m.table.sizes (Slot slot word) → ((value : ℕ) → f ≡ found.Held slot word value → ⊥) → held_by (record m.table { words = words }) (Slot slot word) ≡ held_by m.table (Slot slot word))
+    → ((who : ℕ) (was now : PublisherLaneState) → slice_get m.publishers who ≡ Some was → slice_get publishers who ≡ Some now → PublisherGrows f who was now)
+    → length publishers ≡ length m.publishers → IsTakenIn m f (after m words links publishers)
+taken_in m f words links publishers h h' linked given told kept grows size = record {
+  links = linked;
+  messages = λ c link there.
+      let more : List ℕ = more_messages m f c in
+      let now : LinkState = record link { found = link.found ++ more } in
+      let is = h.links c link there in
+      let behind = h'.links c now (linked c ∙ ap (link_with more) there) in
+      ring_grows link.kind link.limit link.found more _ _ (λ q room. between_first link.kind link.limit q (omega (arith, is.cells, h.small)) room) behind.room is.ring behind.ring;
+  samples = λ c link there.
+      let more : List ℕ = more_samples m f c in
+      let cells : ℕ = m.table.sizes.completion_cells in
+      let now : LinkState = record link { found = link.found ++ more_messages m f c } in
+      let there' : slice_get links c ≡ Some now = linked c ∙ ap (link_with (more_messages m f c)) there in
+      let is = h.links c link there in
+      let behind = h'.links c now there' in
+      let list : behind.back ≡ is.back ++ more = sym (returned_is (after m words links publishers) c now there' h') ∙ given c link there ∙ ap (λ (xs : List ℕ). xs ++ more) (returned_is m c link there h) in
+      ring_grows kind.Refusing cells is.back more _ _ (λ q room. first_refusing cells q h.small room) (omega (arith, behind.few, ap (λ (xs : List ℕ). length xs) list)) is.returned
+      (behind.returned ∙ ap (first_words kind.Refusing cells) list);
+  word = told;
+  words = kept;
+  publishers = grows;
+  as_many = size;
+  same = refl;
+}
+
+-- a slot's words where another word is stored
+word_stays : (table : TableWords) (word : SharedWord) (value slot : ℕ) (own : SlotWord) → IsWord table.sizes word → IsWord table.sizes (Slot slot own) → (word ≡ Slot slot own → ⊥) → held_by (stored_in table word value) (Slot slot own) ≡ held_by table (Slot slot own)
+word_stays table word value slot own is there not =
+    get_or-set_other table.words (number_of table.sizes word) (number_of table.sizes (Slot slot own)) value 0 (λ same. not (apart table.sizes word (Slot slot own) is there (sym same)))
+
+laid_elsewhere : (table : TableWords) (c : ℕ) (ring : ConnectionRing) (cell value slot : ℕ) (own : SlotWord) → IsWord table.sizes (Ring c ring (Cell cell)) → IsWord table.sizes (Slot slot own)
+    → held_by (laid table c ring cell value) (Slot slot own) ≡ held_by table (Slot slot own)
+laid_elsewhere table c ring cell value slot own is there =
+    word_stays (stored_in table (Ring c ring (Cell cell)) value) (Ring c ring Write) (successor cell) slot own (is.0, tt) there (λ e. absurd (cc e))
+    ∙ word_stays table (Ring c ring (Cell cell)) value slot own is there (λ e. absurd (cc e))
+
+-- a link stays where nothing more waits
+link_same : (at : Option LinkState) → at ≡ link_with [] at
+link_same None = refl
+link_same (Some link) = ap (λ (xs : List ℕ). Some (record link { found = xs })) (sym (append-nil link.found))
+
+itself : (x : ℕ) → (x == x) ≡ true
+itself x = elim (eqb_tells x x) [
+  | inl same ↦ same.0
+  | inr other ↦ absurd (other.1 refl)
+]
+
+-- which connection a place of a publisher leads to
+leads_is : (m : World) (who place : ℕ) (lane : PublisherLaneState) (route : Route) (c : ℕ) → slice_get m.publishers who ≡ Some lane → slice_get lane.port.routes place ≡ Some route → leads_of (slice_get m.publishers who) place c ≡ (route.connection == c)
+leads_is m who place lane route c e here = ap (λ (at : Option PublisherLaneState). leads_of at place c) e ∙ ap (is_at c) here
+
+-- one use more of a slot
+uses_grow : (connections first slots : ℕ) (uses : List ℕ) (slot : ℕ) → length uses ≡ slots → first ≤ slot → slot < first + slots → entry first uses slot 0 < 2 ^ 63 → (s : ℕ) → entry first (counted_up uses (slot - first)) s 0 ≡ entry first uses s 0 + count s (slot ∷ [])
+uses_grow connections first slots uses slot size above below few s = elim (eqb_tells slot s) [
+  | inl same ↦ subst (λ (x : ℕ). entry first (counted_up uses (slot - first)) x 0 ≡ entry first uses x 0 + count x (slot ∷ [])) same.1
+      (omega (arith, up_same first slots slot uses size above below few, ap one_if (itself slot)))
+  | inr other ↦ omega (arith, entry_other first slot s uses (successor (get_or uses (slot - first) 0)) 0 above other.1, ap one_if other.0)
+]
+
+-- a publisher of which nothing was found
+none_grows : (f : Found) (who : ℕ) (lane : PublisherLaneState) → more_history f who ≡ [] → ((place : ℕ) → more_referred f who place ≡ []) → more_uses f who ≡ [] → PublisherGrows f who lane lane
+none_grows f who lane history referred uses = record {
+  history = sym (append-nil lane.port.book.history) ∙ ap (λ (xs : List ℕ). lane.port.book.history ++ xs) (sym history);
+  referred = λ place s. omega (arith, ap (count s) (referred place));
+  uses = λ s. omega (arith, ap (count s) uses);
+  same = refl;
+}
+
+-- a publisher one of whose connections was found to have a slot
+found_grows : (f : Found) (who place slot : ℕ) (lane : PublisherLaneState) → more_history f who ≡ [] → ((at : ℕ) → more_referred f who at ≡ slot_if (place == at) slot) → more_uses f who ≡ slot ∷ []
+    → MayBeReferred (length lane.port.routes) lane.port.book place slot → UsesCounted (length lane.port.routes) lane.port.book → PublisherGrows f who lane (lane_found place slot lane)
+found_grows f who place slot lane history referred uses fits counted = record {
+  history = sym (append-nil lane.port.book.history) ∙ ap (λ (xs : List ℕ). lane.port.book.history ++ xs) (sym history);
+  referred = λ at s. elim (eqb_tells place at) [
+    | inl same ↦ subst (λ (x : ℕ). one_if (refers_to (referred_at place slot lane.port.book) x s) ≡ one_if (refers_to lane.port.book x s) + count s (more_referred f who x)) same.1
+        (omega (arith, found_refers (length lane.port.routes) place slot lane.port.book fits counted s, ap (count s) (referred place ∙ ap (λ (b : Bool). slot_if b slot) (itself place))))
+    | inr other ↦ omega (
+      arith,
+      ap one_if (found_refers_elsewhere (length lane.port.routes) place slot lane.port.book fits at s (λ same. other.1 (sym same))),
+      ap (count s) (referred at ∙ ap (λ (b : Bool). slot_if b slot) other.0),
+    )
+  ];
+  uses = λ s.
+      let book : BookState = lane.port.book in
+      omega (
+        arith,
+        uses_grow (length lane.port.routes) book.first (length book.uses) book.uses slot refl fits.own.above fits.own.below (uses_few (length lane.port.routes) book.first (length book.uses) book.loans book.history book.referred book.uses slot counted) s,
+        ap (count s) uses,
+      );
+  same = refl;
+}
+
+-- a publisher to whose history a slot was found to belong
+newest_grows : (f : Found) (who slot : ℕ) (lane : PublisherLaneState) → more_history f who ≡ slot ∷ [] → ((at : ℕ) → more_referred f who at ≡ []) → more_uses f who ≡ slot ∷ []
+    → IsOwn lane.port.book slot → UsesCounted (length lane.port.routes) lane.port.book → PublisherGrows f who lane (lane_remembers slot lane)
+newest_grows f who slot lane history referred uses own counted = record {
+  history = ap (λ (xs : List ℕ). lane.port.book.history ++ xs) (sym history);
+  referred = λ at s. omega (arith, ap one_if (newest_refers slot lane.port.book at s), ap (count s) (referred at));
+  uses = λ s.
+      let book : BookState = lane.port.book in
+      omega (
+        arith,
+        uses_grow (length lane.port.routes) book.first (length book.uses) book.uses slot refl own.above own.below (uses_few (length lane.port.routes) book.first (length book.uses) book.loans book.history book.referred book.uses slot counted) s,
+        ap (count s) uses,
+      );
+  same = refl;
+}
+
+-- all publishers, where one changed
+others_grow : (m : World) (f : Found) (who : ℕ) (lane now : PublisherLaneState) → slice_get m.publishers who ≡ Some lane → PublisherGrows f who lane now
+    → ((other : ℕ) → (who == other) ≡ false → (more_history f other ≡ []) × ((place : ℕ) → more_referred f other place ≡ []) × (more_uses f other ≡ []))
+    → (other : ℕ) (was behind : PublisherLaneState) → slice_get m.publishers other ≡ Some was → slice_get (set m.publishers who now) other ≡ Some behind → PublisherGrows f other was behind
+others_grow m f who lane now e grows none other was behind before now_is = elim (eqb_tells who other) [
+  | inl same ↦
+      let was_is : lane ≡ was = some_is lane was (sym e ∙ ap (slice_get m.publishers) same.1 ∙ before) in
+      let behind_is : now ≡ behind = some_is now behind (sym (set_same m.publishers who now lane e) ∙ ap (slice_get (set m.publishers who now)) same.1 ∙ now_is) in
+      subst (λ (x : ℕ). PublisherGrows f x was behind) same.1 (subst (PublisherGrows f who was) behind_is (subst (λ (l : PublisherLaneState). PublisherGrows f who l now) was_is grows))
+  | inr off ↦
+      let stays : was ≡ behind = some_is was behind (sym before ∙ sym (set_other m.publishers who other now (λ same. off.1 (sym same))) ∙ now_is) in
+      let nothing = none other off.0 in
+      subst (PublisherGrows f other was) stays (none_grows f other was nothing.0 nothing.1 nothing.2)
+]
+
+-- a message more waits
+waiting_taken : (m : World) (who place slot : ℕ) (lane : PublisherLaneState) (is : MayWait m place slot lane) → slice_get m.publishers who ≡ Some lane → IsWithin m → IsFresh m → IsFresh (waiting_in m who place slot lane is.route.connection (Some is.link))
+    → IsTakenIn m (found.Waiting who place slot) (waiting_in m who place slot lane is.route.connection (Some is.link))
+waiting_taken m who place slot lane is stands w h h' =
+    taken_in m f (laid m.table c Submission n slot).words (set m.links c link') (set m.publishers who (lane_found place slot lane)) h h' linked
+    (λ d link e. ap between (back_away m.table c d m.table.sizes.completion_cells n slot Submission (back_seat m d link e w h) cell (λ word. tt)) ∙ sym (append-nil (given_back m.table d)))
+    (λ s word value e. absurd (cc e))
+    (λ s word there not. laid_elsewhere m.table c Submission n slot s word cell there)
+    (others_grow m f who lane (lane_found place slot lane) stands
+    (found_grows f who place slot lane refl (λ at. ap (λ (b : Bool). slot_if (b && (place == at)) slot) (itself who)) (ap (λ (b : Bool). slot_if b slot) (itself who)) fits own.counted)
+    (λ other e. (refl, λ at. ap (λ (b : Bool). slot_if (b && (place == at)) slot) e, ap (λ (b : Bool). slot_if b slot) e)))
+    (length-set m.publishers who (lane_found place slot lane))
+  where
+    f : Found
+    f = found.Waiting who place slot
+
+    c : ℕ
+    c = is.route.connection
+
+    n : ℕ
+    n = length is.link.found
+
+    link' : LinkState
+    link' = record is.link { found = is.link.found ++ slot ∷ [] }
+
+    own : IsFreshPublisher m who lane
+    own = h.publishers who lane stands
+
+    fits : MayBeReferred (length lane.port.routes) lane.port.book place slot
+    fits = lacks_is (length lane.port.routes) place slot lane.port.book is.lacks (slice_get_within lane.port.routes place is.route is.at) (own.unlent slot)
+
+    cell : IsWord m.table.sizes (Ring c Submission (Cell n))
+    cell = ((w.links c is.link is.found).connection_is, omega (arith, cell_below is.link.kind is.link.limit n is.room, (w.links c is.link is.found).cells))
+
+    linked : (d : ℕ) → slice_get (set m.links c link') d ≡ link_with (more_messages m f d) (slice_get m.links d)
+    linked d = elim (eqb_tells c d) [
+      | inl same ↦ subst (λ (x : ℕ). slice_get (set m.links c link') x ≡ link_with (more_messages m f x) (slice_get m.links x)) same.1
+          (set_same m.links c link' is.link is.found
+          ∙ sym (ap (λ (b : Bool). link_with (slot_if b slot) (slice_get m.links c)) (leads_is m who place lane is.route c stands is.at ∙ itself c) ∙ ap (link_with (slot ∷ [])) is.found))
+      | inr off ↦
+          set_other m.links c d link' (λ same. off.1 (sym same))
+          ∙ link_same (slice_get m.links d)
+          ∙ sym (ap (λ (b : Bool). link_with (slot_if b slot) (slice_get m.links d)) (leads_is m who place lane is.route d stands is.at ∙ off.0))
+    ]
+
+-- a sample more was given back
+given_taken : (m : World) (who place slot : ℕ) (lane : PublisherLaneState) (is : MayBeBack m place slot lane) → slice_get m.publishers who ≡ Some lane → IsWithin m → IsFresh m → IsFresh (given_at m who place slot lane (Some is.route))
+    → IsTakenIn m (found.GivenBack who place slot) (given_at m who place slot lane (Some is.route))
+given_taken m who place slot lane is stands w h h' =
+    taken_in m f (laid m.table c Completion n slot).words m.links (set m.publishers who (lane_found place slot lane)) h h' (λ d. link_same (slice_get m.links d))
+    given
+    (λ s word value e. absurd (cc e))
+    (λ s word there not. laid_elsewhere m.table c Completion n slot s word cell there)
+    (others_grow m f who lane (lane_found place slot lane) stands
+    (found_grows f who place slot lane refl (λ at. ap (λ (b : Bool). slot_if (b && (place == at)) slot) (itself who)) (ap (λ (b : Bool). slot_if b slot) (itself who)) fits own.counted)
+    (λ other e. (refl, λ at. ap (λ (b : Bool). slot_if (b && (place == at)) slot) e, ap (λ (b : Bool). slot_if b slot) e)))
+    (length-set m.publishers who (lane_found place slot lane))
+  where
+    f : Found
+    f = found.GivenBack who place slot
+
+    c : ℕ
+    c = is.route.connection
+
+    n : ℕ
+    n = back_found m.table c
+
+    own : IsFreshPublisher m who lane
+    own = h.publishers who lane stands
+
+    fits : MayBeReferred (length lane.port.routes) lane.port.book place slot
+    fits = lacks_is (length lane.port.routes) place slot lane.port.book is.lacks (slice_get_within lane.port.routes place is.route is.at) (own.unlent slot)
+
+    cell : IsWord m.table.sizes (Ring c Completion (Cell n))
+    cell = ((w.links c is.link is.found).connection_is, omega (arith, is.few))
+
+    given : (d : ℕ) (link : LinkState) → slice_get m.links d ≡ Some link → given_back (laid m.table c Completion n slot) d ≡ given_back m.table d ++ more_samples m f d
+    given d link e = elim (eqb_tells c d) [
+      | inl same ↦ subst (λ (x : ℕ). given_back (laid m.table c Completion n slot) x ≡ given_back m.table x ++ more_samples m f x) same.1
+          (back_grows m c is.link slot is.found w h (omega (arith, is.few))
+          ∙ sym (ap (λ (b : Bool). given_back m.table c ++ slot_if b slot) (leads_is m who place lane is.route c stands is.at ∙ itself c)))
+      | inr off ↦
+          ap between (back_away m.table c d m.table.sizes.completion_cells n slot Completion (back_seat m d link e w h) cell (λ word same. off.1 same))
+          ∙ sym (append-nil (given_back m.table d))
+          ∙ sym (ap (λ (b : Bool). given_back m.table d ++ slot_if b slot) (leads_is m who place lane is.route d stands is.at ∙ off.0))
+    ]
+
+-- a slot is the newest of its publisher's history
+newest_taken : (m : World) (who slot : ℕ) (lane : PublisherLaneState) → may_remember slot lane.port.book ≡ true → slice_get m.publishers who ≡ Some lane → IsFresh m → IsFresh (remembered_of m who slot (Some lane))
+    → IsTakenIn m (found.Newest who slot) (remembered_of m who slot (Some lane))
+newest_taken m who slot lane may stands h h' =
+    let f : Found = found.Newest who slot in
+    taken_in m f m.table.words m.links (set m.publishers who (lane_remembers slot lane)) h h' (λ d. link_same (slice_get m.links d))
+    (λ d link e. sym (append-nil (given_back m.table d)))
+    (λ s word value e. absurd (cc e))
+    (λ s word there not. refl)
+    (others_grow m f who lane (lane_remembers slot lane) stands
+    (newest_grows f who slot lane (ap (λ (b : Bool). slot_if b slot) (itself who)) (λ at. refl) (ap (λ (b : Bool). slot_if b slot) (itself who)) (newest_is slot lane.port.book may).own (h.publishers who lane stands).counted)
+    (λ other e. (ap (λ (b : Bool). slot_if b slot) e, λ at. refl, ap (λ (b : Bool). slot_if b slot) e)))
+    (length-set m.publishers who (lane_remembers slot lane))
+
+-- a word of a slot holds something
+held_taken : (m : World) (slot : ℕ) (word : SlotWord) (value : ℕ) → IsWord m.table.sizes (Slot slot word) → IsWithin m → IsFresh m → IsFresh (record m { table = stored_in m.table (Slot slot word) value })
+    → IsTakenIn m (found.Held slot word value) (record m { table = stored_in m.table (Slot slot word) value })
+held_taken m slot word value is w h h' =
+    taken_in m f table'.words m.links m.publishers h h' (λ d. link_same (slice_get m.links d))
+    (λ d link e. ap between (back_stays m.table d m.table.sizes.completion_cells (Store (Slot slot word) value) (back_seat m d link e w h) (is, tt)) ∙ sym (append-nil (given_back m.table d)))
+    told
+    (λ s other there not. word_stays m.table (Slot slot word) value s other is there (λ same. not value (cc same)))
+    (λ who was now before behind. subst (PublisherGrows f who was) (some_is was now (sym before ∙ behind)) (none_grows f who was refl (λ place. refl) refl))
+    refl
+  where
+    f : Found
+    f = found.Held slot word value
+
+    table' : TableWords
+    table' = stored_in m.table (Slot slot word) value
+
+    told : (s : ℕ) (other : SlotWord) (v : ℕ) → f ≡ found.Held s other v → held_by table' (Slot s other) ≡ v
+    told s other v e =
+        let there : slot ≡ s = cc e in
+        let same : word ≡ other = cc e in
+        let says : value ≡ v = cc e in
+        let below : number_of m.table.sizes (Slot slot word) < length m.table.words = omega (arith, (within m.table.sizes (Slot slot word) is).1, w.words) in
+        ap (λ (x : ℕ). held_by table' (Slot x other)) (sym there)
+        ∙ ap (λ (x : SlotWord). held_by table' (Slot slot x)) (sym same)
+        ∙ get_or-set_same m.table.words (number_of m.table.sizes (Slot slot word)) value 0 below ∙ says
+
+-- what is taken in, of each kind
+waits_taken : (m : World) (who place slot : ℕ) (at : Option PublisherLaneState) → slice_get m.publishers who ≡ at → waits_of m place slot at ≡ true → IsWithin m → IsFresh m → IsFresh (waiting_of m who place slot (slice_get m.publishers who))
+    → IsTakenIn m (found.Waiting who place slot) (waiting_of m who place slot (slice_get m.publishers who))
+waits_taken m who place slot None e fit w h h' = absurd (cc fit)
+waits_taken m who place slot (Some lane) e fit w h h' =
+    let is = may_wait_is m place slot lane fit in
+    subst (IsTakenIn m (found.Waiting who place slot)) (waiting_is m who place slot lane is e) (waiting_taken m who place slot lane is e w h (subst IsFresh (sym (waiting_is m who place slot lane is e)) h'))
+
+backs_taken : (m : World) (who place slot : ℕ) (at : Option PublisherLaneState) → slice_get m.publishers who ≡ at → back_of m place slot at ≡ true → IsWithin m → IsFresh m → IsFresh (given_of m who place slot (slice_get m.publishers who))
+    → IsTakenIn m (found.GivenBack who place slot) (given_of m who place slot (slice_get m.publishers who))
+backs_taken m who place slot None e fit w h h' = absurd (cc fit)
+backs_taken m who place slot (Some lane) e fit w h h' =
+    let is = may_be_back_is m place slot lane fit in
+    subst (IsTakenIn m (found.GivenBack who place slot)) (given_is m who place slot lane is e) (given_taken m who place slot lane is e w h (subst IsFresh (sym (given_is m who place slot lane is e)) h'))
+
+lasts_taken : (m : World) (who slot : ℕ) (at : Option PublisherLaneState) → slice_get m.publishers who ≡ at → newest_of slot at ≡ true → IsFresh m → IsFresh (remembered_of m who slot (slice_get m.publishers who))
+    → IsTakenIn m (found.Newest who slot) (remembered_of m who slot (slice_get m.publishers who))
+lasts_taken m who slot None e fit h h' = absurd (cc fit)
+lasts_taken m who slot (Some lane) e fit h h' =
+    subst (IsTakenIn m (found.Newest who slot)) (sym (ap (remembered_of m who slot) e)) (newest_taken m who slot lane fit e h (subst IsFresh (ap (remembered_of m who slot) e) h'))
+
+now_taken : (m : World) (f : Found) → finds_now m f ≡ true → IsWithin m → IsFresh m → IsFresh (with_found m f) → IsTakenIn m f (with_found m f)
+now_taken m (found.Waiting publisher place slot) fit w h h' = waits_taken m publisher place slot (slice_get m.publishers publisher) refl fit w h h'
+now_taken m (found.GivenBack publisher place slot) fit w h h' = backs_taken m publisher place slot (slice_get m.publishers publisher) refl fit w h h'
+now_taken m (found.Newest publisher slot) fit w h h' = lasts_taken m publisher slot (slice_get m.publishers publisher) refl fit h h'
+now_taken m (found.Held slot word value) fit w h h' =
+    held_taken m slot word value (word_there m.table.sizes slot word (and_left (nat_lt slot m.table.sizes.slots) (has_word m.table.sizes word) fit) (and_right (nat_lt slot m.table.sizes.slots) (has_word m.table.sizes word) fit)) w h h'
+
+-- what the tests of a finding say: where it may be found
+stands_is : (m : World) (who place slot : ℕ) (lane : PublisherLaneState) (is : MayBeBack m place slot lane) → slice_get m.publishers who ≡ Some lane → IsFresh m → MayStand m who place slot
+stands_is m who place slot lane is found h =
+    let own = h.publishers who lane found in
+    let fits = lacks_is (length lane.port.routes) place slot lane.port.book is.lacks (slice_get_within lane.port.routes place is.route is.at) (own.unlent slot) in
+    let has = own.has place is.route is.link is.at is.found slot in
+    record {
+      lane = lane;
+      publisher = found;
+      route = is.route;
+      at = is.at;
+      link = is.link;
+      connection = is.found;
+      own = fits.own;
+      lacks = omega (arith, has, ap one_if fits.lacks);
+      room = omega (arith, is.few, back_count m is.route.connection is.link is.found h, ap (λ (xs : List ℕ). length xs) (returned_is m is.route.connection is.link is.found h));
+    }
+
+message_is : (m : World) (who place slot : ℕ) (lane : PublisherLaneState) (is : MayWait m place slot lane) → slice_get m.publishers who ≡ Some lane → IsFresh m → MayBeMessage m who place slot
+unfolding stands_is
+message_is m who place slot lane is found h = record {
+  stands = stands_is m who place slot lane (record { route = is.route; at = is.at; lacks = is.lacks; link = is.link; found = is.found; few = is.few }) found h;
+  fewer = is.room;
+}
+
+waits_may : (m : World) (who place slot : ℕ) (at : Option PublisherLaneState) → slice_get m.publishers who ≡ at → waits_of m place slot at ≡ true → IsFresh m → MayBeMessage m who place slot
+waits_may m who place slot None e fit h = absurd (cc fit)
+waits_may m who place slot (Some lane) e fit h = message_is m who place slot lane (may_wait_is m place slot lane fit) e h
+
+backs_may : (m : World) (who place slot : ℕ) (at : Option PublisherLaneState) → slice_get m.publishers who ≡ at → back_of m place slot at ≡ true → IsFresh m → MayStand m who place slot
+backs_may m who place slot None e fit h = absurd (cc fit)
+backs_may m who place slot (Some lane) e fit h = stands_is m who place slot lane (may_be_back_is m place slot lane fit) e h
+
+lasts_may : (m : World) (who slot : ℕ) (at : Option PublisherLaneState) → slice_get m.publishers who ≡ at → newest_of slot at ≡ true → MayBeNewest m who slot
+lasts_may m who slot None e fit = absurd (cc fit)
+lasts_may m who slot (Some lane) e fit =
+    let is = newest_is slot lane.port.book fit in
+    record { lane = lane; publisher = e; own = is.own; lacks = is.none; room = is.room }
+
+may_now : (m : World) (f : Found) → finds_now m f ≡ true → IsFresh m → MayBeFound m f
+may_now m (found.Waiting publisher place slot) fit h = waits_may m publisher place slot (slice_get m.publishers publisher) refl fit h
+may_now m (found.GivenBack publisher place slot) fit h = backs_may m publisher place slot (slice_get m.publishers publisher) refl fit h
+may_now m (found.Newest publisher slot) fit h = lasts_may m publisher slot (slice_get m.publishers publisher) refl fit
+may_now m (found.Held slot word value) fit h =
+    word_there m.table.sizes slot word (and_left (nat_lt slot m.table.sizes.slots) (has_word m.table.sizes word) fit) (and_right (nat_lt slot m.table.sizes.slots) (has_word m.table.sizes word) fit)
+
+pub may_first : (m : World) (f : Found) → finds m f ≡ true → IsKept m → IsFirst m f
+may_first m f fit k = let now = finds_first m f fit in record { first = now.0; may = may_now m f now.1 (k.fresh now.0) }
+
+-- and where it may be found, they say so
+both : (a b : Bool) → a ≡ true → b ≡ true → (a && b) ≡ true
+both true b one other = other
+both false b one other = absurd (cc one)
+
+none_is : (b : Bool) → one_if b ≡ 0 → b ≡ false
+none_is true e = absurd (omega (arith, e))
+none_is false e = refl
+
+own_says : (slot : ℕ) (book : BookState) → IsOwn book slot → is_own slot book ≡ true
+own_says slot book is =
+    choose_other (nat_lt slot book.first) false (nat_lt (slot - book.first) (length book.uses)) (le-ltb slot book.first is.above)
+    ∙ lt-ltb (slot - book.first) (length book.uses) (omega (arith, is.above, is.below))
+
+none_stands : (slot : ℕ) (xs : List ℕ) → count slot xs ≡ 0 → stands_in slot xs ≡ false
+none_stands slot [] h = refl
+none_stands slot (x ∷ xs) h =
+    choose_other (x == slot) true (stands_in slot xs) (none_is (x == slot) (omega (arith, h))) ∙ none_stands slot xs (omega (arith, h))
+
+stands_says : (m : World) (who place slot : ℕ) (is : MayStand m who place slot) → IsFresh m → (may_have place slot is.lane.port.book ≡ true) × (takes_more m is.route.connection is.link ≡ true)
+stands_says m who place slot is h =
+    let book : BookState = is.lane.port.book in
+    let has = (h.publishers who is.lane is.publisher).has place is.route is.link is.at is.connection slot in
+    let lacks : refers_to book place slot ≡ false = none_is (refers_to book place slot) (omega (arith, has, is.lacks)) in (
+      both (is_own slot book) (not (get_or book.referred (place * length book.uses + (slot - book.first)) false)) (own_says slot book is.own)
+          (ap not (sym (refers_is book.first (length book.uses) book.referred place slot is.own.above is.own.below) ∙ lacks)),
+      lt-ltb (length is.link.found) (m.table.sizes.completion_cells - back_found m.table is.route.connection)
+          (omega (arith, is.room, back_count m is.route.connection is.link is.connection h, ap (λ (xs : List ℕ). length xs) (returned_is m is.route.connection is.link is.connection h))),
+    )
+
+waits_say : (m : World) (who place slot : ℕ) → MayBeMessage m who place slot → IsFresh m → waits_of m place slot (slice_get m.publishers who) ≡ true
+waits_say m who place slot is h =
+    let s = is.stands in
+    let says = stands_says m who place slot s h in
+    ap (waits_of m place slot) s.publisher
+    ∙ ap (waits_at m place slot s.lane) s.at
+    ∙ both (may_have place slot s.lane.port.book) (may_wait m s.route.connection (slice_get m.links s.route.connection)) says.0
+    (ap (may_wait m s.route.connection) s.connection ∙ both (nat_lt (length s.link.found) s.link.limit) (takes_more m s.route.connection s.link) (lt-ltb (length s.link.found) s.link.limit is.fewer) says.1)
+
+backs_say : (m : World) (who place slot : ℕ) → MayStand m who place slot → IsFresh m → back_of m place slot (slice_get m.publishers who) ≡ true
+backs_say m who place slot s h =
+    let says = stands_says m who place slot s h in
+    ap (back_of m place slot) s.publisher
+    ∙ ap (back_at m place slot s.lane) s.at
+    ∙ both (may_have place slot s.lane.port.book) (may_be_back m s.route.connection (slice_get m.links s.route.connection)) says.0 (ap (may_be_back m s.route.connection) s.connection ∙ says.1)
+
+lasts_say : (m : World) (who slot : ℕ) → MayBeNewest m who slot → newest_of slot (slice_get m.publishers who) ≡ true
+lasts_say m who slot is =
+    let book : BookState = is.lane.port.book in
+    ap (newest_of slot) is.publisher
+    ∙ both (is_own slot book && not (stands_in slot book.history)) (nat_lt (length book.history) book.kept)
+    (both (is_own slot book) (not (stands_in slot book.history)) (own_says slot book is.own) (ap not (none_stands slot book.history is.lacks)))
+    (lt-ltb (length book.history) book.kept is.room)
+
+word_says : (sizes : TableSizes) (slot : ℕ) (word : SlotWord) → IsWord sizes (Slot slot word) → has_word sizes word ≡ true
+word_says sizes slot (Header word) is = lt-ltb word 3 is.1
+word_says sizes slot (UserHeader word) is = lt-ltb word sizes.user_header_words is.1
+word_says sizes slot (Payload word) is = lt-ltb word sizes.payload_words is.1
+
+now_says : (m : World) (f : Found) → MayBeFound m f → IsFresh m → finds_now m f ≡ true
+now_says m (found.Waiting publisher place slot) is h = waits_say m publisher place slot is h
+now_says m (found.GivenBack publisher place slot) is h = backs_say m publisher place slot is h
+now_says m (found.Newest publisher slot) is h = lasts_say m publisher slot is
+now_says m (found.Held slot word value) is h = both (nat_lt slot m.table.sizes.slots) (has_word m.table.sizes word) (lt-ltb slot m.table.sizes.slots is.0) (word_says m.table.sizes slot word is)
+
+first_says : (m : World) (f : Found) → IsFirst m f → IsKept m → finds m f ≡ true
+first_says m f is k = both (m.moments == 0) (finds_now m f) (ap (λ (n : ℕ). n == 0) is.first) (now_says m f is.may (k.fresh is.first))
+
+-- the law
+pub takes_in : (m : World) (f : Found) (answer : Bool) (n : World) → FindsTo m f answer n → IsKept m → TakesIn m f answer n
+takes_in m f true n is k =
+    let now = finds_first m f is.0 in
+    let h = k.fresh now.0 in
+    (may_first m f is.0 k, subst (IsTakenIn m f) (sym is.1) (now_taken m f now.1 k.within h (found_both m f now.1 k.within h).1))
+takes_in m f false n is k = (λ first. absurd (cc (sym (first_says m f first k) ∙ is.0)), is.1)

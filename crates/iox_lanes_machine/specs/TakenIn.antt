@@ -1,0 +1,150 @@
+-- What it takes for lanes to take in a finding, and what it adds to what they hold: to the messages that wait at a connection, the samples given back there, a history, or a word of a slot.
+use Rattle.std.specs.Prelude.{ℕ, ◌≡◌, ◌+◌, ◌<◌, ◌==◌, ◌&&◌, Bool, true, false, List, [], ◌∷◌, ◌++◌, length, slice_get, Option, Some, None}
+use Rattle.iox_lanes_ledger.specs.QueuesSteps.Access.{RingWords}
+use Rattle.iox_lanes_ledger.specs.QueuesRings.Ends.{cells_of}
+use Rattle.iox_lanes_ledger.specs.LanesWords.Numbers.{IsWord}
+use Rattle.iox_lanes_ledger.specs.LanesWords.Table.{held_by}
+use Rattle.iox_lanes_ledger.specs.LanesWords.declared.word.SlotWord.{SlotWord}
+use Rattle.iox_lanes_ledger.specs.LanesWords.declared.word.SharedWord.TheVariants.{Slot}
+use Rattle.iox_lanes_ledger.specs.LanesCalls.declared.route.Route.{Route}
+use Rattle.iox_lanes_ledger.specs.LanesParties.Parties.{PublisherLaneState}
+use Rattle.iox_lanes_ledger.specs.Borrowing.{is_at}
+use Rattle.iox_lanes_ledger.specs.Stored.{between}
+use Rattle.iox_lanes_ledger.specs.Uses.{one_if, count, entry, refers_to, IsOwn}
+use Rattle.iox_lanes_machine.specs.Links.{LinkState}
+use Rattle.iox_lanes_machine.specs.Returns.{back_ring}
+use Rattle.iox_lanes_machine.specs.Rings.{ring_in}
+use Rattle.iox_lanes_machine.specs.Uses.{given_back}
+use Rattle.iox_lanes_machine.specs.World.{World}
+use Rattle.iox_lanes_machine.specs.declared.found.Found.{Found}
+use Rattle.iox_lanes_machine.specs.declared.found.Found.TheVariants as found
+
+-- A slot may be found at the connection at a place of a publisher: it is the publisher's, neither waits there nor was given back there, and those that do are
+-- together fewer than may be given back.
+pub record MayStand (m : World) (who place slot : ℕ) : Type 0 where
+  pub lane : PublisherLaneState
+  pub publisher : slice_get m.publishers who ≡ Some lane
+  pub route : Route
+  pub at : slice_get lane.port.routes place ≡ Some route
+  pub link : LinkState
+  pub connection : slice_get m.links route.connection ≡ Some link
+  pub own : IsOwn lane.port.book slot
+  pub lacks : count slot link.found + count slot (given_back m.table route.connection) ≡ 0
+  pub room : length link.found + length (given_back m.table route.connection) < m.table.sizes.completion_cells
+
+-- a slot may be found to be the newest of a publisher's history: it is the publisher's, does not stand there yet, and fewer do than may
+pub record MayBeNewest (m : World) (who slot : ℕ) : Type 0 where
+  pub lane : PublisherLaneState
+  pub publisher : slice_get m.publishers who ≡ Some lane
+  pub own : IsOwn lane.port.book slot
+  pub lacks : count slot lane.port.book.history ≡ 0
+  pub room : length lane.port.book.history < lane.port.book.kept
+
+-- a slot may be found to wait: it may stand there, and fewer messages wait than may
+pub record MayBeMessage (m : World) (who place slot : ℕ) : Type 0 where
+  pub stands : MayStand m who place slot
+  pub fewer : length stands.link.found < stands.link.limit
+
+-- what may be found, if it is before the first step; of a word, all that it takes is that the slot has it
+abbrev pub MayBeFound : World → Found → Type 0
+MayBeFound m (found.Waiting publisher place slot) = MayBeMessage m publisher place slot
+MayBeFound m (found.GivenBack publisher place slot) = MayStand m publisher place slot
+MayBeFound m (found.Newest publisher slot) = MayBeNewest m publisher slot
+MayBeFound m (found.Held slot word value) = IsWord m.table.sizes (Slot slot word)
+
+-- what may be found: before the first step alone
+pub record IsFirst (m : World) (f : Found) : Type 0 where
+  pub first : m.moments ≡ 0
+  pub may : MayBeFound m f
+
+-- the connection at a place of a publisher is the one of this number
+abbrev pub leads_of : Option PublisherLaneState → ℕ → ℕ → Bool
+leads_of None place connection = false
+leads_of (Some lane) place connection = is_at connection (slice_get lane.port.routes place)
+
+-- a slot alone, if the test holds
+abbrev pub slot_if : Bool → ℕ → List ℕ
+slot_if true slot = slot ∷ []
+slot_if false slot = []
+
+-- what a finding adds to the messages that wait at a connection
+abbrev pub more_messages : World → Found → ℕ → List ℕ
+more_messages m (found.Waiting publisher place slot) connection = slot_if (leads_of (slice_get m.publishers publisher) place connection) slot
+more_messages m (found.GivenBack publisher place slot) connection = []
+more_messages m (found.Newest publisher slot) connection = []
+more_messages m (found.Held slot word value) connection = []
+
+-- what it adds to the samples given back there
+abbrev pub more_samples : World → Found → ℕ → List ℕ
+more_samples m (found.Waiting publisher place slot) connection = []
+more_samples m (found.GivenBack publisher place slot) connection = slot_if (leads_of (slice_get m.publishers publisher) place connection) slot
+more_samples m (found.Newest publisher slot) connection = []
+more_samples m (found.Held slot word value) connection = []
+
+-- what it adds to the history of a publisher
+abbrev pub more_history : Found → ℕ → List ℕ
+more_history (found.Waiting publisher place slot) who = []
+more_history (found.GivenBack publisher place slot) who = []
+more_history (found.Newest publisher slot) who = slot_if (publisher == who) slot
+more_history (found.Held slot word value) who = []
+
+-- what it adds to what a publisher's record says that the connection at a place has
+abbrev pub more_referred : Found → ℕ → ℕ → List ℕ
+more_referred (found.Waiting publisher place slot) who at = slot_if ((publisher == who) && (place == at)) slot
+more_referred (found.GivenBack publisher place slot) who at = slot_if ((publisher == who) && (place == at)) slot
+more_referred (found.Newest publisher slot) who at = []
+more_referred (found.Held slot word value) who at = []
+
+-- the slot of a publisher to which it adds a use
+abbrev pub more_uses : Found → ℕ → List ℕ
+more_uses (found.Waiting publisher place slot) who = slot_if (publisher == who) slot
+more_uses (found.GivenBack publisher place slot) who = slot_if (publisher == who) slot
+more_uses (found.Newest publisher slot) who = slot_if (publisher == who) slot
+more_uses (found.Held slot word value) who = []
+
+-- these slots stand in a ring behind those that stood there, and it begins where it began
+pub record RingGrows (was now : RingWords) (more : List ℕ) : Type 0 where
+  pub list : between now ≡ between was ++ more
+  pub read : now.read ≡ was.read
+  pub write : now.write ≡ was.write + length more
+
+-- a link at which these slots wait too
+abbrev pub link_with : List ℕ → Option LinkState → Option LinkState
+link_with more None = None
+link_with more (Some link) = Some (record link { found = link.found ++ more })
+
+-- the history of a publisher, what its record says of its connections and the uses of its slots have more; nothing else of it changes
+pub record PublisherGrows (f : Found) (who : ℕ) (was now : PublisherLaneState) : Type 0 where
+  pub history : now.port.book.history ≡ was.port.book.history ++ more_history f who
+  pub referred : (place slot : ℕ) → one_if (refers_to now.port.book place slot) ≡ one_if (refers_to was.port.book place slot) + count slot (more_referred f who place)
+  pub uses : (slot : ℕ) → entry now.port.book.first now.port.book.uses slot 0 ≡ entry was.port.book.first was.port.book.uses slot 0 + count slot (more_uses f who)
+  pub same : now ≡ record was { port = record was.port { book = record was.port.book { history = now.port.book.history; referred = now.port.book.referred; uses = now.port.book.uses } } }
+
+-- Lanes that took in a finding: it stands at the end of the list that it is about, or the word that it is about holds what it says; and all else is as it was.
+pub record IsTakenIn (m : World) (f : Found) (n : World) : Type 0 where
+  pub links : (connection : ℕ) → slice_get n.links connection ≡ link_with (more_messages m f connection) (slice_get m.links connection)
+  pub messages : (connection : ℕ) (link : LinkState) → slice_get m.links connection ≡ Some link
+      → RingGrows (ring_in m.table connection (cells_of link.kind link.limit)) (ring_in n.table connection (cells_of link.kind link.limit)) (more_messages m f connection)
+  pub samples : (connection : ℕ) (link : LinkState) → slice_get m.links connection ≡ Some link
+      → RingGrows (back_ring m.table connection m.table.sizes.completion_cells) (back_ring n.table connection m.table.sizes.completion_cells) (more_samples m f connection)
+  pub word : (slot : ℕ) (word : SlotWord) (value : ℕ) → f ≡ found.Held slot word value → held_by n.table (Slot slot word) ≡ value
+  pub words : (slot : ℕ) (word : SlotWord) → IsWord m.table.sizes (Slot slot word) → ((value : ℕ) → f ≡ found.Held slot word value → ⊥) → held_by n.table (Slot slot word) ≡ held_by m.table (Slot slot word)
+  pub publishers : (who : ℕ) (was now : PublisherLaneState) → slice_get m.publishers who ≡ Some was → slice_get n.publishers who ≡ Some now → PublisherGrows f who was now
+  pub as_many : length n.publishers ≡ length m.publishers
+  pub same : n ≡ record m { table = record m.table { words = n.table.words }; links = n.links; publishers = n.publishers }
+
+-- what a finding answers, and what it leaves: it is taken in just where it may be found
+abbrev pub TakesIn : World → Found → Bool → World → Type 0
+TakesIn m f true n = IsFirst m f × IsTakenIn m f n
+TakesIn m f false n = (IsFirst m f → ⊥) × (n ≡ m)
+
+-- a finding is appended to what waited
+abbrev pub IsAppended : Found → Type 0
+IsAppended (found.Waiting publisher place slot) = Unit {0}
+IsAppended (found.GivenBack publisher place slot) = ⊥
+IsAppended (found.Newest publisher slot) = ⊥
+IsAppended (found.Held slot word value) = ⊥
+
+-- memory may be wanting only for a finding that would be taken in, and is appended to what waited
+abbrev pub WantsMemory : World → Found → Type 0
+WantsMemory m f = IsFirst m f × IsAppended f

@@ -1,0 +1,150 @@
+//! What lanes find before their first step, with ample memory.
+use crate::calls::{read, received, sent, written};
+use crate::schedules::{given_back, sizes};
+use iox_lanes_machine::{Found, Lanes};
+use iox_lanes_words::SlotWord;
+use iox_queues_rings::RingKind;
+use std::alloc::AllocError;
+use std::test::Fail;
+
+// A message that waits in this slot of the first publisher at its first connection.
+fn waits(slot: u64) -> Found {
+    Found::Waiting {
+        publisher: 0,
+        place: 0,
+        slot,
+    }
+}
+
+// A sample of this slot that was given back there.
+fn back(slot: u64) -> Found {
+    Found::GivenBack {
+        publisher: 0,
+        place: 0,
+        slot,
+    }
+}
+
+// The newest of the first publisher's history.
+fn newest(slot: u64) -> Found {
+    Found::Newest { publisher: 0, slot }
+}
+
+// What a word of the payload of a slot holds.
+fn holds(slot: u64, word: u64, value: u64) -> Found {
+    Found::Held {
+        slot,
+        word: SlotWord::Payload(word),
+        value,
+    }
+}
+
+// Whether each of these findings is taken in where it should be, and only there.
+fn are_found(lanes: &mut Lanes, rows: &[(Found, bool)]) -> Result<bool, AllocError> {
+    for row in rows {
+        if lanes.find(row.0)? != row.1 {
+            return Ok(false);
+        }
+    }
+    Ok(true)
+}
+
+#[test]
+fn a_message_that_was_found_is_received(rt: HostRuntime) -> Result<(), Fail> {
+    let alloc = rt.alloc();
+    let mut lanes = Lanes::new(alloc, sizes(RingKind::Overflowing, 2, 5))?;
+    // One may wait, and it is there already; the sixth slot isn't the publisher's.
+    let rows = [
+        (waits(5), false),
+        (waits(3), true),
+        (waits(2), false),
+        (holds(3, 0, 7), true),
+    ];
+    assert!(rt; are_found(&mut lanes, &rows)?);
+    assert_eq!(rt; received(&mut lanes), Some(3));
+    assert_eq!(rt; read(&mut lanes, 3), Some(7));
+    // After a step nothing is found.
+    assert!(rt; !lanes.find(waits(1))?);
+    Ok(())
+}
+
+#[test]
+fn a_sample_that_was_found_given_back_is_taken_back(rt: HostRuntime) -> Result<(), Fail> {
+    let alloc = rt.alloc();
+    let mut lanes = Lanes::new(alloc, sizes(RingKind::Overflowing, 1, 3))?;
+    // As many may be given back as may wait and be borrowed, and one; one that waits counts too, and so none has a slot twice.
+    let rows = [
+        (back(1), true),
+        (back(1), false),
+        (waits(1), false),
+        (waits(0), true),
+        (back(0), false),
+        (back(2), true),
+    ];
+    assert!(rt; are_found(&mut lanes, &rows)?);
+    assert_eq!(rt; given_back(&lanes), Some(2));
+    // Each slot has a use; a loan takes both back.
+    assert_eq!(rt; written(alloc, &mut lanes, 4, 17)?, Some(1));
+    assert_eq!(rt; given_back(&lanes), Some(0));
+    assert_eq!(rt; received(&mut lanes), Some(0));
+    Ok(())
+}
+
+#[test]
+fn as_many_samples_are_found_as_may_be_given_back(rt: HostRuntime) -> Result<(), Fail> {
+    let alloc = rt.alloc();
+    let mut lanes = Lanes::new(alloc, sizes(RingKind::Refusing, 1, 5))?;
+    let rows = [
+        (back(4), true),
+        (back(0), true),
+        (waits(1), true),
+        (back(2), false),
+    ];
+    assert!(rt; are_found(&mut lanes, &rows)?);
+    assert_eq!(rt; given_back(&lanes), Some(2));
+    Ok(())
+}
+
+#[test]
+fn a_history_that_was_found_leaves_from_its_oldest(rt: HostRuntime) -> Result<(), Fail> {
+    let alloc = rt.alloc();
+    let mut wide = sizes(RingKind::Overflowing, 1, 3);
+    wide.history = 2;
+    let mut lanes = Lanes::new(alloc, wide)?;
+    let rows = [
+        (newest(3), false),
+        (newest(1), true),
+        (newest(1), false),
+        (newest(0), true),
+        (newest(2), false),
+    ];
+    assert!(rt; are_found(&mut lanes, &rows)?);
+    // The third slot alone has no use. Its send leaves the oldest of the history out, and a loan gives that one.
+    assert!(rt; sent(alloc, &mut lanes, 5)?.is_some());
+    assert_eq!(rt; written(alloc, &mut lanes, 6, 17)?, Some(1));
+    assert_eq!(rt; received(&mut lanes), Some(2));
+    Ok(())
+}
+
+#[test]
+fn a_history_of_none_takes_none_in(rt: HostRuntime) -> Result<(), Fail> {
+    let mut lanes = Lanes::new(rt.alloc(), sizes(RingKind::Overflowing, 1, 4))?;
+    assert!(rt; !lanes.find(newest(1))?);
+    Ok(())
+}
+
+#[test]
+fn a_word_is_found_where_its_slot_has_it(rt: HostRuntime) -> Result<(), Fail> {
+    let mut lanes = Lanes::new(rt.alloc(), sizes(RingKind::Overflowing, 1, 3))?;
+    let rows = [
+        (holds(2, 0, 9), true),
+        (holds(2, 0, 8), true),
+        (holds(2, 1, 8), false),
+        (holds(3, 0, 8), false),
+    ];
+    assert!(rt; are_found(&mut lanes, &rows)?);
+    assert!(rt; lanes.find(waits(2))?);
+    assert_eq!(rt; received(&mut lanes), Some(2));
+    assert_eq!(rt; read(&mut lanes, 2), Some(8));
+    Ok(())
+}

@@ -1,0 +1,80 @@
+//! Two threads that answer each other, each with a publisher and a subscriber.
+use crate::service::{narrow_lanes, read_back, sent};
+use iox_lanes_calls::Receipt;
+use iox_lanes_threads::{LanePublisher, LaneSubscriber, LaneThreads, end, open_threads};
+use iox_queues_rings::RingKind;
+use std::alloc::{AllocError, Global};
+use std::sync::Wait;
+use std::test::Fail;
+use std::thread;
+use std::thread::Threads;
+
+const TRIES: u64 = 1 << 24;
+
+// Receives until this word comes, and gives each sample back; whether it came.
+fn comes(rt: &impl Wait, port: &mut LaneSubscriber, value: u64) -> bool {
+    for _ in 0..TRIES {
+        match port.receive(rt) {
+            Receipt::Taken { slot, .. } => match read_back(port, slot) {
+                Some(found) if found == value => return true,
+                Some(_) => {}
+                None => return false,
+            },
+            Receipt::Nothing => thread::yield_now(),
+            Receipt::ExceedsMaxBorrows => return false,
+        }
+    }
+    false
+}
+
+// Sends 1, and receives until 2 comes.
+fn asks(rt: &impl Wait, sender: &mut LanePublisher, receiver: &mut LaneSubscriber) -> bool {
+    sent(sender, 1).is_some() && comes(rt, receiver, 2)
+}
+
+// Receives until 1 comes, and sends 2.
+fn answers(rt: &impl Wait, sender: &mut LanePublisher, receiver: &mut LaneSubscriber) -> bool {
+    comes(rt, receiver, 1) && sent(sender, 2).is_some()
+}
+
+fn both_run<R: Threads + Wait + Sync>(
+    rt: &R,
+    publishers: &mut [LanePublisher],
+    subscribers: &mut [LaneSubscriber],
+) -> Option<(bool, bool)> {
+    let (first, others) = publishers.split_first_mut()?;
+    let second = others.first_mut()?;
+    let (here, elsewhere) = subscribers.split_first_mut()?;
+    let there = elsewhere.first_mut()?;
+    Some(thread::join(rt, || asks(rt, first, here), || answers(rt, second, there)))
+}
+
+// Opens, runs and ends; whether both threads ended well.
+fn goes<R: Threads + Wait + Sync>(
+    rt: &R,
+    alloc: Global,
+    kind: RingKind,
+) -> Result<bool, AllocError> {
+    let Ok(threads) = open_threads(alloc, 1, narrow_lanes(alloc, kind)?) else {
+        return Err(AllocError);
+    };
+    let LaneThreads {
+        board,
+        mut publishers,
+        mut subscribers,
+    } = threads;
+    let well = both_run(rt, &mut publishers, &mut subscribers) == Some((true, true));
+    Ok(well && end(board, publishers, subscribers).is_ok())
+}
+
+#[test]
+fn threads_answer_where_the_oldest_are_dropped(rt: HostRuntime) -> Result<(), Fail> {
+    assert!(&rt; goes(&rt, rt.alloc(), RingKind::Overflowing)?);
+    Ok(())
+}
+
+#[test]
+fn threads_answer_where_the_newest_are_refused(rt: HostRuntime) -> Result<(), Fail> {
+    assert!(&rt; goes(&rt, rt.alloc(), RingKind::Refusing)?);
+    Ok(())
+}

@@ -1,0 +1,1 @@
+pub use Rattle.iox_negotiate_rounds.proofs as NegotiateRounds
