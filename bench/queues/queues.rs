@@ -5,7 +5,6 @@
 use std::hint::{black_box, spin_loop};
 use std::process::Command;
 use std::sync::Arc;
-use std::sync::atomic::{AtomicU64, Ordering::SeqCst};
 use std::time::Instant;
 
 unsafe extern "C" {
@@ -18,6 +17,10 @@ unsafe extern "C" {
 
 #[path = "../host.rs"]
 mod host;
+#[path = "../ring.rs"]
+mod ring;
+
+use ring::SharedRing;
 
 /// A ring in a `Vec`, for one thread.
 struct Ring {
@@ -61,81 +64,6 @@ impl Ring {
         let oldest = if self.len == self.places.len() { self.pop() } else { None };
         self.push(item);
         oldest
-    }
-}
-
-/// The shared rings, with the same accesses in the same order: sequentially consistent, cells by the remainder.
-struct SharedRing {
-    cells: Vec<AtomicU64>,
-    write: AtomicU64,
-    read: AtomicU64,
-    limit: u64,
-}
-
-impl SharedRing {
-    fn new(cells: usize, limit: u64) -> Self {
-        SharedRing {
-            cells: (0..cells).map(|_| AtomicU64::new(0)).collect(),
-            write: AtomicU64::new(0),
-            read: AtomicU64::new(0),
-            limit,
-        }
-    }
-
-    fn cell(&self, position: u64) -> &AtomicU64 {
-        &self.cells[(position % self.cells.len() as u64) as usize]
-    }
-
-    fn push(&self, value: u64) -> bool {
-        let write = self.write.load(SeqCst);
-        let read = self.read.load(SeqCst);
-        if write - read >= self.limit {
-            return false;
-        }
-        self.cell(write).store(value, SeqCst);
-        self.write.store(write + 1, SeqCst);
-        true
-    }
-
-    fn pop(&self) -> Option<u64> {
-        let read = self.read.load(SeqCst);
-        let write = self.write.load(SeqCst);
-        if write == read {
-            return None;
-        }
-        let value = self.cell(read).load(SeqCst);
-        self.read.store(read + 1, SeqCst);
-        Some(value)
-    }
-
-    fn push_over(&self, value: u64) -> Option<u64> {
-        let write = self.write.load(SeqCst);
-        let read = self.read.load(SeqCst);
-        self.cell(write).store(value, SeqCst);
-        self.write.store(write + 1, SeqCst);
-        if write + 1 - read <= self.limit {
-            return None;
-        }
-        let oldest = self.cell(read).load(SeqCst);
-        match self.read.compare_exchange(read, read + 1, SeqCst, SeqCst) {
-            Ok(_) => Some(oldest),
-            Err(_) => None,
-        }
-    }
-
-    fn pop_over(&self) -> Option<u64> {
-        let mut read = self.read.load(SeqCst);
-        let write = self.write.load(SeqCst);
-        if write == read {
-            return None;
-        }
-        loop {
-            let value = self.cell(read).load(SeqCst);
-            match self.read.compare_exchange(read, read + 1, SeqCst, SeqCst) {
-                Ok(_) => return Some(value),
-                Err(found) => read = found,
-            }
-        }
     }
 }
 

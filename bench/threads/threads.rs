@@ -2,81 +2,13 @@
 //! the program `PATH`, which is `lane_threads_bench`.
 use std::cell::UnsafeCell;
 use std::process::Command;
-use std::sync::atomic::{AtomicU64, Ordering::SeqCst};
 use std::thread;
 use std::time::Instant;
 
-/// A ring of slots: positions and cells are sequentially consistent atomics.
-struct Ring {
-    cells: Vec<AtomicU64>,
-    write: AtomicU64,
-    read: AtomicU64,
-    limit: u64,
-}
+#[path = "../ring.rs"]
+mod ring;
 
-impl Ring {
-    fn new(cells: u64, limit: u64) -> Self {
-        Ring {
-            cells: (0..cells).map(|_| AtomicU64::new(0)).collect(),
-            write: AtomicU64::new(0),
-            read: AtomicU64::new(0),
-            limit,
-        }
-    }
-
-    fn cell(&self, position: u64) -> &AtomicU64 {
-        &self.cells[(position % self.cells.len() as u64) as usize]
-    }
-
-    /// Whether there was room.
-    fn push(&self, slot: u64) -> bool {
-        let write = self.write.load(SeqCst);
-        let read = self.read.load(SeqCst);
-        if write - read >= self.limit {
-            return false;
-        }
-        self.cell(write).store(slot, SeqCst);
-        self.write.store(write + 1, SeqCst);
-        true
-    }
-
-    /// The oldest, where it had to go.
-    fn push_over(&self, slot: u64) -> Option<u64> {
-        let write = self.write.load(SeqCst);
-        let read = self.read.load(SeqCst);
-        self.cell(write).store(slot, SeqCst);
-        self.write.store(write + 1, SeqCst);
-        if write + 1 - read <= self.limit {
-            return None;
-        }
-        let oldest = self.cell(read).load(SeqCst);
-        self.read.compare_exchange(read, read + 1, SeqCst, SeqCst).ok().map(|_| oldest)
-    }
-
-    fn pop(&self) -> Option<u64> {
-        let read = self.read.load(SeqCst);
-        if read == self.write.load(SeqCst) {
-            return None;
-        }
-        let slot = self.cell(read).load(SeqCst);
-        self.read.store(read + 1, SeqCst);
-        Some(slot)
-    }
-
-    fn pop_over(&self) -> Option<u64> {
-        let mut read = self.read.load(SeqCst);
-        if read == self.write.load(SeqCst) {
-            return None;
-        }
-        loop {
-            let slot = self.cell(read).load(SeqCst);
-            match self.read.compare_exchange(read, read + 1, SeqCst, SeqCst) {
-                Ok(_) => return Some(slot),
-                Err(found) => read = found,
-            }
-        }
-    }
-}
+use ring::SharedRing;
 
 /// The payloads of the slots. A slot is written only while no connection has it.
 struct Values(Vec<UnsafeCell<u64>>);
@@ -101,7 +33,7 @@ struct Asked {
 struct Service {
     asked: Asked,
     values: Values,
-    connections: Vec<(Ring, Ring)>,
+    connections: Vec<(SharedRing, SharedRing)>,
 }
 
 impl Service {
@@ -110,7 +42,7 @@ impl Service {
         Service {
             asked,
             values: Values((0..slots(asked) * asked.words).map(|_| UnsafeCell::new(0)).collect()),
-            connections: (0..asked.subscribers).map(|_| (Ring::new(cells, 8), Ring::new(10, 10))).collect(),
+            connections: (0..asked.subscribers).map(|_| (SharedRing::new(cells, 8), SharedRing::new(10, 10))).collect(),
         }
     }
 }
