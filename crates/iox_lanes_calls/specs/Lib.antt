@@ -1,6 +1,7 @@
 -- The definitions that contracts about the calls of ports cite.
 pub mod Answers
 pub mod Publishing
+pub mod Routes
 pub mod Subscribing
 pub use Rattle.iox_lanes_words.specs as LanesWords
 pub use Rattle.iox_queues_rings.specs.QueuesOverflowing as QueuesOverflowing

@@ -17,5 +17,5 @@ pub mod route;
 pub mod subscriber;
 
 pub use publisher::{Delivery, PublisherCall, PublisherChange};
-pub use route::Route;
+pub use route::{Route, reroute};
 pub use subscriber::{Receipt, SubscriberCall, SubscriberChange};

@@ -2,7 +2,7 @@
 use Rattle.std.proofs.Common.{ℕ, ◌≡◌, ◌+◌, ◌<◌, ◌^◌, ◌==◌, Bool, true, false, nat_lt, List, [], ◌∷◌, ◌++◌, length, set, slice_get, slice_index, Option, Some, None, refl, sym, ◌∙◌, ap, subst, inl, inr, arith, length-append}
 use Rattle.std.proofs.lemmas.Bool.{ltb-true}
 use Rattle.std.proofs.lemmas.Bool.Decides.{eqb_tells}
-use Rattle.std.proofs.lemmas.List.{length-set}
+use Rattle.std.proofs.lemmas.List.{length-map, length-set}
 use Rattle.std.proofs.lemmas.Option.{slice_get_within}
 use Rattle.iox_lanes_ledger.specs.QueuesSteps.Access.{RingWords, successor}
 use Rattle.iox_lanes_ledger.specs.QueuesSteps.declared.access.Word.{Word}
@@ -22,10 +22,11 @@ use Rattle.iox_lanes_ledger.specs.LanesWords.declared.word.ConnectionRing.TheVar
 use Rattle.iox_lanes_ledger.specs.LanesWords.declared.word.SharedWord.TheVariants.{Ring, Slot}
 use Rattle.iox_lanes_ledger.specs.LanesWords.declared.word.SlotWord.{SlotWord}
 use Rattle.iox_lanes_ledger.specs.LanesWords.declared.word.SlotWord.TheVariants.{Header, UserHeader, Payload}
+use Rattle.iox_lanes_ledger.specs.LanesCalls.Routes.{known_as}
 use Rattle.iox_lanes_ledger.specs.LanesCalls.declared.route.Route.{Route}
 use Rattle.iox_lanes_ledger.specs.LanesPublisher.declared.slot_book.LoanMark.TheVariants as mark
 use Rattle.iox_lanes_ledger.specs.LanesPublisher.Keeping.{may_remember}
-use Rattle.iox_lanes_ledger.specs.LanesParties.Parties.{PublisherLaneState, is_out, lane_found, lane_remembers}
+use Rattle.iox_lanes_ledger.specs.LanesParties.Parties.{PublisherLaneState, is_out, lane_found, lane_remembers, lane_meets}
 use Rattle.iox_lanes_ledger.specs.LanesParties.Within.{IsPublisher}
 use Rattle.iox_lanes_ledger.proofs.LanesParties.Rings.{all_at, and_left, and_right}
 use Rattle.iox_lanes_ledger.specs.Rooms.{CountsLoans}
@@ -34,7 +35,7 @@ use Rattle.iox_lanes_ledger.specs.Uses.{one_if, count, entry, refers_to, UsesCou
 use Rattle.iox_lanes_ledger.proofs.Entries.{count_append}
 use Rattle.iox_lanes_ledger.proofs.Findings.{lacks_is, found_counted, found_counts, found_refers, found_refers_elsewhere, newest_counted, newest_counts, newest_refers}
 use Rattle.iox_lanes_ledger.proofs.Rings.{between_is}
-use Rattle.iox_lanes_machine.specs.Findings.{laid, back_found, waits_of, back_of, newest_of, has_word, finds, finds_now, waiting_in, waiting_at, waiting_of, given_at, given_of, remembered_of, with_found, FindsTo, AreFound}
+use Rattle.iox_lanes_machine.specs.Findings.{laid, back_found, waits_of, back_of, newest_of, has_word, finds, finds_now, waiting_in, waiting_at, waiting_of, given_at, given_of, remembered_of, with_buffer, buffered_in, buffered_at, buffered_of, with_found, FindsTo, AreFound}
 use Rattle.iox_lanes_machine.specs.Fresh.{HasFound, IsFreshPublisher, IsFreshLink, IsFresh}
 use Rattle.iox_lanes_machine.specs.Kept.{IsLinkOf, sender, IsWithin, IsKept}
 use Rattle.iox_lanes_machine.specs.Links.{LinkState}
@@ -45,6 +46,7 @@ use Rattle.iox_lanes_machine.specs.Uses.{given_back}
 use Rattle.iox_lanes_machine.specs.World.{World}
 use Rattle.iox_lanes_machine.specs.declared.found.Found.{Found}
 use Rattle.iox_lanes_machine.specs.declared.found.Found.TheVariants as found
+use Rattle.iox_lanes_machine.proofs.Buffers.{buffers_keep, buffered_moments}
 use Rattle.iox_lanes_machine.proofs.Ends.{some_is}
 use Rattle.iox_lanes_machine.proofs.Fresh.{returned_is, fresh_kept}
 use Rattle.iox_lanes_machine.proofs.Findings.{MayWait, may_wait_is, MayBeBack, may_be_back_is, cell_below}
@@ -541,6 +543,7 @@ found_both m (found.GivenBack publisher place slot) fit w h = backs_keep m publi
 found_both m (found.Newest publisher slot) fit w h = newest_keeps m publisher slot (slice_get m.publishers publisher) refl fit w h
 found_both m (found.Held slot word value) fit w h =
     held_fresh m slot word value (word_there m.table.sizes slot word (and_left (nat_lt slot m.table.sizes.slots) (has_word m.table.sizes word) fit) (and_right (nat_lt slot m.table.sizes.slots) (has_word m.table.sizes word) fit)) w h
+found_both m (found.Buffer publisher place messages) fit w h = buffers_keep m publisher place messages (slice_get m.publishers publisher) refl fit w h
 
 -- no step was made
 waiting_moments : (m : World) (who place slot connection : ℕ) (lane : PublisherLaneState) (at : Option LinkState) → (waiting_in m who place slot lane connection at).moments ≡ m.moments
@@ -572,6 +575,7 @@ found_moments m (found.Waiting publisher place slot) = waits_of_moments m publis
 found_moments m (found.GivenBack publisher place slot) = given_of_moments m publisher place slot (slice_get m.publishers publisher)
 found_moments m (found.Newest publisher slot) = newest_moments m publisher slot (slice_get m.publishers publisher)
 found_moments m (found.Held slot word value) = refl
+found_moments m (found.Buffer publisher place messages) = buffered_moments m publisher place messages (slice_get m.publishers publisher)
 
 -- before the first step alone
 pub finds_first : (m : World) (f : Found) → finds m f ≡ true → (m.moments ≡ 0) × (finds_now m f ≡ true)
@@ -598,50 +602,66 @@ pub all_found : (m : World) (fs : List Found) (n : World) → AreFound m fs n �
 all_found m [] n h k = subst IsKept (sym h) k
 all_found m (f ∷ fs) n h k = all_found (with_found m f) fs n h.1 (found_keeps m f h.0 k)
 
--- findings leave the sizes of the service, and the connections of each publisher
-pub record SameRoutes (m n : World) : Type 0 where
+-- findings leave the sizes of the service, and to each publisher as many connections as it had
+pub record SameSizes (m n : World) : Type 0 where
   pub sizes : n.table.sizes ≡ m.table.sizes
-  pub routes : (place : ℕ) (lane : PublisherLaneState) → slice_get n.publishers place ≡ Some lane → (was : PublisherLaneState) × (slice_get m.publishers place ≡ Some was) × (lane.port.routes ≡ was.port.routes)
+  pub routes : (place : ℕ) (lane : PublisherLaneState) → slice_get n.publishers place ≡ Some lane → (was : PublisherLaneState) × (slice_get m.publishers place ≡ Some was) × (length lane.port.routes ≡ length was.port.routes)
 
-none_changed : (m : World) → SameRoutes m m
+none_changed : (m : World) → SameSizes m m
 none_changed m = record { sizes = refl; routes = λ place lane e. (lane, e, refl) }
 
-one_changed : (m : World) (words : List ℕ) (links : List LinkState) (who : ℕ) (lane now : PublisherLaneState) → slice_get m.publishers who ≡ Some lane → now.port.routes ≡ lane.port.routes → SameRoutes m (after m words links (set m.publishers who now))
+one_changed : (m : World) (words : List ℕ) (links : List LinkState) (who : ℕ) (lane now : PublisherLaneState) → slice_get m.publishers who ≡ Some lane → length now.port.routes ≡ length lane.port.routes → SameSizes m (after m words links (set m.publishers who now))
 one_changed m words links who lane now found same = record {
   sizes = refl;
   routes = λ place z e. elim (set_cases m.publishers who lane now found place z e) [
-    | inl here ↦ (lane, ap (slice_get m.publishers) here.0 ∙ found, ap (λ (l : PublisherLaneState). l.port.routes) (sym here.1) ∙ same)
+    | inl here ↦ (lane, ap (slice_get m.publishers) here.0 ∙ found, ap (λ (l : PublisherLaneState). length l.port.routes) (sym here.1) ∙ same)
     | inr off ↦ (z, off.1, refl)
   ];
 }
 
-waiting_routes : (m : World) (who place slot : ℕ) (lane : PublisherLaneState) (connection : ℕ) (at : Option LinkState) → slice_get m.publishers who ≡ Some lane → SameRoutes m (waiting_in m who place slot lane connection at)
+waiting_routes : (m : World) (who place slot : ℕ) (lane : PublisherLaneState) (connection : ℕ) (at : Option LinkState) → slice_get m.publishers who ≡ Some lane → SameSizes m (waiting_in m who place slot lane connection at)
 waiting_routes m who place slot lane connection None found = none_changed m
 waiting_routes m who place slot lane connection (Some link) found =
     one_changed m (laid m.table connection Submission (length link.found) slot).words (set m.links connection (record link { found = link.found ++ slot ∷ [] })) who lane (lane_found place slot lane) found refl
 
-waits_routes : (m : World) (who place slot : ℕ) (lane : PublisherLaneState) (at : Option Route) → slice_get m.publishers who ≡ Some lane → SameRoutes m (waiting_at m who place slot lane at)
+waits_routes : (m : World) (who place slot : ℕ) (lane : PublisherLaneState) (at : Option Route) → slice_get m.publishers who ≡ Some lane → SameSizes m (waiting_at m who place slot lane at)
 waits_routes m who place slot lane None found = none_changed m
 waits_routes m who place slot lane (Some route) found = waiting_routes m who place slot lane route.connection (slice_get m.links route.connection) found
 
-waits_of_routes : (m : World) (who place slot : ℕ) (at : Option PublisherLaneState) → slice_get m.publishers who ≡ at → SameRoutes m (waiting_of m who place slot at)
+waits_of_routes : (m : World) (who place slot : ℕ) (at : Option PublisherLaneState) → slice_get m.publishers who ≡ at → SameSizes m (waiting_of m who place slot at)
 waits_of_routes m who place slot None e = none_changed m
 waits_of_routes m who place slot (Some lane) e = waits_routes m who place slot lane (slice_get lane.port.routes place) e
 
-given_routes : (m : World) (who place slot : ℕ) (lane : PublisherLaneState) (at : Option Route) → slice_get m.publishers who ≡ Some lane → SameRoutes m (given_at m who place slot lane at)
+given_routes : (m : World) (who place slot : ℕ) (lane : PublisherLaneState) (at : Option Route) → slice_get m.publishers who ≡ Some lane → SameSizes m (given_at m who place slot lane at)
 given_routes m who place slot lane None found = none_changed m
 given_routes m who place slot lane (Some route) found = one_changed m (laid m.table route.connection Completion (back_found m.table route.connection) slot).words m.links who lane (lane_found place slot lane) found refl
 
-given_of_routes : (m : World) (who place slot : ℕ) (at : Option PublisherLaneState) → slice_get m.publishers who ≡ at → SameRoutes m (given_of m who place slot at)
+given_of_routes : (m : World) (who place slot : ℕ) (at : Option PublisherLaneState) → slice_get m.publishers who ≡ at → SameSizes m (given_of m who place slot at)
 given_of_routes m who place slot None e = none_changed m
 given_of_routes m who place slot (Some lane) e = given_routes m who place slot lane (slice_get lane.port.routes place) e
 
-newest_routes : (m : World) (who slot : ℕ) (at : Option PublisherLaneState) → slice_get m.publishers who ≡ at → SameRoutes m (remembered_of m who slot at)
+newest_routes : (m : World) (who slot : ℕ) (at : Option PublisherLaneState) → slice_get m.publishers who ≡ at → SameSizes m (remembered_of m who slot at)
 newest_routes m who slot None e = none_changed m
 newest_routes m who slot (Some lane) e = one_changed m m.table.words m.links who lane (lane_remembers slot lane) e refl
 
-pub found_routes : (m : World) (f : Found) → SameRoutes m (with_found m f)
+buffered_in_routes : (m : World) (who messages : ℕ) (lane : PublisherLaneState) (route : Route) (at : Option LinkState) → slice_get m.publishers who ≡ Some lane → SameSizes m (buffered_in m who messages lane route at)
+buffered_in_routes m who messages lane route None found = none_changed m
+buffered_in_routes m who messages lane route (Some link) found = record {
+  sizes = refl;
+  routes = (one_changed m m.table.words m.links who lane (lane_meets (with_buffer messages route) lane) found (length-map lane.port.routes (known_as (with_buffer messages route)))).routes;
+}
+
+buffered_at_routes : (m : World) (who messages : ℕ) (lane : PublisherLaneState) (at : Option Route) → slice_get m.publishers who ≡ Some lane → SameSizes m (buffered_at m who messages lane at)
+buffered_at_routes m who messages lane None found = none_changed m
+buffered_at_routes m who messages lane (Some route) found = buffered_in_routes m who messages lane route (slice_get m.links route.connection) found
+
+buffered_of_routes : (m : World) (who place messages : ℕ) (at : Option PublisherLaneState) → slice_get m.publishers who ≡ at → SameSizes m (buffered_of m who place messages at)
+buffered_of_routes m who place messages None e = none_changed m
+buffered_of_routes m who place messages (Some lane) e = buffered_at_routes m who messages lane (slice_get lane.port.routes place) e
+
+pub found_routes : (m : World) (f : Found) → SameSizes m (with_found m f)
 found_routes m (found.Waiting publisher place slot) = waits_of_routes m publisher place slot (slice_get m.publishers publisher) refl
 found_routes m (found.GivenBack publisher place slot) = given_of_routes m publisher place slot (slice_get m.publishers publisher) refl
 found_routes m (found.Newest publisher slot) = newest_routes m publisher slot (slice_get m.publishers publisher) refl
 found_routes m (found.Held slot word value) = record { sizes = refl; routes = λ place lane e. (lane, e, refl) }
+found_routes m (found.Buffer publisher place messages) = buffered_of_routes m publisher place messages (slice_get m.publishers publisher) refl

@@ -30,7 +30,9 @@ pub mod RoomKept
 pub mod Fresh
 pub mod Findings
 pub mod FoundFresh
+pub mod Buffers
 pub mod FoundKept
+pub mod BuffersTaken
 pub mod TakenIn
 pub mod StartRooms
 pub mod StartUses

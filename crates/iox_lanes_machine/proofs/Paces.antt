@@ -128,7 +128,7 @@ found_sized sizes m (f ∷ fs) n h s =
     let same = found_routes m f in
     found_sized sizes (with_found m f) fs n h.1 (record {
       table = same.sizes ∙ s.table;
-      routes = λ place lane found. let was = same.routes place lane found in ap (λ (rs : List Route). length rs) was.2 ∙ s.routes place was.0 was.1;
+      routes = λ place lane found. let was = same.routes place lane found in was.2 ∙ s.routes place was.0 was.1;
     })
 
 run_sized : (sizes : LaneSizes) (m : World) (entries : List Entry) (made : ℕ) (n : World) → RunsTo m entries made n → IsKept m → IsSized sizes m → IsSized sizes n

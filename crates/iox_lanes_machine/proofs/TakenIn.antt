@@ -1,5 +1,5 @@
 -- What lanes take in stands at the end of what it is about, and it is taken in just where it may be.
-use Rattle.std.proofs.Common.{ℕ, ◌≡◌, ◌+◌, ◌-◌, ◌*◌, ◌<◌, ◌≤◌, ◌^◌, ◌==◌, ◌&&◌, not, Bool, true, false, nat_lt, List, [], ◌∷◌, ◌++◌, length, set, get_or, replicate, slice_get, Option, Some, None, refl, sym, ◌∙◌, ap, subst, inl, inr, arith, length-append}
+use Rattle.std.proofs.Common.{ℕ, ◌≡◌, ◌+◌, ◌-◌, ◌*◌, ◌<◌, ◌≤◌, ◌^◌, ◌==◌, ◌&&◌, not, Bool, true, false, nat_lt, List, [], ◌∷◌, ◌++◌, length, set, get_or, slice_get, Option, Some, None, refl, sym, ◌∙◌, ap, subst, inl, inr, arith, length-append}
 use Rattle.std.proofs.lemmas.Bool.{lt-ltb, le-ltb}
 use Rattle.std.proofs.lemmas.Bool.Decides.{eqb_tells}
 use Rattle.std.proofs.lemmas.List.{append-nil, length-set, get_or-set_same, get_or-set_other}
@@ -10,9 +10,6 @@ use Rattle.iox_lanes_ledger.specs.QueuesRings.Ends.{cells_of}
 use Rattle.iox_lanes_ledger.specs.QueuesRings.RingMachine.{first_words}
 use Rattle.iox_lanes_ledger.specs.QueuesRings.declared.ends.RingKind.{RingKind}
 use Rattle.iox_lanes_ledger.specs.QueuesRings.declared.ends.RingKind.TheVariants as kind
-use Rattle.iox_lanes_ledger.proofs.QueuesRings.EitherRing.{start_refusing}
-use Rattle.iox_lanes_ledger.specs.QueuesRefusing.declared.pop.Pop.TheVariants as refusing_pop
-use Rattle.iox_lanes_ledger.specs.QueuesRefusing.declared.push.Push.TheVariants as refusing_push
 use Rattle.iox_lanes_ledger.specs.LanesWords.Numbers.{IsWord, number_of}
 use Rattle.iox_lanes_ledger.specs.LanesWords.Table.{TableWords, held_by, stored_in}
 use Rattle.iox_lanes_ledger.specs.LanesWords.declared.access.SharedAccess.TheVariants.{Store}
@@ -28,22 +25,22 @@ use Rattle.iox_lanes_ledger.specs.LanesCalls.declared.route.Route.{Route}
 use Rattle.iox_lanes_ledger.specs.LanesPublisher.Keeping.{BookState, is_own, may_have, may_remember, stands_in, counted_up, referred_at}
 use Rattle.iox_lanes_ledger.specs.LanesParties.Parties.{PublisherLaneState, lane_found, lane_remembers}
 use Rattle.iox_lanes_ledger.proofs.LanesParties.Rings.{and_left, and_right}
-use Rattle.iox_lanes_ledger.specs.Borrowing.{is_at}
 use Rattle.iox_lanes_ledger.specs.Stored.{between}
 use Rattle.iox_lanes_ledger.specs.Uses.{one_if, count, entry, refers_to, IsOwn, UsesCounted, MayBeReferred}
 use Rattle.iox_lanes_ledger.proofs.Books.{up_same, uses_few}
-use Rattle.iox_lanes_ledger.proofs.Entries.{choose_one, choose_other, entry_other, refers_is}
+use Rattle.iox_lanes_ledger.proofs.Entries.{choose_other, entry_other, refers_is}
 use Rattle.iox_lanes_ledger.proofs.Findings.{lacks_is, newest_is, found_refers, found_refers_elsewhere, newest_refers}
-use Rattle.iox_lanes_ledger.proofs.Rings.{between_is}
 use Rattle.iox_lanes_machine.specs.Findings.{laid, back_found, takes_more, may_wait, may_be_back, waits_at, waits_of, back_at, back_of, newest_of, has_word, finds, finds_now, waiting_in, waiting_of, given_at, given_of, remembered_of, with_found, FindsTo}
 use Rattle.iox_lanes_machine.specs.Fresh.{IsFreshPublisher, IsFresh}
 use Rattle.iox_lanes_machine.specs.Kept.{IsWithin, IsKept}
 use Rattle.iox_lanes_machine.specs.Links.{LinkState}
-use Rattle.iox_lanes_machine.specs.TakenIn.{MayStand, MayBeNewest, MayBeMessage, MayBeFound, IsFirst, leads_of, slot_if, more_messages, more_samples, more_history, more_referred, more_uses, RingGrows, link_with, PublisherGrows, IsTakenIn, TakesIn}
+use Rattle.iox_lanes_machine.specs.Rings.{ring_in}
+use Rattle.iox_lanes_machine.specs.TakenIn.{MayStand, MayBeNewest, MayBeMessage, MayBeFound, IsFirst, slot_if, more_messages, more_samples, more_history, more_referred, more_uses, new_buffer, limit_with, route_with, RoutesKnow, RingGrows, link_with, PublisherGrows, SubscriberKnows, IsTakenIn, TakesIn}
 use Rattle.iox_lanes_machine.specs.Uses.{given_back}
 use Rattle.iox_lanes_machine.specs.World.{World}
 use Rattle.iox_lanes_machine.specs.declared.found.Found.{Found}
 use Rattle.iox_lanes_machine.specs.declared.found.Found.TheVariants as found
+use Rattle.iox_lanes_machine.proofs.BuffersTaken.{first_refusing, between_first, link_same, itself, leads_is, both, buffers_taken, buffers_may, buffers_say}
 use Rattle.iox_lanes_machine.proofs.Ends.{some_is}
 use Rattle.iox_lanes_machine.proofs.Fresh.{returned_is}
 use Rattle.iox_lanes_machine.proofs.Findings.{MayWait, may_wait_is, MayBeBack, may_be_back_is, cell_below}
@@ -51,20 +48,6 @@ use Rattle.iox_lanes_machine.proofs.FoundFresh.{after}
 use Rattle.iox_lanes_machine.proofs.FoundKept.{back_seat, back_count, back_away, back_grows, found_both, waiting_is, given_is, word_there, finds_first}
 use Rattle.iox_lanes_machine.proofs.InBack.{back_stays}
 use Rattle.iox_lanes_machine.proofs.Within.{set_same, set_other}
-
--- what stands in a ring whose list lies in its first cells
-some_cells : (n : ℕ) → 0 < n → cells_of kind.Refusing n ≡ n
-some_cells n some = choose_one (nat_lt 0 n) n 1 (lt-ltb 0 n some)
-
-first_refusing : (cells : ℕ) (q : List ℕ) → cells < 2 ^ 62 → length q ≤ cells → between (first_words kind.Refusing cells q) ≡ q
-first_refusing cells q small room = between_is cells (first_words kind.Refusing cells q) q refusing_push.Idle refusing_pop.Idle (start_refusing cells q small room)
-
-between_first : (k : RingKind) (limit : ℕ) (q : List ℕ) → limit + 1 < 2 ^ 62 → length q ≤ limit → between (first_words k limit q) ≡ q
-between_first kind.Overflowing limit q small room =
-    let same : first_words kind.Refusing (limit + 1) q ≡ first_words kind.Overflowing limit q =
-    ap (λ (n : ℕ). record { cells = q ++ replicate {A = ℕ} (n - length q) 0; write = length q; read = 0 }) (some_cells (limit + 1) (omega arith)) in
-    ap between (sym same) ∙ first_refusing (limit + 1) q small (omega (arith, room))
-between_first kind.Refusing limit q small room = first_refusing limit q (omega (arith, small)) room
 
 -- a ring grows where its list does
 ring_grows : (k : RingKind) (limit : ℕ) (q more : List ℕ) (was now : RingWords) → ((list : List ℕ) → length list ≤ limit → between (first_words k limit list) ≡ list) → length (q ++ more) ≤ limit → was ≡ first_words k limit q → now ≡ first_words k limit (q ++ more)
@@ -77,27 +60,35 @@ ring_grows k limit q more was now stands room before behind =
       write = ap (λ (words : RingWords). words.write) behind ∙ size ∙ ap (λ (n : ℕ). n + length more) (sym (ap (λ (words : RingWords). words.write) before));
     }
 
+-- the connections of a port stay where a finding is of no buffer
+routes_stay : (m : World) (f : Found) (routes : List Route) → ((c : ℕ) → new_buffer m f c ≡ None) → RoutesKnow m f routes routes
+routes_stay m f routes none = record {
+  each = λ place route e. e ∙ ap (λ (buffer : Option ℕ). Some (route_with buffer route)) (sym (none route.connection));
+  as_many = refl;
+}
+
 -- what lanes take in, by the words, links and publishers that they have behind it
-taken_in : (m : World) (f : Found) (words : List ℕ) (links : List LinkState) (publishers : List PublisherLaneState) → IsFresh m → IsFresh (after m words links publishers)
-    → ((c : ℕ) → slice_get links c ≡ link_with (more_messages m f c) (slice_get m.links c))
+taken_in : (m : World) (f : Found) (words : List ℕ) (links : List LinkState) (publishers : List PublisherLaneState) → ((c : ℕ) → new_buffer m f c ≡ None) → IsFresh m → IsFresh (after m words links publishers)
+    → ((c : ℕ) → slice_get links c ≡ link_with (more_messages m f c) None (slice_get m.links c))
     → ((c : ℕ) (link : LinkState) → slice_get m.links c ≡ Some link → given_back (record m.table { words = words }) c ≡ given_back m.table c ++ more_samples m f c)
     → ((slot : ℕ) (word : SlotWord) (value : ℕ) → f ≡ found.Held slot word value → held_by (record m.table { words = words }) (Slot slot word) ≡ value)
     → ((slot : ℕ) (word : SlotWord) → IsWord m.table.sizes (Slot slot word) → ((value : ℕ) → f ≡ found.Held slot word value → ⊥) → held_by (record m.table { words = words }) (Slot slot word) ≡ held_by m.table (Slot slot word))
-    → ((who : ℕ) (was now : PublisherLaneState) → slice_get m.publishers who ≡ Some was → slice_get publishers who ≡ Some now → PublisherGrows f who was now)
+    → ((who : ℕ) (was now : PublisherLaneState) → slice_get m.publishers who ≡ Some was → slice_get publishers who ≡ Some now → PublisherGrows m f who was now)
     → length publishers ≡ length m.publishers → IsTakenIn m f (after m words links publishers)
-taken_in m f words links publishers h h' linked given told kept grows size = record {
-  links = linked;
+taken_in m f words links publishers none h h' linked given told kept grows size = record {
+  links = λ c. linked c ∙ ap (λ (buffer : Option ℕ). link_with (more_messages m f c) buffer (slice_get m.links c)) (sym (none c));
   messages = λ c link there.
       let more : List ℕ = more_messages m f c in
       let now : LinkState = record link { found = link.found ++ more } in
       let is = h.links c link there in
-      let behind = h'.links c now (linked c ∙ ap (link_with more) there) in
-      ring_grows link.kind link.limit link.found more _ _ (λ q room. between_first link.kind link.limit q (omega (arith, is.cells, h.small)) room) behind.room is.ring behind.ring;
+      let behind = h'.links c now (linked c ∙ ap (link_with more None) there) in
+      subst (λ (buffer : Option ℕ). RingGrows (ring_in m.table c (cells_of link.kind link.limit)) (ring_in (record m.table { words = words }) c (cells_of link.kind (limit_with buffer link.limit))) more) (sym (none c))
+      (ring_grows link.kind link.limit link.found more _ _ (λ q room. between_first link.kind link.limit q (omega (arith, is.cells, h.small)) room) behind.room is.ring behind.ring);
   samples = λ c link there.
       let more : List ℕ = more_samples m f c in
       let cells : ℕ = m.table.sizes.completion_cells in
       let now : LinkState = record link { found = link.found ++ more_messages m f c } in
-      let there' : slice_get links c ≡ Some now = linked c ∙ ap (link_with (more_messages m f c)) there in
+      let there' : slice_get links c ≡ Some now = linked c ∙ ap (link_with (more_messages m f c) None) there in
       let is = h.links c link there in
       let behind = h'.links c now there' in
       let list : behind.back ≡ is.back ++ more = sym (returned_is (after m words links publishers) c now there' h') ∙ given c link there ∙ ap (λ (xs : List ℕ). xs ++ more) (returned_is m c link there h) in
@@ -107,6 +98,8 @@ taken_in m f words links publishers h h' linked given told kept grows size = rec
   words = kept;
   publishers = grows;
   as_many = size;
+  subscribers = λ who was now before behind. subst (SubscriberKnows m f was) (some_is was now (sym before ∙ behind)) (record { routes = routes_stay m f was.port.routes none; same = refl });
+  as_many_receive = refl;
   same = refl;
 }
 
@@ -121,21 +114,6 @@ laid_elsewhere table c ring cell value slot own is there =
     word_stays (stored_in table (Ring c ring (Cell cell)) value) (Ring c ring Write) (successor cell) slot own (is.0, tt) there (λ e. absurd (cc e))
     ∙ word_stays table (Ring c ring (Cell cell)) value slot own is there (λ e. absurd (cc e))
 
--- a link stays where nothing more waits
-link_same : (at : Option LinkState) → at ≡ link_with [] at
-link_same None = refl
-link_same (Some link) = ap (λ (xs : List ℕ). Some (record link { found = xs })) (sym (append-nil link.found))
-
-itself : (x : ℕ) → (x == x) ≡ true
-itself x = elim (eqb_tells x x) [
-  | inl same ↦ same.0
-  | inr other ↦ absurd (other.1 refl)
-]
-
--- which connection a place of a publisher leads to
-leads_is : (m : World) (who place : ℕ) (lane : PublisherLaneState) (route : Route) (c : ℕ) → slice_get m.publishers who ≡ Some lane → slice_get lane.port.routes place ≡ Some route → leads_of (slice_get m.publishers who) place c ≡ (route.connection == c)
-leads_is m who place lane route c e here = ap (λ (at : Option PublisherLaneState). leads_of at place c) e ∙ ap (is_at c) here
-
 -- one use more of a slot
 uses_grow : (connections first slots : ℕ) (uses : List ℕ) (slot : ℕ) → length uses ≡ slots → first ≤ slot → slot < first + slots → entry first uses slot 0 < 2 ^ 63 → (s : ℕ) → entry first (counted_up uses (slot - first)) s 0 ≡ entry first uses s 0 + count s (slot ∷ [])
 uses_grow connections first slots uses slot size above below few s = elim (eqb_tells slot s) [
@@ -145,8 +123,9 @@ uses_grow connections first slots uses slot size above below few s = elim (eqb_t
 ]
 
 -- a publisher of which nothing was found
-none_grows : (f : Found) (who : ℕ) (lane : PublisherLaneState) → more_history f who ≡ [] → ((place : ℕ) → more_referred f who place ≡ []) → more_uses f who ≡ [] → PublisherGrows f who lane lane
-none_grows f who lane history referred uses = record {
+none_grows : (m : World) (f : Found) (who : ℕ) (lane : PublisherLaneState) → ((c : ℕ) → new_buffer m f c ≡ None) → more_history f who ≡ [] → ((place : ℕ) → more_referred f who place ≡ []) → more_uses f who ≡ [] → PublisherGrows m f who lane lane
+none_grows m f who lane none history referred uses = record {
+  routes = routes_stay m f lane.port.routes none;
   history = sym (append-nil lane.port.book.history) ∙ ap (λ (xs : List ℕ). lane.port.book.history ++ xs) (sym history);
   referred = λ place s. omega (arith, ap (count s) (referred place));
   uses = λ s. omega (arith, ap (count s) uses);
@@ -154,9 +133,10 @@ none_grows f who lane history referred uses = record {
 }
 
 -- a publisher one of whose connections was found to have a slot
-found_grows : (f : Found) (who place slot : ℕ) (lane : PublisherLaneState) → more_history f who ≡ [] → ((at : ℕ) → more_referred f who at ≡ slot_if (place == at) slot) → more_uses f who ≡ slot ∷ []
-    → MayBeReferred (length lane.port.routes) lane.port.book place slot → UsesCounted (length lane.port.routes) lane.port.book → PublisherGrows f who lane (lane_found place slot lane)
-found_grows f who place slot lane history referred uses fits counted = record {
+found_grows : (m : World) (f : Found) (who place slot : ℕ) (lane : PublisherLaneState) → ((c : ℕ) → new_buffer m f c ≡ None) → more_history f who ≡ [] → ((at : ℕ) → more_referred f who at ≡ slot_if (place == at) slot) → more_uses f who ≡ slot ∷ []
+    → MayBeReferred (length lane.port.routes) lane.port.book place slot → UsesCounted (length lane.port.routes) lane.port.book → PublisherGrows m f who lane (lane_found place slot lane)
+found_grows m f who place slot lane none history referred uses fits counted = record {
+  routes = routes_stay m f lane.port.routes none;
   history = sym (append-nil lane.port.book.history) ∙ ap (λ (xs : List ℕ). lane.port.book.history ++ xs) (sym history);
   referred = λ at s. elim (eqb_tells place at) [
     | inl same ↦ subst (λ (x : ℕ). one_if (refers_to (referred_at place slot lane.port.book) x s) ≡ one_if (refers_to lane.port.book x s) + count s (more_referred f who x)) same.1
@@ -178,9 +158,10 @@ found_grows f who place slot lane history referred uses fits counted = record {
 }
 
 -- a publisher to whose history a slot was found to belong
-newest_grows : (f : Found) (who slot : ℕ) (lane : PublisherLaneState) → more_history f who ≡ slot ∷ [] → ((at : ℕ) → more_referred f who at ≡ []) → more_uses f who ≡ slot ∷ []
-    → IsOwn lane.port.book slot → UsesCounted (length lane.port.routes) lane.port.book → PublisherGrows f who lane (lane_remembers slot lane)
-newest_grows f who slot lane history referred uses own counted = record {
+newest_grows : (m : World) (f : Found) (who slot : ℕ) (lane : PublisherLaneState) → ((c : ℕ) → new_buffer m f c ≡ None) → more_history f who ≡ slot ∷ [] → ((at : ℕ) → more_referred f who at ≡ []) → more_uses f who ≡ slot ∷ []
+    → IsOwn lane.port.book slot → UsesCounted (length lane.port.routes) lane.port.book → PublisherGrows m f who lane (lane_remembers slot lane)
+newest_grows m f who slot lane none history referred uses own counted = record {
+  routes = routes_stay m f lane.port.routes none;
   history = ap (λ (xs : List ℕ). lane.port.book.history ++ xs) (sym history);
   referred = λ at s. omega (arith, ap one_if (newest_refers slot lane.port.book at s), ap (count s) (referred at));
   uses = λ s.
@@ -194,30 +175,30 @@ newest_grows f who slot lane history referred uses own counted = record {
 }
 
 -- all publishers, where one changed
-others_grow : (m : World) (f : Found) (who : ℕ) (lane now : PublisherLaneState) → slice_get m.publishers who ≡ Some lane → PublisherGrows f who lane now
+others_grow : (m : World) (f : Found) (who : ℕ) (lane now : PublisherLaneState) → ((c : ℕ) → new_buffer m f c ≡ None) → slice_get m.publishers who ≡ Some lane → PublisherGrows m f who lane now
     → ((other : ℕ) → (who == other) ≡ false → (more_history f other ≡ []) × ((place : ℕ) → more_referred f other place ≡ []) × (more_uses f other ≡ []))
-    → (other : ℕ) (was behind : PublisherLaneState) → slice_get m.publishers other ≡ Some was → slice_get (set m.publishers who now) other ≡ Some behind → PublisherGrows f other was behind
-others_grow m f who lane now e grows none other was behind before now_is = elim (eqb_tells who other) [
+    → (other : ℕ) (was behind : PublisherLaneState) → slice_get m.publishers other ≡ Some was → slice_get (set m.publishers who now) other ≡ Some behind → PublisherGrows m f other was behind
+others_grow m f who lane now none e grows nothing_of other was behind before now_is = elim (eqb_tells who other) [
   | inl same ↦
       let was_is : lane ≡ was = some_is lane was (sym e ∙ ap (slice_get m.publishers) same.1 ∙ before) in
       let behind_is : now ≡ behind = some_is now behind (sym (set_same m.publishers who now lane e) ∙ ap (slice_get (set m.publishers who now)) same.1 ∙ now_is) in
-      subst (λ (x : ℕ). PublisherGrows f x was behind) same.1 (subst (PublisherGrows f who was) behind_is (subst (λ (l : PublisherLaneState). PublisherGrows f who l now) was_is grows))
+      subst (λ (x : ℕ). PublisherGrows m f x was behind) same.1 (subst (PublisherGrows m f who was) behind_is (subst (λ (l : PublisherLaneState). PublisherGrows m f who l now) was_is grows))
   | inr off ↦
       let stays : was ≡ behind = some_is was behind (sym before ∙ sym (set_other m.publishers who other now (λ same. off.1 (sym same))) ∙ now_is) in
-      let nothing = none other off.0 in
-      subst (PublisherGrows f other was) stays (none_grows f other was nothing.0 nothing.1 nothing.2)
+      let nothing = nothing_of other off.0 in
+      subst (PublisherGrows m f other was) stays (none_grows m f other was none nothing.0 nothing.1 nothing.2)
 ]
 
 -- a message more waits
 waiting_taken : (m : World) (who place slot : ℕ) (lane : PublisherLaneState) (is : MayWait m place slot lane) → slice_get m.publishers who ≡ Some lane → IsWithin m → IsFresh m → IsFresh (waiting_in m who place slot lane is.route.connection (Some is.link))
     → IsTakenIn m (found.Waiting who place slot) (waiting_in m who place slot lane is.route.connection (Some is.link))
 waiting_taken m who place slot lane is stands w h h' =
-    taken_in m f (laid m.table c Submission n slot).words (set m.links c link') (set m.publishers who (lane_found place slot lane)) h h' linked
+    taken_in m f (laid m.table c Submission n slot).words (set m.links c link') (set m.publishers who (lane_found place slot lane)) (λ d. refl) h h' linked
     (λ d link e. ap between (back_away m.table c d m.table.sizes.completion_cells n slot Submission (back_seat m d link e w h) cell (λ word. tt)) ∙ sym (append-nil (given_back m.table d)))
     (λ s word value e. absurd (cc e))
     (λ s word there not. laid_elsewhere m.table c Submission n slot s word cell there)
-    (others_grow m f who lane (lane_found place slot lane) stands
-    (found_grows f who place slot lane refl (λ at. ap (λ (b : Bool). slot_if (b && (place == at)) slot) (itself who)) (ap (λ (b : Bool). slot_if b slot) (itself who)) fits own.counted)
+    (others_grow m f who lane (lane_found place slot lane) (λ d. refl) stands
+    (found_grows m f who place slot lane (λ d. refl) refl (λ at. ap (λ (b : Bool). slot_if (b && (place == at)) slot) (itself who)) (ap (λ (b : Bool). slot_if b slot) (itself who)) fits own.counted)
     (λ other e. (refl, λ at. ap (λ (b : Bool). slot_if (b && (place == at)) slot) e, ap (λ (b : Bool). slot_if b slot) e)))
     (length-set m.publishers who (lane_found place slot lane))
   where
@@ -242,27 +223,27 @@ waiting_taken m who place slot lane is stands w h h' =
     cell : IsWord m.table.sizes (Ring c Submission (Cell n))
     cell = ((w.links c is.link is.found).connection_is, omega (arith, cell_below is.link.kind is.link.limit n is.room, (w.links c is.link is.found).cells))
 
-    linked : (d : ℕ) → slice_get (set m.links c link') d ≡ link_with (more_messages m f d) (slice_get m.links d)
+    linked : (d : ℕ) → slice_get (set m.links c link') d ≡ link_with (more_messages m f d) None (slice_get m.links d)
     linked d = elim (eqb_tells c d) [
-      | inl same ↦ subst (λ (x : ℕ). slice_get (set m.links c link') x ≡ link_with (more_messages m f x) (slice_get m.links x)) same.1
+      | inl same ↦ subst (λ (x : ℕ). slice_get (set m.links c link') x ≡ link_with (more_messages m f x) None (slice_get m.links x)) same.1
           (set_same m.links c link' is.link is.found
-          ∙ sym (ap (λ (b : Bool). link_with (slot_if b slot) (slice_get m.links c)) (leads_is m who place lane is.route c stands is.at ∙ itself c) ∙ ap (link_with (slot ∷ [])) is.found))
+          ∙ sym (ap (λ (b : Bool). link_with (slot_if b slot) None (slice_get m.links c)) (leads_is m who place lane is.route c stands is.at ∙ itself c) ∙ ap (link_with (slot ∷ []) None) is.found))
       | inr off ↦
           set_other m.links c d link' (λ same. off.1 (sym same))
           ∙ link_same (slice_get m.links d)
-          ∙ sym (ap (λ (b : Bool). link_with (slot_if b slot) (slice_get m.links d)) (leads_is m who place lane is.route d stands is.at ∙ off.0))
+          ∙ sym (ap (λ (b : Bool). link_with (slot_if b slot) None (slice_get m.links d)) (leads_is m who place lane is.route d stands is.at ∙ off.0))
     ]
 
 -- a sample more was given back
 given_taken : (m : World) (who place slot : ℕ) (lane : PublisherLaneState) (is : MayBeBack m place slot lane) → slice_get m.publishers who ≡ Some lane → IsWithin m → IsFresh m → IsFresh (given_at m who place slot lane (Some is.route))
     → IsTakenIn m (found.GivenBack who place slot) (given_at m who place slot lane (Some is.route))
 given_taken m who place slot lane is stands w h h' =
-    taken_in m f (laid m.table c Completion n slot).words m.links (set m.publishers who (lane_found place slot lane)) h h' (λ d. link_same (slice_get m.links d))
+    taken_in m f (laid m.table c Completion n slot).words m.links (set m.publishers who (lane_found place slot lane)) (λ d. refl) h h' (λ d. link_same (slice_get m.links d))
     given
     (λ s word value e. absurd (cc e))
     (λ s word there not. laid_elsewhere m.table c Completion n slot s word cell there)
-    (others_grow m f who lane (lane_found place slot lane) stands
-    (found_grows f who place slot lane refl (λ at. ap (λ (b : Bool). slot_if (b && (place == at)) slot) (itself who)) (ap (λ (b : Bool). slot_if b slot) (itself who)) fits own.counted)
+    (others_grow m f who lane (lane_found place slot lane) (λ d. refl) stands
+    (found_grows m f who place slot lane (λ d. refl) refl (λ at. ap (λ (b : Bool). slot_if (b && (place == at)) slot) (itself who)) (ap (λ (b : Bool). slot_if b slot) (itself who)) fits own.counted)
     (λ other e. (refl, λ at. ap (λ (b : Bool). slot_if (b && (place == at)) slot) e, ap (λ (b : Bool). slot_if b slot) e)))
     (length-set m.publishers who (lane_found place slot lane))
   where
@@ -300,12 +281,12 @@ newest_taken : (m : World) (who slot : ℕ) (lane : PublisherLaneState) → may_
     → IsTakenIn m (found.Newest who slot) (remembered_of m who slot (Some lane))
 newest_taken m who slot lane may stands h h' =
     let f : Found = found.Newest who slot in
-    taken_in m f m.table.words m.links (set m.publishers who (lane_remembers slot lane)) h h' (λ d. link_same (slice_get m.links d))
+    taken_in m f m.table.words m.links (set m.publishers who (lane_remembers slot lane)) (λ d. refl) h h' (λ d. link_same (slice_get m.links d))
     (λ d link e. sym (append-nil (given_back m.table d)))
     (λ s word value e. absurd (cc e))
     (λ s word there not. refl)
-    (others_grow m f who lane (lane_remembers slot lane) stands
-    (newest_grows f who slot lane (ap (λ (b : Bool). slot_if b slot) (itself who)) (λ at. refl) (ap (λ (b : Bool). slot_if b slot) (itself who)) (newest_is slot lane.port.book may).own (h.publishers who lane stands).counted)
+    (others_grow m f who lane (lane_remembers slot lane) (λ d. refl) stands
+    (newest_grows m f who slot lane (λ d. refl) (ap (λ (b : Bool). slot_if b slot) (itself who)) (λ at. refl) (ap (λ (b : Bool). slot_if b slot) (itself who)) (newest_is slot lane.port.book may).own (h.publishers who lane stands).counted)
     (λ other e. (ap (λ (b : Bool). slot_if b slot) e, λ at. refl, ap (λ (b : Bool). slot_if b slot) e)))
     (length-set m.publishers who (lane_remembers slot lane))
 
@@ -313,11 +294,11 @@ newest_taken m who slot lane may stands h h' =
 held_taken : (m : World) (slot : ℕ) (word : SlotWord) (value : ℕ) → IsWord m.table.sizes (Slot slot word) → IsWithin m → IsFresh m → IsFresh (record m { table = stored_in m.table (Slot slot word) value })
     → IsTakenIn m (found.Held slot word value) (record m { table = stored_in m.table (Slot slot word) value })
 held_taken m slot word value is w h h' =
-    taken_in m f table'.words m.links m.publishers h h' (λ d. link_same (slice_get m.links d))
+    taken_in m f table'.words m.links m.publishers (λ d. refl) h h' (λ d. link_same (slice_get m.links d))
     (λ d link e. ap between (back_stays m.table d m.table.sizes.completion_cells (Store (Slot slot word) value) (back_seat m d link e w h) (is, tt)) ∙ sym (append-nil (given_back m.table d)))
     told
     (λ s other there not. word_stays m.table (Slot slot word) value s other is there (λ same. not value (cc same)))
-    (λ who was now before behind. subst (PublisherGrows f who was) (some_is was now (sym before ∙ behind)) (none_grows f who was refl (λ place. refl) refl))
+    (λ who was now before behind. subst (PublisherGrows m f who was) (some_is was now (sym before ∙ behind)) (none_grows m f who was (λ d. refl) refl (λ place. refl) refl))
     refl
   where
     f : Found
@@ -363,6 +344,7 @@ now_taken m (found.GivenBack publisher place slot) fit w h h' = backs_taken m pu
 now_taken m (found.Newest publisher slot) fit w h h' = lasts_taken m publisher slot (slice_get m.publishers publisher) refl fit h h'
 now_taken m (found.Held slot word value) fit w h h' =
     held_taken m slot word value (word_there m.table.sizes slot word (and_left (nat_lt slot m.table.sizes.slots) (has_word m.table.sizes word) fit) (and_right (nat_lt slot m.table.sizes.slots) (has_word m.table.sizes word) fit)) w h h'
+now_taken m (found.Buffer publisher place messages) fit w h h' = buffers_taken m publisher place messages (slice_get m.publishers publisher) refl fit w h h'
 
 -- what the tests of a finding say: where it may be found
 stands_is : (m : World) (who place slot : ℕ) (lane : PublisherLaneState) (is : MayBeBack m place slot lane) → slice_get m.publishers who ≡ Some lane → IsFresh m → MayStand m who place slot
@@ -409,15 +391,12 @@ may_now m (found.GivenBack publisher place slot) fit h = backs_may m publisher p
 may_now m (found.Newest publisher slot) fit h = lasts_may m publisher slot (slice_get m.publishers publisher) refl fit
 may_now m (found.Held slot word value) fit h =
     word_there m.table.sizes slot word (and_left (nat_lt slot m.table.sizes.slots) (has_word m.table.sizes word) fit) (and_right (nat_lt slot m.table.sizes.slots) (has_word m.table.sizes word) fit)
+may_now m (found.Buffer publisher place messages) fit h = buffers_may m publisher place messages (slice_get m.publishers publisher) refl fit h
 
 pub may_first : (m : World) (f : Found) → finds m f ≡ true → IsKept m → IsFirst m f
 may_first m f fit k = let now = finds_first m f fit in record { first = now.0; may = may_now m f now.1 (k.fresh now.0) }
 
 -- and where it may be found, they say so
-both : (a b : Bool) → a ≡ true → b ≡ true → (a && b) ≡ true
-both true b one other = other
-both false b one other = absurd (cc one)
-
 none_is : (b : Bool) → one_if b ≡ 0 → b ≡ false
 none_is true e = absurd (omega (arith, e))
 none_is false e = refl
@@ -477,6 +456,7 @@ now_says m (found.Waiting publisher place slot) is h = waits_say m publisher pla
 now_says m (found.GivenBack publisher place slot) is h = backs_say m publisher place slot is h
 now_says m (found.Newest publisher slot) is h = lasts_say m publisher slot is
 now_says m (found.Held slot word value) is h = both (nat_lt slot m.table.sizes.slots) (has_word m.table.sizes word) (lt-ltb slot m.table.sizes.slots is.0) (word_says m.table.sizes slot word is)
+now_says m (found.Buffer publisher place messages) is h = buffers_say m publisher place messages is h
 
 first_says : (m : World) (f : Found) → IsFirst m f → IsKept m → finds m f ≡ true
 first_says m f is k = both (m.moments == 0) (finds_now m f) (ap (λ (n : ℕ). n == 0) is.first) (now_says m f is.may (k.fresh is.first))

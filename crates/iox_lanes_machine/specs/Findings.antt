@@ -1,7 +1,8 @@
--- What lanes may find before their first step, and what that makes of them: messages that wait, samples given back, histories, and what slots hold.
-use Rattle.std.specs.Prelude.{ℕ, ◌≡◌, ◌-◌, ◌==◌, ◌&&◌, Bool, true, false, nat_lt, List, [], ◌∷◌, ◌++◌, length, set, slice_get, Option, Some, None}
+-- What lanes may find before their first step, and what that makes of them: messages that wait, samples given back, histories, what slots hold, and buffers of connections.
+use Rattle.std.specs.Prelude.{ℕ, ◌≡◌, ◌-◌, ◌==◌, ◌&&◌, Bool, true, false, nat_lt, nat_le, List, [], ◌∷◌, ◌++◌, length, set, slice_get, Option, Some, None}
 use Rattle.iox_lanes_ledger.specs.QueuesSteps.Access.{successor}
 use Rattle.iox_lanes_ledger.specs.QueuesSteps.declared.access.Word.TheVariants.{Write, Cell}
+use Rattle.iox_lanes_ledger.specs.QueuesRings.Ends.{cells_of}
 use Rattle.iox_lanes_ledger.specs.LanesWords.Table.{TableWords, held_by, stored_in}
 use Rattle.iox_lanes_ledger.specs.LanesWords.declared.sizes.TableSizes.{TableSizes}
 use Rattle.iox_lanes_ledger.specs.LanesWords.declared.word.ConnectionRing.{ConnectionRing}
@@ -11,7 +12,7 @@ use Rattle.iox_lanes_ledger.specs.LanesWords.declared.word.SlotWord.TheVariants.
 use Rattle.iox_lanes_ledger.specs.LanesWords.declared.word.SharedWord.TheVariants.{Ring, Slot}
 use Rattle.iox_lanes_ledger.specs.LanesCalls.declared.route.Route.{Route}
 use Rattle.iox_lanes_ledger.specs.LanesPublisher.Keeping.{may_have, may_remember}
-use Rattle.iox_lanes_ledger.specs.LanesParties.Parties.{PublisherLaneState, lane_found, lane_remembers}
+use Rattle.iox_lanes_ledger.specs.LanesParties.Parties.{PublisherLaneState, SubscriberLaneState, lane_found, lane_remembers, lane_meets, receiver_meets}
 use Rattle.iox_lanes_machine.specs.Links.{LinkState}
 use Rattle.iox_lanes_machine.specs.World.{World}
 use Rattle.iox_lanes_machine.specs.declared.found.Found.{Found}
@@ -60,6 +61,25 @@ abbrev pub newest_of : ℕ → Option PublisherLaneState → Bool
 newest_of slot None = false
 newest_of slot (Some lane) = may_remember slot lane.port.book
 
+-- a connection may have a buffer of so many messages: of one at least and of no more than may wait there, where nothing waits and nothing was given back
+abbrev pub takes_buffer : TableWords → ℕ → ℕ → LinkState → Bool
+takes_buffer table connection messages link = nat_lt 0 messages && nat_le messages link.limit && (length link.found == 0) && (back_found table connection == 0)
+
+-- so it may be at a connection that is there
+abbrev pub may_buffer : World → ℕ → ℕ → Option LinkState → Bool
+may_buffer m connection messages None = false
+may_buffer m connection messages (Some link) = takes_buffer m.table connection messages link
+
+-- at a place of a publisher
+abbrev pub buffers_at : World → ℕ → Option Route → Bool
+buffers_at m messages None = false
+buffers_at m messages (Some route) = may_buffer m route.connection messages (slice_get m.links route.connection)
+
+-- of a publisher; one that is not there has no connections
+abbrev pub buffers_of : World → ℕ → ℕ → Option PublisherLaneState → Bool
+buffers_of m place messages None = false
+buffers_of m place messages (Some lane) = buffers_at m messages (slice_get lane.port.routes place)
+
 -- a slot has the word
 abbrev pub has_word : TableSizes → SlotWord → Bool
 has_word sizes (Header word) = nat_lt word 3
@@ -72,6 +92,7 @@ finds_now m (found.Waiting publisher place slot) = waits_of m place slot (slice_
 finds_now m (found.GivenBack publisher place slot) = back_of m place slot (slice_get m.publishers publisher)
 finds_now m (found.Newest publisher slot) = newest_of slot (slice_get m.publishers publisher)
 finds_now m (found.Held slot word value) = nat_lt slot m.table.sizes.slots && has_word m.table.sizes word
+finds_now m (found.Buffer publisher place messages) = buffers_of m place messages (slice_get m.publishers publisher)
 
 -- what may be found: before the first step alone
 abbrev pub finds : World → Found → Bool
@@ -118,12 +139,41 @@ abbrev pub remembered_of : World → ℕ → ℕ → Option PublisherLaneState �
 remembered_of m publisher slot None = m
 remembered_of m publisher slot (Some lane) = record m { publishers = set m.publishers publisher (lane_remembers slot lane) }
 
+-- a connection as its ends know it with a buffer of so many messages, whose ring has just the cells that it needs
+abbrev pub with_buffer : ℕ → Route → Route
+with_buffer messages route = record route { limit = messages; submission_cells = cells_of route.kind messages }
+
+-- the subscribers, one of which knows a connection anew; one that is not there knows none
+abbrev pub subscribers_meet : List SubscriberLaneState → ℕ → Route → Option SubscriberLaneState → List SubscriberLaneState
+subscribers_meet subscribers who route None = subscribers
+subscribers_meet subscribers who route (Some lane) = set subscribers who (receiver_meets route lane)
+
+-- a connection has a buffer of so many messages, and both its ends know it
+abbrev pub buffered_in : World → ℕ → ℕ → PublisherLaneState → Route → Option LinkState → World
+buffered_in m publisher messages lane route None = m
+buffered_in m publisher messages lane route (Some link) = record m {
+  links = set m.links route.connection (record link { limit = messages });
+  publishers = set m.publishers publisher (lane_meets (with_buffer messages route) lane);
+  subscribers = subscribers_meet m.subscribers link.subscriber (with_buffer messages route) (slice_get m.subscribers link.subscriber);
+}
+
+-- the connection at a place of a publisher has it
+abbrev pub buffered_at : World → ℕ → ℕ → PublisherLaneState → Option Route → World
+buffered_at m publisher messages lane None = m
+buffered_at m publisher messages lane (Some route) = buffered_in m publisher messages lane route (slice_get m.links route.connection)
+
+-- the connection at a place of a publisher that is there has it
+abbrev pub buffered_of : World → ℕ → ℕ → ℕ → Option PublisherLaneState → World
+buffered_of m publisher place messages None = m
+buffered_of m publisher place messages (Some lane) = buffered_at m publisher messages lane (slice_get lane.port.routes place)
+
 -- the lanes with what was found
 abbrev pub with_found : World → Found → World
 with_found m (found.Waiting publisher place slot) = waiting_of m publisher place slot (slice_get m.publishers publisher)
 with_found m (found.GivenBack publisher place slot) = given_of m publisher place slot (slice_get m.publishers publisher)
 with_found m (found.Newest publisher slot) = remembered_of m publisher slot (slice_get m.publishers publisher)
 with_found m (found.Held slot word value) = record m { table = stored_in m.table (Slot slot word) value }
+with_found m (found.Buffer publisher place messages) = buffered_of m publisher place messages (slice_get m.publishers publisher)
 
 -- what a finding answers, and what it leaves
 abbrev pub FindsTo : World → Found → Bool → World → Type 0

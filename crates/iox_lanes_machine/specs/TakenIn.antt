@@ -1,5 +1,6 @@
--- What it takes for lanes to take in a finding, and what it adds to what they hold: to the messages that wait at a connection, the samples given back there, a history, or a word of a slot.
-use Rattle.std.specs.Prelude.{ℕ, ◌≡◌, ◌+◌, ◌<◌, ◌==◌, ◌&&◌, Bool, true, false, List, [], ◌∷◌, ◌++◌, length, slice_get, Option, Some, None}
+-- What it takes for lanes to take in a finding, and what it adds to what they hold: to the messages that wait at a connection, the samples given back there, a history, a word of a slot, or the buffer
+-- of a connection.
+use Rattle.std.specs.Prelude.{ℕ, ◌≡◌, ◌+◌, ◌<◌, ◌≤◌, ◌==◌, ◌&&◌, Bool, true, false, List, [], ◌∷◌, ◌++◌, length, slice_get, Option, Some, None}
 use Rattle.iox_lanes_ledger.specs.QueuesSteps.Access.{RingWords}
 use Rattle.iox_lanes_ledger.specs.QueuesRings.Ends.{cells_of}
 use Rattle.iox_lanes_ledger.specs.LanesWords.Numbers.{IsWord}
@@ -7,7 +8,7 @@ use Rattle.iox_lanes_ledger.specs.LanesWords.Table.{held_by}
 use Rattle.iox_lanes_ledger.specs.LanesWords.declared.word.SlotWord.{SlotWord}
 use Rattle.iox_lanes_ledger.specs.LanesWords.declared.word.SharedWord.TheVariants.{Slot}
 use Rattle.iox_lanes_ledger.specs.LanesCalls.declared.route.Route.{Route}
-use Rattle.iox_lanes_ledger.specs.LanesParties.Parties.{PublisherLaneState}
+use Rattle.iox_lanes_ledger.specs.LanesParties.Parties.{PublisherLaneState, SubscriberLaneState}
 use Rattle.iox_lanes_ledger.specs.Borrowing.{is_at}
 use Rattle.iox_lanes_ledger.specs.Stored.{between}
 use Rattle.iox_lanes_ledger.specs.Uses.{one_if, count, entry, refers_to, IsOwn}
@@ -45,12 +46,27 @@ pub record MayBeMessage (m : World) (who place slot : ℕ) : Type 0 where
   pub stands : MayStand m who place slot
   pub fewer : length stands.link.found < stands.link.limit
 
+-- The connection at a place of a publisher may be found to have a buffer: for one message at least and for no more than may wait there, and nothing waits there yet, nor was anything
+-- given back.
+pub record MayHaveBuffer (m : World) (who place messages : ℕ) : Type 0 where
+  pub lane : PublisherLaneState
+  pub publisher : slice_get m.publishers who ≡ Some lane
+  pub route : Route
+  pub at : slice_get lane.port.routes place ≡ Some route
+  pub link : LinkState
+  pub connection : slice_get m.links route.connection ≡ Some link
+  pub some : 0 < messages
+  pub fits : messages ≤ link.limit
+  pub no_message : link.found ≡ []
+  pub no_sample : given_back m.table route.connection ≡ []
+
 -- what may be found, if it is before the first step; of a word, all that it takes is that the slot has it
 abbrev pub MayBeFound : World → Found → Type 0
 MayBeFound m (found.Waiting publisher place slot) = MayBeMessage m publisher place slot
 MayBeFound m (found.GivenBack publisher place slot) = MayStand m publisher place slot
 MayBeFound m (found.Newest publisher slot) = MayBeNewest m publisher slot
 MayBeFound m (found.Held slot word value) = IsWord m.table.sizes (Slot slot word)
+MayBeFound m (found.Buffer publisher place messages) = MayHaveBuffer m publisher place messages
 
 -- what may be found: before the first step alone
 pub record IsFirst (m : World) (f : Found) : Type 0 where
@@ -73,6 +89,7 @@ more_messages m (found.Waiting publisher place slot) connection = slot_if (leads
 more_messages m (found.GivenBack publisher place slot) connection = []
 more_messages m (found.Newest publisher slot) connection = []
 more_messages m (found.Held slot word value) connection = []
+more_messages m (found.Buffer publisher place messages) connection = []
 
 -- what it adds to the samples given back there
 abbrev pub more_samples : World → Found → ℕ → List ℕ
@@ -80,6 +97,7 @@ more_samples m (found.Waiting publisher place slot) connection = []
 more_samples m (found.GivenBack publisher place slot) connection = slot_if (leads_of (slice_get m.publishers publisher) place connection) slot
 more_samples m (found.Newest publisher slot) connection = []
 more_samples m (found.Held slot word value) connection = []
+more_samples m (found.Buffer publisher place messages) connection = []
 
 -- what it adds to the history of a publisher
 abbrev pub more_history : Found → ℕ → List ℕ
@@ -87,6 +105,7 @@ more_history (found.Waiting publisher place slot) who = []
 more_history (found.GivenBack publisher place slot) who = []
 more_history (found.Newest publisher slot) who = slot_if (publisher == who) slot
 more_history (found.Held slot word value) who = []
+more_history (found.Buffer publisher place messages) who = []
 
 -- what it adds to what a publisher's record says that the connection at a place has
 abbrev pub more_referred : Found → ℕ → ℕ → List ℕ
@@ -94,6 +113,7 @@ more_referred (found.Waiting publisher place slot) who at = slot_if ((publisher 
 more_referred (found.GivenBack publisher place slot) who at = slot_if ((publisher == who) && (place == at)) slot
 more_referred (found.Newest publisher slot) who at = []
 more_referred (found.Held slot word value) who at = []
+more_referred (found.Buffer publisher place messages) who at = []
 
 -- the slot of a publisher to which it adds a use
 abbrev pub more_uses : Found → ℕ → List ℕ
@@ -101,6 +121,35 @@ more_uses (found.Waiting publisher place slot) who = slot_if (publisher == who) 
 more_uses (found.GivenBack publisher place slot) who = slot_if (publisher == who) slot
 more_uses (found.Newest publisher slot) who = slot_if (publisher == who) slot
 more_uses (found.Held slot word value) who = []
+more_uses (found.Buffer publisher place messages) who = []
+
+-- a number of messages, if the test holds
+abbrev pub messages_if : Bool → ℕ → Option ℕ
+messages_if true messages = Some messages
+messages_if false messages = None
+
+-- the buffer that a finding gives to a connection, if it gives it one
+abbrev pub new_buffer : World → Found → ℕ → Option ℕ
+new_buffer m (found.Waiting publisher place slot) connection = None
+new_buffer m (found.GivenBack publisher place slot) connection = None
+new_buffer m (found.Newest publisher slot) connection = None
+new_buffer m (found.Held slot word value) connection = None
+new_buffer m (found.Buffer publisher place messages) connection = messages_if (leads_of (slice_get m.publishers publisher) place connection) messages
+
+-- how many messages may wait at a connection then
+abbrev pub limit_with : Option ℕ → ℕ → ℕ
+limit_with None limit = limit
+limit_with (Some messages) limit = messages
+
+-- a connection as its port knows it then: so many messages may wait, and its ring has just the cells that it needs for them
+abbrev pub route_with : Option ℕ → Route → Route
+route_with None route = route
+route_with (Some messages) route = record route { limit = messages; submission_cells = cells_of route.kind messages }
+
+-- so a port knows each of its connections, and nothing else of them changes
+pub record RoutesKnow (m : World) (f : Found) (was now : List Route) : Type 0 where
+  pub each : (place : ℕ) (route : Route) → slice_get was place ≡ Some route → slice_get now place ≡ Some (route_with (new_buffer m f route.connection) route)
+  pub as_many : length now ≡ length was
 
 -- these slots stand in a ring behind those that stood there, and it begins where it began
 pub record RingGrows (was now : RingWords) (more : List ℕ) : Type 0 where
@@ -108,30 +157,38 @@ pub record RingGrows (was now : RingWords) (more : List ℕ) : Type 0 where
   pub read : now.read ≡ was.read
   pub write : now.write ≡ was.write + length more
 
--- a link at which these slots wait too
-abbrev pub link_with : List ℕ → Option LinkState → Option LinkState
-link_with more None = None
-link_with more (Some link) = Some (record link { found = link.found ++ more })
+-- a link at which these slots wait too, and that may have another buffer
+abbrev pub link_with : List ℕ → Option ℕ → Option LinkState → Option LinkState
+link_with more buffer None = None
+link_with more buffer (Some link) = Some (record link { found = link.found ++ more; limit = limit_with buffer link.limit })
 
--- the history of a publisher, what its record says of its connections and the uses of its slots have more; nothing else of it changes
-pub record PublisherGrows (f : Found) (who : ℕ) (was now : PublisherLaneState) : Type 0 where
+-- the history of a publisher, what its record says of its connections and the uses of its slots have more, and it knows the buffers of its connections; nothing else of it changes
+pub record PublisherGrows (m : World) (f : Found) (who : ℕ) (was now : PublisherLaneState) : Type 0 where
+  pub routes : RoutesKnow m f was.port.routes now.port.routes
   pub history : now.port.book.history ≡ was.port.book.history ++ more_history f who
   pub referred : (place slot : ℕ) → one_if (refers_to now.port.book place slot) ≡ one_if (refers_to was.port.book place slot) + count slot (more_referred f who place)
   pub uses : (slot : ℕ) → entry now.port.book.first now.port.book.uses slot 0 ≡ entry was.port.book.first was.port.book.uses slot 0 + count slot (more_uses f who)
-  pub same : now ≡ record was { port = record was.port { book = record was.port.book { history = now.port.book.history; referred = now.port.book.referred; uses = now.port.book.uses } } }
+  pub same : now ≡ record was { port = record was.port { routes = now.port.routes; book = record was.port.book { history = now.port.book.history; referred = now.port.book.referred; uses = now.port.book.uses } } }
 
--- Lanes that took in a finding: it stands at the end of the list that it is about, or the word that it is about holds what it says; and all else is as it was.
+-- a subscriber knows the buffers of its connections; nothing else of it changes
+pub record SubscriberKnows (m : World) (f : Found) (was now : SubscriberLaneState) : Type 0 where
+  pub routes : RoutesKnow m f was.port.routes now.port.routes
+  pub same : now ≡ record was { port = record was.port { routes = now.port.routes } }
+
+-- Lanes that took in a finding: it stands at the end of the list that it is about, or the word that it is about holds what it says, or the connection that it is about has the buffer at both its ends; and all else is as it was.
 pub record IsTakenIn (m : World) (f : Found) (n : World) : Type 0 where
-  pub links : (connection : ℕ) → slice_get n.links connection ≡ link_with (more_messages m f connection) (slice_get m.links connection)
+  pub links : (connection : ℕ) → slice_get n.links connection ≡ link_with (more_messages m f connection) (new_buffer m f connection) (slice_get m.links connection)
   pub messages : (connection : ℕ) (link : LinkState) → slice_get m.links connection ≡ Some link
-      → RingGrows (ring_in m.table connection (cells_of link.kind link.limit)) (ring_in n.table connection (cells_of link.kind link.limit)) (more_messages m f connection)
+      → RingGrows (ring_in m.table connection (cells_of link.kind link.limit)) (ring_in n.table connection (cells_of link.kind (limit_with (new_buffer m f connection) link.limit))) (more_messages m f connection)
   pub samples : (connection : ℕ) (link : LinkState) → slice_get m.links connection ≡ Some link
       → RingGrows (back_ring m.table connection m.table.sizes.completion_cells) (back_ring n.table connection m.table.sizes.completion_cells) (more_samples m f connection)
   pub word : (slot : ℕ) (word : SlotWord) (value : ℕ) → f ≡ found.Held slot word value → held_by n.table (Slot slot word) ≡ value
   pub words : (slot : ℕ) (word : SlotWord) → IsWord m.table.sizes (Slot slot word) → ((value : ℕ) → f ≡ found.Held slot word value → ⊥) → held_by n.table (Slot slot word) ≡ held_by m.table (Slot slot word)
-  pub publishers : (who : ℕ) (was now : PublisherLaneState) → slice_get m.publishers who ≡ Some was → slice_get n.publishers who ≡ Some now → PublisherGrows f who was now
+  pub publishers : (who : ℕ) (was now : PublisherLaneState) → slice_get m.publishers who ≡ Some was → slice_get n.publishers who ≡ Some now → PublisherGrows m f who was now
   pub as_many : length n.publishers ≡ length m.publishers
-  pub same : n ≡ record m { table = record m.table { words = n.table.words }; links = n.links; publishers = n.publishers }
+  pub subscribers : (who : ℕ) (was now : SubscriberLaneState) → slice_get m.subscribers who ≡ Some was → slice_get n.subscribers who ≡ Some now → SubscriberKnows m f was now
+  pub as_many_receive : length n.subscribers ≡ length m.subscribers
+  pub same : n ≡ record m { table = record m.table { words = n.table.words }; links = n.links; publishers = n.publishers; subscribers = n.subscribers }
 
 -- what a finding answers, and what it leaves: it is taken in just where it may be found
 abbrev pub TakesIn : World → Found → Bool → World → Type 0
@@ -144,6 +201,7 @@ IsAppended (found.Waiting publisher place slot) = Unit {0}
 IsAppended (found.GivenBack publisher place slot) = ⊥
 IsAppended (found.Newest publisher slot) = ⊥
 IsAppended (found.Held slot word value) = ⊥
+IsAppended (found.Buffer publisher place messages) = ⊥
 
 -- memory may be wanting only for a finding that would be taken in, and is appended to what waited
 abbrev pub WantsMemory : World → Found → Type 0

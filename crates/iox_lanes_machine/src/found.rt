@@ -1,16 +1,19 @@
 //! What lanes find before their first step.
-ghost use Rattle.std.specs.Prelude.{◌≡◌, ◌+◌, ◌-◌, ◌<◌, ◌^◌, ◌&&◌, true, nat_lt, length, slice_get, option_copied, OnOk, OnErr};
+ghost use Rattle.std.specs.Prelude.{◌≡◌, ◌+◌, ◌-◌, ◌<◌, ◌≤◌, ◌^◌, ◌&&◌, true, nat_lt, length, slice_get, option_copied, OnOk, OnErr};
 ghost use Rattle.iox_lanes_ledger.specs.QueuesSteps.declared.access.Word.{Word};
+ghost use Rattle.iox_lanes_ledger.specs.QueuesRings.Ends.{cells_of};
 ghost use Rattle.iox_lanes_ledger.specs.LanesWords.Numbers.{IsWord};
 ghost use Rattle.iox_lanes_ledger.specs.LanesWords.Table.{stored_in};
-ghost use Rattle.iox_lanes_machine.specs.Findings.{back_at, back_found, back_of, finds, finds_now, given_at, given_of, has_word, laid, may_be_back, may_wait, newest_of, remembered_of, takes_more, waiting_at, waiting_in, waiting_of, waits_at, waits_of, with_found};
+ghost use Rattle.iox_lanes_machine.specs.Findings.{back_at, back_found, back_of, buffered_at, buffered_in, buffered_of, buffers_at, buffers_of, finds, finds_now, given_at, given_of, has_word, laid, may_be_back, may_buffer, may_wait, newest_of, remembered_of, subscribers_meet, takes_buffer, takes_more, waiting_at, waiting_in, waiting_of, waits_at, waits_of, with_buffer, with_found};
 ghost use Rattle.iox_lanes_machine.specs.Kept.{IsWithin};
 ghost use Rattle.iox_lanes_machine.specs.State.{world_of};
 ghost use Rattle.iox_lanes_machine.specs.TakenIn.{IsAppended};
 
 use crate::link::Link;
 use crate::state::State;
+use iox_lanes_calls::Route;
 use iox_lanes_words::{ConnectionRing, SharedAccess, SharedWord, SlotWord, TableSizes, WordTable};
+use iox_queues_rings::RingKind;
 use iox_queues_steps::Word;
 use std::alloc::AllocError;
 
@@ -39,6 +42,12 @@ pub enum Found {
         slot: u64,
         word: SlotWord,
         value: u64,
+    },
+    /// So many messages may wait at a connection at which nothing was found yet.
+    Buffer {
+        publisher: usize,
+        place: u64,
+        messages: u64,
     },
 }
 
@@ -71,6 +80,11 @@ impl State {
                 let sizes = self.table.sizes();
                 slot < sizes.slots && has_word(sizes, word)
             }
+            Found::Buffer {
+                publisher,
+                place,
+                messages,
+            } => self.buffers_of(publisher, place, messages),
         }
     }
 
@@ -109,6 +123,19 @@ impl State {
         }
     }
 
+    fn buffers_of(&self, publisher: usize, place: u64, messages: u64) -> bool
+        requires { IsWithin (world_of self.now) }
+        ensures { result ≡ buffers_of (world_of self.now) place messages (slice_get self.now.publishers.items publisher) }
+    {
+        match self.publishers.get(publisher) {
+            Some(lane) => match lane.route(place) {
+                Some(route) => self.may_buffer(route.connection, messages),
+                None => false,
+            },
+            None => false,
+        }
+    }
+
     // The connection of a number, if there is one.
     fn link(&self, connection: u64) -> Option<&Link>
         ensures { option_copied result ≡ slice_get self.now.links.items connection }
@@ -141,6 +168,17 @@ impl State {
         }
     }
 
+    #[tactic(auto, using(crate::proofs::Findings::link_there))]
+    fn may_buffer(&self, connection: u64, messages: u64) -> bool
+        requires { IsWithin (world_of self.now) }
+        ensures { result ≡ may_buffer (world_of self.now) connection messages (slice_get self.now.links.items connection) }
+    {
+        match self.link(connection) {
+            Some(link) => takes_buffer(&self.table, connection, messages, link),
+            None => false,
+        }
+    }
+
     /// This is found. An allocation fails only where a message waits.
     pub(crate) fn find(&mut self, found: Found) -> Result<(), AllocError>
         requires fits { finds_now (world_of self.old) found ≡ true }
@@ -169,6 +207,14 @@ impl State {
             }
             Found::Held { slot, word, value } => {
                 self.find_held(slot, word, value);
+                Ok(())
+            }
+            Found::Buffer {
+                publisher,
+                place,
+                messages,
+            } => {
+                self.find_buffer(publisher, place, messages);
                 Ok(())
             }
         }
@@ -239,6 +285,36 @@ impl State {
     {
         self.table.apply(SharedAccess::Store(SharedWord::Slot { slot, word }, value));
     }
+
+    fn find_buffer(&mut self, publisher: usize, place: u64, messages: u64)
+        requires fits { buffers_of (world_of self.old) place messages (slice_get self.old.publishers.items publisher) ≡ true }
+        requires within { IsWithin (world_of self.old) }
+        ensures { world_of self.new ≡ buffered_of (world_of self.old) publisher place messages (slice_get self.old.publishers.items publisher) }
+    {
+        let Some(lane) = self.publishers.get_mut(publisher) else {
+            return;
+        };
+        let Some(route) = lane.route(place) else {
+            return;
+        };
+        let Some(link) = self.links.get_mut(route.connection as usize) else {
+            return;
+        };
+        let known = with_buffer(messages, route);
+        let receiver = link.subscriber();
+        link.resize(messages);
+        lane.meet(known);
+        self.subscriber_meets(receiver, known);
+    }
+
+    // A subscriber, if it is there, knows a connection anew.
+    fn subscriber_meets(&mut self, subscriber: u64, route: Route)
+        ensures { world_of self.new ≡ record (world_of self.old) { subscribers = subscribers_meet self.old.subscribers.items subscriber route (slice_get self.old.subscribers.items subscriber) } }
+    {
+        if let Some(lane) = self.subscribers.get_mut(subscriber as usize) {
+            lane.meet(route);
+        }
+    }
 }
 
 // How many samples were found given back at a connection.
@@ -289,5 +365,41 @@ fn has_word(sizes: TableSizes, word: SlotWord) -> bool
         SlotWord::Header(word) => word < 3,
         SlotWord::UserHeader(word) => word < sizes.user_header_words,
         SlotWord::Payload(word) => word < sizes.payload_words,
+    }
+}
+
+// Whether a connection may have a buffer of so many messages.
+fn takes_buffer(table: &WordTable, connection: u64, messages: u64, link: &Link) -> bool
+    requires { connection < table.now.sizes.connections }
+    ensures { result ≡ takes_buffer table.now connection messages link.now }
+{
+    0 < messages
+        && messages <= link.limit()
+        && link.found().len() == 0
+        && back_found(table, connection) == 0
+}
+
+// A connection with a buffer of so many messages, as its ends know it.
+fn with_buffer(messages: u64, route: Route) -> Route
+    requires { cells_of route.kind messages ≤ route.submission_cells }
+    ensures { result ≡ with_buffer messages route }
+{
+    Route {
+        connection: route.connection,
+        kind: route.kind,
+        limit: messages,
+        submission_cells: cells(route.kind, messages),
+        completion_cells: route.completion_cells,
+    }
+}
+
+// How many cells the ring of a buffer has.
+fn cells(kind: RingKind, limit: u64) -> u64
+    requires { cells_of kind limit < 2 ^ 64 }
+    ensures { result ≡ cells_of kind limit }
+{
+    match kind {
+        RingKind::Overflowing => limit.saturating_add(1),
+        RingKind::Refusing => if limit > 0 { limit } else { 1 },
     }
 }

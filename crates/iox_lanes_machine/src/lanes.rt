@@ -76,11 +76,12 @@ impl Lanes {
         Ok(Lanes { state })
     }
 
-    /// This is found before the first step: a message that waits, a sample that was given back, the newest of a history, or what a word of a slot holds. Answers
-    /// whether it was taken in; else nothing changes. It is taken in before the first step alone, and only if: of a message or a sample, the connection is there
+    /// This is found before the first step: a message that waits, a sample that was given back, the newest of a history, what a word of a slot holds, or the buffer of
+    /// a connection. Answers whether it was taken in; else nothing changes. It is taken in before the first step alone, and only if: of a message or a sample, the connection is there
     /// and has not the slot yet, which is one of its publisher's; no more messages wait than may, and together with the samples given back no more than may be
-    /// given back; of a history, the slot is the publisher's, does not stand there yet, and fewer do than may; of a word, the slot has it. What was taken in stands
-    /// behind what was found there before. It fails, and nothing changes, only where an allocation fails: for a message that would be taken in.
+    /// given back; of a history, the slot is the publisher's, does not stand there yet, and fewer do than may; of a word, the slot has it;
+    /// of a buffer, it has room for one message at least and for no more than may wait there, where nothing waits and nothing was given back. What was taken in stands
+    /// behind what was found there before; a buffer is known at both ends from then on. It fails, and nothing changes, only where an allocation fails: for a message that would be taken in.
     pub fn find(&mut self, found: Found) -> Result<bool, AllocError>
         ensures finds { IfOk result (λ answer. FindsTo self.old found answer self.new) }
         ensures takes { IfOk result (λ answer. TakesIn self.old found answer self.new) }

@@ -58,6 +58,13 @@ impl Link {
         self.limit
     }
 
+    // So many messages may wait.
+    pub(crate) fn resize(&mut self, messages: u64)
+        ensures { self.new ≡ record self.old { limit = messages } }
+    {
+        self.limit = messages;
+    }
+
     // One message more waited.
     pub(crate) fn find(&mut self, slot: u64) -> Result<(), AllocError>
         ensures found { OnOk result (self.new ≡ record self.old { found = self.old.found ++ slot ∷ [] }) }

@@ -18,7 +18,7 @@ pub struct LaneSizes {
     pub subscribers: u64,
     /// What a connection does with a message when as many wait as may.
     pub kind: RingKind,
-    /// How many messages may wait at a connection.
+    /// How many messages may wait at a connection; at some it may be fewer, if that is found before the first step.
     pub buffer: u64,
     /// How many samples of a connection a subscriber may borrow.
     pub most_borrowed: u64,

@@ -46,6 +46,14 @@ lane_found place slot lane = record lane { port = publishers.found_at place slot
 abbrev pub lane_remembers : ℕ → PublisherLaneState → PublisherLaneState
 lane_remembers slot lane = record lane { port = publishers.found_last slot lane.port }
 
+-- a connection of a publisher is known anew
+abbrev pub lane_meets : Route → PublisherLaneState → PublisherLaneState
+lane_meets route lane = record lane { port = publishers.met_anew route lane.port }
+
+-- a connection of a subscriber is known anew
+abbrev pub receiver_meets : Route → SubscriberLaneState → SubscriberLaneState
+receiver_meets route lane = record lane { port = subscribers.met_anew route lane.port }
+
 -- a call without the words of a write
 abbrev pub name_of : Call → CallName
 name_of call.LoanUninit = name.LoanUninit

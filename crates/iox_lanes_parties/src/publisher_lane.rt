@@ -3,7 +3,7 @@ ghost use Rattle.std.specs.Prelude.{◌≡◌, ◌+◌, ◌<◌, ◌&&◌, ◌==
 ghost use Rattle.std.specs.List.{All};
 ghost use Rattle.iox_lanes_subscriber.specs.LanesCalls.Publishing.{publisher_next, publisher_is_idle, publisher_is_over};
 ghost use Rattle.iox_lanes_publisher.specs.Keeping.{may_have, may_remember};
-ghost use Rattle.iox_lanes_parties.specs.Parties.{lane_found, lane_remembers, name_of, is_out, is_written, publisher_may, publisher_fits, publisher_begun, publisher_after, publisher_answer, lent, index_of, head_of, kept, send_begun};
+ghost use Rattle.iox_lanes_parties.specs.Parties.{lane_found, lane_meets, lane_remembers, name_of, is_out, is_written, publisher_may, publisher_fits, publisher_begun, publisher_after, publisher_answer, lent, index_of, head_of, kept, send_begun};
 
 use crate::call::{Answer, Call, CallName, Move};
 use crate::head::Head;
@@ -186,6 +186,13 @@ impl PublisherLane {
         ensures { self.new ≡ lane_remembers slot self.old }
     {
         self.port.find_newest(slot);
+    }
+
+    /// The connection of this number is this one from now on.
+    pub fn meet(&mut self, route: Route)
+        ensures { self.new ≡ lane_meets route self.old }
+    {
+        self.port.meet(route);
     }
 
     /// Where its call stands.

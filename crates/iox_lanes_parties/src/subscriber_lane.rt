@@ -1,7 +1,7 @@
 //! A subscriber and its call in hand.
 ghost use Rattle.std.specs.Prelude.{◌≡◌, ◌&&◌, true, false, is_some};
 ghost use Rattle.iox_lanes_subscriber.specs.LanesCalls.Subscribing.{subscriber_next, subscriber_is_idle, subscriber_is_over};
-ghost use Rattle.iox_lanes_parties.specs.Parties.{subscriber_may, subscriber_fits, subscriber_begun, subscriber_after, subscriber_answer, words_read, place_of, route_at, is_route, is_borrowed, release_begun};
+ghost use Rattle.iox_lanes_parties.specs.Parties.{receiver_meets, subscriber_may, subscriber_fits, subscriber_begun, subscriber_after, subscriber_answer, words_read, place_of, route_at, is_route, is_borrowed, release_begun};
 
 use crate::call::{Answer, Call, CallName, Move};
 use iox_lanes_calls::{Route, SubscriberCall};
@@ -74,6 +74,13 @@ impl SubscriberLane {
             Some(place) => self.port.route(place),
             None => None,
         }
+    }
+
+    /// The connection of this number is this one from now on.
+    pub fn meet(&mut self, route: Route)
+        ensures { self.new ≡ receiver_meets route self.old }
+    {
+        self.port.meet(route);
     }
 
     /// Begins a call at a moment.

@@ -1,6 +1,7 @@
 -- A publisher with the call that it is in, and what it keeps for itself.
 use Rattle.std.specs.Prelude.{ℕ, List, replicate, Bool, true, false, if◌then◌else◌}
 use Rattle.iox_lanes_calls.specs.Publishing.{publisher_take, publisher_change, loan_at, write_at, head_at}
+use Rattle.iox_lanes_calls.specs.Routes.{rerouted}
 use Rattle.iox_lanes_calls.specs.declared.route.Route.{Route}
 use Rattle.iox_lanes_calls.specs.declared.publisher.PublisherCall.{PublisherCall}
 use Rattle.iox_lanes_calls.specs.declared.publisher.PublisherCall.TheVariants.{Idle, Dropping}
@@ -27,6 +28,10 @@ found_at place slot state = record state { book = referred_at place slot state.b
 -- a slot was found to be the newest of the history
 abbrev pub found_last : ℕ → PublisherState → PublisherState
 found_last slot state = record state { book = found_newest slot state.book }
+
+-- one of its connections is known anew
+abbrev pub met_anew : Route → PublisherState → PublisherState
+met_anew route state = record state { routes = rerouted route state.routes }
 
 -- the words that the call in hand stores
 abbrev pub words_of : PublisherState → List ℕ

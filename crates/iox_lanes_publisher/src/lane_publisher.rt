@@ -2,10 +2,10 @@
 ghost use Rattle.std.specs.Prelude.{◌≡◌, true, length, replicate, slice_get, IfOk};
 ghost use Rattle.iox_lanes_calls.specs.Publishing.{publisher_next, publisher_is_idle, publisher_is_over};
 ghost use Rattle.iox_lanes_publisher.specs.Keeping.{loan_of, may_have, may_remember};
-ghost use Rattle.iox_lanes_publisher.specs.Publishers.{after_answer, found_at, found_last, begun_loan, begun_write, begun_send, begun_drop, new_publisher};
+ghost use Rattle.iox_lanes_publisher.specs.Publishers.{after_answer, found_at, found_last, met_anew, begun_loan, begun_write, begun_send, begun_drop, new_publisher};
 
 use crate::slot_book::{LoanAnswer, LoanMark, SlotBook};
-use iox_lanes_calls::{PublisherCall, PublisherChange, Route};
+use iox_lanes_calls::{PublisherCall, PublisherChange, Route, reroute};
 use iox_lanes_words::SharedAccess;
 use std::alloc::{AllocError, Global};
 use std::marker::Model;
@@ -115,6 +115,13 @@ impl LanePublisher {
         ensures { self.new ≡ found_last slot self.old }
     {
         self.book.find_newest(slot);
+    }
+
+    /// The connection of this number is this one from now on.
+    pub fn meet(&mut self, route: Route)
+        ensures { self.new ≡ met_anew route self.old }
+    {
+        reroute(&mut self.routes, route);
     }
 
     /// How many words a payload has.

@@ -1,7 +1,11 @@
 //! What lanes find before their first step, with ample memory.
-use crate::calls::{read, received, sent, written};
+ghost use Rattle.std.specs.Prelude.{◌≡◌};
+
+use crate::calls::{read, received, sent, whole, written};
 use crate::schedules::{given_back, sizes};
-use iox_lanes_machine::{Found, Lanes};
+use iox_lanes_calls::{Delivery, Receipt};
+use iox_lanes_machine::{Found, LaneSizes, Lanes};
+use iox_lanes_parties::{Answer, Call, Party};
 use iox_lanes_words::SlotWord;
 use iox_queues_rings::RingKind;
 use std::alloc::AllocError;
@@ -36,6 +40,42 @@ fn holds(slot: u64, word: u64, value: u64) -> Found {
         slot,
         word: SlotWord::Payload(word),
         value,
+    }
+}
+
+// So many messages may wait at the first publisher's connection at a place.
+fn buffer_at(place: u64, messages: u64) -> Found {
+    Found::Buffer {
+        publisher: 0,
+        place,
+        messages,
+    }
+}
+
+// So many may wait at its first connection.
+fn buffer(messages: u64) -> Found {
+    buffer_at(0, messages)
+}
+
+// Eight slots, and buffers of three messages.
+fn wide(kind: RingKind) -> LaneSizes
+    ensures { result.buffer ≡ 3 }
+{
+    let mut wide = sizes(kind, 2, 8);
+    wide.buffer = 3;
+    wide
+}
+
+// How many connections took a message and how many refused it.
+fn delivered(taken: u64, refused: u64) -> Option<Delivery> {
+    Some(Delivery { taken, refused })
+}
+
+// Whether a subscriber receives the message in this slot.
+fn receives(lanes: &mut Lanes, subscriber: usize, slot: u64) -> bool {
+    match whole(lanes, Party::Subscriber(subscriber), Call::Receive, 100) {
+        Some(Answer::Received(Receipt::Taken { slot: taken, .. })) => taken == slot,
+        _ => false,
     }
 }
 
@@ -146,5 +186,93 @@ fn a_word_is_found_where_its_slot_has_it(rt: HostRuntime) -> Result<(), Fail> {
     assert!(rt; lanes.find(waits(2))?);
     assert_eq!(rt; received(&mut lanes), Some(2));
     assert_eq!(rt; read(&mut lanes, 2), Some(8));
+    Ok(())
+}
+
+#[test]
+fn a_smaller_buffer_overflows_at_its_own_size(rt: HostRuntime) -> Result<(), Fail> {
+    let alloc = rt.alloc();
+    let mut lanes = Lanes::new(alloc, wide(RingKind::Overflowing))?;
+    assert!(rt; lanes.find(buffer(1))?);
+    assert_eq!(rt; sent(alloc, &mut lanes, 5)?, delivered(1, 0));
+    assert_eq!(rt; sent(alloc, &mut lanes, 6)?, delivered(1, 0));
+    // The first left the ring as the second came.
+    assert_eq!(rt; received(&mut lanes), Some(1));
+    assert_eq!(rt; read(&mut lanes, 1), Some(6));
+    assert_eq!(rt; received(&mut lanes), None);
+    Ok(())
+}
+
+#[test]
+fn a_smaller_buffer_refuses_at_its_own_size(rt: HostRuntime) -> Result<(), Fail> {
+    let alloc = rt.alloc();
+    let mut lanes = Lanes::new(alloc, wide(RingKind::Refusing))?;
+    assert!(rt; lanes.find(buffer(2))?);
+    assert_eq!(rt; sent(alloc, &mut lanes, 5)?, delivered(1, 0));
+    assert_eq!(rt; sent(alloc, &mut lanes, 6)?, delivered(1, 0));
+    assert_eq!(rt; sent(alloc, &mut lanes, 7)?, delivered(0, 1));
+    assert_eq!(rt; received(&mut lanes), Some(0));
+    assert_eq!(rt; received(&mut lanes), Some(1));
+    assert_eq!(rt; received(&mut lanes), None);
+    Ok(())
+}
+
+#[test]
+fn each_subscriber_has_a_buffer_of_its_own(rt: HostRuntime) -> Result<(), Fail> {
+    let alloc = rt.alloc();
+    let mut sizes = wide(RingKind::Refusing);
+    sizes.subscribers = 2;
+    let mut lanes = Lanes::new(alloc, sizes)?;
+    assert!(rt; lanes.find(buffer_at(1, 1))?);
+    assert_eq!(rt; sent(alloc, &mut lanes, 5)?, delivered(2, 0));
+    assert_eq!(rt; sent(alloc, &mut lanes, 6)?, delivered(1, 1));
+    assert!(rt; receives(&mut lanes, 0, 0) && receives(&mut lanes, 0, 1));
+    assert!(rt; receives(&mut lanes, 1, 0) && !receives(&mut lanes, 1, 1));
+    Ok(())
+}
+
+#[test]
+fn a_buffer_is_found_where_it_may_be(rt: HostRuntime) -> Result<(), Fail> {
+    let alloc = rt.alloc();
+    let mut lanes = Lanes::new(alloc, wide(RingKind::Overflowing))?;
+    let elsewhere = Found::Buffer {
+        publisher: 1,
+        place: 0,
+        messages: 1,
+    };
+    let rows = [
+        (buffer(0), false),
+        (buffer(4), false),
+        (elsewhere, false),
+        (buffer_at(1, 1), false),
+        (buffer(3), true),
+        (buffer(2), true),
+        (buffer(3), false),
+        // As many wait as fit the buffer that was found.
+        (waits(4), true),
+        (waits(1), true),
+        (waits(0), false),
+        (buffer(2), false),
+        (buffer(1), false),
+    ];
+    assert!(rt; are_found(&mut lanes, &rows)?);
+    assert_eq!(rt; received(&mut lanes), Some(4));
+    assert_eq!(rt; received(&mut lanes), Some(1));
+    Ok(())
+}
+
+#[test]
+fn no_buffer_is_found_where_a_sample_was_given_back(rt: HostRuntime) -> Result<(), Fail> {
+    let mut lanes = Lanes::new(rt.alloc(), wide(RingKind::Overflowing))?;
+    let rows = [(back(1), true), (buffer(1), false)];
+    assert!(rt; are_found(&mut lanes, &rows)?);
+    Ok(())
+}
+
+#[test]
+fn no_buffer_is_found_after_a_step(rt: HostRuntime) -> Result<(), Fail> {
+    let mut lanes = Lanes::new(rt.alloc(), wide(RingKind::Overflowing))?;
+    assert_eq!(rt; received(&mut lanes), None);
+    assert!(rt; !lanes.find(buffer(1))?);
     Ok(())
 }

@@ -3,6 +3,7 @@ use Rattle.std.specs.Prelude.{ℕ, ◌-◌, List, length, set, get_or, replicate
 use Rattle.iox_lanes_calls.specs.QueuesSteps.Access.{successor}
 use Rattle.iox_lanes_calls.specs.QueuesRefusing.declared.push.Push.TheVariants.{Begun}
 use Rattle.iox_lanes_calls.specs.Subscribing.{subscriber_take, subscriber_change, receive_at, read_at}
+use Rattle.iox_lanes_calls.specs.Routes.{rerouted}
 use Rattle.iox_lanes_calls.specs.declared.route.Route.{Route}
 use Rattle.iox_lanes_calls.specs.declared.subscriber.SlotExtent.{SlotExtent}
 use Rattle.iox_lanes_calls.specs.declared.subscriber.SubscriberCall.{SubscriberCall}
@@ -32,6 +33,10 @@ new_subscriber routes slots extent words most = record {
   words = replicate words 0;
   call = Idle;
 }
+
+-- one of its connections is known anew
+abbrev pub met_anew : Route → SubscriberState → SubscriberState
+met_anew route state = record state { routes = rerouted route state.routes }
 
 -- another value at a place; beyond the end nothing happens
 abbrev pub put_at : {X : Type 0} → List X → ℕ → X → List X

@@ -1,10 +1,10 @@
 //! A subscriber, free of any words.
 ghost use Rattle.std.specs.Prelude.{◌≡◌, ◌-◌, true, false, None, Some, get_or, slice_get, length, replicate, IfOk};
 ghost use Rattle.iox_lanes_calls.specs.Subscribing.{subscriber_next, subscriber_is_idle, subscriber_is_over};
-ghost use Rattle.iox_lanes_subscriber.specs.Keeping.{put_at, counted_up, counted_down, changed, after_answer, begun_receive, begun_read, begun_release, new_subscriber};
+ghost use Rattle.iox_lanes_subscriber.specs.Keeping.{put_at, met_anew, counted_up, counted_down, changed, after_answer, begun_receive, begun_read, begun_release, new_subscriber};
 
 use iox_lanes_calls::subscriber::SlotExtent;
-use iox_lanes_calls::{Route, SubscriberCall, SubscriberChange};
+use iox_lanes_calls::{Route, SubscriberCall, SubscriberChange, reroute};
 use iox_lanes_words::SharedAccess;
 use std::alloc::{AllocError, Global};
 use std::marker::Model;
@@ -83,6 +83,13 @@ impl LaneSubscriber {
             Some(route) => Some(*route),
             None => None,
         }
+    }
+
+    /// The connection of this number is this one from now on.
+    pub fn meet(&mut self, route: Route)
+        ensures { self.new ≡ met_anew route self.old }
+    {
+        reroute(&mut self.routes, route);
     }
 
     /// The words that the last read loaded.
