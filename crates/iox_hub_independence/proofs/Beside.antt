@@ -24,11 +24,14 @@ use Rattle.iox_hub_run.proofs.RunLemmas.{run_goes}
 use Rattle.iox_hub_run.proofs.ServicesAgree.{nothing_agrees}
 use Rattle.iox_hub_run.proofs.StepChanges.{step_changes, numbers_go_on}
 use Rattle.iox_hub_run.proofs.StepMoves.{step_goes}
-use Rattle.iox_hub_independence.specs.Laws.{IsService, StepBeside, LeavesOthers, RunsLeaveOthers}
+use Rattle.iox_hub_independence.specs.Laws.{IsService, StepBeside, LeavesOthers, RunsLeaveOthers, LeftIsFound}
 use Rattle.iox_hub_independence.specs.Left.{IsLeft}
 use Rattle.iox_hub_independence.proofs.Names.{untouched_on}
 use Rattle.iox_hub_independence.proofs.Ports.{made_on}
 use Rattle.iox_hub_independence.proofs.Steps.{step_left, by_same}
+use Rattle.iox_hub_independence.proofs.Tables.{found_as_before}
+use Rattle.iox_hub_independence.specs.Asking.{service_at, publisher_service, loan_service, sample_service}
+use Rattle.iox_hub_run.specs.AgreementLaws.{service_of}
 
 module _ {T U B D : Type 0} where
   -- what holds of the hubs of a run
@@ -41,6 +44,15 @@ module _ {T U B D : Type 0} where
     rise = rw (is.no_factory, is.nothing_made) (omega arith, omega arith, omega arith, omega arith, omega arith);
     agree = nothing_agrees first.factories.made first.hub config.id (ap (λ table. table.entries) is.no_factory) (ap (λ services. services.domains) is.hub_is_new.services) is.hub_is_new.table;
   }
+
+  pub left_is_found : LeftIsFound T U B D
+  left_is_found hash number old new left = (
+    found_as_before service_of number old.factories.made new.factories.made left.factories,
+    found_as_before publisher_service number old.made.publishers new.made.publishers left.made.publishers,
+    found_as_before service_at number old.made.subscribers new.made.subscribers left.made.subscribers,
+    found_as_before loan_service number old.made.loans new.made.loans left.made.loans,
+    found_as_before sample_service number old.made.samples new.made.samples left.made.samples,
+  )
 
   left_on : (hash : ServiceHash) (number : ℕ) (old mid new : NumberedHub T U B D) → IsLeft hash number old mid → IsLeft hash number mid new → IsLeft hash number old new
   left_on hash number old mid new first second = record {

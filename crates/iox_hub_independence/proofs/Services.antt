@@ -19,7 +19,6 @@ use Rattle.iox_hub_commands.specs.DescribeBase.declared.message_type.MessageType
 use Rattle.iox_hub_commands.specs.DescribeBase.declared.pattern.MessagingPattern.{MessagingPattern}
 use Rattle.iox_hub_commands.specs.DescribeSettings.Agreement.{Agreement}
 use Rattle.iox_hub_commands.specs.DescribeSettings.declared.static_config.Settings.{Settings}
-use Rattle.iox_hub_commands.specs.DescribeSettings.declared.static_config.Settings.TheVariants.{PublishSubscribe}
 use Rattle.iox_hub_factories.specs.HubBase.Closing.{is_last, less_one}
 use Rattle.iox_hub_factories.specs.HubBase.declared.hub.Hub.{Hub}
 use Rattle.iox_hub_factories.specs.HubServices.Open.{OpenServices, presence_of}

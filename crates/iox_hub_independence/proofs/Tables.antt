@@ -4,6 +4,7 @@ use Rattle.std.proofs.lemmas.Bool.{eqb-true, eq-eqb}
 use Rattle.std.specs.Map.{lookup}
 use Rattle.iox_hub_factories.specs.Numbered.NumberTable.{NumberTable, Rises, value_at, inserted, removed}
 use Rattle.iox_hub_factories.proofs.Numbered.Telling.{found_and_gone}
+use Rattle.iox_hub_independence.specs.Laws.{FoundAsBefore}
 use Rattle.iox_hub_independence.specs.Left.{if_of, AllLeft}
 
 module _ {V : Type 0} (service : V → ℕ) (number : ℕ) where
@@ -64,3 +65,22 @@ module _ {V : Type 0} (service : V → ℕ) (number : ℕ) where
   -- something of another service goes
   pub removed_left : (table : NumberTable V) (gone : ℕ) → Rises 1 table.entries table.next → IsApart (value_at table gone) → AllLeft service number table (removed table gone)
   removed_left table gone rises apart one = gone_here one gone (nat_eq one gone) refl table rises apart
+
+  kept_at : (value other : V) (is : Bool) → cond is (Some other) None ≡ Some value → Some other ≡ Some value
+  kept_at value other true same = same
+  kept_at value other false same = cc
+
+  of_it : (value : V) → service value ≡ number → if_of service number (Some value) ≡ Some value
+  of_it value same = ap (λ is. cond is (Some value) None) (eq-eqb (service value) number same)
+
+  found_on : (value : V) → service value ≡ number → (found other : Option V) → if_of service number other ≡ if_of service number found → found ≡ Some value → other ≡ Some value
+  found_on value same found None is there = absurd (nothing (is ∙ ap (if_of service number) there ∙ of_it value same))
+    where
+      nothing : {W : Type 0} {w : W} → None ≡ Some w → ⊥
+      nothing e = cc
+  found_on value same found (Some other) is there = kept_at value other (nat_eq (service other) number) (is ∙ ap (if_of service number) there ∙ of_it value same)
+
+  -- what is of the service is found as before
+  pub found_as_before : (old new : NumberTable V) → AllLeft service number old new → FoundAsBefore service number old new
+  found_as_before old new left one value same =
+      (found_on value same (value_at old one) (value_at new one) (left one), found_on value same (value_at new one) (value_at old one) (sym (left one)))

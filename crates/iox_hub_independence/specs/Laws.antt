@@ -13,7 +13,9 @@ use Rattle.iox_hub_run.specs.Runs.{Runs, IsRun}
 use Rattle.iox_hub_run.specs.declared.numbered_hub.NumberedHub.{NumberedHub}
 use Rattle.iox_negotiate_laws.specs.Agreements.{WasAgreed}
 use Rattle.iox_negotiate_laws.specs.NegotiateTable.Contents.{Contents}
-use Rattle.iox_hub_independence.specs.Asking.{hash_asked, number_asked}
+use Rattle.iox_hub_run.specs.AgreementLaws.{service_of}
+use Rattle.iox_hub_run.specs.HubCommands.HubPorts.Numbered.NumberTable.{NumberTable, value_at}
+use Rattle.iox_hub_independence.specs.Asking.{hash_asked, number_asked, service_at, publisher_service, loan_service, sample_service}
 use Rattle.iox_hub_independence.specs.Left.{IsLeft}
 
 -- A service of this hash was agreed under this number.
@@ -43,3 +45,16 @@ module _ {T U B D : Type 0} where
         (before commands : List (Command T)) (told replies : List (Reply T)) (stopped : Bool)
         → IsNew config first → Runs step before first told old → IsService hash number old.hub.table
         → IsRun (StepBeside hash number) commands old replies stopped new → IsLeft hash number old new
+
+-- What is of a service goes by a number in the one table just where it does in the other.
+abbrev pub FoundAsBefore : {V : Type 0} → (V → ℕ) → ℕ → NumberTable V → NumberTable V → Type 0
+FoundAsBefore {V} service number old new = (one : ℕ) (value : V) → service value ≡ number
+    → (value_at old one ≡ Some value → value_at new one ≡ Some value) × (value_at new one ≡ Some value → value_at old one ≡ Some value)
+
+-- Where all of a service is as it was, each factory, publisher, subscriber, loan and sample of it goes by the number by which it went, and
+-- none besides.
+abbrev pub LeftIsFound : Type 0 → Type 0 → Type 0 → Type 0 → Type 0
+LeftIsFound T U B D = (hash : ServiceHash) (number : ℕ) (old new : NumberedHub T U B D) → IsLeft hash number old new
+    → FoundAsBefore service_of number old.factories.made new.factories.made
+    × FoundAsBefore publisher_service number old.made.publishers new.made.publishers × FoundAsBefore service_at number old.made.subscribers new.made.subscribers
+    × FoundAsBefore loan_service number old.made.loans new.made.loans × FoundAsBefore sample_service number old.made.samples new.made.samples

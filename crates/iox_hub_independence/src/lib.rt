@@ -9,7 +9,7 @@
 ghost use Rattle.iox_hub_commands.specs.DescribeBase.Detail.{detail};
 ghost use Rattle.iox_hub_commands.specs.DescribeBase.declared.type_detail.TypeVariant.TheVariants.{FixedSize};
 ghost use Rattle.iox_hub_factories.specs.HubRequests.Asked.{types_of};
-ghost use Rattle.iox_hub_independence.specs.Laws.{LeavesOthers, RunsLeaveOthers};
+ghost use Rattle.iox_hub_independence.specs.Laws.{LeavesOthers, LeftIsFound, RunsLeaveOthers};
 ghost use Rattle.iox_hub_run.specs.Steps.{Step};
 
 use iox_describe_base::ZeroCopySend;
@@ -25,6 +25,7 @@ pub fn services_are_beside_one_another<
     B: PublisherHandlers,
     D: SubscriberHandler,
 >()
+    ensures found { LeftIsFound T U B D }
     ensures steps { LeavesOthers (Step (detail FixedSize T.name T.size T.alignment) (detail FixedSize U.name U.size U.alignment) (types_of T.name T.size T.alignment U.name U.size U.alignment) T.is_default U.is_default B.fixed (λ handlers. B.degrades handlers) (λ handlers. B.decides handlers) D.fixed (λ handler. D.degrades handler)) }
     ensures runs { RunsLeaveOthers (Step (detail FixedSize T.name T.size T.alignment) (detail FixedSize U.name U.size U.alignment) (types_of T.name T.size T.alignment U.name U.size U.alignment) T.is_default U.is_default B.fixed (λ handlers. B.degrades handlers) (λ handlers. B.decides handlers) D.fixed (λ handler. D.degrades handler)) }
 {}
