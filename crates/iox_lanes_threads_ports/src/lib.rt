@@ -6,7 +6,7 @@
 //! - [`subscriber`]: a subscriber.
 //! - [`laws`]: the stages of their calls know what each step needs.
 //!
-//! First calls, of a publisher and of a subscriber over one table `words`. Nothing opens such a table from lanes yet, so no program makes them so far.
+//! First calls, of a publisher and of a subscriber over one table `words`. `open_threads` of `iox_lanes_threads` makes both from lanes.
 //!
 //! ```
 //! let loan = publisher.loan_uninit(&words);
