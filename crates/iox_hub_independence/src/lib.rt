@@ -1,5 +1,6 @@
 //! The services of a hub are beside one another, as a law of every run: what is asked of one leaves each other one as it was. The law is
-//! the contract of a function that does nothing.
+//! the contract of a function that does nothing. A proof cites a law by a call of its function; what it states is then among the facts
+//! of the caller:
 //!
 //! ```
 //! services_are_beside_one_another::<u64, (), FixedHandlers, FixedDegradation>();
