@@ -100,6 +100,12 @@ begin_kept store old at below alone is = kept store old (begun at (get_or old.lo
       removed old.loans at k below,
     )
 
+-- the history is forgotten
+pub forget_kept : {T U : Type 0} (store : Store T U) (old : Uses ℕ ℕ) → IsSender store old → IsSender store (record old { history = [] })
+forget_kept store old is = kept store old (record old { history = [] }) is refl refl
+    (λ k loans. (loans, omega (arith, in_use_times old k, in_use_times (record old { history = [] }) k)))
+    (λ k inside. omega (arith, inside, in_use_times old k, in_use_times (record old { history = [] }) k))
+
 -- a connection changed: more is held of it only of what is sent or of the history
 pub connection_kept : {T U : Type 0} (store : Store T U) (old : Uses ℕ ℕ) (index : ℕ) (connection : Connection ℕ) → IsSender store old
     → ((k : ℕ) → times k (held_by connection) ≤ times k (held_by (connection_at index old)) + (times k (option_to_list old.sending) + times k old.history))

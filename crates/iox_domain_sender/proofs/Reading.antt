@@ -1,5 +1,6 @@
 -- What is read of loans and messages.
 use Rattle.std.proofs.Common.{rules, arith, ◌≡◌, ◌<◌, ◌∷◌, [], ℕ, zero, suc, Bool, true, false, List, length, get_or, map, slice_get, None, Some, is_some, refl, sym, ap, ◌∙◌}
+use Rattle.std.proofs.lemmas.List.{length-map}
 use Rattle.std.specs.List.{list_all}
 use Rattle.iox_domain_slots.specs.Uses.{Uses, connection_at, begun}
 use Rattle.iox_domain_sender.specs.Payloads.{payload_at}
@@ -14,6 +15,14 @@ named_at name [] at y is = search (rules, is)
 named_at name (x ∷ xs) zero y is = search (rules, is)
 named_at name (x ∷ xs) (suc at) y is = named_at name xs at y is
 
+-- the message at a place of a list of messages is the one in its slot
+in_its_slot : {T U : Type 0} (store : Store T U) (xs : List ℕ) (slot at : ℕ) (message : Message T U)
+    → slice_get (map (message_in store) xs) at ≡ Some message → message.slot ≡ slot → message_in store slot ≡ message
+in_its_slot store xs slot at message seen stands =
+    let it : message ≡ message_in store (get_or xs at 0) = named_at (message_in store) xs at message seen in
+    let same : get_or xs at 0 ≡ slot = sym (ap (λ m. m.slot) it) ∙ stands in
+    sym (it ∙ ap (message_in store) same)
+
 -- the message at a place of what is borrowed is the one in its slot
 pub borrowed_is : {T U : Type 0} (store : Store T U) (old : Uses ℕ ℕ) (state : SenderState T U) (slot index at : ℕ) (message : Message T U) → seen_sender store old ≡ state
     → slice_get (connection_at index state.uses).borrowed at ≡ Some message → message.slot ≡ slot → message_in store slot ≡ message
@@ -23,6 +32,38 @@ borrowed_is store old state slot index at message is there stands =
     let it : message ≡ message_in store (get_or (connection_at index old).borrowed at 0) = named_at (message_in store) (connection_at index old).borrowed at message seen in
     let same : get_or (connection_at index old).borrowed at 0 ≡ slot = sym (ap (λ m. m.slot) it) ∙ stands in
     sym (it ∙ ap (message_in store) same)
+
+-- so is the message at a place of what waits
+pub waiting_is : {T U : Type 0} (store : Store T U) (old : Uses ℕ ℕ) (state : SenderState T U) (slot index at : ℕ) (message : Message T U) → seen_sender store old ≡ state
+    → slice_get (connection_at index state.uses).waiting at ≡ Some message → message.slot ≡ slot → message_in store slot ≡ message
+waiting_is store old state slot index at message is there stands =
+    let seen : slice_get (map (message_in store) (connection_at index old).waiting) at ≡ Some message =
+    ap (λ c. slice_get c.waiting at) (sym (connection_at_by (loan_in store) (message_in store) index old)) ∙ ap (λ s. slice_get (connection_at index s.uses).waiting at) is ∙ there in
+    in_its_slot store (connection_at index old).waiting slot at message seen stands
+
+-- and the message at a place of the history
+pub remembered_is : {T U : Type 0} (store : Store T U) (old : Uses ℕ ℕ) (state : SenderState T U) (slot at : ℕ) (message : Message T U) → seen_sender store old ≡ state
+    → slice_get state.uses.history at ≡ Some message → message.slot ≡ slot → message_in store slot ≡ message
+remembered_is store old state slot at message is there stands =
+    in_its_slot store old.history slot at message (ap (λ s. slice_get s.uses.history at) is ∙ there) stands
+
+-- what stands at a place of a list that is long enough
+pub stands_at : (xs : List ℕ) (at slot : ℕ) → at < length xs → slot ≡ get_or xs at 0 → slice_get xs at ≡ Some slot
+stands_at [] at slot below is = absurd (omega (arith, below))
+stands_at (x ∷ xs) zero slot below is = ap Some (sym is)
+stands_at (x ∷ xs) (suc at) slot below is = stands_at xs at slot (omega (arith, below)) is
+
+-- a place of the history as it is seen is one of the slots that are kept
+pub remembered_below : {T U : Type 0} (store : Store T U) (old : Uses ℕ ℕ) (state : SenderState T U) (place : ℕ) → seen_sender store old ≡ state
+    → place < length state.uses.history → place < length old.history
+remembered_below store old state place is below = omega (arith, below, ap (λ s. length s.uses.history) is, length-map old.history (message_in store))
+
+-- messages that are named by their slots stand in these
+pub slot_named : {T U : Type 0} (store : Store T U) (xs : List ℕ) (at slot : ℕ) → slice_get xs at ≡ Some slot
+    → slice_get (map (λ message. message.slot) (map (message_in store) xs)) at ≡ Some slot
+slot_named store [] at slot found = search (rules, found)
+slot_named store (x ∷ xs) zero slot found = found
+slot_named store (x ∷ xs) (suc at) slot found = slot_named store xs at slot found
 
 -- the loan at a place of the list is the one in its slot
 pub loan_is : {T U : Type 0} (store : Store T U) (old : Uses ℕ ℕ) (state : SenderState T U) (at : ℕ) (loan : Loan T U) → seen_sender store old ≡ state

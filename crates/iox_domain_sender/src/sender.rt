@@ -266,6 +266,8 @@ impl<T: Copy, U: Copy> Sender<T, U> {
     pub fn payload(&self, slot: usize) -> &[T]
         requires { slot < self.now.uses.first + self.now.uses.size }
         ensures borrowed { (index at : ℕ) (message : Message T U) → slice_get (connection_at index self.now.uses).borrowed at ≡ Some message → message.slot ≡ slot → result.now ≡ message.values }
+        ensures waiting { (index at : ℕ) (message : Message T U) → slice_get (connection_at index self.now.uses).waiting at ≡ Some message → message.slot ≡ slot → result.now ≡ message.values }
+        ensures remembered { (at : ℕ) (message : Message T U) → slice_get self.now.uses.history at ≡ Some message → message.slot ≡ slot → result.now ≡ message.values }
     {
         self.values.values(slot)
     }
@@ -274,6 +276,8 @@ impl<T: Copy, U: Copy> Sender<T, U> {
     pub fn elements(&self, slot: usize) -> u64
         requires { slot < self.now.uses.first + self.now.uses.size }
         ensures borrowed { (index at : ℕ) (message : Message T U) → slice_get (connection_at index self.now.uses).borrowed at ≡ Some message → message.slot ≡ slot → result ≡ message.elements }
+        ensures waiting { (index at : ℕ) (message : Message T U) → slice_get (connection_at index self.now.uses).waiting at ≡ Some message → message.slot ≡ slot → result ≡ message.elements }
+        ensures remembered { (at : ℕ) (message : Message T U) → slice_get self.now.uses.history at ≡ Some message → message.slot ≡ slot → result ≡ message.elements }
     {
         self.headers[slot].elements
     }
@@ -282,6 +286,8 @@ impl<T: Copy, U: Copy> Sender<T, U> {
     pub fn user_header(&self, slot: usize) -> &U
         requires { slot < self.now.uses.first + self.now.uses.size }
         ensures borrowed { (index at : ℕ) (message : Message T U) → slice_get (connection_at index self.now.uses).borrowed at ≡ Some message → message.slot ≡ slot → result.now ≡ message.user_header }
+        ensures waiting { (index at : ℕ) (message : Message T U) → slice_get (connection_at index self.now.uses).waiting at ≡ Some message → message.slot ≡ slot → result.now ≡ message.user_header }
+        ensures remembered { (at : ℕ) (message : Message T U) → slice_get self.now.uses.history at ≡ Some message → message.slot ≡ slot → result.now ≡ message.user_header }
     {
         &self.headers[slot].user_header
     }
@@ -400,6 +406,39 @@ impl<T: Copy, U: Copy> Sender<T, U> {
         ensures { result ≡ length (connection_at index self.now.uses).waiting }
     {
         self.uses.waiting(index)
+    }
+
+    /// The slot of the message that waits at this place of the connection, the oldest at 0.
+    pub fn waiting_slot(&self, index: usize, at: usize) -> usize
+        requires there { is_there (connection_at index self.now.uses) ≡ true }
+        requires waits { at < length (connection_at index self.now.uses).waiting }
+        ensures slot { slice_get (map (λ message. message.slot) (connection_at index self.now.uses).waiting) at ≡ Some result }
+        ensures inside { result < self.now.uses.first + self.now.uses.size }
+    {
+        self.uses.waiting_slot(index, at)
+    }
+
+    /// How long the history is.
+    pub fn history(&self) -> usize
+        ensures { result ≡ length self.now.uses.history }
+    {
+        self.uses.history()
+    }
+
+    /// The slot of the message at this place of the history, the oldest at 0.
+    pub fn remembered(&self, place: usize) -> usize
+        requires { place < length self.now.uses.history }
+        ensures slot { slice_get (map (λ message. message.slot) self.now.uses.history) place ≡ Some result }
+        ensures inside { result < self.now.uses.first + self.now.uses.size }
+    {
+        self.uses.remembered(place)
+    }
+
+    /// Forgets the history: its messages are in use only where something else has them.
+    pub fn forget_history(&mut self)
+        ensures { self.new ≡ with_uses (record self.old.uses { history = [] }) self.old }
+    {
+        self.uses.forget_history();
     }
 
     /// How many messages are borrowed of the connection.

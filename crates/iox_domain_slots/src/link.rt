@@ -253,6 +253,14 @@ impl Link {
         self.mailbox.len()
     }
 
+    /// The slot of the message that waits at this place, the oldest at 0.
+    pub fn waiting_slot(&self, at: usize) -> usize
+        requires { at < length self.now.waiting }
+        ensures { slice_get self.now.waiting at ≡ Some result }
+    {
+        self.mailbox.at(at) as usize
+    }
+
     /// The slots that are borrowed.
     pub fn borrowed(&self) -> &[u64]
         ensures { result.now ≡ self.now.borrowed }

@@ -326,6 +326,18 @@ impl Links {
         link.waiting()
     }
 
+    /// The slot of the message that waits at this place of the connection, the oldest at 0.
+    pub fn waiting_slot(&self, index: usize, at: usize) -> usize
+        requires there { is_some (get_or self.now.links index None) ≡ true }
+        requires waits { at < length (seen (get_or self.now.links index None)).waiting }
+        ensures { slice_get (seen (get_or self.now.links index None)).waiting at ≡ Some result }
+    {
+        let Some(link) = &self.items[index] else {
+            return 0;
+        };
+        link.waiting_slot(at)
+    }
+
     /// How many are borrowed of the connection.
     pub fn borrowed(&self, index: usize) -> usize
         requires there { is_some (get_or self.now.links index None) ≡ true }

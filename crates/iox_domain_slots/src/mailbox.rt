@@ -1,8 +1,8 @@
 //! What waits between a publisher and a subscriber.
-ghost use Rattle.std.specs.Prelude.{◌≡◌, ◌<◌, ◌≤◌, ◌==◌, [], length, drop, nat_lt, slice_get, IfOk, true, false};
+ghost use Rattle.std.specs.Prelude.{◌≡◌, ◌<◌, ◌≤◌, ◌==◌, [], length, drop, nat_lt, slice_get, IfOk, Some, true, false};
 ghost use Rattle.iox_domain_slots.specs.Links.{is_overflowing, waiting_in, limit_of, put_into, put_answer};
 
-use iox_queues_base::{IndexQueue, SafelyOverflowingIndexQueue};
+use iox_container::queue::Queue;
 use std::alloc::{AllocError, Global};
 
 /// What became of a message that was put into a mailbox.
@@ -20,12 +20,10 @@ pub enum Put {
 
 /// The slots of the messages that wait, the oldest first.
 #[derive(Drop)]
-pub enum Mailbox {
-    /// A full one lets its oldest go.
-    Overflowing(SafelyOverflowingIndexQueue),
-
-    /// A full one refuses.
-    Refusing(IndexQueue),
+pub struct Mailbox {
+    waiting: Queue<u64>,
+    // Whether a full one lets its oldest go; else it refuses.
+    overflows: bool,
 }
 
 impl Mailbox {
@@ -35,12 +33,10 @@ impl Mailbox {
         ensures limit { IfOk result (λ mailbox. limit_of mailbox ≡ limit) }
         ensures empty { IfOk result (λ mailbox. waiting_in mailbox ≡ []) }
     {
-        if overflows {
-            let queue = SafelyOverflowingIndexQueue::new(alloc, limit)?;
-            return Ok(Mailbox::Overflowing(queue));
-        }
-        let queue = IndexQueue::new(alloc, limit)?;
-        Ok(Mailbox::Refusing(queue))
+        Ok(Mailbox {
+            waiting: Queue::new(alloc, limit)?,
+            overflows,
+        })
     }
 
     /// Puts a slot behind those that wait.
@@ -50,18 +46,18 @@ impl Mailbox {
         ensures limit { limit_of self.new ≡ limit_of self.old }
         ensures kind { is_overflowing self.new ≡ is_overflowing self.old }
     {
-        match self {
-            Mailbox::Overflowing(queue) => match queue.push(slot) {
+        // No more wait than may.
+        let _waiting = self.waiting.len();
+        if self.overflows {
+            return match self.waiting.push_with_overflow(slot) {
                 Some(oldest) => Put::TakenFor(oldest),
                 None => Put::Taken,
-            },
-            Mailbox::Refusing(queue) => {
-                if queue.push(slot) {
-                    Put::Taken
-                } else {
-                    Put::Refused
-                }
-            }
+            };
+        }
+        if self.waiting.push(slot) {
+            Put::Taken
+        } else {
+            Put::Refused
         }
     }
 
@@ -72,10 +68,15 @@ impl Mailbox {
         ensures limit { limit_of self.new ≡ limit_of self.old }
         ensures kind { is_overflowing self.new ≡ is_overflowing self.old }
     {
-        match self {
-            Mailbox::Overflowing(queue) => queue.pop(),
-            Mailbox::Refusing(queue) => queue.pop(),
-        }
+        self.waiting.pop()
+    }
+
+    /// The one at this place, the oldest at 0.
+    pub fn at(&self, place: usize) -> u64
+        requires { place < length (waiting_in self.now) }
+        ensures { slice_get (waiting_in self.now) place ≡ Some result }
+    {
+        self.waiting.get(place)
     }
 
     /// How many wait.
@@ -83,19 +84,13 @@ impl Mailbox {
         ensures value { result ≡ length (waiting_in self.now) }
         ensures within { length (waiting_in self.now) ≤ limit_of self.now }
     {
-        match self {
-            Mailbox::Overflowing(queue) => queue.len(),
-            Mailbox::Refusing(queue) => queue.len(),
-        }
+        self.waiting.len()
     }
 
     /// How many may wait.
     pub fn capacity(&self) -> usize
         ensures { result ≡ limit_of self.now }
     {
-        match self {
-            Mailbox::Overflowing(queue) => queue.capacity(),
-            Mailbox::Refusing(queue) => queue.capacity(),
-        }
+        self.waiting.capacity()
     }
 }

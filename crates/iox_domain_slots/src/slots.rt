@@ -132,8 +132,8 @@ impl Slots {
         }
     }
 
-    // Takes the oldest out of the history.
-    fn forget_oldest(&mut self)
+    /// Takes the oldest out of the history.
+    pub fn forget_oldest(&mut self)
         requires { 0 < length self.old.history }
         ensures { self.new ≡ record (let_go (get_or self.old.history 0 0) self.old) { history = drop 1 self.old.history } }
     {

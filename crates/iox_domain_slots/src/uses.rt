@@ -210,15 +210,32 @@ impl SlotUses {
         }
     }
 
-    // How long the history is.
-    fn history(&self) -> usize
+    /// Forgets the history: its messages are in use only where something else has them.
+    pub fn forget_history(&mut self)
+        ensures { self.new ≡ record self.old { history = [] } }
+    {
+        for _ in 0..self.history() {
+            self.forget_oldest();
+        }
+    }
+
+    // Forgets the oldest of the history.
+    fn forget_oldest(&mut self)
+        requires { 0 < length self.old.history }
+        ensures { self.new ≡ record self.old { history = drop 1 self.old.history } }
+    {
+        self.slots.forget_oldest();
+    }
+
+    /// How long the history is.
+    pub fn history(&self) -> usize
         ensures { result ≡ length self.now.history }
     {
         self.slots.history()
     }
 
-    // The slot at this place of the history.
-    fn remembered(&self, place: usize) -> usize
+    /// The slot at this place of the history, the oldest at 0.
+    pub fn remembered(&self, place: usize) -> usize
         requires { place < length self.now.history }
         ensures { result ≡ get_or self.now.history place 0 }
     {
@@ -239,6 +256,15 @@ impl SlotUses {
         ensures { result ≡ length (connection_at index self.now).waiting }
     {
         self.links.waiting(index)
+    }
+
+    /// The slot of the message that waits at this place of the connection, the oldest at 0.
+    pub fn waiting_slot(&self, index: usize, at: usize) -> usize
+        requires there { is_there (connection_at index self.now) ≡ true }
+        requires waits { at < length (connection_at index self.now).waiting }
+        ensures { slice_get (connection_at index self.now).waiting at ≡ Some result }
+    {
+        self.links.waiting_slot(index, at)
     }
 
     /// How many messages are borrowed of the connection.
