@@ -1,6 +1,7 @@
 //! The subscribers of a service, by number.
 ghost use Rattle.std.specs.Prelude.{◌≡◌, ◌-◌, ◌^◌, min, option_copied, OnOk, OnErr, []};
 ghost use Rattle.std.specs.Borrow.{sem};
+ghost use Rattle.std.specs.Map.Iter.{ShowsInOrder, deref_pair};
 ghost use Rattle.std.specs.Option.{option_copied_mut};
 ghost use Rattle.iox_domain_ports.specs.Living.{living_subscribers};
 ghost use Rattle.iox_domain_ports.specs.Subscribers.{subscriber_of, with_subscriber, subscriber_added, is_over_in, settled};
@@ -9,6 +10,7 @@ use iox_domain_subscriber::SubscriberPort;
 use iox_domain_subscriber::living::{add, counted, living_of_subscriber};
 use std::alloc::{AllocError, Global};
 use std::collections::BTreeMap;
+use std::collections::btree_map::Iter;
 use std::marker::Model;
 
 /// The subscribers of a service. One that left stays until all samples that it received are released.
@@ -29,6 +31,8 @@ impl Model for Subscribers {
 }
 
 impl Subscribers {
+    ghost use Rattle.std.specs.Prelude.{ℕ};
+    ghost use Rattle.iox_domain_subscriber.specs.declared.subscriber_port.SubscriberPort.{SubscriberPort};
     ghost use Rattle.iox_domain_ports.specs.SubscribersLends.{LendsSubscriber};
 
     /// No subscribers.
@@ -53,6 +57,14 @@ impl Subscribers {
         ensures value { option_copied_mut result ≡ subscriber_of number self.old }
     {
         self.ports.get_mut(&number)
+    }
+
+    /// The subscribers with their numbers, by rising number.
+    pub fn iter(&self) -> Iter<'_, u64, SubscriberPort>
+        ensures rest { result ≡ self.now }
+        ensures runs { ShowsInOrder (deref_pair {K = ℕ} {X = SubscriberPort}) }
+    {
+        self.ports.iter()
     }
 
     /// Adds a subscriber under a number, in the place of one that had it. It fails only where an allocation fails, and then nothing has

@@ -1,6 +1,7 @@
 //! The publishers of a service, by number.
 ghost use Rattle.std.specs.Prelude.{◌≡◌, ◌-◌, ◌^◌, ◌<◌, length, map, min, slice_get, option_copied, is_some, true, OnOk, OnErr, [], None, Some};
 ghost use Rattle.std.specs.Borrow.{sem};
+ghost use Rattle.std.specs.Map.Iter.{ShowsInOrder, deref_pair};
 ghost use Rattle.std.specs.Option.{option_copied_mut};
 ghost use Rattle.iox_domain_publisher.specs.DomainSlots.Uses.{is_there};
 ghost use Rattle.iox_domain_publisher.specs.Ports.{detached_at};
@@ -13,6 +14,7 @@ use crate::reading::{borrowed_at, give_back_at, is_over, take_at, waiting_at};
 use iox_domain_publisher::PublisherPort;
 use std::alloc::{AllocError, Global};
 use std::collections::BTreeMap;
+use std::collections::btree_map::Iter;
 use std::marker::Model;
 
 /// The publishers of a service. One that left stays until it has neither loans nor connections.
@@ -33,6 +35,8 @@ impl<T, U> Model for Publishers<T, U> {
 }
 
 impl<T: Copy, U: Copy> Publishers<T, U> {
+    ghost use Rattle.std.specs.Prelude.{ℕ};
+    ghost use Rattle.iox_domain_publisher.specs.declared.publisher_port.PublisherPort.{PublisherPort};
     ghost use Rattle.iox_domain_subscriber.specs.PublishersLends.{LendsPort};
 
     /// No publishers.
@@ -57,6 +61,14 @@ impl<T: Copy, U: Copy> Publishers<T, U> {
         ensures value { option_copied_mut result ≡ port_of number self.old }
     {
         self.ports.get_mut(&number)
+    }
+
+    /// The publishers with their numbers, by rising number.
+    pub fn iter(&self) -> Iter<'_, u64, PublisherPort<T, U>>
+        ensures rest { result ≡ self.now }
+        ensures runs { ShowsInOrder (deref_pair {K = ℕ} {X = PublisherPort T U}) }
+    {
+        self.ports.iter()
     }
 
     /// Adds a publisher under a number, in the place of one that had it. It fails only where an allocation fails, and then nothing has
