@@ -8,8 +8,7 @@ ghost use Rattle.iox_domain_values.specs.declared.backpressure.BackpressureDecis
 ghost use Rattle.iox_negotiate_table.specs.Contents.{empty_table, with_lock};
 ghost use Rattle.iox_negotiate_table.specs.declared.node.Node.TheVariants.{Foreign};
 
-use iox_describe::pattern::MessagingPattern;
-use iox_describe::{ServiceHash, ServiceName, service_hash};
+use iox_describe::{MessagingPattern, ServiceHash, ServiceName, service_hash};
 use iox_domain_settings::PublisherSettings;
 use iox_domain_values::backpressure::{
     BackpressureAction, BackpressureDecision, BackpressureInfo, decision,
@@ -61,7 +60,7 @@ fn joined(
     let builder = Builder::new(node, name).publish_subscribe::<u64>();
     let factory = builder.open_or_create(alloc, &mut table)?;
     let joined = (factory.storage(), factory.node());
-    factory.close(&mut table);
+    let _ = factory.close(&mut table);
     Ok(joined)
 }
 
