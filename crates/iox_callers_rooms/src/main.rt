@@ -2,18 +2,21 @@
 //! the contracts of that crate alone; each is run, and what it returns is printed.
 #![tactic(auto)]
 
-ghost use Rattle.std.specs.Prelude.{◌≡◌, IfOk};
+ghost use Rattle.std.specs.Prelude.{◌≡◌, IfOk, IfSome, Some};
 ghost use Rattle.iox_domain_settings.specs.PortSettings.{publisher_defaults};
+ghost use Rattle.iox_domain_settings.specs.Sizes.{SizesOf};
 ghost use Rattle.iox_domain_values.specs.declared.backpressure.BackpressureDecision.TheVariants as decided;
 ghost use Rattle.iox_negotiate_table.specs.Contents.{empty_table, with_lock};
 ghost use Rattle.iox_negotiate_table.specs.declared.node.Node.TheVariants.{Foreign};
 
-use iox_describe::{MessagingPattern, ServiceHash, ServiceName, service_hash};
-use iox_domain_settings::PublisherSettings;
-use iox_domain_values::backpressure::{
-    BackpressureAction, BackpressureDecision, BackpressureInfo, decision,
+use iox_describe::publish_subscribe::StaticConfig;
+use iox_describe::{
+    AttributeSpecifier, Description, Header, MessageTypeDetails, MessagingPattern, ServiceHash,
+    ServiceName, Settings, TypeVariant, service_hash,
 };
-use iox_domain_values::{BackpressureHandler, BackpressureStrategy};
+use iox_domain_settings::{PublisherSettings, sizes_of};
+use iox_domain_values::backpressure::{BackpressureAction, BackpressureDecision, BackpressureInfo};
+use iox_domain_values::{BackpressureHandler, BackpressureStrategy, ServiceSizes, backpressure};
 use iox_negotiate::Builder;
 use iox_negotiate_errors::PublishSubscribeOpenOrCreateError;
 use iox_negotiate_table::{ForeignStep, Table};
@@ -21,18 +24,24 @@ use std::alloc::{AllocError, Global};
 use std::io::{self, Print};
 
 /// `iox_domain_values`: what becomes of a send at a full mailbox where a handler passes each one over, whatever the strategy.
-fn passed_over(strategy: BackpressureStrategy, info: &BackpressureInfo) -> BackpressureDecision
+fn passed_over(strategy: BackpressureStrategy, info: BackpressureInfo) -> BackpressureDecision
     ensures { result ≡ decided.DiscardData }
 {
     let handler = BackpressureHandler::new_with(BackpressureAction::DiscardData);
-    decision(strategy, Some(handler.call(info)))
+    let answer = handler.call(&info);
+    let decision = backpressure::decision(strategy, Some(answer));
+    decision
 }
 
-/// `iox_domain_settings`: what a publisher with so many loans is made with, where nothing else is asked.
-fn with_loans(loans: usize) -> PublisherSettings
-    ensures { result ≡ record publisher_defaults { max_loaned_samples = loans } }
+/// `iox_domain_settings`: how much a service allows by its description, and what a publisher of six loans is made with, where
+/// nothing else is asked. None where the description is of another pattern, or past the limits.
+fn sized(description: Description) -> Option<(ServiceSizes, PublisherSettings)>
+    ensures sizes { IfSome result (λ made. SizesOf 128 description.settings (Some made.0)) }
+    ensures settings { IfSome result (λ made. made.1 ≡ record publisher_defaults { max_loaned_samples = 6 }) }
 {
-    PublisherSettings::default().max_loaned_samples(loans)
+    let sizes = sizes_of(&description, 128)?;
+    let settings = PublisherSettings::default().max_loaned_samples(6);
+    Some((sizes, settings))
 }
 
 /// `iox_negotiate_table`: a new table in which a node of others locked a hash, as it does before it creates a service.
@@ -64,11 +73,15 @@ fn joined(
     Ok(joined)
 }
 
+/// The description of a service of numbers.
+fn of_numbers(name: ServiceName) -> Description {
+    let types = MessageTypeDetails::from::<Header, (), u64>(TypeVariant::FixedSize);
+    let settings = Settings::PublishSubscribe(StaticConfig::new(types));
+    Description::new(name, settings, AttributeSpecifier::new())
+}
+
 /// What two nodes come to: one that finds nobody, and one whose service a node of others locked.
-fn print_services(rt: &impl Print, alloc: Global) -> io::Result<()> {
-    let Ok(name) = ServiceName::new(b"sensors") else {
-        return Ok(());
-    };
+fn print_services(rt: &impl Print, alloc: Global, name: ServiceName) -> io::Result<()> {
     let alone = joined(alloc, Table::new(alloc, 1), 5, name);
     println!(rt; "iox_negotiate: {alone:?}")?;
     let hash = service_hash(MessagingPattern::PublishSubscribe, &name);
@@ -84,8 +97,11 @@ fn main(rt: HostRuntime) -> io::Result<()> {
         retries: 0,
         elapsed_time: 0,
     };
-    let decision = passed_over(BackpressureStrategy::RetryUntilDelivered, &info);
+    let decision = passed_over(BackpressureStrategy::RetryUntilDelivered, info);
     println!(rt; "iox_domain_values: {decision:?}")?;
-    println!(rt; "iox_domain_settings: {:?}", with_loans(6))?;
-    print_services(&rt, rt.alloc())
+    let Ok(name) = ServiceName::new(b"numbers") else {
+        return Ok(());
+    };
+    println!(rt; "iox_domain_settings: {:?}", sized(of_numbers(name)))?;
+    print_services(&rt, rt.alloc(), name)
 }

@@ -2,18 +2,18 @@
 //! contract follows from the contracts of that crate alone; each is run, and what it returns is printed.
 #![tactic(auto)]
 
-ghost use Rattle.std.specs.Prelude.{◌≡◌, ◌==◌, ◌<◌, ◌^◌, true, false, IfErr, IfOk};
+ghost use Rattle.std.specs.Prelude.{◌≡◌, ◌==◌, ◌<◌, ◌^◌, true, false, length, IfErr, IfOk};
 ghost use Rattle.iox_lanes_words.specs.Numbers.{IsWord};
 ghost use Rattle.iox_lanes_words.specs.Table.{held_by, stored_in};
 ghost use Rattle.iox_queues_bits.specs.Machine.{IsBalanced, IsTold, RunsTo, start};
 ghost use Rattle.iox_queues_rings.specs.RingMachine.{FollowsOrder, push_begins};
 
-use iox_lanes_words::{SharedAccess, SharedWord, WordTable};
+use iox_lanes_words::{SharedAccess, SharedWord, SlotWord, TableSizes, WordTable};
 use iox_queues::{IndexQueue, Share, Shared};
 use iox_queues_bits::call::Call as SetCall;
 use iox_queues_bits::machine::{Move as SetMove, SetMachine};
 use iox_queues_rings::RingMachine;
-use iox_queues_steps::{Call, Move, Stepped};
+use iox_queues_steps::{Call, Move, Party, Stepped};
 use std::alloc::{AllocError, Global};
 use std::io;
 
@@ -28,6 +28,30 @@ fn began(ring: &mut RingMachine, number: u64) -> bool
         Stepped::Went | Stepped::Finished => true,
         Stepped::Skipped | Stepped::NoMemory => false,
     }
+}
+
+/// `iox_queues_rings`: a new ring of two places that drops its oldest, after this schedule, and how many puts and takes it had;
+/// they have an order along which the ring behaves as the bounded queue does.
+fn ordered(alloc: Global, schedule: [Move; 3]) -> Result<(RingMachine, usize), AllocError>
+    ensures order { IfOk result (λ ran. FollowsOrder ran.0) }
+    ensures count { IfOk result (λ ran. ran.1 ≡ length ran.0.log.order) }
+{
+    let mut machine = RingMachine::overflowing(alloc, 2, &[])?;
+    machine.run(&schedule);
+    let order = machine.order();
+    let count = order.len();
+    Ok((machine, count))
+}
+
+/// `iox_lanes_words`: what a word of a new table holds: 0.
+fn held_first(alloc: Global, sizes: TableSizes, word: SharedWord) -> Result<u64, AllocError>
+    requires { IsWord sizes word }
+    ensures { IfOk result (λ held. held ≡ 0) }
+{
+    let access = SharedAccess::Load(word);
+    let mut table = WordTable::new(alloc, sizes)?;
+    let answer = table.apply(access);
+    Ok(answer)
 }
 
 /// `iox_lanes_words`: puts a number into a word that holds `old`, and answers whether it did; else nothing changes.
@@ -109,9 +133,38 @@ const TWICE: [SetMove; 8] = [
     SetMove::GoOn(1),
 ];
 
+/// The words of a service with one connection and two slots, of one word of payload each.
+const SIZES: TableSizes = TableSizes {
+    connections: 1,
+    submission_cells: 3,
+    completion_cells: 4,
+    slots: 2,
+    user_header_words: 0,
+    payload_words: 1,
+};
+
+/// What the payload of a slot holds, and its number once 7 was put there.
+fn held(alloc: Global) -> Result<(u64, bool), AllocError> {
+    let word = SharedWord::Slot {
+        slot: 1,
+        word: SlotWord::Payload(0),
+    };
+    let first = held_first(alloc, SIZES, word)?;
+    let mut table = WordTable::new(alloc, SIZES)?;
+    Ok((first, exchanged(&mut table, word, first, 7)))
+}
+
 fn main(rt: HostRuntime) -> io::Result<()> {
     println!(rt; "iox_queues_rings: {:?}", two_began(rt.alloc())?)?;
+    let pop = [
+        Move::Begin(Call::Pop),
+        Move::GoOn(Party::Consumer),
+        Move::GoOn(Party::Consumer),
+    ];
+    let (_, count) = ordered(rt.alloc(), pop)?;
+    println!(rt; "iox_queues_rings: {count}")?;
     println!(rt; "iox_queues: {:?}", through_shared(rt.alloc())?)?;
+    println!(rt; "iox_lanes_words: {:?}", held(rt.alloc())?)?;
     let (made, set) = ran(rt.alloc(), 2, &TWICE)?;
     println!(rt; "iox_queues_bits: {made} steps, {:?}", set.finished())?;
     Ok(())
