@@ -1,15 +1,13 @@
-//! First calls of lanes and of their ports in threads, each as a function whose contract follows from the contracts of that
-//! crate alone; each is run, and what it returns is printed.
+//! First calls of lanes, each as a function whose contract follows from the contracts of that crate alone; each is run, and
+//! what it returns is printed.
 #![tactic(auto)]
 
-ghost use Rattle.std.specs.Prelude.{◌≡◌, ◌<◌, ◌×◌, IfOk, IfSome, get_or, length, true, false, []};
+ghost use Rattle.std.specs.Prelude.{◌≡◌, ◌<◌, IfOk, get_or, length, true, false, []};
 ghost use Rattle.iox_lanes_machine.specs.Findings.{FindsTo};
 ghost use Rattle.iox_lanes_machine.specs.Mailboxes.{OrderFollows};
-ghost use Rattle.iox_lanes_machine.specs.World.{World};
 
 use iox_lanes_machine::{Found, LaneSizes, Lanes};
 use iox_lanes_parties::{Call, Entry, Move, Party};
-use iox_lanes_threads::{EndedThreads, LaneThreads, end, open_threads};
 use iox_queues_rings::RingKind;
 use std::alloc::{AllocError, Global};
 use std::io;
@@ -22,7 +20,7 @@ fn took_in(lanes: &mut Lanes, found: Found) -> bool
     lanes.find(found).unwrap_or(false)
 }
 
-/// `iox_lanes_machine`: how many puts, takes and looks there were at a connection of new lanes after a step and a schedule; they
+/// `iox_lanes_machine`: new lanes after a step and a schedule, and how many puts, takes and looks there were at a connection; they
 /// answered as the connection's mailbox does.
 fn placed(
     alloc: Global,
@@ -31,30 +29,17 @@ fn placed(
     step: Move,
     schedule: Vec<Entry>,
     connection: u64,
-) -> Result<usize, AllocError>
+) -> Result<(Lanes, usize), AllocError>
     requires { 0 < sizes.buffer }
-    ensures { IfOk result (λ count. (lanes : World) × OrderFollows lanes connection (get_or lanes.orders connection [])
-        × (count ≡ length (get_or lanes.orders connection []))) }
+    ensures follows { IfOk result (λ ran. OrderFollows ran.0 connection (get_or ran.0.orders connection [])) }
+    ensures count { IfOk result (λ ran. ran.1 ≡ length (get_or ran.0.orders connection [])) }
 {
     let mut lanes = Lanes::new(alloc, sizes)?;
     lanes.step(party, &step);
     lanes.run(&schedule);
     let order = lanes.order(connection);
-    Ok(order.len())
-}
-
-/// `iox_lanes_threads`: the ports of lanes that are opened for threads and ended with no step between know what they knew. None where
-/// they aren't opened.
-fn opened_and_ended(alloc: Global, lanes: Lanes) -> Option<EndedThreads>
-    ensures publishers { IfSome result (λ ended. ended.publishers.items ≡ lanes.publishers) }
-    ensures subscribers { IfSome result (λ ended. ended.subscribers.items ≡ lanes.subscribers) }
-{
-    let LaneThreads {
-        board,
-        publishers,
-        subscribers,
-    } = open_threads(alloc, 1, lanes).ok()?;
-    end(board, publishers, subscribers).ok()
+    let count = order.len();
+    Ok((lanes, count))
 }
 
 /// One publisher and one subscriber: two messages may wait, and each message is two words.
@@ -71,8 +56,8 @@ const SIZES: LaneSizes = LaneSizes {
     payload_words: 2,
 };
 
-/// Whether a message that waits is taken in, and whether it is once more; and how many publishers there are after threads.
-fn found_and_opened(alloc: Global) -> Result<(bool, bool, usize), AllocError> {
+/// Whether a message that waits is taken in, and whether it is once more.
+fn found(alloc: Global) -> Result<(bool, bool), AllocError> {
     let mut lanes = Lanes::new(alloc, SIZES)?;
     let waiting = Found::Waiting {
         publisher: 0,
@@ -80,11 +65,7 @@ fn found_and_opened(alloc: Global) -> Result<(bool, bool, usize), AllocError> {
         slot: 3,
     };
     let first = took_in(&mut lanes, waiting);
-    let again = took_in(&mut lanes, waiting);
-    match opened_and_ended(alloc, lanes) {
-        Some(ended) => Ok((first, again, ended.publishers.len())),
-        None => Ok((first, again, 0)),
-    }
+    Ok((first, took_in(&mut lanes, waiting)))
 }
 
 /// A subscriber begins to receive, and goes on: how many looks there were.
@@ -97,11 +78,12 @@ fn looked(alloc: Global) -> Result<usize, AllocError> {
             step: Move::GoOn,
         })?;
     }
-    placed(alloc, SIZES, Party::Subscriber(0), receive, schedule, 0)
+    let (_, count) = placed(alloc, SIZES, Party::Subscriber(0), receive, schedule, 0)?;
+    Ok(count)
 }
 
 fn main(rt: HostRuntime) -> io::Result<()> {
     println!(rt; "iox_lanes_machine: {:?}", looked(rt.alloc())?)?;
-    println!(rt; "iox_lanes_threads: {:?}", found_and_opened(rt.alloc())?)?;
+    println!(rt; "iox_lanes_machine: {:?}", found(rt.alloc())?)?;
     Ok(())
 }
