@@ -4,7 +4,7 @@
 
 ghost use Rattle.std.specs.Prelude.{◌≡◌, ◌<◌, IfOk, get_or, length, true, false, []};
 ghost use Rattle.iox_lanes_machine.specs.Findings.{FindsTo};
-ghost use Rattle.iox_lanes_machine.specs.Mailboxes.{OrderFollows};
+ghost use Rattle.iox_lanes_machine.specs.Mailboxes.{OrdersFollow};
 
 use iox_lanes_machine::{Found, LaneSizes, Lanes};
 use iox_lanes_parties::{Call, Entry, Move, Party};
@@ -20,8 +20,8 @@ fn took_in(lanes: &mut Lanes, found: Found) -> bool
     lanes.find(found).unwrap_or(false)
 }
 
-/// `iox_lanes_machine`: new lanes after a step and a schedule, and how many puts, takes and looks there were at a connection; they
-/// answered as the connection's mailbox does.
+/// `iox_lanes_machine`: new lanes after a step and a schedule, and how many puts, takes and looks there were at a connection; those
+/// of each connection answer as its mailbox does.
 fn placed(
     alloc: Global,
     sizes: LaneSizes,
@@ -31,7 +31,7 @@ fn placed(
     connection: u64,
 ) -> Result<(Lanes, usize), AllocError>
     requires { 0 < sizes.buffer }
-    ensures follows { IfOk result (λ ran. OrderFollows ran.0 connection (get_or ran.0.orders connection [])) }
+    ensures follows { IfOk result (λ ran. OrdersFollow ran.0) }
     ensures count { IfOk result (λ ran. ran.1 ≡ length (get_or ran.0.orders connection [])) }
 {
     let mut lanes = Lanes::new(alloc, sizes)?;
