@@ -6,16 +6,24 @@
 //!   [`overflowing`] and [`refusing`]), either of them and their machine from `iox_queues_rings` (here
 //!   [`rings`]), steps of bit sets from `iox_queues_bits` (here [`sets`]).
 //!
-//! First calls. Tests in `iox_queues_rows` make them.
+//! A first call, which `iox_callers_steps` proves and runs:
 //!
 //! ```
-//! if let Ok(shared) = SafelyOverflowingIndexQueue::new(alloc, 4)?.share(alloc) {
+//! /// `iox_queues`: shares a queue and pushes a number; as many may wait there as before. The queue comes back where no memory is
+//! /// found.
+//! fn shared_with(
+//!     alloc: Global,
+//!     queue: IndexQueue,
+//!     number: u64,
+//! ) -> Result<Shared<IndexQueue>, IndexQueue>
+//!     ensures room { IfOk result (λ shared. shared.limit ≡ queue.capacity) }
+//!     ensures back { IfErr result (λ back. back ≡ queue) }
+//! {
+//!     let shared = queue.share(alloc)?;
 //!     if let Some(mut producer) = shared.acquire_producer() {
-//!         producer.push(7);
+//!         producer.push(number);
 //!     }
-//!     if let Some(mut consumer) = shared.acquire_consumer() {
-//!         let number = consumer.pop();
-//!     }
+//!     Ok(shared)
 //! }
 //! ```
 #![tactic(auto)]
