@@ -6,3 +6,4 @@ pub mod Steps
 pub mod Names
 pub mod Foreign
 pub mod Runs
+pub mod Closing

@@ -1,10 +1,12 @@
 -- What a command looks at: the service that it asks, and no other.
-use Rattle.std.specs.Prelude.{ℕ, ◌≡◌, ◌⊎◌, Bool, true, List, Option, None, Some, Result, Ok}
+use Rattle.std.specs.Prelude.{ℕ, ◌≡◌, ◌≢◌, ◌⊎◌, Bool, true, List, [], ◌∷◌, Option, None, Some, Result, Ok}
+use Rattle.std.specs.List.{AllByRecursion}
 use Rattle.std.specs.declared.alloc.AllocError.{AllocError}
 use Rattle.iox_hub_run.specs.Command.declared.command.Command.{Command}
 use Rattle.iox_hub_run.specs.Command.declared.command.Command.TheVariants as command
 use Rattle.iox_hub_run.specs.Command.declared.reply.Reply.{Reply}
 use Rattle.iox_hub_run.specs.HubBase.DescribeBase.declared.hash.ServiceHash.{ServiceHash}
+use Rattle.iox_hub_run.specs.HubBase.declared.hub.Hub.{Hub}
 use Rattle.iox_hub_run.specs.Lives.{NumbersRise}
 use Rattle.iox_hub_run.specs.Runs.{Runs}
 use Rattle.iox_hub_run.specs.declared.numbered_hub.NumberedHub.{NumberedHub}
@@ -26,6 +28,25 @@ IsOfPorts asked = Unit {0}
 abbrev pub IsForeign : {T : Type 0} → Command T → Type 0
 IsForeign (command.Foreign pattern name steps) = Unit {0}
 IsForeign asked = ⊥
+
+-- A command that closes a factory.
+abbrev pub IsClose : {T : Type 0} → Command T → Type 0
+IsClose (command.Close factory) = Unit {0}
+IsClose asked = ⊥
+
+-- No number stands twice.
+abbrev pub EachOnce : {X : Type 0} → List (ℕ × X) → Type 0
+EachOnce [] = Unit {0}
+EachOnce (entry ∷ entries) = AllByRecursion (λ later. later.0 ≢ entry.0) entries × EachOnce entries
+
+-- A hub has one domain at most under each number, and one count of factories.
+abbrev pub NumbersOnce : {T U B D : Type 0} → Hub T U B D → Type 0
+NumbersOnce hub = EachOnce hub.services.domains × EachOnce hub.factory_counts
+
+-- The hash that is found, if one is, is this one.
+abbrev pub HashFound : ServiceHash → Option ServiceHash → Type 0
+HashFound hash (Some found) = found ≡ hash
+HashFound hash None = Unit {0}
 
 -- The number that is found in the one hub is the service's own; or nothing is found in either.
 abbrev pub FoundMine : (ℕ → Bool) → Option ℕ → Option ℕ → Type 0
@@ -76,3 +97,12 @@ module _ {T U B D : Type 0} where
         → NumbersRise one → NumbersRise other → AgreeOn hash mine one other
         → Runs (StepOf mine) commands one replies new
         → (after : NumberedHub T U B D) × Runs step commands other replies after × AgreeOn hash mine new after
+
+    -- Of two hubs that agree on a service: what the one may reply to a command that closes a factory of it, the other may reply, and then
+    -- they agree on it again. The tables of both came about by accesses and foreign steps, and neither has a number twice.
+    abbrev pub CloseAnswersAlike : Type 0
+    CloseAnswersAlike = (hash : ServiceHash) (mine : ℕ → Bool) (asked : Command T) (one new other : NumberedHub T U B D) (reply : Reply T)
+        → IsClose asked → IsReached one.hub.table → IsReached other.hub.table → NumbersRise one → NumbersRise other → NumbersOnce one.hub → NumbersOnce other.hub
+        → AgreeOn hash mine one other → Concerns mine asked one other → HashFound hash (hash_asked asked one)
+        → step asked one (Ok reply) new
+        → (after : NumberedHub T U B D) × step asked other (Ok reply) after × AgreeOn hash mine new after
