@@ -1,0 +1,3 @@
+-- The definitions that the contract about what a command looks at cites.
+pub mod Agreeing
+pub mod Locality

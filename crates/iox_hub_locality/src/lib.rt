@@ -1,0 +1,33 @@
+//! What a command looks at: the service that it asks, and no other. It is a law of each step of a hub; the law is the contract of a
+//! function that does nothing. A proof cites a law by a call of its function; what it states is then among the facts of the caller:
+//!
+//! ```
+//! commands_look_at_their_service::<u64, (), FixedHandlers, FixedDegradation>();
+//! ```
+#![tactic(auto)]
+
+ghost use Rattle.iox_hub_commands.specs.DescribeBase.Detail.{detail};
+ghost use Rattle.iox_hub_commands.specs.DescribeBase.declared.type_detail.TypeVariant.TheVariants.{FixedSize};
+ghost use Rattle.iox_hub_factories.specs.HubRequests.Asked.{types_of};
+ghost use Rattle.iox_hub_locality.specs.Locality.{CloseAnswersAlike, ForeignAnswersAlike, PortsAnswerAlike, RunsAnswerAlike};
+ghost use Rattle.iox_hub_run.specs.Steps.{Step};
+
+use iox_describe_base::ZeroCopySend;
+use iox_hub_commands::{PublisherHandlers, SubscriberHandler};
+use iox_queues_base::Words;
+
+/// Of two hubs that agree on a service: what the one may reply to a command that asks something of a port, a loan or a sample of this
+/// service, makes a port of it, closes a factory of it, or has nodes of others do steps on it, the other may reply, and then they agree on
+/// it again. So neither the reply nor what is left of the service depends on any other service. Two such hubs reply alike to any list of
+/// commands of its ports. Commands that create or open a service aren't spoken of. It is the contract of a function that does nothing.
+pub fn commands_look_at_their_service<
+    T: Words + ZeroCopySend + Default,
+    U: Copy + ZeroCopySend + Default,
+    B: PublisherHandlers,
+    D: SubscriberHandler,
+>()
+    ensures ports { PortsAnswerAlike (Step (detail FixedSize T.name T.size T.alignment) (detail FixedSize U.name U.size U.alignment) (types_of T.name T.size T.alignment U.name U.size U.alignment) T.is_default U.is_default B.fixed (λ handlers. B.degrades handlers) (λ handlers. B.decides handlers) D.fixed (λ handler. D.degrades handler)) }
+    ensures foreign { ForeignAnswersAlike (Step (detail FixedSize T.name T.size T.alignment) (detail FixedSize U.name U.size U.alignment) (types_of T.name T.size T.alignment U.name U.size U.alignment) T.is_default U.is_default B.fixed (λ handlers. B.degrades handlers) (λ handlers. B.decides handlers) D.fixed (λ handler. D.degrades handler)) }
+    ensures close { CloseAnswersAlike (Step (detail FixedSize T.name T.size T.alignment) (detail FixedSize U.name U.size U.alignment) (types_of T.name T.size T.alignment U.name U.size U.alignment) T.is_default U.is_default B.fixed (λ handlers. B.degrades handlers) (λ handlers. B.decides handlers) D.fixed (λ handler. D.degrades handler)) }
+    ensures runs { RunsAnswerAlike (Step (detail FixedSize T.name T.size T.alignment) (detail FixedSize U.name U.size U.alignment) (types_of T.name T.size T.alignment U.name U.size U.alignment) T.is_default U.is_default B.fixed (λ handlers. B.degrades handlers) (λ handlers. B.decides handlers) D.fixed (λ handler. D.degrades handler)) }
+{}
