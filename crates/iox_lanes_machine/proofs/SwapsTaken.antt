@@ -82,9 +82,9 @@ pub swaps_may : (m : World) (who one other : ℕ) (at : Option SubscriberLaneSta
 swaps_may m who one other None e fit = absurd (cc fit)
 swaps_may m who one other (Some lane) e fit =
     let is = may_swap_is one other lane fit in
-    record { lane = lane; subscriber = e; one = is.low; other = is.high }
+    record { lane = lane; subscriber = e; has_one = is.low; has_other = is.high }
 
 pub swaps_say : (m : World) (who one other : ℕ) → MayChangePlaces m who one other → swaps_of one other (slice_get m.subscribers who) ≡ true
 swaps_say m who one other is =
     let many : ℕ = length is.lane.port.routes in
-    ap (swaps_of one other) is.subscriber ∙ both (nat_lt one many) (nat_lt other many) (lt-ltb one many is.one) (lt-ltb other many is.other)
+    ap (swaps_of one other) is.subscriber ∙ both (nat_lt one many) (nat_lt other many) (lt-ltb one many is.has_one) (lt-ltb other many is.has_other)

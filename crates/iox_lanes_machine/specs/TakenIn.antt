@@ -73,8 +73,8 @@ pub record MayHaveSlots (m : World) (who slots : ℕ) : Type 0 where
 pub record MayChangePlaces (m : World) (who one other : ℕ) : Type 0 where
   pub lane : SubscriberLaneState
   pub subscriber : slice_get m.subscribers who ≡ Some lane
-  pub one : one < length lane.port.routes
-  pub other : other < length lane.port.routes
+  pub has_one : one < length lane.port.routes
+  pub has_other : other < length lane.port.routes
 
 -- what may be found, if it is before the first step; of a word, all that it takes is that the slot has it, and of headers that the publisher is there
 abbrev pub MayBeFound : World → Found → Type 0
@@ -238,14 +238,14 @@ place_if false one other place = place
 
 -- the place at which a connection of a subscriber stood that stands at a place behind a finding
 abbrev pub place_before : Found → ℕ → ℕ → ℕ
-place_before (found.Waiting publisher place slot) who place = place
-place_before (found.GivenBack publisher place slot) who place = place
-place_before (found.Newest publisher slot) who place = place
-place_before (found.Held slot word value) who place = place
-place_before (found.Buffer publisher place messages) who place = place
-place_before (found.Slots publisher slots most_loans) who place = place
-place_before (found.Header publisher node_id publisher_id) who place = place
-place_before (found.Swapped subscriber one other) who place = place_if (subscriber == who) one other place
+place_before (found.Waiting publisher place slot) who at = at
+place_before (found.GivenBack publisher place slot) who at = at
+place_before (found.Newest publisher slot) who at = at
+place_before (found.Held slot word value) who at = at
+place_before (found.Buffer publisher place messages) who at = at
+place_before (found.Slots publisher slots most_loans) who at = at
+place_before (found.Header publisher node_id publisher_id) who at = at
+place_before (found.Swapped subscriber one other) who at = place_if (subscriber == who) one other at
 
 -- so a port knows each of its connections, each at the place that it has then, and nothing else of them changes
 pub record RoutesKnow (m : World) (f : Found) (before : ℕ → ℕ) (was now : List Route) : Type 0 where
