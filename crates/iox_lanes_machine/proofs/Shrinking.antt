@@ -1,5 +1,5 @@
 -- A publisher of which nothing was found keeps its record counted when it has fewer slots.
-use Rattle.std.proofs.Common.{ℕ, zero, suc, ◌≡◌, ◌+◌, ◌-◌, ◌*◌, ◌/◌, ◌%◌, ◌<◌, ◌≤◌, ◌==◌, if◌then◌else◌, Bool, true, false, nat_lt, List, [], ◌∷◌, length, take, get_or, refl, sym, ◌∙◌, ap, inl, inr, arith}
+use Rattle.std.proofs.Common.{ℕ, zero, suc, ◌≡◌, ◌+◌, ◌-◌, ◌*◌, ◌/◌, ◌%◌, ◌<◌, ◌≤◌, ◌^◌, ◌==◌, if◌then◌else◌, Bool, true, false, nat_lt, List, [], ◌∷◌, length, take, get_or, refl, sym, ◌∙◌, ap, inl, inr, arith}
 use Rattle.std.proofs.lemmas.Bool.{ltb-true, ltb-false}
 use Rattle.std.proofs.lemmas.Bool.Decides.{eqb_tells}
 use Rattle.std.proofs.lemmas.List.{get_or-take, length-take-le, length-take}
@@ -25,7 +25,7 @@ unused_first c cs h = by_test (c == 0) refl h
     ]
 
 unused_at : (uses : List ℕ) (k : ℕ) → are_unused uses ≡ true → get_or uses k 0 ≡ 0
-unused_at [] k h = get_or-eq_default {A = ℕ} [] 0 (omega arith)
+unused_at [] k h = get_or-eq_default {A = ℕ} [] 0 {n = k} (omega arith)
 unused_at (c ∷ cs) zero h = (unused_first c cs h).0
 unused_at (c ∷ cs) (suc k) h = unused_at cs k (unused_first c cs h).1
 

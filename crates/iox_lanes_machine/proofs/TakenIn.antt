@@ -560,7 +560,7 @@ sizes_may m who slots (Some lane) e fit h =
       no_history = is.none.history;
       empty = λ place route link at there.
           let has = (h.publishers who lane e).has place route link at there in
-          let never = λ x. ap one_if (never_refers lane.port.book place x is.none) in
+          let never : (x : ℕ) → one_if (refers_to lane.port.book place x) ≡ 0 = λ x. ap one_if (never_refers lane.port.book place x is.none) in
           (uncounted link.found (λ x. omega (arith, has x, never x)), uncounted (given_back m.table route.connection) (λ x. omega (arith, has x, never x)));
     }
 
@@ -650,10 +650,10 @@ sizes_say m who slots is w h =
     ap (resizes_of slots) is.publisher
     ∙ both (nat_le slots (length book.uses)) (are_unused book.uses) (le-leb slots (length book.uses) is.fits)
     (all_unused (length lane.port.routes) book own.counted own.unlent is.no_history (λ place slot below.
-        let route = there_is lane.port.routes place below in
-        let link : IsLinkOf m.links sender who route.0 = all_at (IsLinkOf m.links sender who) lane.port.routes place route.0 route.1 (w.senders who lane is.publisher) in
-        let empty = is.empty place route.0 link.link route.1 link.found in
-        none_is (refers_to book place slot) (omega (arith, own.has place route.0 link.link route.1 link.found slot, ap (λ (xs : List ℕ). count slot xs) empty.0, ap (λ (xs : List ℕ). count slot xs) empty.1))))
+    let route = there_is lane.port.routes place below in
+    let link : IsLinkOf m.links sender who route.0 = all_at (IsLinkOf m.links sender who) lane.port.routes place route.0 route.1 (w.senders who lane is.publisher) in
+    let empty = is.empty place route.0 link.link route.1 link.found in
+    none_is (refers_to book place slot) (omega (arith, own.has place route.0 link.link route.1 link.found slot, ap (λ (xs : List ℕ). count slot xs) empty.0, ap (λ (xs : List ℕ). count slot xs) empty.1))))
 
 now_says : (m : World) (f : Found) → MayBeFound m f → IsWithin m → IsFresh m → finds_now m f ≡ true
 now_says m (found.Waiting publisher place slot) is w h = waits_say m publisher place slot is h

@@ -104,7 +104,9 @@ impl State {
                 messages,
             } => self.buffers_of(publisher, place, messages),
             Found::Slots {
-                publisher, slots, ..
+                publisher,
+                slots,
+                ..
             } => self.resizes_of(publisher, slots),
             Found::Header { publisher, .. } => self.publishers.get(publisher).is_some(),
             Found::Swapped {

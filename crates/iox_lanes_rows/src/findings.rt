@@ -473,7 +473,11 @@ fn receives_three(
     let mut wide = lending(3);
     wide.most_borrowed = 3;
     let mut lanes = Lanes::new(alloc, wide)?;
-    let all = [(first_of(0), true), (first_of(1), true), (first_of(2), true)];
+    let all = [
+        (first_of(0), true),
+        (first_of(1), true),
+        (first_of(2), true),
+    ];
     if !are_found(&mut lanes, order)? || !are_found(&mut lanes, &all)? {
         return Ok(false);
     }
@@ -492,7 +496,12 @@ fn a_subscriber_receives_in_the_order_that_was_found(rt: HostRuntime) -> Result<
         one: 0,
         other: 1,
     };
-    let none = [(swapped(0, 3), false), (swapped(3, 0), false), (elsewhere, false), (swapped(1, 1), true)];
+    let none = [
+        (swapped(0, 3), false),
+        (swapped(3, 0), false),
+        (elsewhere, false),
+        (swapped(1, 1), true),
+    ];
     assert!(rt; receives_three(alloc, &none, [0, 8, 16])?);
     assert!(rt; receives_three(alloc, &[(swapped(0, 2), true)], [16, 8, 0])?);
     let both = [(swapped(0, 2), true), (swapped(1, 2), true)];
