@@ -429,7 +429,7 @@ fn a_message_says_the_node_and_the_publisher_that_were_found(rt: HostRuntime) ->
     assert_eq!(rt; sent(alloc, &mut lanes, 9)?, delivered(1, 0));
     assert_eq!(rt; received(&mut lanes), Some(0));
     assert_eq!(rt; read(&mut lanes, 0), Some(9));
-    assert!(rt; lanes.words_read() == [77, 5, 1, 9]);
+    assert!(rt; lanes.words_read() == [77, 5, 1, 9].as_slice());
     assert!(rt; !lanes.find(header(0))?);
     Ok(())
 }
@@ -442,7 +442,7 @@ fn a_header_is_its_own_publisher_s(rt: HostRuntime) -> Result<(), Fail> {
     assert_eq!(rt; sent(alloc, &mut lanes, 9)?, delivered(1, 0));
     assert_eq!(rt; received(&mut lanes), Some(0));
     assert_eq!(rt; read(&mut lanes, 0), Some(9));
-    assert!(rt; lanes.words_read() == [0, 0, 1, 9]);
+    assert!(rt; lanes.words_read() == [0, 0, 1, 9].as_slice());
     Ok(())
 }
 
