@@ -26,7 +26,7 @@ use Rattle.iox_lanes_ledger.specs.LanesCalls.Routes.{known_as}
 use Rattle.iox_lanes_ledger.specs.LanesCalls.declared.route.Route.{Route}
 use Rattle.iox_lanes_ledger.specs.LanesPublisher.declared.slot_book.LoanMark.TheVariants as mark
 use Rattle.iox_lanes_ledger.specs.LanesPublisher.Keeping.{may_remember}
-use Rattle.iox_lanes_ledger.specs.LanesParties.Parties.{PublisherLaneState, SubscriberLaneState, is_out, with_origin, lane_found, lane_remembers, lane_resized, lane_named, lane_meets}
+use Rattle.iox_lanes_ledger.specs.LanesParties.Parties.{PublisherLaneState, SubscriberLaneState, is_out, lane_found, lane_remembers, lane_resized, lane_named, lane_meets}
 use Rattle.iox_lanes_ledger.specs.LanesParties.Within.{IsPublisher}
 use Rattle.iox_lanes_ledger.proofs.LanesParties.Rings.{all_at, and_left, and_right}
 use Rattle.iox_lanes_ledger.specs.Rooms.{CountsLoans}

@@ -1,22 +1,20 @@
 -- A subscriber two of whose connections changed places leaves lanes as they are before their first step.
-use Rattle.std.proofs.Common.{ℕ, zero, suc, ◌≡◌, ◌+◌, ◌<◌, ◌⊎◌, ◌==◌, ◌&&◌, if◌then◌else◌, Bool, true, false, nat_lt, List, [], ◌∷◌, length, set, get_or, slice_get, Option, Some, None, refl, sym, ◌∙◌, ap, subst, inl, inr, arith}
+use Rattle.std.proofs.Common.{ℕ, ◌≡◌, ◌<◌, ◌⊎◌, ◌==◌, if◌then◌else◌, true, nat_lt, List, [], ◌∷◌, length, set, get_or, slice_get, Option, Some, None, refl, sym, ◌∙◌, ap, subst, inl, inr, arith}
 use Rattle.std.specs.List.{All, swap}
 use Rattle.std.proofs.lemmas.Bool.{ltb-true}
 use Rattle.std.proofs.lemmas.Bool.Decides.{eqb_tells}
-use Rattle.std.proofs.lemmas.List.{length-set}
 use Rattle.std.proofs.lemmas.List.Edits.{swap_is, length-swap}
 use Rattle.std.proofs.lemmas.List.Elements.{All-set}
-use Rattle.std.proofs.lemmas.Option.{slice_get_within, slice_get-get_or}
+use Rattle.std.proofs.lemmas.Option.{slice_get-get_or}
 use Rattle.iox_lanes_ledger.specs.LanesCalls.declared.route.Route.{Route}
 use Rattle.iox_lanes_ledger.specs.LanesParties.Parties.{SubscriberLaneState, receiver_swapped}
 use Rattle.iox_lanes_ledger.specs.LanesParties.Within.{IsRoute, IsSubscribing, IsSubscriber}
 use Rattle.iox_lanes_ledger.proofs.LanesParties.Rings.{all_at, and_left, and_right}
 use Rattle.iox_lanes_ledger.proofs.Entries.{choose_one, choose_other}
 use Rattle.iox_lanes_machine.specs.Findings.{swaps_of, swapped_of}
-use Rattle.iox_lanes_machine.specs.Fresh.{IsFreshSubscriber, IsFreshLink, IsFresh}
+use Rattle.iox_lanes_machine.specs.Fresh.{IsFreshSubscriber, IsFresh}
 use Rattle.iox_lanes_machine.specs.Kept.{IsLinkOf, receiver, IsWithin}
 use Rattle.iox_lanes_machine.specs.Links.{LinkState}
-use Rattle.iox_lanes_machine.specs.Returns.{GoesRound}
 use Rattle.iox_lanes_machine.specs.Rooms.{may_borrow, HasReceived}
 use Rattle.iox_lanes_machine.specs.TakenIn.{other_place}
 use Rattle.iox_lanes_machine.specs.World.{World}

@@ -1,11 +1,10 @@
 -- Connections of a subscriber that change places are all that changes.
-use Rattle.std.proofs.Common.{ℕ, ◌≡◌, ◌+◌, ◌<◌, ◌==◌, ◌&&◌, Bool, true, false, nat_lt, List, [], length, set, slice_get, Option, Some, None, refl, sym, ◌∙◌, ap, subst, inl, inr, arith}
+use Rattle.std.proofs.Common.{ℕ, ◌≡◌, Bool, true, nat_lt, length, set, slice_get, Option, Some, None, refl, sym, ◌∙◌, ap, subst, inl, inr, arith}
 use Rattle.std.specs.List.{swap}
 use Rattle.std.proofs.lemmas.Bool.{lt-ltb}
 use Rattle.std.proofs.lemmas.List.{append-nil, length-set}
 use Rattle.std.proofs.lemmas.List.Edits.{length-swap}
-use Rattle.iox_lanes_ledger.specs.LanesCalls.declared.route.Route.{Route}
-use Rattle.iox_lanes_ledger.specs.LanesParties.Parties.{PublisherLaneState, SubscriberLaneState, receiver_swapped}
+use Rattle.iox_lanes_ledger.specs.LanesParties.Parties.{SubscriberLaneState, receiver_swapped}
 use Rattle.iox_lanes_machine.specs.Findings.{swaps_of, swapped_of}
 use Rattle.iox_lanes_machine.specs.TakenIn.{MayChangePlaces, other_place, place_if, place_before, RoutesKnow, PublisherGrows, SubscriberKnows, IsTakenIn}
 use Rattle.iox_lanes_machine.specs.World.{World}

@@ -37,7 +37,7 @@ use Rattle.iox_lanes_machine.specs.Fresh.{IsFreshPublisher, IsFresh}
 use Rattle.iox_lanes_machine.specs.Kept.{IsLinkOf, sender, IsWithin, IsKept}
 use Rattle.iox_lanes_machine.specs.Links.{LinkState}
 use Rattle.iox_lanes_machine.specs.Rings.{ring_in}
-use Rattle.iox_lanes_machine.specs.TakenIn.{MayStand, MayBeNewest, MayBeMessage, MayBeFound, IsFirst, MayHaveSlots, MayChangePlaces, HeadSays, HeadsSay, slot_if, more_messages, more_samples, more_history, more_referred, more_uses, new_buffer, new_slots, new_loans, new_node, new_publisher, number_if, number_with, place_before, route_with, RoutesKnow, RingGrows, link_with, PublisherGrows, SubscriberKnows, IsTakenIn, TakesIn}
+use Rattle.iox_lanes_machine.specs.TakenIn.{MayStand, MayBeNewest, MayBeMessage, MayBeFound, IsFirst, MayHaveSlots, HeadSays, slot_if, more_messages, more_samples, more_history, more_referred, more_uses, new_buffer, new_slots, new_loans, new_node, new_publisher, number_if, number_with, place_before, route_with, RoutesKnow, RingGrows, link_with, PublisherGrows, SubscriberKnows, IsTakenIn, TakesIn}
 use Rattle.iox_lanes_machine.specs.Uses.{given_back}
 use Rattle.iox_lanes_machine.specs.World.{World}
 use Rattle.iox_lanes_machine.specs.declared.found.Found.{Found}
