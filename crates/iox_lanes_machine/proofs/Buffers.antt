@@ -404,6 +404,7 @@ buffered_fresh m who place messages lane is found w h = (within, fresh)
       round = rerouted_round m.table.sizes.completion_cells route' lane.port.routes round own.round;
       counted = subst (λ (n : ℕ). UsesCounted n lane.port.book) (sym size) own.counted;
       counts = own.counts;
+      none_out = own.none_out;
       unlent = own.unlent;
       has = has_anew;
     }
@@ -419,6 +420,7 @@ buffered_fresh m who place messages lane is found w h = (within, fresh)
             round = was.round;
             counted = was.counted;
             counts = was.counts;
+            none_out = was.none_out;
             unlent = was.unlent;
             has = has_after now was.has;
           }

@@ -24,7 +24,7 @@ use Rattle.iox_lanes_machine.specs.Fresh.{IsFreshLink, IsFresh}
 use Rattle.iox_lanes_machine.specs.Kept.{IsLinkOf, sender, receiver, IsWithin}
 use Rattle.iox_lanes_machine.specs.Links.{LinkState}
 use Rattle.iox_lanes_machine.specs.Rings.{ring_in}
-use Rattle.iox_lanes_machine.specs.TakenIn.{MayHaveBuffer, leads_of, messages_if, new_buffer, limit_with, route_with, RoutesKnow, RingGrows, link_with, PublisherGrows, SubscriberKnows, IsTakenIn}
+use Rattle.iox_lanes_machine.specs.TakenIn.{MayHaveBuffer, leads_of, number_if, new_buffer, new_slots, new_node, new_publisher, number_with, place_before, route_with, RoutesKnow, RingGrows, link_with, HeadSays, HeadsSay, PublisherGrows, SubscriberKnows, IsTakenIn}
 use Rattle.iox_lanes_machine.specs.Uses.{given_back}
 use Rattle.iox_lanes_machine.specs.World.{World}
 use Rattle.iox_lanes_machine.specs.declared.found.Found.{Found}
@@ -70,15 +70,27 @@ pub both : (a b : Bool) → a ≡ true → b ≡ true → (a && b) ≡ true
 both true b one other = other
 both false b one other = absurd (cc one)
 
-differs : (x y : ℕ) → (y ≡ x → ⊥) → (x == y) ≡ false
+pub differs : (x y : ℕ) → (y ≡ x → ⊥) → (x == y) ≡ false
 differs x y not = elim (eqb_tells x y) [
   | inl same ↦ absurd (not (sym same.1))
   | inr other ↦ other.0
 ]
 
 -- a ring to which nothing is added
-none_more : (words : RingWords) → RingGrows words words []
+pub none_more : (words : RingWords) → RingGrows words words []
 none_more words = record { list = sym (append-nil (between words)); read = refl; write = omega arith }
+
+-- headers that stay
+pub head_stays : (head : List ℕ) → HeadSays None None head head
+head_stays head = record { node = refl; publisher = refl; others = λ word high. refl; as_many = refl }
+
+pub heads_stay : (f : Found) (who : ℕ) (heads : List (List ℕ)) → new_slots f who ≡ None → new_node f who ≡ None → new_publisher f who ≡ None → HeadsSay f who heads heads
+heads_stay f who heads slots node publisher = record {
+  each = λ slot before behind e e'.
+      subst (HeadSays (new_node f who) (new_publisher f who) before) (some_is before behind (sym e ∙ e'))
+      (subst (λ (n : Option ℕ). HeadSays n (new_publisher f who) before before) (sym node) (subst (λ (p : Option ℕ). HeadSays None p before before) (sym publisher) (head_stays before)));
+  as_many = ap (λ (n : Option ℕ). number_with n (length heads)) (sym slots);
+}
 
 -- two connections of one number whose rings are alike, with the same buffer
 abbrev sized : ℕ → ℕ → RingKind → ℕ → Route
@@ -150,10 +162,10 @@ buffer_taken m who place messages lane is stands w h h' = record {
     leads d = leads_is m who place lane is.route d stands is.at
 
     its_buffer : (d : ℕ) → c ≡ d → new_buffer m f d ≡ Some messages
-    its_buffer d same = ap (λ (b : Bool). messages_if b messages) (leads d ∙ ap (λ (x : ℕ). c == x) (sym same) ∙ itself c)
+    its_buffer d same = ap (λ (b : Bool). number_if b messages) (leads d ∙ ap (λ (x : ℕ). c == x) (sym same) ∙ itself c)
 
     no_buffer : (d : ℕ) → (d ≡ c → ⊥) → new_buffer m f d ≡ None
-    no_buffer d not = ap (λ (b : Bool). messages_if b messages) (leads d ∙ differs c d not)
+    no_buffer d not = ap (λ (b : Bool). number_if b messages) (leads d ∙ differs c d not)
 
     linked : (d : ℕ) → slice_get (set m.links c link') d ≡ link_with [] (new_buffer m f d) (slice_get m.links d)
     linked d = elim (eqb_tells c d) [
@@ -181,15 +193,15 @@ buffer_taken m who place messages lane is stands w h h' = record {
         }
 
     rings : (d : ℕ) (link : LinkState) → slice_get m.links d ≡ Some link
-        → RingGrows (ring_in m.table d (cells_of link.kind link.limit)) (ring_in m.table d (cells_of link.kind (limit_with (new_buffer m f d) link.limit))) []
+        → RingGrows (ring_in m.table d (cells_of link.kind link.limit)) (ring_in m.table d (cells_of link.kind (number_with (new_buffer m f d) link.limit))) []
     rings d link e = elim (eqb_tells c d) [
       | inl same ↦
           let link_same : is.link ≡ link = some_is is.link link (sym is.found ∙ ap (slice_get m.links) same.1 ∙ e) in
-          subst (λ (b : Option ℕ). RingGrows (ring_in m.table d (cells_of link.kind link.limit)) (ring_in m.table d (cells_of link.kind (limit_with b link.limit))) []) (sym (its_buffer d same.1))
+          subst (λ (b : Option ℕ). RingGrows (ring_in m.table d (cells_of link.kind link.limit)) (ring_in m.table d (cells_of link.kind (number_with b link.limit))) []) (sym (its_buffer d same.1))
           (subst (λ (l : LinkState). RingGrows (ring_in m.table d (cells_of l.kind l.limit)) (ring_in m.table d (cells_of l.kind messages)) []) link_same
           (subst (λ (x : ℕ). RingGrows (ring_in m.table x (cells_of k is.link.limit)) (ring_in m.table x (cells_of k messages)) []) same.1 shrinks))
       | inr off ↦
-          subst (λ (b : Option ℕ). RingGrows (ring_in m.table d (cells_of link.kind link.limit)) (ring_in m.table d (cells_of link.kind (limit_with b link.limit))) []) (sym (no_buffer d (λ same. off.1 (sym same))))
+          subst (λ (b : Option ℕ). RingGrows (ring_in m.table d (cells_of link.kind link.limit)) (ring_in m.table d (cells_of link.kind (number_with b link.limit))) []) (sym (no_buffer d (λ same. off.1 (sym same))))
           (none_more (ring_in m.table d (cells_of link.kind link.limit)))
     ]
 
@@ -212,13 +224,13 @@ buffer_taken m who place messages lane is stands w h h' = record {
       goes ∙ sym round,
     )
 
-    meet : (routes : List Route) → ((at : ℕ) (r : Route) → slice_get routes at ≡ Some r → r.connection ≡ c → (r.kind ≡ is.route.kind) × (r.completion_cells ≡ is.route.completion_cells)) → RoutesKnow m f routes (rerouted route' routes)
+    meet : (routes : List Route) → ((at : ℕ) (r : Route) → slice_get routes at ≡ Some r → r.connection ≡ c → (r.kind ≡ is.route.kind) × (r.completion_cells ≡ is.route.completion_cells)) → RoutesKnow m f (λ (at : ℕ). at) routes (rerouted route' routes)
     meet routes same = record {
       each = λ at r e. rerouted_there route' routes at r e ∙ ap (λ (x : Route). Some x) (here_too r (same at r e));
       as_many = length-map routes (known_as route');
     }
 
-    stay : (routes : List Route) → ((at : ℕ) (r : Route) → slice_get routes at ≡ Some r → r.connection ≡ c → ⊥) → RoutesKnow m f routes routes
+    stay : (routes : List Route) → ((at : ℕ) (r : Route) → slice_get routes at ≡ Some r → r.connection ≡ c → ⊥) → RoutesKnow m f (λ (at : ℕ). at) routes routes
     stay routes not = record {
       each = λ at r e. e ∙ ap (λ (x : Route). Some x) (elsewhere r (not at r e));
       as_many = refl;
@@ -232,8 +244,16 @@ buffer_taken m who place messages lane is stands w h h' = record {
       history = sym (append-nil lane.port.book.history);
       referred = λ at slot. omega arith;
       uses = λ slot. omega arith;
+      slots = refl;
+      marks = refl;
+      loans = λ slot. refl;
+      most = refl;
+      heads = heads_stay f other lane.heads refl refl refl;
       same = refl;
     }
+
+    received : (other : ℕ) (was now : List Route) → RoutesKnow m f (λ (at : ℕ). at) was now → RoutesKnow m f (place_before f other) was now
+    received other was now k = record { each = λ at r e. k.each at r e; as_many = k.as_many }
 
     publisher_grows : (other : ℕ) (was now : PublisherLaneState) → slice_get m.publishers other ≡ Some was → slice_get (set m.publishers who (lane_meets route' lane)) other ≡ Some now → PublisherGrows m f other was now
     publisher_grows other was now before behind = elim (set_cases m.publishers who lane (lane_meets route' lane) stands other now behind) [
@@ -247,26 +267,31 @@ buffer_taken m who place messages lane is stands w h h' = record {
         history = sym (append-nil was.port.book.history);
         referred = λ at slot. omega arith;
         uses = λ slot. omega arith;
+        slots = refl;
+        marks = refl;
+        loans = λ slot. refl;
+        most = refl;
+        heads = heads_stay f other was.heads refl refl refl;
         same = refl;
       })
     ]
 
-    subscriber_knows : (other : ℕ) (was now : SubscriberLaneState) → slice_get m.subscribers other ≡ Some was → slice_get (subscribers_meet m.subscribers s route' (slice_get m.subscribers s)) other ≡ Some now → SubscriberKnows m f was now
+    subscriber_knows : (other : ℕ) (was now : SubscriberLaneState) → slice_get m.subscribers other ≡ Some was → slice_get (subscribers_meet m.subscribers s route' (slice_get m.subscribers s)) other ≡ Some now → SubscriberKnows m f other was now
     subscriber_knows other was now before behind = elim (met_cases m.subscribers s route' (slice_get m.subscribers s) refl other now behind) [
       | inl here ↦
           let own : SubscriberLaneState = (here.1).0 in
           let was_is : own ≡ was = some_is own was (sym (here.1).1 ∙ before) in
-          let knows : SubscriberKnows m f own (receiver_meets route' own) = record {
-            routes = meet own.port.routes (λ at r e same. are_alike receiver other r
+          let knows : SubscriberKnows m f other own (receiver_meets route' own) = record {
+            routes = received other own.port.routes (rerouted route' own.port.routes) (meet own.port.routes (λ at r e same. are_alike receiver other r
                 (all_at (IsLinkOf m.links receiver other) own.port.routes at r e (w.receivers other own (here.1).1))
-                (all_at (λ (x : Route). x.completion_cells ≡ m.table.sizes.completion_cells) own.port.routes at r e (h.subscribers other own (here.1).1).round) same);
+                (all_at (λ (x : Route). x.completion_cells ≡ m.table.sizes.completion_cells) own.port.routes at r e (h.subscribers other own (here.1).1).round) same));
             same = refl;
           } in
-          subst (SubscriberKnows m f was) (here.1).2 (subst (λ (l : SubscriberLaneState). SubscriberKnows m f l (receiver_meets route' own)) was_is knows)
-      | inr off ↦ subst (SubscriberKnows m f was) (some_is was now (sym before ∙ off.1)) (record {
-        routes = stay was.port.routes (λ at r e same.
+          subst (SubscriberKnows m f other was) (here.1).2 (subst (λ (l : SubscriberLaneState). SubscriberKnows m f other l (receiver_meets route' own)) was_is knows)
+      | inr off ↦ subst (SubscriberKnows m f other was) (some_is was now (sym before ∙ off.1)) (record {
+        routes = received other was.port.routes was.port.routes (stay was.port.routes (λ at r e same.
             let yours : IsLinkOf m.links receiver other r = all_at (IsLinkOf m.links receiver other) was.port.routes at r e (w.receivers other was before) in
-            off.0 (sym yours.own ∙ ap receiver (some_is yours.link is.link (sym yours.found ∙ ap (slice_get m.links) same ∙ is.found))));
+            off.0 (sym yours.own ∙ ap receiver (some_is yours.link is.link (sym yours.found ∙ ap (slice_get m.links) same ∙ is.found)))));
         same = refl;
       })
     ]

@@ -149,6 +149,7 @@ pub record PublisherAfter (m n : World) (who : ℕ) (lane : PublisherLaneState) 
   pub routes : lane.port.routes ≡ was.port.routes
   pub counted : UsesCounted (length lane.port.routes) lane.port.book
   pub counts : CountsLoans lane.port.book
+  pub none_out : lane.port.book.out ≡ 0
   pub unlent : (slot : ℕ) → is_out (entry lane.port.book.first lane.port.book.loans slot mark.No) ≡ false
   pub has : HasFound n lane
 
@@ -173,6 +174,7 @@ fresh_after m words links publishers ends spare named each lanes rows h = record
         round = subst (GoesRound m.table.sizes.completion_cells) (sym is.routes) was.round;
         counted = is.counted;
         counts = is.counts;
+        none_out = is.none_out;
         unlent = is.unlent;
         has = is.has;
       };
@@ -214,25 +216,31 @@ link_stays m words links publishers c link size ring back k = record {
   cells = k.cells;
 }
 
--- the slots of publishers lie one behind the other still, if one of them changed and its slots did not
-pub rows_after : (m : World) (words : List ℕ) (links : List LinkState) (place : ℕ) (lane now : PublisherLaneState) → slice_get m.publishers place ≡ Some lane → now.port.book.first ≡ lane.port.book.first → now.port.book.loans ≡ lane.port.book.loans
+-- the slots of publishers lie one behind the other still, if one of them has no more slots than it had, from the same one on
+pub rows_within : (m : World) (words : List ℕ) (links : List LinkState) (place : ℕ) (lane now : PublisherLaneState) → slice_get m.publishers place ≡ Some lane → now.port.book.first ≡ lane.port.book.first → length now.port.book.loans ≤ length lane.port.book.loans
     → SlotsInRows m → SlotsInRows (after m words links (set m.publishers place now))
-rows_after m words links place lane now found first loans h = λ one other low high e f less.
+rows_within m words links place lane now found first loans h = λ one other low high e f less.
     let a = was one low e in
     let b = was other high f in
     omega (arith, h one other a.0 b.0 a.1 b.1 less, a.2, a.3, b.2)
   where
     was : (who : ℕ) (z : PublisherLaneState) → slice_get (set m.publishers place now) who ≡ Some z
-        → (before : PublisherLaneState) × (slice_get m.publishers who ≡ Some before) × (z.port.book.first ≡ before.port.book.first) × (length z.port.book.loans ≡ length before.port.book.loans)
+        → (before : PublisherLaneState) × (slice_get m.publishers who ≡ Some before) × (z.port.book.first ≡ before.port.book.first) × (length z.port.book.loans ≤ length before.port.book.loans)
     was who z e = elim (set_cases m.publishers place lane now found who z e) [
       | inl here ↦ (
         lane,
         ap (slice_get m.publishers) here.0 ∙ found,
         ap (λ (l : PublisherLaneState). l.port.book.first) (sym here.1) ∙ first,
-        ap (λ (l : PublisherLaneState). length l.port.book.loans) (sym here.1) ∙ ap (λ (xs : List LoanMark). length xs) loans,
+        omega (arith, ap (λ (l : PublisherLaneState). length l.port.book.loans) here.1, loans),
       )
-      | inr other ↦ (z, other.1, refl, refl)
+      | inr other ↦ (z, other.1, refl, omega arith)
     ]
+
+-- so they do if its slots are those that it had
+pub rows_after : (m : World) (words : List ℕ) (links : List LinkState) (place : ℕ) (lane now : PublisherLaneState) → slice_get m.publishers place ≡ Some lane → now.port.book.first ≡ lane.port.book.first → now.port.book.loans ≡ lane.port.book.loans
+    → SlotsInRows m → SlotsInRows (after m words links (set m.publishers place now))
+rows_after m words links place lane now found first loans h =
+    rows_within m words links place lane now found first (omega (arith, ap (λ (xs : List LoanMark). length xs) loans)) h
 
 -- a slot more lies in the first cell that was free
 next_is : (n : ℕ) → n < 2 ^ 63 → successor n ≡ n + 1

@@ -26,7 +26,7 @@ use Rattle.iox_lanes_ledger.specs.LanesCalls.Routes.{known_as}
 use Rattle.iox_lanes_ledger.specs.LanesCalls.declared.route.Route.{Route}
 use Rattle.iox_lanes_ledger.specs.LanesPublisher.declared.slot_book.LoanMark.TheVariants as mark
 use Rattle.iox_lanes_ledger.specs.LanesPublisher.Keeping.{may_remember}
-use Rattle.iox_lanes_ledger.specs.LanesParties.Parties.{PublisherLaneState, is_out, lane_found, lane_remembers, lane_meets}
+use Rattle.iox_lanes_ledger.specs.LanesParties.Parties.{PublisherLaneState, SubscriberLaneState, is_out, lane_found, lane_remembers, lane_resized, lane_named, lane_meets}
 use Rattle.iox_lanes_ledger.specs.LanesParties.Within.{IsPublisher}
 use Rattle.iox_lanes_ledger.proofs.LanesParties.Rings.{all_at, and_left, and_right}
 use Rattle.iox_lanes_ledger.specs.Rooms.{CountsLoans}
@@ -35,7 +35,7 @@ use Rattle.iox_lanes_ledger.specs.Uses.{one_if, count, entry, refers_to, UsesCou
 use Rattle.iox_lanes_ledger.proofs.Entries.{count_append}
 use Rattle.iox_lanes_ledger.proofs.Findings.{lacks_is, found_counted, found_counts, found_refers, found_refers_elsewhere, newest_counted, newest_counts, newest_refers}
 use Rattle.iox_lanes_ledger.proofs.Rings.{between_is}
-use Rattle.iox_lanes_machine.specs.Findings.{laid, back_found, waits_of, back_of, newest_of, has_word, finds, finds_now, waiting_in, waiting_at, waiting_of, given_at, given_of, remembered_of, with_buffer, buffered_in, buffered_at, buffered_of, with_found, FindsTo, AreFound}
+use Rattle.iox_lanes_machine.specs.Findings.{laid, back_found, waits_of, back_of, newest_of, has_word, finds, finds_now, waiting_in, waiting_at, waiting_of, given_at, given_of, remembered_of, with_buffer, buffered_in, buffered_at, buffered_of, resized_of, named_of, swapped_of, with_found, FindsTo, AreFound}
 use Rattle.iox_lanes_machine.specs.Fresh.{HasFound, IsFreshPublisher, IsFreshLink, IsFresh}
 use Rattle.iox_lanes_machine.specs.Kept.{IsLinkOf, sender, IsWithin, IsKept}
 use Rattle.iox_lanes_machine.specs.Links.{LinkState}
@@ -55,6 +55,8 @@ use Rattle.iox_lanes_machine.proofs.InBack.{IsBackSeat, IsOffBack, back_stays}
 use Rattle.iox_lanes_machine.proofs.InTable.{IsSeat, IsElsewhere, access_elsewhere}
 use Rattle.iox_lanes_machine.proofs.Kept.{seat}
 use Rattle.iox_lanes_machine.proofs.Opening.{after_access}
+use Rattle.iox_lanes_machine.proofs.Resized.{resizes_keep, names_keep, resized_moments, named_moments}
+use Rattle.iox_lanes_machine.proofs.Swaps.{swaps_keep, swapped_moments}
 use Rattle.iox_lanes_machine.proofs.Within.{set_same, set_other, publisher_within}
 
 -- the ring of samples given back at a connection has its words
@@ -169,12 +171,13 @@ found_publisher m n who place slot lane found fits h has other now e = elim (set
         routes = ap (λ (l : PublisherLaneState). l.port.routes) (sym own.1);
         counted = subst (λ (l : PublisherLaneState). UsesCounted (length l.port.routes) l.port.book) own.1 (found_counted (length lane.port.routes) place slot lane.port.book fits is.counted);
         counts = subst (λ (l : PublisherLaneState). CountsLoans l.port.book) own.1 (found_counts (length lane.port.routes) place slot lane.port.book fits is.counted is.counts);
+        none_out = ap (λ (l : PublisherLaneState). l.port.book.out) (sym own.1) ∙ is.none_out;
         unlent = subst (λ (l : PublisherLaneState). (s : ℕ) → is_out (entry l.port.book.first l.port.book.loans s mark.No) ≡ false) own.1 is.unlent;
         has = has other now e;
       }
   | inr off ↦
       let is = h.publishers other now off.1 in
-      record { was = now; before = off.1; call = refl; routes = refl; counted = is.counted; counts = is.counts; unlent = is.unlent; has = has other now e }
+      record { was = now; before = off.1; call = refl; routes = refl; counted = is.counted; counts = is.counts; none_out = is.none_out; unlent = is.unlent; has = has other now e }
 ]
 
 -- a message more waits
@@ -428,12 +431,13 @@ newest_fresh m who slot lane may found w h = (within, fresh)
         routes = ap (λ (l : PublisherLaneState). l.port.routes) (sym here.1);
         counted = subst (λ (l : PublisherLaneState). UsesCounted (length l.port.routes) l.port.book) here.1 (newest_counted (length lane.port.routes) slot lane.port.book may (own.unlent slot) own.counted);
         counts = subst (λ (l : PublisherLaneState). CountsLoans l.port.book) here.1 (newest_counts slot lane.port.book may own.counts);
+        none_out = ap (λ (l : PublisherLaneState). l.port.book.out) (sym here.1) ∙ own.none_out;
         unlent = subst (λ (l : PublisherLaneState). (s : ℕ) → is_out (entry l.port.book.first l.port.book.loans s mark.No) ≡ false) here.1 own.unlent;
         has = subst (HasFound world) here.1 (λ at route link at_is link_is s. own.has at route link at_is link_is s ∙ ap one_if (sym (newest_refers slot lane.port.book at s)));
       }
       | inr off ↦
           let is = h.publishers other now off.1 in
-          record { was = now; before = off.1; call = refl; routes = refl; counted = is.counted; counts = is.counts; unlent = is.unlent; has = is.has }
+          record { was = now; before = off.1; call = refl; routes = refl; counted = is.counted; counts = is.counts; none_out = is.none_out; unlent = is.unlent; has = is.has }
     ]
 
     fresh : IsFresh world
@@ -483,6 +487,7 @@ held_fresh m slot word value is w h = (within, fresh)
           routes = refl;
           counted = own.counted;
           counts = own.counts;
+          none_out = own.none_out;
           unlent = own.unlent;
           has = λ at route link at_is link_is s. ap (λ (xs : List ℕ). count s link.found + count s xs) (ap between (backs route.connection link link_is)) ∙ own.has at route link at_is link_is s;
         }
@@ -544,6 +549,9 @@ found_both m (found.Newest publisher slot) fit w h = newest_keeps m publisher sl
 found_both m (found.Held slot word value) fit w h =
     held_fresh m slot word value (word_there m.table.sizes slot word (and_left (nat_lt slot m.table.sizes.slots) (has_word m.table.sizes word) fit) (and_right (nat_lt slot m.table.sizes.slots) (has_word m.table.sizes word) fit)) w h
 found_both m (found.Buffer publisher place messages) fit w h = buffers_keep m publisher place messages (slice_get m.publishers publisher) refl fit w h
+found_both m (found.Slots publisher slots most_loans) fit w h = resizes_keep m publisher slots most_loans (slice_get m.publishers publisher) refl fit w h
+found_both m (found.Header publisher node_id publisher_id) fit w h = names_keep m publisher node_id publisher_id (slice_get m.publishers publisher) refl fit w h
+found_both m (found.Swapped subscriber one other) fit w h = swaps_keep m subscriber one other (slice_get m.subscribers subscriber) refl fit w h
 
 -- no step was made
 waiting_moments : (m : World) (who place slot connection : ℕ) (lane : PublisherLaneState) (at : Option LinkState) → (waiting_in m who place slot lane connection at).moments ≡ m.moments
@@ -576,6 +584,9 @@ found_moments m (found.GivenBack publisher place slot) = given_of_moments m publ
 found_moments m (found.Newest publisher slot) = newest_moments m publisher slot (slice_get m.publishers publisher)
 found_moments m (found.Held slot word value) = refl
 found_moments m (found.Buffer publisher place messages) = buffered_moments m publisher place messages (slice_get m.publishers publisher)
+found_moments m (found.Slots publisher slots most_loans) = resized_moments m publisher slots most_loans (slice_get m.publishers publisher)
+found_moments m (found.Header publisher node_id publisher_id) = named_moments m publisher node_id publisher_id (slice_get m.publishers publisher)
+found_moments m (found.Swapped subscriber one other) = swapped_moments m subscriber one other (slice_get m.subscribers subscriber)
 
 -- before the first step alone
 pub finds_first : (m : World) (f : Found) → finds m f ≡ true → (m.moments ≡ 0) × (finds_now m f ≡ true)
@@ -659,9 +670,24 @@ buffered_of_routes : (m : World) (who place messages : ℕ) (at : Option Publish
 buffered_of_routes m who place messages None e = none_changed m
 buffered_of_routes m who place messages (Some lane) e = buffered_at_routes m who messages lane (slice_get lane.port.routes place) e
 
+resized_routes : (m : World) (who slots most : ℕ) (at : Option PublisherLaneState) → slice_get m.publishers who ≡ at → SameSizes m (resized_of m who slots most at)
+resized_routes m who slots most None e = none_changed m
+resized_routes m who slots most (Some lane) e = one_changed m m.table.words m.links who lane (lane_resized slots most lane) e refl
+
+named_routes : (m : World) (who node publisher : ℕ) (at : Option PublisherLaneState) → slice_get m.publishers who ≡ at → SameSizes m (named_of m who node publisher at)
+named_routes m who node publisher None e = none_changed m
+named_routes m who node publisher (Some lane) e = one_changed m m.table.words m.links who lane (lane_named node publisher lane) e refl
+
+swapped_routes : (m : World) (who one other : ℕ) (at : Option SubscriberLaneState) → SameSizes m (swapped_of m who one other at)
+swapped_routes m who one other None = none_changed m
+swapped_routes m who one other (Some lane) = record { sizes = refl; routes = λ place now e. (now, e, refl) }
+
 pub found_routes : (m : World) (f : Found) → SameSizes m (with_found m f)
 found_routes m (found.Waiting publisher place slot) = waits_of_routes m publisher place slot (slice_get m.publishers publisher) refl
 found_routes m (found.GivenBack publisher place slot) = given_of_routes m publisher place slot (slice_get m.publishers publisher) refl
 found_routes m (found.Newest publisher slot) = newest_routes m publisher slot (slice_get m.publishers publisher) refl
 found_routes m (found.Held slot word value) = record { sizes = refl; routes = λ place lane e. (lane, e, refl) }
 found_routes m (found.Buffer publisher place messages) = buffered_of_routes m publisher place messages (slice_get m.publishers publisher) refl
+found_routes m (found.Slots publisher slots most_loans) = resized_routes m publisher slots most_loans (slice_get m.publishers publisher) refl
+found_routes m (found.Header publisher node_id publisher_id) = named_routes m publisher node_id publisher_id (slice_get m.publishers publisher) refl
+found_routes m (found.Swapped subscriber one other) = swapped_routes m subscriber one other (slice_get m.subscribers subscriber)

@@ -30,9 +30,13 @@ pub mod RoomKept
 pub mod Fresh
 pub mod Findings
 pub mod FoundFresh
+pub mod Shrinking
+pub mod Resized
+pub mod Swaps
 pub mod Buffers
 pub mod FoundKept
 pub mod BuffersTaken
+pub mod SwapsTaken
 pub mod TakenIn
 pub mod StartRooms
 pub mod StartUses

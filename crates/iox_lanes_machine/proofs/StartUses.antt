@@ -62,6 +62,7 @@ start_publisher sizes place below few = record {
   round = start_sends_round sizes place;
   counted = start_counted sizes place few;
   counts = start_counts sizes place;
+  none_out = refl;
   unlent = λ slot. ap is_out (entry_none (place * sizes.slots) sizes.slots slot mark.No);
   has = λ at route link here found slot. nothing_found sizes place at route link found slot;
 }

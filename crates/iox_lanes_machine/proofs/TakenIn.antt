@@ -1,8 +1,8 @@
 -- What lanes take in stands at the end of what it is about, and it is taken in just where it may be.
-use Rattle.std.proofs.Common.{ℕ, ◌≡◌, ◌+◌, ◌-◌, ◌*◌, ◌<◌, ◌≤◌, ◌^◌, ◌==◌, ◌&&◌, not, Bool, true, false, nat_lt, List, [], ◌∷◌, ◌++◌, length, set, get_or, slice_get, Option, Some, None, refl, sym, ◌∙◌, ap, subst, inl, inr, arith, length-append}
-use Rattle.std.proofs.lemmas.Bool.{lt-ltb, le-ltb}
+use Rattle.std.proofs.Common.{ℕ, zero, suc, ◌≡◌, ◌+◌, ◌-◌, ◌*◌, ◌<◌, ◌≤◌, ◌^◌, ◌==◌, ◌&&◌, not, Bool, true, false, nat_lt, nat_le, List, [], ◌∷◌, ◌++◌, length, map, take, set, get_or, slice_get, Option, Some, None, refl, sym, ◌∙◌, ap, subst, inl, inr, arith, length-append}
+use Rattle.std.proofs.lemmas.Bool.{lt-ltb, le-ltb, le-leb}
 use Rattle.std.proofs.lemmas.Bool.Decides.{eqb_tells}
-use Rattle.std.proofs.lemmas.List.{append-nil, length-set, get_or-set_same, get_or-set_other}
+use Rattle.std.proofs.lemmas.List.{append-nil, length-map, length-set, length-take-le, get_or-set_same, get_or-set_other}
 use Rattle.std.proofs.lemmas.Option.{slice_get_within}
 use Rattle.iox_lanes_ledger.specs.QueuesSteps.Access.{RingWords, successor}
 use Rattle.iox_lanes_ledger.specs.QueuesSteps.declared.access.Word.TheVariants.{Write, Cell}
@@ -22,31 +22,36 @@ use Rattle.iox_lanes_ledger.specs.LanesWords.declared.word.SlotWord.{SlotWord}
 use Rattle.iox_lanes_ledger.specs.LanesWords.declared.word.SlotWord.TheVariants.{Header, UserHeader, Payload}
 use Rattle.iox_lanes_ledger.proofs.LanesWords.Numbering.{apart, within}
 use Rattle.iox_lanes_ledger.specs.LanesCalls.declared.route.Route.{Route}
-use Rattle.iox_lanes_ledger.specs.LanesPublisher.Keeping.{BookState, is_own, may_have, may_remember, stands_in, counted_up, referred_at}
-use Rattle.iox_lanes_ledger.specs.LanesParties.Parties.{PublisherLaneState, lane_found, lane_remembers}
-use Rattle.iox_lanes_ledger.proofs.LanesParties.Rings.{and_left, and_right}
+use Rattle.iox_lanes_ledger.specs.LanesPublisher.Keeping.{BookState, are_unused, is_own, may_have, may_remember, stands_in, counted_up, referred_at}
+use Rattle.iox_lanes_ledger.specs.LanesPublisher.declared.slot_book.LoanMark.TheVariants as mark
+use Rattle.iox_lanes_ledger.specs.LanesParties.Parties.{PublisherLaneState, with_origin, lane_found, lane_remembers, lane_resized, lane_named}
+use Rattle.iox_lanes_ledger.specs.LanesParties.Within.{IsPublisher}
+use Rattle.iox_lanes_ledger.proofs.LanesParties.Rings.{all_at, and_left, and_right}
 use Rattle.iox_lanes_ledger.specs.Stored.{between}
 use Rattle.iox_lanes_ledger.specs.Uses.{one_if, count, entry, refers_to, IsOwn, UsesCounted, MayBeReferred}
 use Rattle.iox_lanes_ledger.proofs.Books.{up_same, uses_few}
-use Rattle.iox_lanes_ledger.proofs.Entries.{choose_other, entry_other, refers_is}
+use Rattle.iox_lanes_ledger.proofs.Entries.{choose_one, choose_other, put_at_length, entry_other, refers_is}
 use Rattle.iox_lanes_ledger.proofs.Findings.{lacks_is, newest_is, found_refers, found_refers_elsewhere, newest_refers}
-use Rattle.iox_lanes_machine.specs.Findings.{laid, back_found, takes_more, may_wait, may_be_back, waits_at, waits_of, back_at, back_of, newest_of, has_word, finds, finds_now, waiting_in, waiting_of, given_at, given_of, remembered_of, with_found, FindsTo}
+use Rattle.iox_lanes_machine.specs.Findings.{laid, back_found, takes_more, may_wait, may_be_back, waits_at, waits_of, back_at, back_of, newest_of, resizes_of, is_there, has_word, finds, finds_now, waiting_in, waiting_of, given_at, given_of, remembered_of, resized_of, named_of, with_found, FindsTo}
 use Rattle.iox_lanes_machine.specs.Fresh.{IsFreshPublisher, IsFresh}
-use Rattle.iox_lanes_machine.specs.Kept.{IsWithin, IsKept}
+use Rattle.iox_lanes_machine.specs.Kept.{IsLinkOf, sender, IsWithin, IsKept}
 use Rattle.iox_lanes_machine.specs.Links.{LinkState}
 use Rattle.iox_lanes_machine.specs.Rings.{ring_in}
-use Rattle.iox_lanes_machine.specs.TakenIn.{MayStand, MayBeNewest, MayBeMessage, MayBeFound, IsFirst, slot_if, more_messages, more_samples, more_history, more_referred, more_uses, new_buffer, limit_with, route_with, RoutesKnow, RingGrows, link_with, PublisherGrows, SubscriberKnows, IsTakenIn, TakesIn}
+use Rattle.iox_lanes_machine.specs.TakenIn.{MayStand, MayBeNewest, MayBeMessage, MayBeFound, IsFirst, MayHaveSlots, HeadSays, slot_if, more_messages, more_samples, more_history, more_referred, more_uses, new_buffer, new_slots, new_loans, new_node, new_publisher, number_if, number_with, place_before, route_with, RoutesKnow, RingGrows, link_with, PublisherGrows, SubscriberKnows, IsTakenIn, TakesIn}
 use Rattle.iox_lanes_machine.specs.Uses.{given_back}
 use Rattle.iox_lanes_machine.specs.World.{World}
 use Rattle.iox_lanes_machine.specs.declared.found.Found.{Found}
 use Rattle.iox_lanes_machine.specs.declared.found.Found.TheVariants as found
-use Rattle.iox_lanes_machine.proofs.BuffersTaken.{first_refusing, between_first, link_same, itself, leads_is, both, buffers_taken, buffers_may, buffers_say}
+use Rattle.iox_lanes_machine.proofs.BuffersTaken.{first_refusing, between_first, link_same, itself, leads_is, both, head_stays, heads_stay, buffers_taken, buffers_may, buffers_say}
+use Rattle.iox_lanes_machine.proofs.SwapsTaken.{swaps_taken, swaps_may, swaps_say}
 use Rattle.iox_lanes_machine.proofs.Ends.{some_is}
 use Rattle.iox_lanes_machine.proofs.Fresh.{returned_is}
 use Rattle.iox_lanes_machine.proofs.Findings.{MayWait, may_wait_is, MayBeBack, may_be_back_is, cell_below}
 use Rattle.iox_lanes_machine.proofs.FoundFresh.{after}
 use Rattle.iox_lanes_machine.proofs.FoundKept.{back_seat, back_count, back_away, back_grows, found_both, waiting_is, given_is, word_there, finds_first}
 use Rattle.iox_lanes_machine.proofs.InBack.{back_stays}
+use Rattle.iox_lanes_machine.proofs.Resized.{MayShrink, may_shrink_is}
+use Rattle.iox_lanes_machine.proofs.Shrinking.{NoneFound, all_entries, uncounted, all_unused, none_left, none_uses, never_refers}
 use Rattle.iox_lanes_machine.proofs.Within.{set_same, set_other}
 
 -- a ring grows where its list does
@@ -61,28 +66,28 @@ ring_grows k limit q more was now stands room before behind =
     }
 
 -- the connections of a port stay where a finding is of no buffer
-routes_stay : (m : World) (f : Found) (routes : List Route) → ((c : ℕ) → new_buffer m f c ≡ None) → RoutesKnow m f routes routes
+routes_stay : (m : World) (f : Found) (routes : List Route) → ((c : ℕ) → new_buffer m f c ≡ None) → RoutesKnow m f (λ (at : ℕ). at) routes routes
 routes_stay m f routes none = record {
   each = λ place route e. e ∙ ap (λ (buffer : Option ℕ). Some (route_with buffer route)) (sym (none route.connection));
   as_many = refl;
 }
 
 -- what lanes take in, by the words, links and publishers that they have behind it
-taken_in : (m : World) (f : Found) (words : List ℕ) (links : List LinkState) (publishers : List PublisherLaneState) → ((c : ℕ) → new_buffer m f c ≡ None) → IsFresh m → IsFresh (after m words links publishers)
+taken_in : (m : World) (f : Found) (words : List ℕ) (links : List LinkState) (publishers : List PublisherLaneState) → ((c : ℕ) → new_buffer m f c ≡ None) → ((who place : ℕ) → place_before f who place ≡ place) → IsFresh m → IsFresh (after m words links publishers)
     → ((c : ℕ) → slice_get links c ≡ link_with (more_messages m f c) None (slice_get m.links c))
     → ((c : ℕ) (link : LinkState) → slice_get m.links c ≡ Some link → given_back (record m.table { words = words }) c ≡ given_back m.table c ++ more_samples m f c)
     → ((slot : ℕ) (word : SlotWord) (value : ℕ) → f ≡ found.Held slot word value → held_by (record m.table { words = words }) (Slot slot word) ≡ value)
     → ((slot : ℕ) (word : SlotWord) → IsWord m.table.sizes (Slot slot word) → ((value : ℕ) → f ≡ found.Held slot word value → ⊥) → held_by (record m.table { words = words }) (Slot slot word) ≡ held_by m.table (Slot slot word))
     → ((who : ℕ) (was now : PublisherLaneState) → slice_get m.publishers who ≡ Some was → slice_get publishers who ≡ Some now → PublisherGrows m f who was now)
     → length publishers ≡ length m.publishers → IsTakenIn m f (after m words links publishers)
-taken_in m f words links publishers none h h' linked given told kept grows size = record {
+taken_in m f words links publishers none places h h' linked given told kept grows size = record {
   links = λ c. linked c ∙ ap (λ (buffer : Option ℕ). link_with (more_messages m f c) buffer (slice_get m.links c)) (sym (none c));
   messages = λ c link there.
       let more : List ℕ = more_messages m f c in
       let now : LinkState = record link { found = link.found ++ more } in
       let is = h.links c link there in
       let behind = h'.links c now (linked c ∙ ap (link_with more None) there) in
-      subst (λ (buffer : Option ℕ). RingGrows (ring_in m.table c (cells_of link.kind link.limit)) (ring_in (record m.table { words = words }) c (cells_of link.kind (limit_with buffer link.limit))) more) (sym (none c))
+      subst (λ (buffer : Option ℕ). RingGrows (ring_in m.table c (cells_of link.kind link.limit)) (ring_in (record m.table { words = words }) c (cells_of link.kind (number_with buffer link.limit))) more) (sym (none c))
       (ring_grows link.kind link.limit link.found more _ _ (λ q room. between_first link.kind link.limit q (omega (arith, is.cells, h.small)) room) behind.room is.ring behind.ring);
   samples = λ c link there.
       let more : List ℕ = more_samples m f c in
@@ -98,7 +103,10 @@ taken_in m f words links publishers none h h' linked given told kept grows size 
   words = kept;
   publishers = grows;
   as_many = size;
-  subscribers = λ who was now before behind. subst (SubscriberKnows m f was) (some_is was now (sym before ∙ behind)) (record { routes = routes_stay m f was.port.routes none; same = refl });
+  subscribers = λ who was now before behind. subst (SubscriberKnows m f who was) (some_is was now (sym before ∙ behind)) (record {
+    routes = let stay = routes_stay m f was.port.routes none in record { each = λ place route e. stay.each place route (ap (slice_get was.port.routes) (sym (places who place)) ∙ e); as_many = stay.as_many };
+    same = refl;
+  });
   as_many_receive = refl;
   same = refl;
 }
@@ -122,20 +130,32 @@ uses_grow connections first slots uses slot size above below few s = elim (eqb_t
   | inr other ↦ omega (arith, entry_other first slot s uses (successor (get_or uses (slot - first) 0)) 0 above other.1, ap one_if other.0)
 ]
 
+-- a finding gives a publisher no other slots, loans or headers
+record Stays (f : Found) (who : ℕ) : Type 0 where
+  slots : new_slots f who ≡ None
+  loans : new_loans f who ≡ None
+  node : new_node f who ≡ None
+  publisher : new_publisher f who ≡ None
+
 -- a publisher of which nothing was found
-none_grows : (m : World) (f : Found) (who : ℕ) (lane : PublisherLaneState) → ((c : ℕ) → new_buffer m f c ≡ None) → more_history f who ≡ [] → ((place : ℕ) → more_referred f who place ≡ []) → more_uses f who ≡ [] → PublisherGrows m f who lane lane
-none_grows m f who lane none history referred uses = record {
+none_grows : (m : World) (f : Found) (who : ℕ) (lane : PublisherLaneState) → ((c : ℕ) → new_buffer m f c ≡ None) → more_history f who ≡ [] → ((place : ℕ) → more_referred f who place ≡ []) → more_uses f who ≡ [] → Stays f who → PublisherGrows m f who lane lane
+none_grows m f who lane none history referred uses stays = record {
   routes = routes_stay m f lane.port.routes none;
   history = sym (append-nil lane.port.book.history) ∙ ap (λ (xs : List ℕ). lane.port.book.history ++ xs) (sym history);
   referred = λ place s. omega (arith, ap (count s) (referred place));
   uses = λ s. omega (arith, ap (count s) uses);
+  slots = ap (λ (n : Option ℕ). number_with n (length lane.port.book.uses)) (sym stays.slots);
+  marks = ap (λ (n : Option ℕ). number_with n (length lane.port.book.loans)) (sym stays.slots);
+  loans = λ slot. refl;
+  most = ap (λ (n : Option ℕ). number_with n lane.port.book.most_loans) (sym stays.loans);
+  heads = heads_stay f who lane.heads stays.slots stays.node stays.publisher;
   same = refl;
 }
 
 -- a publisher one of whose connections was found to have a slot
 found_grows : (m : World) (f : Found) (who place slot : ℕ) (lane : PublisherLaneState) → ((c : ℕ) → new_buffer m f c ≡ None) → more_history f who ≡ [] → ((at : ℕ) → more_referred f who at ≡ slot_if (place == at) slot) → more_uses f who ≡ slot ∷ []
-    → MayBeReferred (length lane.port.routes) lane.port.book place slot → UsesCounted (length lane.port.routes) lane.port.book → PublisherGrows m f who lane (lane_found place slot lane)
-found_grows m f who place slot lane none history referred uses fits counted = record {
+    → Stays f who → MayBeReferred (length lane.port.routes) lane.port.book place slot → UsesCounted (length lane.port.routes) lane.port.book → PublisherGrows m f who lane (lane_found place slot lane)
+found_grows m f who place slot lane none history referred uses stays fits counted = record {
   routes = routes_stay m f lane.port.routes none;
   history = sym (append-nil lane.port.book.history) ∙ ap (λ (xs : List ℕ). lane.port.book.history ++ xs) (sym history);
   referred = λ at s. elim (eqb_tells place at) [
@@ -154,13 +174,18 @@ found_grows m f who place slot lane none history referred uses fits counted = re
         uses_grow (length lane.port.routes) book.first (length book.uses) book.uses slot refl fits.own.above fits.own.below (uses_few (length lane.port.routes) book.first (length book.uses) book.loans book.history book.referred book.uses slot counted) s,
         ap (count s) uses,
       );
+  slots = put_at_length lane.port.book.uses (slot - lane.port.book.first) (successor (get_or lane.port.book.uses (slot - lane.port.book.first) 0)) ∙ ap (λ (n : Option ℕ). number_with n (length lane.port.book.uses)) (sym stays.slots);
+  marks = ap (λ (n : Option ℕ). number_with n (length lane.port.book.loans)) (sym stays.slots);
+  loans = λ s. refl;
+  most = ap (λ (n : Option ℕ). number_with n lane.port.book.most_loans) (sym stays.loans);
+  heads = heads_stay f who lane.heads stays.slots stays.node stays.publisher;
   same = refl;
 }
 
 -- a publisher to whose history a slot was found to belong
 newest_grows : (m : World) (f : Found) (who slot : ℕ) (lane : PublisherLaneState) → ((c : ℕ) → new_buffer m f c ≡ None) → more_history f who ≡ slot ∷ [] → ((at : ℕ) → more_referred f who at ≡ []) → more_uses f who ≡ slot ∷ []
-    → IsOwn lane.port.book slot → UsesCounted (length lane.port.routes) lane.port.book → PublisherGrows m f who lane (lane_remembers slot lane)
-newest_grows m f who slot lane none history referred uses own counted = record {
+    → Stays f who → IsOwn lane.port.book slot → UsesCounted (length lane.port.routes) lane.port.book → PublisherGrows m f who lane (lane_remembers slot lane)
+newest_grows m f who slot lane none history referred uses stays own counted = record {
   routes = routes_stay m f lane.port.routes none;
   history = ap (λ (xs : List ℕ). lane.port.book.history ++ xs) (sym history);
   referred = λ at s. omega (arith, ap one_if (newest_refers slot lane.port.book at s), ap (count s) (referred at));
@@ -171,12 +196,17 @@ newest_grows m f who slot lane none history referred uses own counted = record {
         uses_grow (length lane.port.routes) book.first (length book.uses) book.uses slot refl own.above own.below (uses_few (length lane.port.routes) book.first (length book.uses) book.loans book.history book.referred book.uses slot counted) s,
         ap (count s) uses,
       );
+  slots = put_at_length lane.port.book.uses (slot - lane.port.book.first) (successor (get_or lane.port.book.uses (slot - lane.port.book.first) 0)) ∙ ap (λ (n : Option ℕ). number_with n (length lane.port.book.uses)) (sym stays.slots);
+  marks = ap (λ (n : Option ℕ). number_with n (length lane.port.book.loans)) (sym stays.slots);
+  loans = λ s. refl;
+  most = ap (λ (n : Option ℕ). number_with n lane.port.book.most_loans) (sym stays.loans);
+  heads = heads_stay f who lane.heads stays.slots stays.node stays.publisher;
   same = refl;
 }
 
 -- all publishers, where one changed
 others_grow : (m : World) (f : Found) (who : ℕ) (lane now : PublisherLaneState) → ((c : ℕ) → new_buffer m f c ≡ None) → slice_get m.publishers who ≡ Some lane → PublisherGrows m f who lane now
-    → ((other : ℕ) → (who == other) ≡ false → (more_history f other ≡ []) × ((place : ℕ) → more_referred f other place ≡ []) × (more_uses f other ≡ []))
+    → ((other : ℕ) → (who == other) ≡ false → (more_history f other ≡ []) × ((place : ℕ) → more_referred f other place ≡ []) × (more_uses f other ≡ []) × Stays f other)
     → (other : ℕ) (was behind : PublisherLaneState) → slice_get m.publishers other ≡ Some was → slice_get (set m.publishers who now) other ≡ Some behind → PublisherGrows m f other was behind
 others_grow m f who lane now none e grows nothing_of other was behind before now_is = elim (eqb_tells who other) [
   | inl same ↦
@@ -186,20 +216,20 @@ others_grow m f who lane now none e grows nothing_of other was behind before now
   | inr off ↦
       let stays : was ≡ behind = some_is was behind (sym before ∙ sym (set_other m.publishers who other now (λ same. off.1 (sym same))) ∙ now_is) in
       let nothing = nothing_of other off.0 in
-      subst (PublisherGrows m f other was) stays (none_grows m f other was none nothing.0 nothing.1 nothing.2)
+      subst (PublisherGrows m f other was) stays (none_grows m f other was none nothing.0 nothing.1 nothing.2 nothing.3)
 ]
 
 -- a message more waits
 waiting_taken : (m : World) (who place slot : ℕ) (lane : PublisherLaneState) (is : MayWait m place slot lane) → slice_get m.publishers who ≡ Some lane → IsWithin m → IsFresh m → IsFresh (waiting_in m who place slot lane is.route.connection (Some is.link))
     → IsTakenIn m (found.Waiting who place slot) (waiting_in m who place slot lane is.route.connection (Some is.link))
 waiting_taken m who place slot lane is stands w h h' =
-    taken_in m f (laid m.table c Submission n slot).words (set m.links c link') (set m.publishers who (lane_found place slot lane)) (λ d. refl) h h' linked
+    taken_in m f (laid m.table c Submission n slot).words (set m.links c link') (set m.publishers who (lane_found place slot lane)) (λ d. refl) (λ other place. refl) h h' linked
     (λ d link e. ap between (back_away m.table c d m.table.sizes.completion_cells n slot Submission (back_seat m d link e w h) cell (λ word. tt)) ∙ sym (append-nil (given_back m.table d)))
     (λ s word value e. absurd (cc e))
     (λ s word there not. laid_elsewhere m.table c Submission n slot s word cell there)
     (others_grow m f who lane (lane_found place slot lane) (λ d. refl) stands
-    (found_grows m f who place slot lane (λ d. refl) refl (λ at. ap (λ (b : Bool). slot_if (b && (place == at)) slot) (itself who)) (ap (λ (b : Bool). slot_if b slot) (itself who)) fits own.counted)
-    (λ other e. (refl, λ at. ap (λ (b : Bool). slot_if (b && (place == at)) slot) e, ap (λ (b : Bool). slot_if b slot) e)))
+    (found_grows m f who place slot lane (λ d. refl) refl (λ at. ap (λ (b : Bool). slot_if (b && (place == at)) slot) (itself who)) (ap (λ (b : Bool). slot_if b slot) (itself who)) (record { slots = refl; loans = refl; node = refl; publisher = refl }) fits own.counted)
+    (λ other e. (refl, λ at. ap (λ (b : Bool). slot_if (b && (place == at)) slot) e, ap (λ (b : Bool). slot_if b slot) e, (record { slots = refl; loans = refl; node = refl; publisher = refl }))))
     (length-set m.publishers who (lane_found place slot lane))
   where
     f : Found
@@ -238,13 +268,13 @@ waiting_taken m who place slot lane is stands w h h' =
 given_taken : (m : World) (who place slot : ℕ) (lane : PublisherLaneState) (is : MayBeBack m place slot lane) → slice_get m.publishers who ≡ Some lane → IsWithin m → IsFresh m → IsFresh (given_at m who place slot lane (Some is.route))
     → IsTakenIn m (found.GivenBack who place slot) (given_at m who place slot lane (Some is.route))
 given_taken m who place slot lane is stands w h h' =
-    taken_in m f (laid m.table c Completion n slot).words m.links (set m.publishers who (lane_found place slot lane)) (λ d. refl) h h' (λ d. link_same (slice_get m.links d))
+    taken_in m f (laid m.table c Completion n slot).words m.links (set m.publishers who (lane_found place slot lane)) (λ d. refl) (λ other place. refl) h h' (λ d. link_same (slice_get m.links d))
     given
     (λ s word value e. absurd (cc e))
     (λ s word there not. laid_elsewhere m.table c Completion n slot s word cell there)
     (others_grow m f who lane (lane_found place slot lane) (λ d. refl) stands
-    (found_grows m f who place slot lane (λ d. refl) refl (λ at. ap (λ (b : Bool). slot_if (b && (place == at)) slot) (itself who)) (ap (λ (b : Bool). slot_if b slot) (itself who)) fits own.counted)
-    (λ other e. (refl, λ at. ap (λ (b : Bool). slot_if (b && (place == at)) slot) e, ap (λ (b : Bool). slot_if b slot) e)))
+    (found_grows m f who place slot lane (λ d. refl) refl (λ at. ap (λ (b : Bool). slot_if (b && (place == at)) slot) (itself who)) (ap (λ (b : Bool). slot_if b slot) (itself who)) (record { slots = refl; loans = refl; node = refl; publisher = refl }) fits own.counted)
+    (λ other e. (refl, λ at. ap (λ (b : Bool). slot_if (b && (place == at)) slot) e, ap (λ (b : Bool). slot_if b slot) e, (record { slots = refl; loans = refl; node = refl; publisher = refl }))))
     (length-set m.publishers who (lane_found place slot lane))
   where
     f : Found
@@ -281,24 +311,24 @@ newest_taken : (m : World) (who slot : ℕ) (lane : PublisherLaneState) → may_
     → IsTakenIn m (found.Newest who slot) (remembered_of m who slot (Some lane))
 newest_taken m who slot lane may stands h h' =
     let f : Found = found.Newest who slot in
-    taken_in m f m.table.words m.links (set m.publishers who (lane_remembers slot lane)) (λ d. refl) h h' (λ d. link_same (slice_get m.links d))
+    taken_in m f m.table.words m.links (set m.publishers who (lane_remembers slot lane)) (λ d. refl) (λ other place. refl) h h' (λ d. link_same (slice_get m.links d))
     (λ d link e. sym (append-nil (given_back m.table d)))
     (λ s word value e. absurd (cc e))
     (λ s word there not. refl)
     (others_grow m f who lane (lane_remembers slot lane) (λ d. refl) stands
-    (newest_grows m f who slot lane (λ d. refl) (ap (λ (b : Bool). slot_if b slot) (itself who)) (λ at. refl) (ap (λ (b : Bool). slot_if b slot) (itself who)) (newest_is slot lane.port.book may).own (h.publishers who lane stands).counted)
-    (λ other e. (ap (λ (b : Bool). slot_if b slot) e, λ at. refl, ap (λ (b : Bool). slot_if b slot) e)))
+    (newest_grows m f who slot lane (λ d. refl) (ap (λ (b : Bool). slot_if b slot) (itself who)) (λ at. refl) (ap (λ (b : Bool). slot_if b slot) (itself who)) (record { slots = refl; loans = refl; node = refl; publisher = refl }) (newest_is slot lane.port.book may).own (h.publishers who lane stands).counted)
+    (λ other e. (ap (λ (b : Bool). slot_if b slot) e, λ at. refl, ap (λ (b : Bool). slot_if b slot) e, (record { slots = refl; loans = refl; node = refl; publisher = refl }))))
     (length-set m.publishers who (lane_remembers slot lane))
 
 -- a word of a slot holds something
 held_taken : (m : World) (slot : ℕ) (word : SlotWord) (value : ℕ) → IsWord m.table.sizes (Slot slot word) → IsWithin m → IsFresh m → IsFresh (record m { table = stored_in m.table (Slot slot word) value })
     → IsTakenIn m (found.Held slot word value) (record m { table = stored_in m.table (Slot slot word) value })
 held_taken m slot word value is w h h' =
-    taken_in m f table'.words m.links m.publishers (λ d. refl) h h' (λ d. link_same (slice_get m.links d))
+    taken_in m f table'.words m.links m.publishers (λ d. refl) (λ other place. refl) h h' (λ d. link_same (slice_get m.links d))
     (λ d link e. ap between (back_stays m.table d m.table.sizes.completion_cells (Store (Slot slot word) value) (back_seat m d link e w h) (is, tt)) ∙ sym (append-nil (given_back m.table d)))
     told
     (λ s other there not. word_stays m.table (Slot slot word) value s other is there (λ same. not value (cc same)))
-    (λ who was now before behind. subst (PublisherGrows m f who was) (some_is was now (sym before ∙ behind)) (none_grows m f who was (λ d. refl) refl (λ place. refl) refl))
+    (λ who was now before behind. subst (PublisherGrows m f who was) (some_is was now (sym before ∙ behind)) (none_grows m f who was (λ d. refl) refl (λ place. refl) refl (record { slots = refl; loans = refl; node = refl; publisher = refl })))
     refl
   where
     f : Found
@@ -316,6 +346,123 @@ held_taken m slot word value is w h h' =
         ap (λ (x : ℕ). held_by table' (Slot x other)) (sym there)
         ∙ ap (λ (x : SlotWord). held_by table' (Slot slot x)) (sym same)
         ∙ get_or-set_same m.table.words (number_of m.table.sizes (Slot slot word)) value 0 below ∙ says
+
+-- what stands at a place of a list's beginning, and of a list that was mapped
+taken_there : {X : Type 0} (n : ℕ) (xs : List X) (i : ℕ) (y : X) → slice_get (take n xs) i ≡ Some y → slice_get xs i ≡ Some y
+taken_there zero [] i y e = absurd (cc)
+taken_there zero (x ∷ xs) i y e = absurd (cc)
+taken_there (suc n) [] i y e = absurd (cc)
+taken_there (suc n) (x ∷ xs) zero y e = e
+taken_there (suc n) (x ∷ xs) (suc i) y e = taken_there n xs i y e
+
+mapped_there : {X Y : Type 0} (g : X → Y) (xs : List X) (i : ℕ) (x : X) → slice_get xs i ≡ Some x → slice_get (map g xs) i ≡ Some (g x)
+mapped_there g [] i x e = absurd (cc)
+mapped_there g (y ∷ ys) zero x e = ap (λ z. Some (g z)) (some_is y x e)
+mapped_there g (y ∷ ys) (suc i) x e = mapped_there g ys i x e
+
+-- a publisher has just its first slots
+slots_taken : (m : World) (who slots most : ℕ) (lane : PublisherLaneState) → MayShrink slots lane → slice_get m.publishers who ≡ Some lane → IsWithin m → IsFresh m → IsFresh (resized_of m who slots most (Some lane))
+    → IsTakenIn m (found.Slots who slots most) (resized_of m who slots most (Some lane))
+slots_taken m who slots most lane may stands w h h' =
+    taken_in m f m.table.words m.links (set m.publishers who now') (λ d. refl) (λ other place. refl) h h' (λ d. link_same (slice_get m.links d))
+    (λ d link e. sym (append-nil (given_back m.table d)))
+    (λ s word value e. absurd (cc e))
+    (λ s word there not. refl)
+    (others_grow m f who lane now' (λ d. refl) stands grows
+    (λ other e. (refl, λ at. refl, refl, record { slots = ap (λ (b : Bool). number_if b slots) e; loans = ap (λ (b : Bool). number_if b most) e; node = refl; publisher = refl })))
+    (length-set m.publishers who now')
+  where
+    f : Found
+    f = found.Slots who slots most
+
+    now' : PublisherLaneState
+    now' = lane_resized slots most lane
+
+    book : BookState
+    book = lane.port.book
+
+    left : NoneFound now'.port.book
+    left = none_left (length lane.port.routes) slots most book may.none
+
+    port : IsPublisher m.table.sizes lane
+    port = all_at (IsPublisher m.table.sizes) m.publishers who lane stands w.publishers
+
+    given : (n : ℕ) → number_with (new_slots f who) n ≡ slots
+    given n = ap (λ (b : Bool). number_with (number_if b slots) n) (itself who)
+
+    each_loan : length book.loans ≡ length book.uses
+    each_loan = (h.publishers who lane stands).counted.loans_each
+
+    grows : PublisherGrows m f who lane now'
+    grows = record {
+      routes = routes_stay m f lane.port.routes (λ d. refl);
+      history = sym (append-nil book.history);
+      referred = λ at s. omega (arith, ap one_if (never_refers book at s may.none), ap one_if (never_refers now'.port.book at s left));
+      uses = λ s. omega (arith, none_uses book s may.none, none_uses now'.port.book s left);
+      slots = length-take-le slots book.uses may.fits ∙ sym (given (length book.uses));
+      marks = length-take-le slots book.loans (omega (arith, may.fits, each_loan)) ∙ sym (given (length book.loans));
+      loans = λ s. all_entries book.first (take slots book.loans) mark.No left.loans s ∙ sym (all_entries book.first book.loans mark.No may.none.loans s);
+      most = sym (ap (λ (b : Bool). number_with (number_if b most) book.most_loans) (itself who));
+      heads = record {
+        each = λ s before behind e e'. subst (HeadSays None None before) (some_is before behind (sym e ∙ taken_there slots lane.heads s behind e')) (head_stays before);
+        as_many = length-take-le slots lane.heads (omega (arith, may.fits, each_loan, port.heads)) ∙ sym (given (length lane.heads));
+      };
+      same = refl;
+    }
+
+-- the headers of a publisher's messages say another node and publisher
+named_says : (node publisher : ℕ) (head : List ℕ) → 1 < length head → HeadSays (Some node) (Some publisher) head (with_origin node publisher head)
+named_says node publisher head wide =
+    let one : List ℕ = set head 0 node in
+    subst (HeadSays (Some node) (Some publisher) head) (sym (choose_one (nat_lt 1 (length head)) (set one 1 publisher) head (lt-ltb 1 (length head) wide))) (record {
+      node = get_or-set_other one 1 0 publisher 0 (λ e. absurd (omega (arith, e))) ∙ get_or-set_same head 0 node 0 (omega (arith, wide));
+      publisher = get_or-set_same one 1 publisher 0 (omega (arith, wide, length-set head 0 node));
+      others = λ word high. get_or-set_other one 1 word publisher 0 (λ e. absurd (omega (arith, high, e))) ∙ get_or-set_other head 0 word node 0 (λ e. absurd (omega (arith, high, e)));
+      as_many = length-set one 1 publisher ∙ length-set head 0 node;
+    })
+
+header_taken : (m : World) (who node publisher : ℕ) (lane : PublisherLaneState) → slice_get m.publishers who ≡ Some lane → IsWithin m → IsFresh m → IsFresh (named_of m who node publisher (Some lane))
+    → IsTakenIn m (found.Header who node publisher) (named_of m who node publisher (Some lane))
+header_taken m who node publisher lane stands w h h' =
+    taken_in m f m.table.words m.links (set m.publishers who now') (λ d. refl) (λ other place. refl) h h' (λ d. link_same (slice_get m.links d))
+    (λ d link e. sym (append-nil (given_back m.table d)))
+    (λ s word value e. absurd (cc e))
+    (λ s word there not. refl)
+    (others_grow m f who lane now' (λ d. refl) stands grows
+    (λ other e. (refl, λ at. refl, refl, record { slots = refl; loans = refl; node = ap (λ (b : Bool). number_if b node) e; publisher = ap (λ (b : Bool). number_if b publisher) e })))
+    (length-set m.publishers who now')
+  where
+    f : Found
+    f = found.Header who node publisher
+
+    now' : PublisherLaneState
+    now' = lane_named node publisher lane
+
+    port : IsPublisher m.table.sizes lane
+    port = all_at (IsPublisher m.table.sizes) m.publishers who lane stands w.publishers
+
+    says : (s : ℕ) (before behind : List ℕ) → slice_get lane.heads s ≡ Some before → slice_get now'.heads s ≡ Some behind → HeadSays (new_node f who) (new_publisher f who) before behind
+    says s before behind e e' =
+        let wide : length before ≡ 3 + m.table.sizes.user_header_words = all_at (λ (head : List ℕ). length head ≡ 3 + m.table.sizes.user_header_words) lane.heads s before e port.widths in
+        let is : with_origin node publisher before ≡ behind = some_is (with_origin node publisher before) behind (sym (mapped_there (with_origin node publisher) lane.heads s before e) ∙ e') in
+        subst (HeadSays (new_node f who) (new_publisher f who) before) is
+        (subst (λ (n : Option ℕ). HeadSays n (new_publisher f who) before (with_origin node publisher before)) (sym (ap (λ (b : Bool). number_if b node) (itself who)))
+        (subst (λ (p : Option ℕ). HeadSays (Some node) p before (with_origin node publisher before)) (sym (ap (λ (b : Bool). number_if b publisher) (itself who)))
+        (named_says node publisher before (omega (arith, wide)))))
+
+    grows : PublisherGrows m f who lane now'
+    grows = record {
+      routes = routes_stay m f lane.port.routes (λ d. refl);
+      history = sym (append-nil lane.port.book.history);
+      referred = λ at s. omega arith;
+      uses = λ s. omega arith;
+      slots = refl;
+      marks = refl;
+      loans = λ s. refl;
+      most = refl;
+      heads = record { each = says; as_many = length-map lane.heads (with_origin node publisher) };
+      same = refl;
+    }
 
 -- what is taken in, of each kind
 waits_taken : (m : World) (who place slot : ℕ) (at : Option PublisherLaneState) → slice_get m.publishers who ≡ at → waits_of m place slot at ≡ true → IsWithin m → IsFresh m → IsFresh (waiting_of m who place slot (slice_get m.publishers who))
@@ -338,6 +485,20 @@ lasts_taken m who slot None e fit h h' = absurd (cc fit)
 lasts_taken m who slot (Some lane) e fit h h' =
     subst (IsTakenIn m (found.Newest who slot)) (sym (ap (remembered_of m who slot) e)) (newest_taken m who slot lane fit e h (subst IsFresh (ap (remembered_of m who slot) e) h'))
 
+sizes_taken : (m : World) (who slots most : ℕ) (at : Option PublisherLaneState) → slice_get m.publishers who ≡ at → resizes_of slots at ≡ true → IsWithin m → IsFresh m → IsFresh (resized_of m who slots most (slice_get m.publishers who))
+    → IsTakenIn m (found.Slots who slots most) (resized_of m who slots most (slice_get m.publishers who))
+sizes_taken m who slots most None e fit w h h' = absurd (cc fit)
+sizes_taken m who slots most (Some lane) e fit w h h' =
+    subst (IsTakenIn m (found.Slots who slots most)) (sym (ap (resized_of m who slots most) e))
+    (slots_taken m who slots most lane (may_shrink_is m who slots lane fit e h) e w h (subst IsFresh (ap (resized_of m who slots most) e) h'))
+
+names_taken : (m : World) (who node publisher : ℕ) (at : Option PublisherLaneState) → slice_get m.publishers who ≡ at → is_there at ≡ true → IsWithin m → IsFresh m → IsFresh (named_of m who node publisher (slice_get m.publishers who))
+    → IsTakenIn m (found.Header who node publisher) (named_of m who node publisher (slice_get m.publishers who))
+names_taken m who node publisher None e fit w h h' = absurd (cc fit)
+names_taken m who node publisher (Some lane) e fit w h h' =
+    subst (IsTakenIn m (found.Header who node publisher)) (sym (ap (named_of m who node publisher) e))
+    (header_taken m who node publisher lane e w h (subst IsFresh (ap (named_of m who node publisher) e) h'))
+
 now_taken : (m : World) (f : Found) → finds_now m f ≡ true → IsWithin m → IsFresh m → IsFresh (with_found m f) → IsTakenIn m f (with_found m f)
 now_taken m (found.Waiting publisher place slot) fit w h h' = waits_taken m publisher place slot (slice_get m.publishers publisher) refl fit w h h'
 now_taken m (found.GivenBack publisher place slot) fit w h h' = backs_taken m publisher place slot (slice_get m.publishers publisher) refl fit w h h'
@@ -345,6 +506,9 @@ now_taken m (found.Newest publisher slot) fit w h h' = lasts_taken m publisher s
 now_taken m (found.Held slot word value) fit w h h' =
     held_taken m slot word value (word_there m.table.sizes slot word (and_left (nat_lt slot m.table.sizes.slots) (has_word m.table.sizes word) fit) (and_right (nat_lt slot m.table.sizes.slots) (has_word m.table.sizes word) fit)) w h h'
 now_taken m (found.Buffer publisher place messages) fit w h h' = buffers_taken m publisher place messages (slice_get m.publishers publisher) refl fit w h h'
+now_taken m (found.Slots publisher slots most_loans) fit w h h' = sizes_taken m publisher slots most_loans (slice_get m.publishers publisher) refl fit w h h'
+now_taken m (found.Header publisher node_id publisher_id) fit w h h' = names_taken m publisher node_id publisher_id (slice_get m.publishers publisher) refl fit w h h'
+now_taken m (found.Swapped subscriber one other) fit w h h' = swaps_taken m subscriber one other (slice_get m.subscribers subscriber) refl fit
 
 -- what the tests of a finding say: where it may be found
 stands_is : (m : World) (who place slot : ℕ) (lane : PublisherLaneState) (is : MayBeBack m place slot lane) → slice_get m.publishers who ≡ Some lane → IsFresh m → MayStand m who place slot
@@ -385,6 +549,25 @@ lasts_may m who slot (Some lane) e fit =
     let is = newest_is slot lane.port.book fit in
     record { lane = lane; publisher = e; own = is.own; lacks = is.none; room = is.room }
 
+sizes_may : (m : World) (who slots : ℕ) (at : Option PublisherLaneState) → slice_get m.publishers who ≡ at → resizes_of slots at ≡ true → IsFresh m → MayHaveSlots m who slots
+sizes_may m who slots None e fit h = absurd (cc fit)
+sizes_may m who slots (Some lane) e fit h =
+    let is = may_shrink_is m who slots lane fit e h in
+    record {
+      lane = lane;
+      publisher = e;
+      fits = is.fits;
+      no_history = is.none.history;
+      empty = λ place route link at there.
+          let has = (h.publishers who lane e).has place route link at there in
+          let never : (x : ℕ) → one_if (refers_to lane.port.book place x) ≡ 0 = λ x. ap one_if (never_refers lane.port.book place x is.none) in
+          (uncounted link.found (λ x. omega (arith, has x, never x)), uncounted (given_back m.table route.connection) (λ x. omega (arith, has x, never x)));
+    }
+
+names_may : (m : World) (who : ℕ) (at : Option PublisherLaneState) → slice_get m.publishers who ≡ at → is_there at ≡ true → (lane : PublisherLaneState) × (slice_get m.publishers who ≡ Some lane)
+names_may m who None e fit = absurd (cc fit)
+names_may m who (Some lane) e fit = (lane, e)
+
 may_now : (m : World) (f : Found) → finds_now m f ≡ true → IsFresh m → MayBeFound m f
 may_now m (found.Waiting publisher place slot) fit h = waits_may m publisher place slot (slice_get m.publishers publisher) refl fit h
 may_now m (found.GivenBack publisher place slot) fit h = backs_may m publisher place slot (slice_get m.publishers publisher) refl fit h
@@ -392,6 +575,9 @@ may_now m (found.Newest publisher slot) fit h = lasts_may m publisher slot (slic
 may_now m (found.Held slot word value) fit h =
     word_there m.table.sizes slot word (and_left (nat_lt slot m.table.sizes.slots) (has_word m.table.sizes word) fit) (and_right (nat_lt slot m.table.sizes.slots) (has_word m.table.sizes word) fit)
 may_now m (found.Buffer publisher place messages) fit h = buffers_may m publisher place messages (slice_get m.publishers publisher) refl fit h
+may_now m (found.Slots publisher slots most_loans) fit h = sizes_may m publisher slots (slice_get m.publishers publisher) refl fit h
+may_now m (found.Header publisher node_id publisher_id) fit h = names_may m publisher (slice_get m.publishers publisher) refl fit
+may_now m (found.Swapped subscriber one other) fit h = swaps_may m subscriber one other (slice_get m.subscribers subscriber) refl fit
 
 pub may_first : (m : World) (f : Found) → finds m f ≡ true → IsKept m → IsFirst m f
 may_first m f fit k = let now = finds_first m f fit in record { first = now.0; may = may_now m f now.1 (k.fresh now.0) }
@@ -451,15 +637,36 @@ word_says sizes slot (Header word) is = lt-ltb word 3 is.1
 word_says sizes slot (UserHeader word) is = lt-ltb word sizes.user_header_words is.1
 word_says sizes slot (Payload word) is = lt-ltb word sizes.payload_words is.1
 
-now_says : (m : World) (f : Found) → MayBeFound m f → IsFresh m → finds_now m f ≡ true
-now_says m (found.Waiting publisher place slot) is h = waits_say m publisher place slot is h
-now_says m (found.GivenBack publisher place slot) is h = backs_say m publisher place slot is h
-now_says m (found.Newest publisher slot) is h = lasts_say m publisher slot is
-now_says m (found.Held slot word value) is h = both (nat_lt slot m.table.sizes.slots) (has_word m.table.sizes word) (lt-ltb slot m.table.sizes.slots is.0) (word_says m.table.sizes slot word is)
-now_says m (found.Buffer publisher place messages) is h = buffers_say m publisher place messages is h
+there_is : {X : Type 0} (xs : List X) (i : ℕ) → i < length xs → (x : X) × (slice_get xs i ≡ Some x)
+there_is [] i below = absurd (omega (arith, below))
+there_is (x ∷ xs) zero below = (x, refl)
+there_is (x ∷ xs) (suc i) below = there_is xs i (omega (arith, below))
+
+sizes_say : (m : World) (who slots : ℕ) → MayHaveSlots m who slots → IsWithin m → IsFresh m → resizes_of slots (slice_get m.publishers who) ≡ true
+sizes_say m who slots is w h =
+    let lane : PublisherLaneState = is.lane in
+    let book : BookState = lane.port.book in
+    let own = h.publishers who lane is.publisher in
+    ap (resizes_of slots) is.publisher
+    ∙ both (nat_le slots (length book.uses)) (are_unused book.uses) (le-leb slots (length book.uses) is.fits)
+    (all_unused (length lane.port.routes) book own.counted own.unlent is.no_history (λ place slot below.
+    let route = there_is lane.port.routes place below in
+    let link : IsLinkOf m.links sender who route.0 = all_at (IsLinkOf m.links sender who) lane.port.routes place route.0 route.1 (w.senders who lane is.publisher) in
+    let empty = is.empty place route.0 link.link route.1 link.found in
+    none_is (refers_to book place slot) (omega (arith, own.has place route.0 link.link route.1 link.found slot, ap (λ (xs : List ℕ). count slot xs) empty.0, ap (λ (xs : List ℕ). count slot xs) empty.1))))
+
+now_says : (m : World) (f : Found) → MayBeFound m f → IsWithin m → IsFresh m → finds_now m f ≡ true
+now_says m (found.Waiting publisher place slot) is w h = waits_say m publisher place slot is h
+now_says m (found.GivenBack publisher place slot) is w h = backs_say m publisher place slot is h
+now_says m (found.Newest publisher slot) is w h = lasts_say m publisher slot is
+now_says m (found.Held slot word value) is w h = both (nat_lt slot m.table.sizes.slots) (has_word m.table.sizes word) (lt-ltb slot m.table.sizes.slots is.0) (word_says m.table.sizes slot word is)
+now_says m (found.Buffer publisher place messages) is w h = buffers_say m publisher place messages is h
+now_says m (found.Slots publisher slots most_loans) is w h = sizes_say m publisher slots is w h
+now_says m (found.Header publisher node_id publisher_id) is w h = ap is_there is.1
+now_says m (found.Swapped subscriber one other) is w h = swaps_say m subscriber one other is
 
 first_says : (m : World) (f : Found) → IsFirst m f → IsKept m → finds m f ≡ true
-first_says m f is k = both (m.moments == 0) (finds_now m f) (ap (λ (n : ℕ). n == 0) is.first) (now_says m f is.may (k.fresh is.first))
+first_says m f is k = both (m.moments == 0) (finds_now m f) (ap (λ (n : ℕ). n == 0) is.first) (now_says m f is.may k.within (k.fresh is.first))
 
 -- the law
 pub takes_in : (m : World) (f : Found) (answer : Bool) (n : World) → FindsTo m f answer n → IsKept m → TakesIn m f answer n

@@ -1,4 +1,4 @@
--- What lanes may find before their first step, and what that makes of them: messages that wait, samples given back, histories, what slots hold, and buffers of connections.
+-- What lanes may find before their first step, and what that makes of them: messages that wait, samples given back, histories, what slots hold, buffers of connections, slots and headers of publishers, and places of connections.
 use Rattle.std.specs.Prelude.{ℕ, ◌≡◌, ◌-◌, ◌==◌, ◌&&◌, Bool, true, false, nat_lt, nat_le, List, [], ◌∷◌, ◌++◌, length, set, slice_get, Option, Some, None}
 use Rattle.iox_lanes_ledger.specs.QueuesSteps.Access.{successor}
 use Rattle.iox_lanes_ledger.specs.QueuesSteps.declared.access.Word.TheVariants.{Write, Cell}
@@ -11,8 +11,8 @@ use Rattle.iox_lanes_ledger.specs.LanesWords.declared.word.SlotWord.{SlotWord}
 use Rattle.iox_lanes_ledger.specs.LanesWords.declared.word.SlotWord.TheVariants.{Header, UserHeader, Payload}
 use Rattle.iox_lanes_ledger.specs.LanesWords.declared.word.SharedWord.TheVariants.{Ring, Slot}
 use Rattle.iox_lanes_ledger.specs.LanesCalls.declared.route.Route.{Route}
-use Rattle.iox_lanes_ledger.specs.LanesPublisher.Keeping.{may_have, may_remember}
-use Rattle.iox_lanes_ledger.specs.LanesParties.Parties.{PublisherLaneState, SubscriberLaneState, lane_found, lane_remembers, lane_meets, receiver_meets}
+use Rattle.iox_lanes_ledger.specs.LanesPublisher.Keeping.{may_have, may_remember, may_resize}
+use Rattle.iox_lanes_ledger.specs.LanesParties.Parties.{PublisherLaneState, SubscriberLaneState, lane_found, lane_remembers, lane_resized, lane_named, lane_meets, receiver_meets, receiver_swapped}
 use Rattle.iox_lanes_machine.specs.Links.{LinkState}
 use Rattle.iox_lanes_machine.specs.World.{World}
 use Rattle.iox_lanes_machine.specs.declared.found.Found.{Found}
@@ -80,6 +80,21 @@ abbrev pub buffers_of : World → ℕ → ℕ → Option PublisherLaneState → 
 buffers_of m place messages None = false
 buffers_of m place messages (Some lane) = buffers_at m messages (slice_get lane.port.routes place)
 
+-- a publisher that is there may have so many slots
+abbrev pub resizes_of : ℕ → Option PublisherLaneState → Bool
+resizes_of slots None = false
+resizes_of slots (Some lane) = may_resize slots lane.port.book
+
+-- a publisher is there
+abbrev pub is_there : Option PublisherLaneState → Bool
+is_there None = false
+is_there (Some lane) = true
+
+-- a subscriber that is there has connections at two places
+abbrev pub swaps_of : ℕ → ℕ → Option SubscriberLaneState → Bool
+swaps_of one other None = false
+swaps_of one other (Some lane) = nat_lt one (length lane.port.routes) && nat_lt other (length lane.port.routes)
+
 -- a slot has the word
 abbrev pub has_word : TableSizes → SlotWord → Bool
 has_word sizes (Header word) = nat_lt word 3
@@ -93,6 +108,9 @@ finds_now m (found.GivenBack publisher place slot) = back_of m place slot (slice
 finds_now m (found.Newest publisher slot) = newest_of slot (slice_get m.publishers publisher)
 finds_now m (found.Held slot word value) = nat_lt slot m.table.sizes.slots && has_word m.table.sizes word
 finds_now m (found.Buffer publisher place messages) = buffers_of m place messages (slice_get m.publishers publisher)
+finds_now m (found.Slots publisher slots most_loans) = resizes_of slots (slice_get m.publishers publisher)
+finds_now m (found.Header publisher node_id publisher_id) = is_there (slice_get m.publishers publisher)
+finds_now m (found.Swapped subscriber one other) = swaps_of one other (slice_get m.subscribers subscriber)
 
 -- what may be found: before the first step alone
 abbrev pub finds : World → Found → Bool
@@ -167,6 +185,21 @@ abbrev pub buffered_of : World → ℕ → ℕ → ℕ → Option PublisherLaneS
 buffered_of m publisher place messages None = m
 buffered_of m publisher place messages (Some lane) = buffered_at m publisher messages lane (slice_get lane.port.routes place)
 
+-- a publisher has just its first slots, and so many of its loans may be out
+abbrev pub resized_of : World → ℕ → ℕ → ℕ → Option PublisherLaneState → World
+resized_of m publisher slots most_loans None = m
+resized_of m publisher slots most_loans (Some lane) = record m { publishers = set m.publishers publisher (lane_resized slots most_loans lane) }
+
+-- the headers of a publisher's messages say this node and this publisher
+abbrev pub named_of : World → ℕ → ℕ → ℕ → Option PublisherLaneState → World
+named_of m publisher node_id publisher_id None = m
+named_of m publisher node_id publisher_id (Some lane) = record m { publishers = set m.publishers publisher (lane_named node_id publisher_id lane) }
+
+-- two connections of a subscriber change places
+abbrev pub swapped_of : World → ℕ → ℕ → ℕ → Option SubscriberLaneState → World
+swapped_of m subscriber one other None = m
+swapped_of m subscriber one other (Some lane) = record m { subscribers = set m.subscribers subscriber (receiver_swapped one other lane) }
+
 -- the lanes with what was found
 abbrev pub with_found : World → Found → World
 with_found m (found.Waiting publisher place slot) = waiting_of m publisher place slot (slice_get m.publishers publisher)
@@ -174,6 +207,9 @@ with_found m (found.GivenBack publisher place slot) = given_of m publisher place
 with_found m (found.Newest publisher slot) = remembered_of m publisher slot (slice_get m.publishers publisher)
 with_found m (found.Held slot word value) = record m { table = stored_in m.table (Slot slot word) value }
 with_found m (found.Buffer publisher place messages) = buffered_of m publisher place messages (slice_get m.publishers publisher)
+with_found m (found.Slots publisher slots most_loans) = resized_of m publisher slots most_loans (slice_get m.publishers publisher)
+with_found m (found.Header publisher node_id publisher_id) = named_of m publisher node_id publisher_id (slice_get m.publishers publisher)
+with_found m (found.Swapped subscriber one other) = swapped_of m subscriber one other (slice_get m.subscribers subscriber)
 
 -- what a finding answers, and what it leaves
 abbrev pub FindsTo : World → Found → Bool → World → Type 0

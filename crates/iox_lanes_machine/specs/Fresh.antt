@@ -34,6 +34,7 @@ pub record IsFreshPublisher (m : World) (who : ℕ) (lane : PublisherLaneState) 
   pub round : GoesRound m.table.sizes.completion_cells lane.port.routes
   pub counted : UsesCounted (length lane.port.routes) lane.port.book
   pub counts : CountsLoans lane.port.book
+  pub none_out : lane.port.book.out ≡ 0
   pub unlent : (slot : ℕ) → is_out (entry lane.port.book.first lane.port.book.loans slot mark.No) ≡ false
   pub has : HasFound m lane
 

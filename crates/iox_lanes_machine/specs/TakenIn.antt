@@ -1,6 +1,6 @@
--- What it takes for lanes to take in a finding, and what it adds to what they hold: to the messages that wait at a connection, the samples given back there, a history, a word of a slot, or the buffer
--- of a connection.
-use Rattle.std.specs.Prelude.{ℕ, ◌≡◌, ◌+◌, ◌<◌, ◌≤◌, ◌==◌, ◌&&◌, Bool, true, false, List, [], ◌∷◌, ◌++◌, length, slice_get, Option, Some, None}
+-- What it takes for lanes to take in a finding, and what it adds to what they hold: to the messages that wait at a connection, the samples given back there, a history, a word of a slot, the buffer
+-- of a connection, the slots or the headers of a publisher, or the places of a subscriber's connections.
+use Rattle.std.specs.Prelude.{ℕ, ◌≡◌, ◌+◌, ◌<◌, ◌≤◌, ◌==◌, ◌&&◌, if◌then◌else◌, Bool, true, false, List, [], ◌∷◌, ◌++◌, length, get_or, slice_get, Option, Some, None}
 use Rattle.iox_lanes_ledger.specs.QueuesSteps.Access.{RingWords}
 use Rattle.iox_lanes_ledger.specs.QueuesRings.Ends.{cells_of}
 use Rattle.iox_lanes_ledger.specs.LanesWords.Numbers.{IsWord}
@@ -8,6 +8,7 @@ use Rattle.iox_lanes_ledger.specs.LanesWords.Table.{held_by}
 use Rattle.iox_lanes_ledger.specs.LanesWords.declared.word.SlotWord.{SlotWord}
 use Rattle.iox_lanes_ledger.specs.LanesWords.declared.word.SharedWord.TheVariants.{Slot}
 use Rattle.iox_lanes_ledger.specs.LanesCalls.declared.route.Route.{Route}
+use Rattle.iox_lanes_ledger.specs.LanesPublisher.Keeping.{loan_of}
 use Rattle.iox_lanes_ledger.specs.LanesParties.Parties.{PublisherLaneState, SubscriberLaneState}
 use Rattle.iox_lanes_ledger.specs.Borrowing.{is_at}
 use Rattle.iox_lanes_ledger.specs.Stored.{between}
@@ -60,13 +61,31 @@ pub record MayHaveBuffer (m : World) (who place messages : ℕ) : Type 0 where
   pub no_message : link.found ≡ []
   pub no_sample : given_back m.table route.connection ≡ []
 
--- what may be found, if it is before the first step; of a word, all that it takes is that the slot has it
+-- A publisher may be found to have so many slots: no more than it has, and nothing was found of it yet: its history is empty, and at its connections nothing waits, nor was anything given back.
+pub record MayHaveSlots (m : World) (who slots : ℕ) : Type 0 where
+  pub lane : PublisherLaneState
+  pub publisher : slice_get m.publishers who ≡ Some lane
+  pub fits : slots ≤ length lane.port.book.uses
+  pub no_history : lane.port.book.history ≡ []
+  pub empty : (place : ℕ) (route : Route) (link : LinkState) → slice_get lane.port.routes place ≡ Some route → slice_get m.links route.connection ≡ Some link → (link.found ≡ []) × (given_back m.table route.connection ≡ [])
+
+-- the connections at two places of a subscriber may change places: it has both
+pub record MayChangePlaces (m : World) (who one other : ℕ) : Type 0 where
+  pub lane : SubscriberLaneState
+  pub subscriber : slice_get m.subscribers who ≡ Some lane
+  pub has_one : one < length lane.port.routes
+  pub has_other : other < length lane.port.routes
+
+-- what may be found, if it is before the first step; of a word, all that it takes is that the slot has it, and of headers that the publisher is there
 abbrev pub MayBeFound : World → Found → Type 0
 MayBeFound m (found.Waiting publisher place slot) = MayBeMessage m publisher place slot
 MayBeFound m (found.GivenBack publisher place slot) = MayStand m publisher place slot
 MayBeFound m (found.Newest publisher slot) = MayBeNewest m publisher slot
 MayBeFound m (found.Held slot word value) = IsWord m.table.sizes (Slot slot word)
 MayBeFound m (found.Buffer publisher place messages) = MayHaveBuffer m publisher place messages
+MayBeFound m (found.Slots publisher slots most_loans) = MayHaveSlots m publisher slots
+MayBeFound m (found.Header publisher node_id publisher_id) = (lane : PublisherLaneState) × (slice_get m.publishers publisher ≡ Some lane)
+MayBeFound m (found.Swapped subscriber one other) = MayChangePlaces m subscriber one other
 
 -- what may be found: before the first step alone
 pub record IsFirst (m : World) (f : Found) : Type 0 where
@@ -90,6 +109,9 @@ more_messages m (found.GivenBack publisher place slot) connection = []
 more_messages m (found.Newest publisher slot) connection = []
 more_messages m (found.Held slot word value) connection = []
 more_messages m (found.Buffer publisher place messages) connection = []
+more_messages m (found.Slots publisher slots most_loans) connection = []
+more_messages m (found.Header publisher node_id publisher_id) connection = []
+more_messages m (found.Swapped subscriber one other) connection = []
 
 -- what it adds to the samples given back there
 abbrev pub more_samples : World → Found → ℕ → List ℕ
@@ -98,6 +120,9 @@ more_samples m (found.GivenBack publisher place slot) connection = slot_if (lead
 more_samples m (found.Newest publisher slot) connection = []
 more_samples m (found.Held slot word value) connection = []
 more_samples m (found.Buffer publisher place messages) connection = []
+more_samples m (found.Slots publisher slots most_loans) connection = []
+more_samples m (found.Header publisher node_id publisher_id) connection = []
+more_samples m (found.Swapped subscriber one other) connection = []
 
 -- what it adds to the history of a publisher
 abbrev pub more_history : Found → ℕ → List ℕ
@@ -106,6 +131,9 @@ more_history (found.GivenBack publisher place slot) who = []
 more_history (found.Newest publisher slot) who = slot_if (publisher == who) slot
 more_history (found.Held slot word value) who = []
 more_history (found.Buffer publisher place messages) who = []
+more_history (found.Slots publisher slots most_loans) who = []
+more_history (found.Header publisher node_id publisher_id) who = []
+more_history (found.Swapped subscriber one other) who = []
 
 -- what it adds to what a publisher's record says that the connection at a place has
 abbrev pub more_referred : Found → ℕ → ℕ → List ℕ
@@ -114,6 +142,9 @@ more_referred (found.GivenBack publisher place slot) who at = slot_if ((publishe
 more_referred (found.Newest publisher slot) who at = []
 more_referred (found.Held slot word value) who at = []
 more_referred (found.Buffer publisher place messages) who at = []
+more_referred (found.Slots publisher slots most_loans) who at = []
+more_referred (found.Header publisher node_id publisher_id) who at = []
+more_referred (found.Swapped subscriber one other) who at = []
 
 -- the slot of a publisher to which it adds a use
 abbrev pub more_uses : Found → ℕ → List ℕ
@@ -122,11 +153,14 @@ more_uses (found.GivenBack publisher place slot) who = slot_if (publisher == who
 more_uses (found.Newest publisher slot) who = slot_if (publisher == who) slot
 more_uses (found.Held slot word value) who = []
 more_uses (found.Buffer publisher place messages) who = []
+more_uses (found.Slots publisher slots most_loans) who = []
+more_uses (found.Header publisher node_id publisher_id) who = []
+more_uses (found.Swapped subscriber one other) who = []
 
--- a number of messages, if the test holds
-abbrev pub messages_if : Bool → ℕ → Option ℕ
-messages_if true messages = Some messages
-messages_if false messages = None
+-- a number, if the test holds
+abbrev pub number_if : Bool → ℕ → Option ℕ
+number_if true number = Some number
+number_if false number = None
 
 -- the buffer that a finding gives to a connection, if it gives it one
 abbrev pub new_buffer : World → Found → ℕ → Option ℕ
@@ -134,21 +168,88 @@ new_buffer m (found.Waiting publisher place slot) connection = None
 new_buffer m (found.GivenBack publisher place slot) connection = None
 new_buffer m (found.Newest publisher slot) connection = None
 new_buffer m (found.Held slot word value) connection = None
-new_buffer m (found.Buffer publisher place messages) connection = messages_if (leads_of (slice_get m.publishers publisher) place connection) messages
+new_buffer m (found.Buffer publisher place messages) connection = number_if (leads_of (slice_get m.publishers publisher) place connection) messages
+new_buffer m (found.Slots publisher slots most_loans) connection = None
+new_buffer m (found.Header publisher node_id publisher_id) connection = None
+new_buffer m (found.Swapped subscriber one other) connection = None
 
--- how many messages may wait at a connection then
-abbrev pub limit_with : Option ℕ → ℕ → ℕ
-limit_with None limit = limit
-limit_with (Some messages) limit = messages
+-- a number that a finding gives, or else the one that stood
+abbrev pub number_with : Option ℕ → ℕ → ℕ
+number_with None number = number
+number_with (Some given) number = given
 
 -- a connection as its port knows it then: so many messages may wait, and its ring has just the cells that it needs for them
 abbrev pub route_with : Option ℕ → Route → Route
 route_with None route = route
 route_with (Some messages) route = record route { limit = messages; submission_cells = cells_of route.kind messages }
 
--- so a port knows each of its connections, and nothing else of them changes
-pub record RoutesKnow (m : World) (f : Found) (was now : List Route) : Type 0 where
-  pub each : (place : ℕ) (route : Route) → slice_get was place ≡ Some route → slice_get now place ≡ Some (route_with (new_buffer m f route.connection) route)
+-- how many slots a finding gives to a publisher, if it gives it any number of them
+abbrev pub new_slots : Found → ℕ → Option ℕ
+new_slots (found.Waiting publisher place slot) who = None
+new_slots (found.GivenBack publisher place slot) who = None
+new_slots (found.Newest publisher slot) who = None
+new_slots (found.Held slot word value) who = None
+new_slots (found.Buffer publisher place messages) who = None
+new_slots (found.Slots publisher slots most_loans) who = number_if (publisher == who) slots
+new_slots (found.Header publisher node_id publisher_id) who = None
+new_slots (found.Swapped subscriber one other) who = None
+
+-- how many of its loans may be out then
+abbrev pub new_loans : Found → ℕ → Option ℕ
+new_loans (found.Waiting publisher place slot) who = None
+new_loans (found.GivenBack publisher place slot) who = None
+new_loans (found.Newest publisher slot) who = None
+new_loans (found.Held slot word value) who = None
+new_loans (found.Buffer publisher place messages) who = None
+new_loans (found.Slots publisher slots most_loans) who = number_if (publisher == who) most_loans
+new_loans (found.Header publisher node_id publisher_id) who = None
+new_loans (found.Swapped subscriber one other) who = None
+
+-- the node that the headers of its messages say then
+abbrev pub new_node : Found → ℕ → Option ℕ
+new_node (found.Waiting publisher place slot) who = None
+new_node (found.GivenBack publisher place slot) who = None
+new_node (found.Newest publisher slot) who = None
+new_node (found.Held slot word value) who = None
+new_node (found.Buffer publisher place messages) who = None
+new_node (found.Slots publisher slots most_loans) who = None
+new_node (found.Header publisher node_id publisher_id) who = number_if (publisher == who) node_id
+new_node (found.Swapped subscriber one other) who = None
+
+-- and the publisher
+abbrev pub new_publisher : Found → ℕ → Option ℕ
+new_publisher (found.Waiting publisher place slot) who = None
+new_publisher (found.GivenBack publisher place slot) who = None
+new_publisher (found.Newest publisher slot) who = None
+new_publisher (found.Held slot word value) who = None
+new_publisher (found.Buffer publisher place messages) who = None
+new_publisher (found.Slots publisher slots most_loans) who = None
+new_publisher (found.Header publisher node_id publisher_id) who = number_if (publisher == who) publisher_id
+new_publisher (found.Swapped subscriber one other) who = None
+
+-- the place at which a connection stood that stands at a place now, if those at two places changed places
+abbrev pub other_place : ℕ → ℕ → ℕ → ℕ
+other_place one other place = if place == one then other else if place == other then one else place
+
+-- so it is if the test holds
+abbrev pub place_if : Bool → ℕ → ℕ → ℕ → ℕ
+place_if true one other place = other_place one other place
+place_if false one other place = place
+
+-- the place at which a connection of a subscriber stood that stands at a place behind a finding
+abbrev pub place_before : Found → ℕ → ℕ → ℕ
+place_before (found.Waiting publisher place slot) who at = at
+place_before (found.GivenBack publisher place slot) who at = at
+place_before (found.Newest publisher slot) who at = at
+place_before (found.Held slot word value) who at = at
+place_before (found.Buffer publisher place messages) who at = at
+place_before (found.Slots publisher slots most_loans) who at = at
+place_before (found.Header publisher node_id publisher_id) who at = at
+place_before (found.Swapped subscriber one other) who at = place_if (subscriber == who) one other at
+
+-- so a port knows each of its connections, each at the place that it has then, and nothing else of them changes
+pub record RoutesKnow (m : World) (f : Found) (before : ℕ → ℕ) (was now : List Route) : Type 0 where
+  pub each : (place : ℕ) (route : Route) → slice_get was (before place) ≡ Some route → slice_get now place ≡ Some (route_with (new_buffer m f route.connection) route)
   pub as_many : length now ≡ length was
 
 -- these slots stand in a ring behind those that stood there, and it begins where it began
@@ -160,33 +261,57 @@ pub record RingGrows (was now : RingWords) (more : List ℕ) : Type 0 where
 -- a link at which these slots wait too, and that may have another buffer
 abbrev pub link_with : List ℕ → Option ℕ → Option LinkState → Option LinkState
 link_with more buffer None = None
-link_with more buffer (Some link) = Some (record link { found = link.found ++ more; limit = limit_with buffer link.limit })
+link_with more buffer (Some link) = Some (record link { found = link.found ++ more; limit = number_with buffer link.limit })
 
--- the history of a publisher, what its record says of its connections and the uses of its slots have more, and it knows the buffers of its connections; nothing else of it changes
+-- a header says the node and the publisher that a finding gives it, if it gives it any; of its other words none changes
+pub record HeadSays (node_id publisher_id : Option ℕ) (was now : List ℕ) : Type 0 where
+  pub node : get_or now 0 0 ≡ number_with node_id (get_or was 0 0)
+  pub publisher : get_or now 1 0 ≡ number_with publisher_id (get_or was 1 0)
+  pub others : (word : ℕ) → 1 < word → get_or now word 0 ≡ get_or was word 0
+  pub as_many : length now ≡ length was
+
+-- so it is with the headers of a publisher's slots, of which there are as many as it has slots then
+pub record HeadsSay (f : Found) (who : ℕ) (was now : List (List ℕ)) : Type 0 where
+  pub each : (slot : ℕ) (before behind : List ℕ) → slice_get was slot ≡ Some before → slice_get now slot ≡ Some behind → HeadSays (new_node f who) (new_publisher f who) before behind
+  pub as_many : length now ≡ number_with (new_slots f who) (length was)
+
+-- The history of a publisher, what its record says of its connections and the uses of its slots have more; it has as many slots as it is given, may have as many loans out, and no other slot becomes
+-- a loan; it knows the buffers of its connections, and its headers say what they are given. Nothing else of it changes.
 pub record PublisherGrows (m : World) (f : Found) (who : ℕ) (was now : PublisherLaneState) : Type 0 where
-  pub routes : RoutesKnow m f was.port.routes now.port.routes
+  pub routes : RoutesKnow m f (λ place. place) was.port.routes now.port.routes
   pub history : now.port.book.history ≡ was.port.book.history ++ more_history f who
   pub referred : (place slot : ℕ) → one_if (refers_to now.port.book place slot) ≡ one_if (refers_to was.port.book place slot) + count slot (more_referred f who place)
   pub uses : (slot : ℕ) → entry now.port.book.first now.port.book.uses slot 0 ≡ entry was.port.book.first was.port.book.uses slot 0 + count slot (more_uses f who)
-  pub same : now ≡ record was { port = record was.port { routes = now.port.routes; book = record was.port.book { history = now.port.book.history; referred = now.port.book.referred; uses = now.port.book.uses } } }
+  pub slots : length now.port.book.uses ≡ number_with (new_slots f who) (length was.port.book.uses)
+  pub marks : length now.port.book.loans ≡ number_with (new_slots f who) (length was.port.book.loans)
+  pub loans : (slot : ℕ) → loan_of slot now.port.book ≡ loan_of slot was.port.book
+  pub most : now.port.book.most_loans ≡ number_with (new_loans f who) was.port.book.most_loans
+  pub heads : HeadsSay f who was.heads now.heads
+  pub same : now ≡ record was {
+    heads = now.heads;
+    port = record was.port {
+      routes = now.port.routes;
+      book = record was.port.book { most_loans = now.port.book.most_loans; loans = now.port.book.loans; history = now.port.book.history; referred = now.port.book.referred; uses = now.port.book.uses };
+    };
+  }
 
--- a subscriber knows the buffers of its connections; nothing else of it changes
-pub record SubscriberKnows (m : World) (f : Found) (was now : SubscriberLaneState) : Type 0 where
-  pub routes : RoutesKnow m f was.port.routes now.port.routes
+-- a subscriber knows the buffers of its connections, each at its place; nothing else of it changes
+pub record SubscriberKnows (m : World) (f : Found) (who : ℕ) (was now : SubscriberLaneState) : Type 0 where
+  pub routes : RoutesKnow m f (place_before f who) was.port.routes now.port.routes
   pub same : now ≡ record was { port = record was.port { routes = now.port.routes } }
 
--- Lanes that took in a finding: it stands at the end of the list that it is about, or the word that it is about holds what it says, or the connection that it is about has the buffer at both its ends; and all else is as it was.
+-- Lanes that took in a finding: it stands at the end of the list that it is about, or the word that it is about holds what it says, or the connection, the publisher or the subscriber that it is about has what it says; and all else is as it was.
 pub record IsTakenIn (m : World) (f : Found) (n : World) : Type 0 where
   pub links : (connection : ℕ) → slice_get n.links connection ≡ link_with (more_messages m f connection) (new_buffer m f connection) (slice_get m.links connection)
   pub messages : (connection : ℕ) (link : LinkState) → slice_get m.links connection ≡ Some link
-      → RingGrows (ring_in m.table connection (cells_of link.kind link.limit)) (ring_in n.table connection (cells_of link.kind (limit_with (new_buffer m f connection) link.limit))) (more_messages m f connection)
+      → RingGrows (ring_in m.table connection (cells_of link.kind link.limit)) (ring_in n.table connection (cells_of link.kind (number_with (new_buffer m f connection) link.limit))) (more_messages m f connection)
   pub samples : (connection : ℕ) (link : LinkState) → slice_get m.links connection ≡ Some link
       → RingGrows (back_ring m.table connection m.table.sizes.completion_cells) (back_ring n.table connection m.table.sizes.completion_cells) (more_samples m f connection)
   pub word : (slot : ℕ) (word : SlotWord) (value : ℕ) → f ≡ found.Held slot word value → held_by n.table (Slot slot word) ≡ value
   pub words : (slot : ℕ) (word : SlotWord) → IsWord m.table.sizes (Slot slot word) → ((value : ℕ) → f ≡ found.Held slot word value → ⊥) → held_by n.table (Slot slot word) ≡ held_by m.table (Slot slot word)
   pub publishers : (who : ℕ) (was now : PublisherLaneState) → slice_get m.publishers who ≡ Some was → slice_get n.publishers who ≡ Some now → PublisherGrows m f who was now
   pub as_many : length n.publishers ≡ length m.publishers
-  pub subscribers : (who : ℕ) (was now : SubscriberLaneState) → slice_get m.subscribers who ≡ Some was → slice_get n.subscribers who ≡ Some now → SubscriberKnows m f was now
+  pub subscribers : (who : ℕ) (was now : SubscriberLaneState) → slice_get m.subscribers who ≡ Some was → slice_get n.subscribers who ≡ Some now → SubscriberKnows m f who was now
   pub as_many_receive : length n.subscribers ≡ length m.subscribers
   pub same : n ≡ record m { table = record m.table { words = n.table.words }; links = n.links; publishers = n.publishers; subscribers = n.subscribers }
 
@@ -202,6 +327,9 @@ IsAppended (found.GivenBack publisher place slot) = ⊥
 IsAppended (found.Newest publisher slot) = ⊥
 IsAppended (found.Held slot word value) = ⊥
 IsAppended (found.Buffer publisher place messages) = ⊥
+IsAppended (found.Slots publisher slots most_loans) = ⊥
+IsAppended (found.Header publisher node_id publisher_id) = ⊥
+IsAppended (found.Swapped subscriber one other) = ⊥
 
 -- memory may be wanting only for a finding that would be taken in, and is appended to what waited
 abbrev pub WantsMemory : World → Found → Type 0

@@ -1,10 +1,10 @@
 //! What lanes find before their first step.
-ghost use Rattle.std.specs.Prelude.{◌≡◌, ◌+◌, ◌-◌, ◌<◌, ◌≤◌, ◌^◌, ◌&&◌, true, nat_lt, length, slice_get, option_copied, OnOk, OnErr};
+ghost use Rattle.std.specs.Prelude.{◌≡◌, ◌+◌, ◌-◌, ◌<◌, ◌≤◌, ◌^◌, ◌&&◌, true, nat_lt, length, slice_get, option_copied, Some, OnOk, OnErr};
 ghost use Rattle.iox_lanes_ledger.specs.QueuesSteps.declared.access.Word.{Word};
 ghost use Rattle.iox_lanes_ledger.specs.QueuesRings.Ends.{cells_of};
 ghost use Rattle.iox_lanes_ledger.specs.LanesWords.Numbers.{IsWord};
 ghost use Rattle.iox_lanes_ledger.specs.LanesWords.Table.{stored_in};
-ghost use Rattle.iox_lanes_machine.specs.Findings.{back_at, back_found, back_of, buffered_at, buffered_in, buffered_of, buffers_at, buffers_of, finds, finds_now, given_at, given_of, has_word, laid, may_be_back, may_buffer, may_wait, newest_of, remembered_of, subscribers_meet, takes_buffer, takes_more, waiting_at, waiting_in, waiting_of, waits_at, waits_of, with_buffer, with_found};
+ghost use Rattle.iox_lanes_machine.specs.Findings.{back_at, back_found, back_of, buffered_at, buffered_in, buffered_of, buffers_at, buffers_of, finds, finds_now, given_at, given_of, has_word, laid, may_be_back, may_buffer, may_wait, is_there, named_of, newest_of, remembered_of, resized_of, resizes_of, subscribers_meet, swapped_of, swaps_of, takes_buffer, takes_more, waiting_at, waiting_in, waiting_of, waits_at, waits_of, with_buffer, with_found};
 ghost use Rattle.iox_lanes_machine.specs.Kept.{IsWithin};
 ghost use Rattle.iox_lanes_machine.specs.State.{world_of};
 ghost use Rattle.iox_lanes_machine.specs.TakenIn.{IsAppended};
@@ -49,6 +49,24 @@ pub enum Found {
         place: u64,
         messages: u64,
     },
+    /// A publisher of which nothing was found yet has just its first slots, and so many of its loans may be out.
+    Slots {
+        publisher: usize,
+        slots: u64,
+        most_loans: u64,
+    },
+    /// The headers of a publisher's messages say this node and this publisher.
+    Header {
+        publisher: usize,
+        node_id: u64,
+        publisher_id: u64,
+    },
+    /// The connections at two places of a subscriber change places.
+    Swapped {
+        subscriber: usize,
+        one: u64,
+        other: u64,
+    },
 }
 
 impl State {
@@ -85,6 +103,17 @@ impl State {
                 place,
                 messages,
             } => self.buffers_of(publisher, place, messages),
+            Found::Slots {
+                publisher,
+                slots,
+                ..
+            } => self.resizes_of(publisher, slots),
+            Found::Header { publisher, .. } => self.publishers.get(publisher).is_some(),
+            Found::Swapped {
+                subscriber,
+                one,
+                other,
+            } => self.swaps_of(subscriber, one, other),
         }
     }
 
@@ -132,6 +161,27 @@ impl State {
                 Some(route) => self.may_buffer(route.connection, messages),
                 None => false,
             },
+            None => false,
+        }
+    }
+
+    fn resizes_of(&self, publisher: usize, slots: u64) -> bool
+        ensures { result ≡ resizes_of slots (slice_get self.now.publishers.items publisher) }
+    {
+        match self.publishers.get(publisher) {
+            Some(lane) => lane.may_resize(slots),
+            None => false,
+        }
+    }
+
+    fn swaps_of(&self, subscriber: usize, one: u64, other: u64) -> bool
+        ensures { result ≡ swaps_of one other (slice_get self.now.subscribers.items subscriber) }
+    {
+        match self.subscribers.get(subscriber) {
+            Some(lane) => {
+                let connections = lane.connections() as u64;
+                one < connections && other < connections
+            }
             None => false,
         }
     }
@@ -215,6 +265,30 @@ impl State {
                 messages,
             } => {
                 self.find_buffer(publisher, place, messages);
+                Ok(())
+            }
+            Found::Slots {
+                publisher,
+                slots,
+                most_loans,
+            } => {
+                self.find_slots(publisher, slots, most_loans);
+                Ok(())
+            }
+            Found::Header {
+                publisher,
+                node_id,
+                publisher_id,
+            } => {
+                self.find_header(publisher, node_id, publisher_id);
+                Ok(())
+            }
+            Found::Swapped {
+                subscriber,
+                one,
+                other,
+            } => {
+                self.find_swapped(subscriber, one, other);
                 Ok(())
             }
         }
@@ -305,6 +379,31 @@ impl State {
         link.resize(messages);
         lane.meet(known);
         self.subscriber_meets(receiver, known);
+    }
+
+    fn find_slots(&mut self, publisher: usize, slots: u64, most_loans: u64)
+        ensures { world_of self.new ≡ resized_of (world_of self.old) publisher slots most_loans (slice_get self.old.publishers.items publisher) }
+    {
+        if let Some(lane) = self.publishers.get_mut(publisher) {
+            lane.resize(slots, most_loans);
+        }
+    }
+
+    fn find_header(&mut self, publisher: usize, node_id: u64, publisher_id: u64)
+        ensures { world_of self.new ≡ named_of (world_of self.old) publisher node_id publisher_id (slice_get self.old.publishers.items publisher) }
+    {
+        if let Some(lane) = self.publishers.get_mut(publisher) {
+            lane.name(node_id, publisher_id);
+        }
+    }
+
+    fn find_swapped(&mut self, subscriber: usize, one: u64, other: u64)
+        requires fits { swaps_of one other (slice_get self.old.subscribers.items subscriber) ≡ true }
+        ensures { world_of self.new ≡ swapped_of (world_of self.old) subscriber one other (slice_get self.old.subscribers.items subscriber) }
+    {
+        if let Some(lane) = self.subscribers.get_mut(subscriber) {
+            lane.swap(one, other);
+        }
     }
 
     // A subscriber, if it is there, knows a connection anew.

@@ -76,12 +76,14 @@ impl Lanes {
         Ok(Lanes { state })
     }
 
-    /// This is found before the first step: a message that waits, a sample that was given back, the newest of a history, what a word of a slot holds, or the buffer of
-    /// a connection. Answers whether it was taken in; else nothing changes. It is taken in before the first step alone, and only if: of a message or a sample, the connection is there
+    /// This is found before the first step: a message that waits, a sample that was given back, the newest of a history, what a word of a slot holds, the buffer of
+    /// a connection, how many slots and loans a publisher has, what the headers of its messages say, or places of a subscriber's connections. Answers whether it was taken in; else nothing changes. It is taken in before the first step alone, and only if: of a message or a sample, the connection is there
     /// and has not the slot yet, which is one of its publisher's; no more messages wait than may, and together with the samples given back no more than may be
     /// given back; of a history, the slot is the publisher's, does not stand there yet, and fewer do than may; of a word, the slot has it;
-    /// of a buffer, it has room for one message at least and for no more than may wait there, where nothing waits and nothing was given back. What was taken in stands
-    /// behind what was found there before; a buffer is known at both ends from then on. It fails, and nothing changes, only where an allocation fails: for a message that would be taken in.
+    /// of a buffer, it has room for one message at least and for no more than may wait there, where nothing waits and nothing was given back; of slots, the publisher has as
+    /// many at least, and no message, sample or history of it was found; of a header, the publisher is there; of places, the subscriber has connections at both. What was taken
+    /// in stands behind what was found there before; a buffer is known at both ends from then on, a publisher has just its first slots and as many loans out at most as it is
+    /// said, its messages say the node and publisher of their header, and a subscriber receives by the places of its connections. It fails, and nothing changes, only where an allocation fails: for a message that would be taken in.
     pub fn find(&mut self, found: Found) -> Result<bool, AllocError>
         ensures finds { IfOk result (λ answer. FindsTo self.old found answer self.new) }
         ensures takes { IfOk result (λ answer. TakesIn self.old found answer self.new) }

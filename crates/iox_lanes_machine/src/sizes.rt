@@ -24,9 +24,9 @@ pub struct LaneSizes {
     pub most_borrowed: u64,
     /// How many of its last messages a publisher keeps.
     pub history: u64,
-    /// How many loans a publisher may have out.
+    /// How many loans a publisher may have out; if that is found before the first step, some may have another number.
     pub most_loans: u64,
-    /// How many slots a publisher has.
+    /// How many slots a publisher has; some may have fewer, if that is found before the first step.
     pub slots: u64,
     /// How many words a user header has.
     pub user_header_words: u64,

@@ -1,5 +1,5 @@
 -- A publisher stays within its service.
-use Rattle.std.proofs.Common.{ℕ, ◌≡◌, ◌+◌, ◌-◌, ◌<◌, ◌≤◌, ◌++◌, ◌==◌, ◌&&◌, Bool, true, false, if◌then◌else◌, nat_lt, List, [], length, take, set, get_or, slice_get, Option, Some, None, refl, sym, ◌∙◌, ap, subst, inl, inr, arith, length-append}
+use Rattle.std.proofs.Common.{ℕ, ◌≡◌, ◌+◌, ◌-◌, ◌<◌, ◌≤◌, ◌==◌, ◌&&◌, Bool, true, false, if◌then◌else◌, nat_lt, List, [], length, take, set, get_or, slice_get, Option, Some, None, refl, sym, ◌∙◌, ap, inl, inr, arith, length-append}
 use Rattle.std.proofs.lemmas.Bool.{cases_lt, ltb-true, ltb-false, eqb-true}
 use Rattle.std.proofs.lemmas.List.{length-set, length-take, get_or_past}
 use Rattle.std.proofs.lemmas.List.Elements.{All-get_or, All-set}
@@ -19,14 +19,14 @@ use Rattle.iox_lanes_subscriber.specs.LanesWords.declared.sizes.TableSizes.{Tabl
 use Rattle.iox_lanes_subscriber.specs.LanesWords.declared.word.ConnectionRing.TheVariants.{Submission, Completion}
 use Rattle.iox_lanes_subscriber.specs.LanesWords.declared.word.SlotWord.TheVariants.{Header, UserHeader}
 use Rattle.iox_lanes_subscriber.specs.LanesCalls.Answers.{refusing_pop_answer, push_answer}
-use Rattle.iox_lanes_subscriber.specs.LanesCalls.Publishing.{publisher_next, publisher_take, publisher_change, publisher_is_idle, header_word, loan_from, loan_at, loan_reclaimed, write_from, write_at, head_from, head_at, push_from, push_at, sweep_from, sweep_at, send_reclaimed, pushed, counted, nothing_sent}
+use Rattle.iox_lanes_subscriber.specs.LanesCalls.Publishing.{publisher_next, publisher_take, publisher_change, publisher_is_idle, loan_from, loan_reclaimed, write_from, head_from, push_from, sweep_from, send_reclaimed, pushed, counted, nothing_sent}
 use Rattle.iox_lanes_subscriber.specs.LanesCalls.declared.publisher.Delivery.{Delivery}
 use Rattle.iox_lanes_subscriber.specs.LanesCalls.declared.publisher.PublisherCall.{PublisherCall}
 use Rattle.iox_lanes_subscriber.specs.LanesCalls.declared.publisher.PublisherCall.TheVariants as publishing
 use Rattle.iox_lanes_subscriber.specs.LanesCalls.declared.publisher.PublisherChange.{PublisherChange}
 use Rattle.iox_lanes_subscriber.specs.LanesCalls.declared.publisher.PublisherChange.TheVariants as change
 use Rattle.iox_lanes_subscriber.specs.LanesCalls.declared.route.Route.{Route}
-use Rattle.iox_lanes_publisher.specs.Keeping.{BookState, loan_of, put_at, lent_from, lent, unlent, dropped, newest_of, remembered, changed, first_free}
+use Rattle.iox_lanes_publisher.specs.Keeping.{BookState, loan_of, put_at, lent_from, unlent, dropped, newest_of, changed, first_free}
 use Rattle.iox_lanes_publisher.specs.Publishers.{words_of}
 use Rattle.iox_lanes_publisher.specs.declared.slot_book.LoanMark.{LoanMark}
 use Rattle.iox_lanes_publisher.specs.declared.slot_book.LoanMark.TheVariants as mark

@@ -1,5 +1,5 @@
 -- A subscriber stays within its service.
-use Rattle.std.proofs.Common.{ℕ, ◌≡◌, ◌+◌, ◌-◌, ◌<◌, ◌≤◌, ◌||◌, Bool, true, false, if◌then◌else◌, nat_lt, List, length, set, get_or, slice_get, Option, Some, None, refl, sym, ◌∙◌, ap, subst, inl, inr, arith}
+use Rattle.std.proofs.Common.{ℕ, ◌≡◌, ◌+◌, ◌-◌, ◌<◌, ◌||◌, Bool, true, false, if◌then◌else◌, nat_lt, List, length, set, get_or, slice_get, Option, Some, None, refl, sym, ◌∙◌, ap, subst, inl, inr, arith}
 use Rattle.std.proofs.lemmas.Bool.{cases_lt, ltb-true, ltb-false}
 use Rattle.std.proofs.lemmas.List.{length-set, get_or_past}
 use Rattle.std.specs.List.{All}
@@ -18,7 +18,7 @@ use Rattle.iox_lanes_subscriber.specs.LanesWords.declared.sizes.TableSizes.{Tabl
 use Rattle.iox_lanes_subscriber.specs.LanesWords.declared.word.ConnectionRing.TheVariants.{Submission, Completion}
 use Rattle.iox_lanes_subscriber.specs.LanesWords.declared.word.SlotWord.TheVariants.{Header, UserHeader, Payload}
 use Rattle.iox_lanes_subscriber.specs.LanesCalls.Answers.{pop_answer, refusing_push_answer}
-use Rattle.iox_lanes_subscriber.specs.LanesCalls.Subscribing.{subscriber_next, subscriber_take, subscriber_change, subscriber_is_idle, word_at, receive_from, received, is_full_at, read_at, released}
+use Rattle.iox_lanes_subscriber.specs.LanesCalls.Subscribing.{subscriber_next, subscriber_take, subscriber_change, subscriber_is_idle, receive_from, received, is_full_at, released}
 use Rattle.iox_lanes_subscriber.specs.LanesCalls.declared.route.Route.{Route}
 use Rattle.iox_lanes_subscriber.specs.LanesCalls.declared.subscriber.SlotExtent.{SlotExtent}
 use Rattle.iox_lanes_subscriber.specs.LanesCalls.declared.subscriber.SubscriberCall.{SubscriberCall}

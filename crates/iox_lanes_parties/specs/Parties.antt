@@ -1,13 +1,13 @@
 -- A publisher and a subscriber with the call that each is in: which calls fit, what a step leaves, what a call answers.
-use Rattle.std.specs.Prelude.{ℕ, ◌+◌, ◌-◌, Bool, true, false, not, ◌&&◌, ◌==◌, List, [], ◌++◌, length, take, set, get_or, slice_get, Option, Some, None}
-use Rattle.iox_lanes_subscriber.specs.LanesCalls.Publishing.{publisher_is_idle, publisher_is_over}
-use Rattle.iox_lanes_subscriber.specs.LanesCalls.Subscribing.{subscriber_is_idle, subscriber_is_over}
+use Rattle.std.specs.Prelude.{ℕ, ◌+◌, ◌-◌, Bool, true, false, not, ◌&&◌, ◌==◌, if◌then◌else◌, nat_lt, List, [], ◌++◌, length, map, take, set, get_or, slice_get, Option, Some, None}
+use Rattle.iox_lanes_subscriber.specs.LanesCalls.Publishing.{publisher_is_idle}
+use Rattle.iox_lanes_subscriber.specs.LanesCalls.Subscribing.{subscriber_is_idle}
 use Rattle.iox_lanes_subscriber.specs.LanesCalls.declared.publisher.PublisherCall.{PublisherCall}
 use Rattle.iox_lanes_subscriber.specs.LanesCalls.declared.publisher.PublisherCall.TheVariants as publishing
 use Rattle.iox_lanes_subscriber.specs.LanesCalls.declared.route.Route.{Route}
 use Rattle.iox_lanes_subscriber.specs.LanesCalls.declared.subscriber.SubscriberCall.{SubscriberCall}
 use Rattle.iox_lanes_subscriber.specs.LanesCalls.declared.subscriber.SubscriberCall.TheVariants as subscribing
-use Rattle.iox_lanes_publisher.specs.Keeping.{BookState, loan_of}
+use Rattle.iox_lanes_publisher.specs.Keeping.{loan_of}
 use Rattle.iox_lanes_publisher.specs.Publishers as publishers
 use Rattle.iox_lanes_publisher.specs.Publishers.{PublisherState}
 use Rattle.iox_lanes_publisher.specs.declared.slot_book.LoanMark.{LoanMark}
@@ -49,6 +49,22 @@ lane_remembers slot lane = record lane { port = publishers.found_last slot lane.
 -- a connection of a publisher is known anew
 abbrev pub lane_meets : Route → PublisherLaneState → PublisherLaneState
 lane_meets route lane = record lane { port = publishers.met_anew route lane.port }
+
+-- a publisher has just its first slots, and so many loans may be out
+abbrev pub lane_resized : ℕ → ℕ → PublisherLaneState → PublisherLaneState
+lane_resized slots most_loans lane = record lane { port = publishers.with_slots slots most_loans lane.port; heads = take slots lane.heads }
+
+-- the words of a header and user header, of which the first two say another node and publisher
+abbrev pub with_origin : ℕ → ℕ → List ℕ → List ℕ
+with_origin node_id publisher_id head = if nat_lt 1 (length head) then set (set head 0 node_id) 1 publisher_id else head
+
+-- so do the headers of all slots of a publisher
+abbrev pub lane_named : ℕ → ℕ → PublisherLaneState → PublisherLaneState
+lane_named node_id publisher_id lane = record lane { heads = map (with_origin node_id publisher_id) lane.heads }
+
+-- two connections of a subscriber change places
+abbrev pub receiver_swapped : ℕ → ℕ → SubscriberLaneState → SubscriberLaneState
+receiver_swapped one other lane = record lane { port = subscribers.swapped one other lane.port }
 
 -- a connection of a subscriber is known anew
 abbrev pub receiver_meets : Route → SubscriberLaneState → SubscriberLaneState

@@ -1,5 +1,6 @@
 //! The header and user header of a slot, as its send will store them.
 ghost use Rattle.std.specs.Prelude.{◌≡◌, ◌+◌, ◌++◌, length, take, replicate, IfOk};
+ghost use Rattle.iox_lanes_parties.specs.Parties.{with_origin};
 
 use std::alloc::{AllocError, Global};
 use std::marker::Model;
@@ -35,6 +36,16 @@ impl Head {
         ensures { self.new ≡ take 3 self.old ++ user_header.now }
     {
         self.words[3..].copy_from_slice(user_header);
+    }
+
+    /// Its header says this node and this publisher.
+    pub fn name(&mut self, node_id: u64, publisher_id: u64)
+        ensures { self.new ≡ with_origin node_id publisher_id self.old }
+    {
+        if self.words.len() > 1 {
+            self.words[0] = node_id;
+            self.words[1] = publisher_id;
+        }
     }
 
     /// The words.

@@ -2,8 +2,8 @@
 ghost use Rattle.std.specs.Prelude.{◌≡◌, ◌+◌, ◌<◌, ◌&&◌, ◌==◌, true, false, [], length, slice_get, IsSome, is_some};
 ghost use Rattle.std.specs.List.{All};
 ghost use Rattle.iox_lanes_subscriber.specs.LanesCalls.Publishing.{publisher_next, publisher_is_idle, publisher_is_over};
-ghost use Rattle.iox_lanes_publisher.specs.Keeping.{may_have, may_remember};
-ghost use Rattle.iox_lanes_parties.specs.Parties.{lane_found, lane_meets, lane_remembers, name_of, is_out, is_written, publisher_may, publisher_fits, publisher_begun, publisher_after, publisher_answer, lent, index_of, head_of, kept, send_begun};
+ghost use Rattle.iox_lanes_publisher.specs.Keeping.{may_have, may_remember, may_resize};
+ghost use Rattle.iox_lanes_parties.specs.Parties.{lane_found, lane_meets, lane_named, lane_remembers, lane_resized, name_of, is_out, is_written, publisher_may, publisher_fits, publisher_begun, publisher_after, publisher_answer, lent, index_of, head_of, kept, send_begun};
 
 use crate::call::{Answer, Call, CallName, Move};
 use crate::head::Head;
@@ -186,6 +186,30 @@ impl PublisherLane {
         ensures { self.new ≡ lane_remembers slot self.old }
     {
         self.port.find_newest(slot);
+    }
+
+    /// Whether it may have so many slots: no more than it has, of which none has a use.
+    pub fn may_resize(&self, slots: u64) -> bool
+        ensures { result ≡ may_resize slots self.now.port.book }
+    {
+        self.port.may_resize(slots)
+    }
+
+    /// From now on it has just its first slots, and so many loans may be out.
+    pub fn resize(&mut self, slots: u64, most_loans: u64)
+        ensures { self.new ≡ lane_resized slots most_loans self.old }
+    {
+        self.port.resize(slots, most_loans);
+        self.heads.truncate(slots as usize);
+    }
+
+    /// From now on the headers of its messages say this node and this publisher.
+    pub fn name(&mut self, node_id: u64, publisher_id: u64)
+        ensures { self.new ≡ lane_named node_id publisher_id self.old }
+    {
+        for head in self.heads.iter_mut() {
+            head.name(node_id, publisher_id);
+        }
     }
 
     /// The connection of this number is this one from now on.

@@ -1,7 +1,7 @@
 //! A subscriber and its call in hand.
-ghost use Rattle.std.specs.Prelude.{◌≡◌, ◌&&◌, true, false, is_some};
+ghost use Rattle.std.specs.Prelude.{◌≡◌, ◌<◌, ◌&&◌, true, false, length, is_some};
 ghost use Rattle.iox_lanes_subscriber.specs.LanesCalls.Subscribing.{subscriber_next, subscriber_is_idle, subscriber_is_over};
-ghost use Rattle.iox_lanes_parties.specs.Parties.{receiver_meets, subscriber_may, subscriber_fits, subscriber_begun, subscriber_after, subscriber_answer, words_read, place_of, route_at, is_route, is_borrowed, release_begun};
+ghost use Rattle.iox_lanes_parties.specs.Parties.{receiver_meets, receiver_swapped, subscriber_may, subscriber_fits, subscriber_begun, subscriber_after, subscriber_answer, words_read, place_of, route_at, is_route, is_borrowed, release_begun};
 
 use crate::call::{Answer, Call, CallName, Move};
 use iox_lanes_calls::{Route, SubscriberCall};
@@ -81,6 +81,22 @@ impl SubscriberLane {
         ensures { self.new ≡ receiver_meets route self.old }
     {
         self.port.meet(route);
+    }
+
+    /// How many connections it has.
+    pub fn connections(&self) -> usize
+        ensures { result ≡ length self.now.port.routes }
+    {
+        self.port.connections()
+    }
+
+    /// The connections at two places change places.
+    pub fn swap(&mut self, one: u64, other: u64)
+        requires one { one < length self.old.port.routes }
+        requires other { other < length self.old.port.routes }
+        ensures { self.new ≡ receiver_swapped one other self.old }
+    {
+        self.port.swap(one, other);
     }
 
     /// Begins a call at a moment.

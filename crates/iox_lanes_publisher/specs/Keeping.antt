@@ -1,5 +1,5 @@
 -- What the slots of a publisher are used for, and what a step changes of it.
-use Rattle.std.specs.Prelude.{ℕ, ◌+◌, ◌-◌, ◌*◌, ◌^◌, min, List, [], ◌∷◌, ◌++◌, length, set, get_or, remove, replicate, Option, None, Some, Bool, true, false, not, ◌&&◌, if◌then◌else◌, ◌==◌, nat_lt}
+use Rattle.std.specs.Prelude.{ℕ, ◌+◌, ◌-◌, ◌*◌, ◌^◌, min, List, [], ◌∷◌, ◌++◌, length, take, set, get_or, remove, replicate, Option, None, Some, Bool, true, false, not, ◌&&◌, if◌then◌else◌, ◌==◌, nat_lt, nat_le}
 use Rattle.iox_lanes_calls.specs.QueuesSteps.Access.{successor}
 use Rattle.iox_lanes_calls.specs.declared.publisher.PublisherChange.{PublisherChange}
 use Rattle.iox_lanes_calls.specs.declared.publisher.PublisherChange.TheVariants.{Nothing, Lend, Mark, Remember, TakenBack, Put, LeftOut, DropLoan}
@@ -51,6 +51,24 @@ stands_in slot (x ∷ xs) = if x == slot then true else stands_in slot xs
 -- a slot may be found to be the newest of the history: it is the publisher's, does not stand there yet, and fewer do than may
 abbrev pub may_remember : ℕ → BookState → Bool
 may_remember slot book = is_own slot book && not (stands_in slot book.history) && nat_lt (length book.history) book.kept
+
+-- no slot has a use
+abbrev pub are_unused : List ℕ → Bool
+are_unused [] = true
+are_unused (count ∷ counts) = if count == 0 then are_unused counts else false
+
+-- a publisher may have so many slots: no more than it has, of which none has a use
+abbrev pub may_resize : ℕ → BookState → Bool
+may_resize slots book = nat_le slots (length book.uses) && are_unused book.uses
+
+-- it has just its first slots, with a row of so many for each of its connections, and so many loans may be out
+abbrev pub resized : ℕ → ℕ → ℕ → BookState → BookState
+resized connections slots most_loans book = record book {
+  most_loans = most_loans;
+  loans = take slots book.loans;
+  referred = take (connections * slots) book.referred;
+  uses = take slots book.uses;
+}
 
 -- another value at a place; beyond the end nothing happens
 abbrev pub put_at : {X : Type 0} → List X → ℕ → X → List X

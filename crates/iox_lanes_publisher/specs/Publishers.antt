@@ -1,11 +1,11 @@
 -- A publisher with the call that it is in, and what it keeps for itself.
-use Rattle.std.specs.Prelude.{ℕ, List, replicate, Bool, true, false, if◌then◌else◌}
+use Rattle.std.specs.Prelude.{ℕ, List, length, replicate, Bool, true, false, if◌then◌else◌}
 use Rattle.iox_lanes_calls.specs.Publishing.{publisher_take, publisher_change, loan_at, write_at, head_at}
 use Rattle.iox_lanes_calls.specs.Routes.{rerouted}
 use Rattle.iox_lanes_calls.specs.declared.route.Route.{Route}
 use Rattle.iox_lanes_calls.specs.declared.publisher.PublisherCall.{PublisherCall}
 use Rattle.iox_lanes_calls.specs.declared.publisher.PublisherCall.TheVariants.{Idle, Dropping}
-use Rattle.iox_lanes_publisher.specs.Keeping.{BookState, changed, referred_at, found_newest}
+use Rattle.iox_lanes_publisher.specs.Keeping.{BookState, changed, referred_at, found_newest, resized}
 
 -- A publisher. `routes` are its connections, `book` says what its slots are used for; a write stores `payload`, a send `head`.
 pub record PublisherState : Type 0 where
@@ -32,6 +32,10 @@ found_last slot state = record state { book = found_newest slot state.book }
 -- one of its connections is known anew
 abbrev pub met_anew : Route → PublisherState → PublisherState
 met_anew route state = record state { routes = rerouted route state.routes }
+
+-- it has just its first slots, and so many loans may be out
+abbrev pub with_slots : ℕ → ℕ → PublisherState → PublisherState
+with_slots slots most_loans state = record state { book = resized (length state.routes) slots most_loans state.book }
 
 -- the words that the call in hand stores
 abbrev pub words_of : PublisherState → List ℕ

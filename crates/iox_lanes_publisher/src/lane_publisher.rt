@@ -1,8 +1,8 @@
 //! A publisher, free of any words.
 ghost use Rattle.std.specs.Prelude.{◌≡◌, true, length, replicate, slice_get, IfOk};
 ghost use Rattle.iox_lanes_calls.specs.Publishing.{publisher_next, publisher_is_idle, publisher_is_over};
-ghost use Rattle.iox_lanes_publisher.specs.Keeping.{loan_of, may_have, may_remember};
-ghost use Rattle.iox_lanes_publisher.specs.Publishers.{after_answer, found_at, found_last, met_anew, begun_loan, begun_write, begun_send, begun_drop, new_publisher};
+ghost use Rattle.iox_lanes_publisher.specs.Keeping.{loan_of, may_have, may_remember, may_resize};
+ghost use Rattle.iox_lanes_publisher.specs.Publishers.{after_answer, found_at, found_last, with_slots, met_anew, begun_loan, begun_write, begun_send, begun_drop, new_publisher};
 
 use crate::slot_book::{LoanAnswer, LoanMark, SlotBook};
 use iox_lanes_calls::{PublisherCall, PublisherChange, Route, reroute};
@@ -115,6 +115,21 @@ impl LanePublisher {
         ensures { self.new ≡ found_last slot self.old }
     {
         self.book.find_newest(slot);
+    }
+
+    /// Whether it may have so many slots: no more than it has, of which none has a use.
+    pub fn may_resize(&self, slots: u64) -> bool
+        ensures { result ≡ may_resize slots self.now.book }
+    {
+        self.book.may_resize(slots)
+    }
+
+    /// From now on it has just its first slots, and so many loans may be out.
+    pub fn resize(&mut self, slots: u64, most_loans: u64)
+        ensures { self.new ≡ with_slots slots most_loans self.old }
+    {
+        self.book
+            .resize(self.routes.len(), slots as usize, most_loans);
     }
 
     /// The connection of this number is this one from now on.

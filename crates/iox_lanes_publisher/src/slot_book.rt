@@ -1,6 +1,6 @@
 //! What the slots of a publisher are used for.
-ghost use Rattle.std.specs.Prelude.{◌≡◌, ◌+◌, ◌-◌, ◌*◌, ◌<◌, ◌≤◌, ◌^◌, ◌++◌, ◌∷◌, [], None, true, false, length, get_or, remove, replicate, IfOk, vec_len, vec_capacity};
-ghost use Rattle.iox_lanes_publisher.specs.Keeping.{put_at, counted_up, counted_down, first_free, number_in, new_book, loan_of, changed, lent, remembered, dropped, marked, referred_at, unreferred_at, newest_of, is_own, may_have, stands_in, may_remember, found_newest};
+ghost use Rattle.std.specs.Prelude.{◌≡◌, ◌+◌, ◌-◌, ◌*◌, ◌<◌, ◌≤◌, ◌^◌, ◌++◌, ◌∷◌, [], None, true, false, length, take, get_or, remove, replicate, IfOk, vec_len, vec_capacity};
+ghost use Rattle.iox_lanes_publisher.specs.Keeping.{put_at, counted_up, counted_down, first_free, number_in, new_book, loan_of, changed, lent, remembered, dropped, marked, referred_at, unreferred_at, newest_of, is_own, may_have, stands_in, may_remember, found_newest, are_unused, may_resize, resized};
 
 use iox_lanes_calls::PublisherChange;
 use std::alloc::{AllocError, Global};
@@ -158,6 +158,26 @@ impl SlotBook {
         count_up(&mut self.uses, slot.saturating_sub(self.first));
     }
 
+    /// Whether it may have so many slots: no more than it has, of which none has a use.
+    pub fn may_resize(&self, slots: u64) -> bool
+        ensures { result ≡ may_resize slots self.now }
+    {
+        slots <= self.uses.len() as u64 && are_unused(&self.uses)
+    }
+
+    /// From now on it has just its first slots, for so many connections, and so many loans may be out.
+    #[tactic(auto, using(std::proofs::lemmas::List::take_all))]
+    pub fn resize(&mut self, connections: usize, slots: usize, most_loans: u64)
+        ensures { self.new ≡ resized connections slots most_loans self.old }
+    {
+        self.most_loans = most_loans;
+        self.loans.truncate(slots);
+        self.uses.truncate(slots);
+        if let Some(marks) = connections.checked_mul(slots) {
+            self.referred.truncate(marks);
+        }
+    }
+
     /// Keeps what a step changes.
     pub fn change(&mut self, change: PublisherChange)
         ensures { self.new ≡ changed change self.old }
@@ -284,6 +304,20 @@ fn stands_in(slot: u64, list: &[u64]) -> bool
         rest = tail;
     }
     false
+}
+
+// Whether no slot has a use.
+fn are_unused(uses: &[u64]) -> bool
+    ensures { result ≡ are_unused uses.now }
+{
+    let mut rest = uses;
+    while let Some((count, tail)) = rest.split_first() {
+        if *count != 0 {
+            return false;
+        }
+        rest = tail;
+    }
+    true
 }
 
 // Whether a place of a row is marked; one that isn't there is not.

@@ -1,5 +1,6 @@
 -- A subscriber with the call that it is in, and what it keeps for itself.
 use Rattle.std.specs.Prelude.{ℕ, ◌-◌, List, length, set, get_or, replicate, Option, None, Some, if◌then◌else◌, nat_lt, false}
+use Rattle.std.specs.List.{swap}
 use Rattle.iox_lanes_calls.specs.QueuesSteps.Access.{successor}
 use Rattle.iox_lanes_calls.specs.QueuesRefusing.declared.push.Push.TheVariants.{Begun}
 use Rattle.iox_lanes_calls.specs.Subscribing.{subscriber_take, subscriber_change, receive_at, read_at}
@@ -37,6 +38,10 @@ new_subscriber routes slots extent words most = record {
 -- one of its connections is known anew
 abbrev pub met_anew : Route → SubscriberState → SubscriberState
 met_anew route state = record state { routes = rerouted route state.routes }
+
+-- the connections at two places change places
+abbrev pub swapped : ℕ → ℕ → SubscriberState → SubscriberState
+swapped one other state = record state { routes = swap state.routes one other }
 
 -- another value at a place; beyond the end nothing happens
 abbrev pub put_at : {X : Type 0} → List X → ℕ → X → List X

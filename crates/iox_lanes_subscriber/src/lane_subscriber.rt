@@ -1,7 +1,7 @@
 //! A subscriber, free of any words.
-ghost use Rattle.std.specs.Prelude.{◌≡◌, ◌-◌, true, false, None, Some, get_or, slice_get, length, replicate, IfOk};
+ghost use Rattle.std.specs.Prelude.{◌≡◌, ◌-◌, ◌<◌, true, false, None, Some, get_or, slice_get, length, replicate, IfOk};
 ghost use Rattle.iox_lanes_calls.specs.Subscribing.{subscriber_next, subscriber_is_idle, subscriber_is_over};
-ghost use Rattle.iox_lanes_subscriber.specs.Keeping.{put_at, met_anew, counted_up, counted_down, changed, after_answer, begun_receive, begun_read, begun_release, new_subscriber};
+ghost use Rattle.iox_lanes_subscriber.specs.Keeping.{put_at, met_anew, swapped, counted_up, counted_down, changed, after_answer, begun_receive, begun_read, begun_release, new_subscriber};
 
 use iox_lanes_calls::subscriber::SlotExtent;
 use iox_lanes_calls::{Route, SubscriberCall, SubscriberChange, reroute};
@@ -90,6 +90,22 @@ impl LaneSubscriber {
         ensures { self.new ≡ met_anew route self.old }
     {
         reroute(&mut self.routes, route);
+    }
+
+    /// How many connections it has.
+    pub fn connections(&self) -> usize
+        ensures { result ≡ length self.now.routes }
+    {
+        self.routes.len()
+    }
+
+    /// The connections at two places change places.
+    pub fn swap(&mut self, one: u64, other: u64)
+        requires one { one < length self.old.routes }
+        requires other { other < length self.old.routes }
+        ensures { self.new ≡ swapped one other self.old }
+    {
+        self.routes.swap(one as usize, other as usize);
     }
 
     /// The words that the last read loaded.
