@@ -6,9 +6,10 @@ use crate::schedules::{given_back, sizes};
 use iox_lanes_calls::{Delivery, Receipt};
 use iox_lanes_machine::{Found, LaneSizes, Lanes};
 use iox_lanes_parties::{Answer, Call, Party};
+use iox_lanes_publisher::LoanAnswer;
 use iox_lanes_words::SlotWord;
 use iox_queues_rings::RingKind;
-use std::alloc::AllocError;
+use std::alloc::{AllocError, Global};
 use std::test::Fail;
 
 // A message that waits in this slot of the first publisher at its first connection.
@@ -274,5 +275,236 @@ fn no_buffer_is_found_after_a_step(rt: HostRuntime) -> Result<(), Fail> {
     let mut lanes = Lanes::new(rt.alloc(), wide(RingKind::Overflowing))?;
     assert_eq!(rt; received(&mut lanes), None);
     assert!(rt; !lanes.find(buffer(1))?);
+    Ok(())
+}
+
+// So many slots of the first publisher, of which so many may be out as loans.
+fn slots(slots: u64, most_loans: u64) -> Found {
+    Found::Slots {
+        publisher: 0,
+        slots,
+        most_loans,
+    }
+}
+
+// What a whole loan of a publisher answers.
+fn lent(lanes: &mut Lanes, publisher: usize) -> Option<LoanAnswer> {
+    match whole(lanes, Party::Publisher(publisher), Call::LoanUninit, 100) {
+        Some(Answer::Lent(loan)) => Some(loan),
+        _ => None,
+    }
+}
+
+// Eight slots of each publisher, of which four may be out as loans.
+fn lending(publishers: u64) -> LaneSizes
+    ensures { result.buffer ≡ 1 }
+{
+    let mut lending = sizes(RingKind::Overflowing, 2, 8);
+    lending.publishers = publishers;
+    lending.most_loans = 4;
+    lending
+}
+
+// What three whole loans of the first publisher answer.
+fn three_loans(lanes: &mut Lanes) -> [Option<LoanAnswer>; 3] {
+    [lent(lanes, 0), lent(lanes, 0), lent(lanes, 0)]
+}
+
+#[test]
+fn a_publisher_has_as_many_loans_out_as_its_own_number(rt: HostRuntime) -> Result<(), Fail> {
+    let mut lanes = Lanes::new(rt.alloc(), lending(1))?;
+    assert!(rt; lanes.find(slots(8, 2))?);
+    let wanted = [
+        Some(LoanAnswer::Slot(0)),
+        Some(LoanAnswer::Slot(1)),
+        Some(LoanAnswer::ExceedsMaxLoans),
+    ];
+    assert!(rt; three_loans(&mut lanes) == wanted);
+    Ok(())
+}
+
+#[test]
+fn a_publisher_may_have_more_loans_out_than_others(rt: HostRuntime) -> Result<(), Fail> {
+    let mut few = lending(2);
+    few.most_loans = 1;
+    let mut lanes = Lanes::new(rt.alloc(), few)?;
+    assert!(rt; lanes.find(slots(8, 2))?);
+    let wanted = [
+        Some(LoanAnswer::Slot(0)),
+        Some(LoanAnswer::Slot(1)),
+        Some(LoanAnswer::ExceedsMaxLoans),
+    ];
+    assert!(rt; three_loans(&mut lanes) == wanted);
+    assert!(rt; lent(&mut lanes, 1) == Some(LoanAnswer::Slot(8)));
+    assert!(rt; lent(&mut lanes, 1) == Some(LoanAnswer::ExceedsMaxLoans));
+    Ok(())
+}
+
+#[test]
+fn a_publisher_lends_its_own_slots_alone(rt: HostRuntime) -> Result<(), Fail> {
+    let mut lanes = Lanes::new(rt.alloc(), lending(2))?;
+    assert!(rt; lanes.find(slots(2, 4))?);
+    let wanted = [
+        Some(LoanAnswer::Slot(0)),
+        Some(LoanAnswer::Slot(1)),
+        Some(LoanAnswer::OutOfMemory),
+    ];
+    assert!(rt; three_loans(&mut lanes) == wanted);
+    // The slots of the publisher behind it are numbered as before.
+    assert!(rt; lent(&mut lanes, 1) == Some(LoanAnswer::Slot(8)));
+    Ok(())
+}
+
+#[test]
+fn as_many_slots_as_the_worst_case_are_enough(rt: HostRuntime) -> Result<(), Fail> {
+    let alloc = rt.alloc();
+    let mut lanes = Lanes::new(alloc, lending(1))?;
+    // One message waits, two are borrowed, and one loan is out.
+    assert!(rt; lanes.find(slots(4, 1))?);
+    for value in 0..10 {
+        assert_eq!(rt; sent(alloc, &mut lanes, value)?, delivered(1, 0));
+    }
+    assert!(rt; received(&mut lanes).is_some());
+    Ok(())
+}
+
+#[test]
+fn slots_are_found_where_they_may_be(rt: HostRuntime) -> Result<(), Fail> {
+    let mut lanes = Lanes::new(rt.alloc(), lending(1))?;
+    let elsewhere = Found::Slots {
+        publisher: 1,
+        slots: 1,
+        most_loans: 1,
+    };
+    let rows = [
+        (slots(9, 1), false),
+        (elsewhere, false),
+        (holds(7, 0, 9), true),
+        (slots(5, 1), true),
+        (slots(6, 1), false),
+        (slots(3, 2), true),
+        (waits(3), false),
+        (waits(2), true),
+        (slots(3, 2), false),
+        (slots(1, 2), false),
+    ];
+    assert!(rt; are_found(&mut lanes, &rows)?);
+    assert_eq!(rt; received(&mut lanes), Some(2));
+    assert!(rt; lent(&mut lanes, 0) == Some(LoanAnswer::Slot(0)));
+    Ok(())
+}
+
+// Whether fewer slots are found once this was.
+fn are_found_behind(alloc: Global, found: Found) -> Result<bool, AllocError> {
+    let mut wide = lending(1);
+    wide.history = 1;
+    let mut lanes = Lanes::new(alloc, wide)?;
+    Ok(lanes.find(found)? && lanes.find(slots(3, 1))?)
+}
+
+#[test]
+fn no_slots_are_found_where_something_was(rt: HostRuntime) -> Result<(), Fail> {
+    let alloc = rt.alloc();
+    for row in [(back(1), false), (newest(1), false), (buffer(1), true)] {
+        assert!(rt; are_found_behind(alloc, row.0)? == row.1);
+    }
+    Ok(())
+}
+
+// The header of a publisher's messages.
+fn header(publisher: usize) -> Found {
+    Found::Header {
+        publisher,
+        node_id: 77,
+        publisher_id: 5,
+    }
+}
+
+#[test]
+fn a_message_says_the_node_and_the_publisher_that_were_found(rt: HostRuntime) -> Result<(), Fail> {
+    let alloc = rt.alloc();
+    let mut lanes = Lanes::new(alloc, lending(2))?;
+    let rows = [(header(2), false), (slots(5, 1), true), (header(0), true)];
+    assert!(rt; are_found(&mut lanes, &rows)?);
+    assert_eq!(rt; sent(alloc, &mut lanes, 9)?, delivered(1, 0));
+    assert_eq!(rt; received(&mut lanes), Some(0));
+    assert_eq!(rt; read(&mut lanes, 0), Some(9));
+    assert!(rt; lanes.words_read() == [77, 5, 1, 9].as_slice());
+    assert!(rt; !lanes.find(header(0))?);
+    Ok(())
+}
+
+#[test]
+fn a_header_is_its_own_publisher_s(rt: HostRuntime) -> Result<(), Fail> {
+    let alloc = rt.alloc();
+    let mut lanes = Lanes::new(alloc, lending(2))?;
+    assert!(rt; lanes.find(header(1))?);
+    assert_eq!(rt; sent(alloc, &mut lanes, 9)?, delivered(1, 0));
+    assert_eq!(rt; received(&mut lanes), Some(0));
+    assert_eq!(rt; read(&mut lanes, 0), Some(9));
+    assert!(rt; lanes.words_read() == [0, 0, 1, 9].as_slice());
+    Ok(())
+}
+
+// A message that waits at the first subscriber, in the first slot of this publisher, each of which has eight.
+fn first_of(publisher: usize) -> Found {
+    Found::Waiting {
+        publisher,
+        place: 0,
+        slot: publisher as u64 * 8,
+    }
+}
+
+// Two connections of the first subscriber change places.
+fn swapped(one: u64, other: u64) -> Found {
+    Found::Swapped {
+        subscriber: 0,
+        one,
+        other,
+    }
+}
+
+// Whether the first subscriber receives these three, in this order, where three publishers sent and its connections stand in the order that was found.
+fn receives_three(
+    alloc: Global,
+    order: &[(Found, bool)],
+    three: [u64; 3],
+) -> Result<bool, AllocError> {
+    let mut wide = lending(3);
+    wide.most_borrowed = 3;
+    let mut lanes = Lanes::new(alloc, wide)?;
+    let all = [
+        (first_of(0), true),
+        (first_of(1), true),
+        (first_of(2), true),
+    ];
+    if !are_found(&mut lanes, order)? || !are_found(&mut lanes, &all)? {
+        return Ok(false);
+    }
+    Ok(
+        receives(&mut lanes, 0, three[0])
+            && receives(&mut lanes, 0, three[1])
+            && receives(&mut lanes, 0, three[2]),
+    )
+}
+
+#[test]
+fn a_subscriber_receives_in_the_order_that_was_found(rt: HostRuntime) -> Result<(), Fail> {
+    let alloc = rt.alloc();
+    let elsewhere = Found::Swapped {
+        subscriber: 1,
+        one: 0,
+        other: 1,
+    };
+    let none = [
+        (swapped(0, 3), false),
+        (swapped(3, 0), false),
+        (elsewhere, false),
+        (swapped(1, 1), true),
+    ];
+    assert!(rt; receives_three(alloc, &none, [0, 8, 16])?);
+    assert!(rt; receives_three(alloc, &[(swapped(0, 2), true)], [16, 8, 0])?);
+    let both = [(swapped(0, 2), true), (swapped(1, 2), true)];
+    assert!(rt; receives_three(alloc, &both, [16, 0, 8])?);
     Ok(())
 }
