@@ -451,7 +451,7 @@ fn first_of(publisher: usize) -> Found {
     Found::Waiting {
         publisher,
         place: 0,
-        slot: publisher as u64 * 8,
+        slot: (publisher as u64).saturating_mul(8),
     }
 }
 
