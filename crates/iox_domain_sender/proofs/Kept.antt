@@ -100,6 +100,31 @@ begin_kept store old at below alone is = kept store old (begun at (get_or old.lo
       removed old.loans at k below,
     )
 
+-- what is being sent is remembered
+pub remember_kept : {T U : Type 0} (store : Store T U) (old : Uses ℕ ℕ) (slot : ℕ) → old.sending ≡ Some slot → IsSender store old
+    → IsSender store (record old { history = newest old.kept (old.history ++ slot ∷ []) })
+remember_kept store old slot sends is = kept store old after is refl refl
+    (λ k loans. (loans, omega (arith, is.sole k loans, loans, remembered k, sent k, in_use_times old k, in_use_times after k)))
+    (λ k inside. omega (arith, inside, remembered k, sent k, in_use_times old k, in_use_times after k))
+  where
+    after : Uses ℕ ℕ
+    after = record old { history = newest old.kept (old.history ++ slot ∷ []) }
+
+    remembered : (k : ℕ) → times k (newest old.kept (old.history ++ slot ∷ [])) ≤ times k old.history + one k slot
+    remembered k = omega (arith, fewer_dropped (length (old.history ++ slot ∷ []) - old.kept) k (old.history ++ slot ∷ []), times_end k old.history slot)
+
+    sent : (k : ℕ) → times k (option_to_list old.sending) ≡ one k slot
+    sent k = omega (arith, ap (λ sending. times k (option_to_list sending)) sends, times_cons k slot [])
+
+-- what is being sent is remembered, if anything is
+pub remembered_kept : {T U : Type 0} (store : Store T U) (old new : Uses ℕ ℕ) → IsSender store old
+    → ((slot : ℕ) → old.sending ≡ Some slot → new ≡ record old { history = newest old.kept (old.history ++ slot ∷ []) }) → (old.sending ≡ None → new ≡ old) → IsSender store new
+remembered_kept store old new is made none = at old.sending refl
+  where
+    at : (sending : Option ℕ) → old.sending ≡ sending → IsSender store new
+    at None idle = subst (IsSender store) (sym (none idle)) is
+    at (Some slot) sends = subst (IsSender store) (sym (made slot sends)) (remember_kept store old slot sends is)
+
 -- the history is forgotten
 pub forget_kept : {T U : Type 0} (store : Store T U) (old : Uses ℕ ℕ) → IsSender store old → IsSender store (record old { history = [] })
 forget_kept store old is = kept store old (record old { history = [] }) is refl refl

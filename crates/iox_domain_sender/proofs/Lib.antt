@@ -5,7 +5,9 @@ pub mod Naming
 pub mod Kept
 pub mod Seen
 pub mod Agreeing
+pub mod Putting
 pub mod Loaning
+pub mod Again
 pub mod Writing
 pub mod Reading
 pub mod Opening

@@ -14,6 +14,7 @@ use Rattle.iox_domain_sender.specs.Sending.{SenderState, Store, IsSender, LoanMa
 use Rattle.iox_domain_sender.specs.declared.slot_header.SlotHeader.{SlotHeader}
 use Rattle.iox_domain_sender.proofs.Agreeing.{uses_agree, slots_seen}
 use Rattle.iox_domain_sender.proofs.Naming.{loaned_by}
+use Rattle.iox_domain_sender.proofs.Putting.{SlotPut, other_payload, this_payload, loan_of, loan_stays, message_stays}
 
 -- no loan is made
 pub none_made : {T U : Type 0} (store : Store T U) (old new : Uses ℕ ℕ) (state : SenderState T U) (values elements : ℕ) → seen_sender store old ≡ state
@@ -54,33 +55,10 @@ pub record LoanPut {T U : Type 0} (old : Store T U) (slot count elements : ℕ) 
   pub headers : new.headers ≡ set old.headers slot (record { elements = elements; user_header = old.blank.user_header })
   pub blank : new.blank ≡ old.blank
 
--- what stands in other slots stays
-pub other_payload : {T : Type 0} (old new : PayloadsState T) (slot k : ℕ) (values : List T) → new ≡ with_payload slot values old → k ≢ slot → payload_at k new ≡ payload_at k old
-other_payload old new slot k values is apart = ap (payload_at k) is ∙ get_or-set_other old.payloads slot k values [] apart
-
-pub this_payload : {T : Type 0} (old new : PayloadsState T) (slot : ℕ) (values : List T) → new ≡ with_payload slot values old → slot < length old.payloads → payload_at slot new ≡ values
-this_payload old new slot values is below = ap (payload_at slot) is ∙ get_or-set_same old.payloads slot values [] below
-
-abbrev pub loan_of : {T U : Type 0} → ℕ → SlotHeader U → List (Option T) → Loan T U
-loan_of slot header values = record { slot = slot; elements = header.elements; user_header = header.user_header; values = values }
-
-abbrev pub message_of : {T U : Type 0} → ℕ → SlotHeader U → List T → Message T U
-message_of slot header values = record { slot = slot; elements = header.elements; user_header = header.user_header; values = values }
-
-loan_stays : {T U : Type 0} (old new : Store T U) (slot count elements k : ℕ) → LoanPut old slot count elements new → k ≢ slot → loan_in new k ≡ loan_in old k
-loan_stays old new slot count elements k put apart =
-    ap (λ headers. loan_of k (get_or headers k new.blank) (masked (payload_at k new.written) (payload_at k new.values))) put.headers
-    ∙ ap (λ blank. loan_of k (get_or (set old.headers slot (record { elements = elements; user_header = old.blank.user_header })) k blank) (masked (payload_at k new.written) (payload_at k new.values))) put.blank
-    ∙ ap (λ header. loan_of k header (masked (payload_at k new.written) (payload_at k new.values))) (get_or-set_other old.headers slot k (record { elements = elements; user_header = old.blank.user_header }) old.blank apart)
-    ∙ ap (λ marks. loan_of k (get_or old.headers k old.blank) (masked marks (payload_at k new.values))) (other_payload old.written new.written slot k (replicate count false) put.written apart)
-    ∙ ap (λ values. loan_of k (get_or old.headers k old.blank) (masked (payload_at k old.written) values)) (other_payload old.values new.values slot k (payload_at slot new.values) put.values apart)
-
-message_stays : {T U : Type 0} (old new : Store T U) (slot count elements k : ℕ) → LoanPut old slot count elements new → k ≢ slot → message_in new k ≡ message_in old k
-message_stays old new slot count elements k put apart =
-    ap (λ headers. message_of k (get_or headers k new.blank) (payload_at k new.values)) put.headers
-    ∙ ap (λ blank. message_of k (get_or (set old.headers slot (record { elements = elements; user_header = old.blank.user_header })) k blank) (payload_at k new.values)) put.blank
-    ∙ ap (λ header. message_of k header (payload_at k new.values)) (get_or-set_other old.headers slot k (record { elements = elements; user_header = old.blank.user_header }) old.blank apart)
-    ∙ ap (λ values. message_of k (get_or old.headers k old.blank) values) (other_payload old.values new.values slot k (payload_at slot new.values) put.values apart)
+-- a loan that was put is what was put into its slot
+put_of : {T U : Type 0} (old new : Store T U) (slot count elements : ℕ) → LoanPut old slot count elements new
+    → SlotPut old slot (record { elements = elements; user_header = old.blank.user_header }) (payload_at slot new.values) (replicate count false) new
+put_of old new slot count elements put = record { values = put.values; written = put.written; headers = put.headers; blank = put.blank }
 
 loan_stands : {T U : Type 0} (old new : Store T U) (slot count elements : ℕ) → LoanPut old slot count elements new → slot < length old.headers → slot < length old.written.payloads
     → loan_in new slot ≡ new_loan slot count elements old.blank.user_header
@@ -112,7 +90,10 @@ loan_made {T = T} {U = U} before store old new state slot count elements is send
 
     others : uses_by (loan_in store) (message_in store) old ≡ uses_by (loan_in before) (message_in before) old
     others = uses_agree (loan_in store) (loan_in before) (message_in store) (message_in before) old
-        (λ k used. (loan_stays before store slot count elements k put (apart k used), message_stays before store slot count elements k put (apart k used)))
+        (λ k used. (
+          loan_stays before store slot (record { elements = elements; user_header = before.blank.user_header }) (payload_at slot store.values) (replicate count false) k (put_of before store slot count elements put) (apart k used),
+          message_stays before store slot (record { elements = elements; user_header = before.blank.user_header }) (payload_at slot store.values) (replicate count false) k (put_of before store slot count elements put) (apart k used),
+        ))
 
     below : slot < old.first + old.size
     below = loan.1

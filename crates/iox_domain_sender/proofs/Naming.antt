@@ -41,6 +41,12 @@ begun_by loan message at one uses =
     ap (λ loans. record (uses_by loan message uses) { sending = Some (message one); loans = loans; history = map message (newest uses.kept (uses.history ++ one ∷ [])) }) (map_remove loan uses.loans at)
     ∙ ap (λ messages. record (uses_by loan message uses) { sending = Some (message one); loans = remove (map loan uses.loans) at; history = messages }) history
 
+pub remembered_by : {L X M Y : Type 0} (loan : L → M) (message : X → Y) (one : X) (uses : Uses L X)
+    → uses_by loan message (record uses { history = newest uses.kept (uses.history ++ one ∷ []) })
+    ≡ record (uses_by loan message uses) { history = newest uses.kept (map message uses.history ++ message one ∷ []) }
+remembered_by loan message one uses = ap (λ messages. record (uses_by loan message uses) { history = messages })
+    (map_newest message uses.kept (uses.history ++ one ∷ []) ∙ ap (newest uses.kept) (map-append message uses.history (one ∷ [])))
+
 connection_of_named : {X Y : Type 0} (message : X → Y) (connections : List (Connection X)) (index : ℕ)
     → get_or (map (connection_by message) connections) index nobody ≡ connection_by message (get_or connections index nobody)
 connection_of_named message [] index = refl

@@ -10,7 +10,7 @@ use Rattle.iox_domain_sender.specs.Sending.{SenderState, Store, IsSender, seen_s
 use Rattle.iox_domain_sender.specs.Rows.{RowsState}
 use Rattle.iox_domain_sender.proofs.Segments.{with_segment}
 use Rattle.iox_domain_sender.proofs.Agreeing.{uses_agree, slots_seen}
-use Rattle.iox_domain_sender.proofs.Loaning.{loan_of, message_of}
+use Rattle.iox_domain_sender.proofs.Putting.{loan_of, message_of}
 
 -- a segment without a value behind the others
 abbrev pub one_more_segment : {T : Type 0} → ℕ → PayloadsState T → PayloadsState T

@@ -1,6 +1,6 @@
 -- What is seen of a publisher after each step.
 use Rattle.std.proofs.Common.{rules, arith, ◌≡◌, ◌+◌, ◌<◌, ◌∷◌, [], ◌++◌, ℕ, Bool, true, is_some, option_map, List, length, get_or, map, Option, None, Some, Result, Ok, Err, IfOk, replicate, zero, suc, refl, sym, ap, ◌∙◌, ◌==◌, nat_lt, ◌||◌, ◌&&◌, position, ◌≢◌, false}
-use Rattle.iox_domain_slots.specs.Uses.{Uses, Connection, connection_at, with_connection, offered, placed, connected}
+use Rattle.iox_domain_slots.specs.Uses.{Uses, Connection, connection_at, with_connection, offered, newest, placed, connected}
 use Rattle.iox_domain_sender.specs.Messages.{Message, Loan}
 use Rattle.std.specs.declared.alloc.AllocError.{AllocError}
 use Rattle.std.specs.Option.{option_to_list}
@@ -19,7 +19,7 @@ use Rattle.iox_domain_slots.proofs.Publishing.{in_use_times}
 use Rattle.iox_domain_sender.specs.Sending.{SenderState, Store, IsSender, has_loan, has_place, has_value, has_length, seen_sender, sender_of, with_uses, uses_by, connection_by, loan_in, message_in}
 use Rattle.iox_domain_sender.proofs.Writing.{lent_at, test_at, same_of, marked, masked_length}
 use Rattle.iox_domain_sender.proofs.Segments.{with_segment}
-use Rattle.iox_domain_sender.proofs.Naming.{connection_at_by, with_connection_by, offered_by, placed_by}
+use Rattle.iox_domain_sender.proofs.Naming.{connection_at_by, with_connection_by, offered_by, placed_by, remembered_by}
 
 -- a step of the uses alone
 pub seen_step : {T U : Type 0} (store : Store T U) (old new : Uses ℕ ℕ) (state : SenderState T U) (step : Uses (Loan T U) (Message T U) → Uses (Loan T U) (Message T U))
@@ -82,6 +82,27 @@ offer_seen {T = T} {U = U} store old new state index is made message sent = at o
         ∙ ap (offered old.overflows message) (sym (connection_at_by (loan_in store) (message_in store) index old))
         )
 
+-- a message that is sent is remembered
+pub remember_seen : {T U : Type 0} (store : Store T U) (old new : Uses ℕ ℕ) (state : SenderState T U) → seen_sender store old ≡ state
+    → ((slot : ℕ) → old.sending ≡ Some slot → new ≡ record old { history = newest old.kept (old.history ++ slot ∷ []) })
+    → (message : Message T U) → state.uses.sending ≡ Some message
+    → seen_sender store new ≡ with_uses (record state.uses { history = newest state.uses.kept (state.uses.history ++ message ∷ []) }) state
+remember_seen {T = T} {U = U} store old new state is made message sent = at old.sending refl
+  where
+    seen : option_map (message_in store) old.sending ≡ Some message
+    seen = ap (λ s. s.uses.sending) is ∙ sent
+
+    at : (sending : Option ℕ) → old.sending ≡ sending
+        → seen_sender store new ≡ with_uses (record state.uses { history = newest state.uses.kept (state.uses.history ++ message ∷ []) }) state
+    at None none = let wrong = ap (option_map (message_in store)) (sym none) ∙ seen in search (rules, wrong)
+    at (Some slot) same =
+        let one : Some (message_in store slot) ≡ Some message = ap (option_map (message_in store)) (sym same) ∙ seen in
+        let is_it : message_in store slot ≡ message = search (rules, one) in
+        seen_step store old new state (λ uses. record uses { history = newest uses.kept (uses.history ++ message ∷ []) }) is (
+        ap (uses_by (loan_in store) (message_in store)) (made slot same) ∙ remembered_by (loan_in store) (message_in store) slot old
+        ∙ ap (λ m. record (uses_by (loan_in store) (message_in store) old) { history = newest old.kept (map (message_in store) old.history ++ m ∷ []) }) is_it
+        )
+
 none_of_option : {X Y : Type 0} (f : X → Y) (one : Option X) → option_map f one ≡ None → one ≡ None
 none_of_option f None none = refl
 none_of_option f (Some x) none = search (rules, none)
@@ -89,6 +110,11 @@ none_of_option f (Some x) none = search (rules, none)
 -- nothing is sent where nothing is seen to be
 pub none_sends : {T U : Type 0} (store : Store T U) (old : Uses ℕ ℕ) (state : SenderState T U) → seen_sender store old ≡ state → state.uses.sending ≡ None → old.sending ≡ None
 none_sends store old state is none = none_of_option (message_in store) old.sending (ap (λ s. s.uses.sending) is ∙ none)
+
+-- nothing changes where nothing is sent
+pub none_seen : {T U : Type 0} (store : Store T U) (old new : Uses ℕ ℕ) (state : SenderState T U) → seen_sender store old ≡ state
+    → (old.sending ≡ None → new ≡ old) → state.uses.sending ≡ None → seen_sender store new ≡ state
+none_seen store old new state is made none = ap (seen_sender store) (made (none_sends store old state is none)) ∙ is
 
 -- a place of the list of loans that is seen is one of it
 pub lent_below : {T U : Type 0} (store : Store T U) (old : Uses ℕ ℕ) (state : SenderState T U) (at : ℕ) → seen_sender store old ≡ state → at < length state.uses.loans → at < length old.loans

@@ -15,7 +15,7 @@ use Rattle.iox_domain_sender.specs.Messages.{Message, Loan, write_value, write_a
 use Rattle.iox_domain_sender.specs.Sending.{SenderState, Store, IsSender, seen_sender, sender_of, with_uses, uses_by, change_loan, loan_in, message_in, masked}
 use Rattle.iox_domain_sender.specs.declared.slot_header.SlotHeader.{SlotHeader}
 use Rattle.iox_domain_sender.proofs.Agreeing.{messages_agree, other_uses}
-use Rattle.iox_domain_sender.proofs.Loaning.{loan_of, message_of, other_payload, this_payload}
+use Rattle.iox_domain_sender.proofs.Putting.{loan_of, message_of, other_payload, this_payload}
 
 either : (a b : Bool) → a || b ≡ true → (a ≡ true) ⊎ (b ≡ true)
 either true b is = inl refl

@@ -1,6 +1,6 @@
 -- One publisher with its messages.
 use Rattle.std.specs.Prelude.{false, ℕ, ◌+◌, ◌<◌, ◌≤◌, ◌≡◌, Bool, List, [], ◌∷◌, length, get_or, map, Option, None, Some, option_map, if◌then◌else◌, eqb, nat_lt, ◌&&◌, is_some, slice_get}
-use Rattle.std.specs.List.{list_any}
+use Rattle.std.specs.List.{All, list_any}
 use Rattle.iox_domain_slots.specs.Uses.{Uses, Connection, in_use, loaned, segment_opened}
 use Rattle.iox_domain_slots.specs.Counting.{times}
 use Rattle.iox_domain_sender.specs.Messages.{Message, Loan, new_loan, is_written}
@@ -77,6 +77,16 @@ has_value slot place uses = list_any (λ loan. eqb slot loan.slot && is_some (ge
 -- one of the loans stands in this slot, and has so many values
 abbrev pub has_length : {T U : Type 0} → ℕ → ℕ → Uses (Loan T U) (Message T U) → Bool
 has_length slot count uses = list_any (λ loan. eqb slot loan.slot && eqb count (length loan.values)) uses.loans
+
+-- a message that is this one, if it stands in the same slot
+abbrev pub IsIfInSlot : {T U : Type 0} → Message T U → Message T U → Type 0
+IsIfInSlot message other = other.slot ≡ message.slot → other ≡ message
+
+-- No loan stands in the slot of a message, and each message of the history and of the connections that stands there is this one.
+pub record StandsAlone {T U : Type 0} (message : Message T U) (uses : Uses (Loan T U) (Message T U)) : Type 0 where
+  pub loans : has_loan message.slot uses ≡ false
+  pub history : All (IsIfInSlot message) uses.history
+  pub connections : All (λ connection. All (IsIfInSlot message) connection.waiting × All (IsIfInSlot message) connection.borrowed) uses.connections
 
 -- whether a loan is written; no loan isn't
 abbrev pub is_written_loan : {T U : Type 0} → Option (Loan T U) → Bool

@@ -1,11 +1,11 @@
 //! One publisher with its messages.
-ghost use Rattle.std.specs.Prelude.{◌≡◌, ℕ, ◌+◌, ◌<◌, ◌≤◌, length, get_or, set, map, is_some, option_copied, slice_get, position, nat_lt, IsSome, IfSome, IfOk, OnErr, ◌-◌, ◌^◌, ◌==◌, [], true, false, None, Some};
+ghost use Rattle.std.specs.Prelude.{◌≡◌, ℕ, ◌+◌, ◌<◌, ◌≤◌, length, get_or, set, map, is_some, option_copied, slice_get, position, nat_lt, IsSome, IfSome, IfOk, OnErr, ◌-◌, ◌^◌, ◌==◌, ◌++◌, ◌∷◌, [], true, false, None, Some};
 ghost use Rattle.iox_domain_slots.specs.declared.stage.Stage.TheVariants as stage;
-ghost use Rattle.iox_domain_slots.specs.Uses.{Uses, nobody, placed, connected, is_there, worst_case, accepts, offered, taken, given_back, ended, welcomed, dropped, begun, finished, connection_at, with_connection, in_use};
+ghost use Rattle.iox_domain_slots.specs.Uses.{Uses, nobody, placed, connected, is_there, worst_case, accepts, offered, taken, given_back, ended, newest, welcomed, dropped, begun, finished, connection_at, with_connection, in_use};
 ghost use Rattle.iox_domain_slots.specs.Counting.{times};
 ghost use Rattle.std.specs.Borrow.{sem};
 ghost use Rattle.iox_domain_sender.specs.Messages.{Message, Loan, write_value, write_all, write_user_header, written_of, sent_as};
-ghost use Rattle.iox_domain_sender.specs.Sending.{SenderState, LoanMade, slots_of, with_uses, change_loan, has_loan, has_place, has_value, has_length, is_written_at, opened_for};
+ghost use Rattle.iox_domain_sender.specs.Sending.{SenderState, LoanMade, slots_of, with_uses, change_loan, has_loan, has_place, has_value, has_length, is_written_at, opened_for, StandsAlone};
 
 use crate::marks::Marks;
 use crate::payloads::Payloads;
@@ -255,6 +255,36 @@ impl<T: Copy, U: Copy> Sender<T, U> {
         self.uses.begin_send(at)
     }
 
+    /// Sends a message again, in its slot of the current segment, whether it is in use or nothing is in this slot: it is in use until the
+    /// send is finished. Neither history nor connections have it by this.
+    pub fn begin_again(&mut self, slot: usize, elements: u64, user_header: U, values: &[T])
+        requires alone { self.old.uses.sending ≡ None }
+        requires first { self.old.uses.first ≤ slot }
+        requires within { slot < self.old.uses.first + self.old.uses.size }
+        requires room { length values.now ≤ self.old.room }
+        requires only { StandsAlone (record { slot = slot; elements = elements; user_header = user_header; values = values.now }) self.old.uses }
+        ensures { self.new ≡ with_uses (record self.old.uses { sending = Some (record { slot = slot; elements = elements; user_header = user_header; values = values.now }) }) self.old }
+    {
+        self.values.set_length(slot, values.len());
+        self.values.copy(slot, values);
+        self.written.set_length(slot, values.len());
+        self.written.fill(slot, true);
+        self.headers[slot] = SlotHeader {
+            elements,
+            user_header,
+        };
+        self.uses.begin_again(slot);
+    }
+
+    /// Makes the message that is being sent the newest of the history; of more than may be kept the oldest leaves.
+    pub fn remember(&mut self)
+        ensures sent { (message : Message T U) → self.old.uses.sending ≡ Some message →
+            self.new ≡ with_uses (record self.old.uses { history = newest self.old.uses.kept (self.old.uses.history ++ message ∷ []) }) self.old }
+        ensures none { self.old.uses.sending ≡ None → self.new ≡ self.old }
+    {
+        self.uses.remember();
+    }
+
     /// Whether there is such a slot: the condition of reading what is there.
     pub fn has_slot(&self, slot: usize) -> bool
         ensures { result ≡ nat_lt slot (self.now.uses.first + self.now.uses.size) }
@@ -471,6 +501,34 @@ impl<T: Copy, U: Copy> Sender<T, U> {
         ensures few { result ≤ 2 ^ 29 }
     {
         self.uses.indices()
+    }
+
+    /// The first slot of the current segment.
+    pub fn first(&self) -> usize
+        ensures { result ≡ self.now.uses.first }
+    {
+        self.uses.first()
+    }
+
+    /// How many slots a segment has.
+    pub fn slots(&self) -> usize
+        ensures { result ≡ self.now.uses.size }
+    {
+        self.uses.size()
+    }
+
+    /// How many loans may be out.
+    pub fn most_loans(&self) -> usize
+        ensures { result ≡ self.now.uses.most_loans }
+    {
+        self.uses.most_loans()
+    }
+
+    /// How long the history may be.
+    pub fn kept(&self) -> usize
+        ensures { result ≡ self.now.uses.kept }
+    {
+        self.uses.kept()
     }
 
     /// How many loans are out.

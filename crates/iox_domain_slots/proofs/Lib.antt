@@ -1,4 +1,5 @@
 pub mod Full
+pub mod Freeing
 pub mod Counts
 pub mod Moving
 pub mod Linking

@@ -8,10 +8,10 @@ use Rattle.std.proofs.lemmas.List.Sums.{count_by-le-length}
 use Rattle.std.proofs.lemmas.Bool.Decides.{eqb_tells}
 use Rattle.std.proofs.lemmas.List.{get_or-set_same, get_or-set_other}
 use Rattle.iox_domain_slots.specs.Uses.{Uses, Connection, held, in_use, loaned}
-use Rattle.iox_domain_slots.specs.Counting.{SlotsState, Moves, LoanSlot, LoanUse, times, uses_of}
+use Rattle.iox_domain_slots.specs.Counting.{SlotsState, Moves, LoanSlot, LoanUse, times, uses_of, referred}
 use Rattle.iox_domain_slots.specs.Links.{LinksState, all_slots, seen, seen_uses, IsTally, IsSmall}
 use Rattle.iox_domain_slots.proofs.Full.{count_stays}
-use Rattle.iox_domain_slots.proofs.Counts.{one, times_append, times_end}
+use Rattle.iox_domain_slots.proofs.Counts.{one, times_append, times_end, times_one}
 
 -- what is in use, counted by its parts
 pub in_use_times : (uses : Uses ℕ ℕ) (k : ℕ) → times k (in_use uses) ≡
@@ -47,6 +47,12 @@ pub small_loaned : (old new : SlotsState) (result : Option ℕ) → IsSmall old 
 small_loaned old new None small room loan = subst IsSmall (sym loan.1) small
 small_loaned old new (Some lent) small room loan =
     subst IsSmall (sym loan.3) (omega (arith, length-append old.loans (lent ∷ []), room), small.1, small.2, small.3)
+
+-- all uses stay counted when a slot is sent that nothing was sent before
+pub tally_claimed : (old new : SlotsState) (sending : Option ℕ) (links : LinksState) (slot : ℕ) → sending ≡ None → slot < length old.references → new ≡ referred slot old
+    → IsTally old sending links → IsTally new (Some slot) links
+tally_claimed old new sending links slot alone there claimed tally = subst (λ s. IsTally s (Some slot) links) (sym claimed) (λ k.
+    omega (arith, tally k, first_use old.references slot k there, ap (λ s. times k (option_to_list s)) alone, times_one k slot))
 
 -- with other connections
 abbrev with_connections : Uses ℕ ℕ → List (Connection ℕ) → Uses ℕ ℕ

@@ -3,6 +3,7 @@
 //! No payload is kept here: a message goes by the number of its slot.
 //!
 //! - [`slots`]: which slots are free, and how many uses the others have.
+//! - `places`: which of them are held.
 //! - [`lists`]: short lists in their order.
 //! - [`mailbox`]: what waits between a publisher and a subscriber.
 //! - [`link`]: a connection: its mailbox, what is borrowed of it, what came back.
@@ -22,6 +23,7 @@ pub mod link;
 pub mod links;
 mod lists;
 pub mod mailbox;
+mod places;
 pub mod slots;
 pub mod stage;
 pub mod uses;

@@ -1,9 +1,10 @@
 //! The slots of one publisher: which are free, and how many uses the others have.
 ghost use Rattle.std.specs.Prelude.{◌≡◌, ◌+◌, ◌-◌, ◌^◌, ◌<◌, ◌≤◌, ◌++◌, ◌∷◌, [], length, drop, get_or, remove, nat_lt, replicate, IfOk, OnErr, None, position, ◌==◌};
 ghost use Rattle.iox_domain_slots.specs.Uses.{newest};
-ghost use Rattle.iox_domain_slots.specs.Counting.{SlotsState, times, uses_of, referred, let_go, LoanSlot, Moves, Covers};
+ghost use Rattle.iox_domain_slots.specs.Counting.{SlotsState, times, uses_of, referred, let_go, IsCurrent, LoanSlot, Moves, Covers};
 
 use crate::lists::take_out;
+use crate::places::{free_unused, hold_all};
 use iox_index_base::{ReleaseMode, UniqueIndexSet};
 use std::alloc::{AllocError, Global};
 use std::collections::VecDeque;
@@ -58,6 +59,22 @@ impl Slots {
         ensures { self.new ≡ referred slot self.old }
     {
         self.references[slot] += 1;
+    }
+
+    /// Gives a slot of the current segment one use more; it may have none yet.
+    pub fn claim(&mut self, slot: usize)
+        requires current { IsCurrent slot self.old }
+        requires room { uses_of slot self.old + 1 < 2 ^ 64 }
+        ensures after { self.new ≡ referred slot self.old }
+        ensures there { slot < length self.old.references }
+    {
+        if self.references[slot] > 0 {
+            self.references[slot] += 1;
+            return;
+        }
+        hold_all(&mut self.places);
+        self.references[slot] = 1;
+        free_unused(&mut self.places, &self.references, self.first);
     }
 
     /// Takes one use off that is neither a loan nor of the history. A slot of the current segment without a use is free.
@@ -226,6 +243,34 @@ impl Slots {
         ensures { result ≡ get_or self.now.history place 0 }
     {
         self.history[place]
+    }
+
+    /// The first slot of the current segment.
+    pub fn first(&self) -> usize
+        ensures { result ≡ self.now.first }
+    {
+        self.first
+    }
+
+    /// How many slots a segment has.
+    pub fn size(&self) -> usize
+        ensures { result ≡ self.now.size }
+    {
+        self.places.capacity()
+    }
+
+    /// How many loans may be out.
+    pub fn most_loans(&self) -> usize
+        ensures { result ≡ self.now.most_loans }
+    {
+        self.most_loans
+    }
+
+    /// How long the history may be.
+    pub fn kept(&self) -> usize
+        ensures { result ≡ self.now.kept }
+    {
+        self.kept
     }
 
     /// Whether one more loan may be out: the condition of `loan`.

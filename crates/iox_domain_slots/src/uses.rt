@@ -1,7 +1,7 @@
 //! All that one publisher's slots are used for.
 ghost use Rattle.std.specs.Prelude.{◌≡◌, ℕ, ◌+◌, ◌^◌, ◌<◌, ◌≤◌, ◌==◌, ◌++◌, ◌∷◌, [], length, map, set, drop, take, get_or, remove, nat_lt, is_some, position, option_to_list, slice_get, IfOk, IsOk, IsSome, OnErr, Some, None, true, false};
 ghost use Rattle.iox_domain_slots.specs.declared.stage.Stage.TheVariants as stage;
-ghost use Rattle.iox_domain_slots.specs.Uses.{Uses, nobody, placed, accepts, offered, taken, given_back, settled, ended, held, in_use, loaned, dropped, begun, finished, connection_at, with_connection, connected, worst_case, welcomed, is_there, segment_opened};
+ghost use Rattle.iox_domain_slots.specs.Uses.{Uses, nobody, placed, accepts, offered, taken, given_back, settled, ended, held, in_use, newest, loaned, dropped, begun, finished, connection_at, with_connection, connected, worst_case, welcomed, is_there, segment_opened};
 ghost use Rattle.iox_domain_slots.specs.Counting.{times, LoanUse};
 
 use crate::links::Links;
@@ -87,6 +87,32 @@ impl SlotUses {
         };
         self.slots.let_go(slot);
         self.sending = None;
+    }
+
+    /// Sends what is in a slot of the current segment again, whether the slot is in use or not: it is in use until the send is finished.
+    pub fn begin_again(&mut self, slot: usize)
+        requires alone { self.old.sending ≡ None }
+        requires first { self.old.first ≤ slot }
+        requires within { slot < self.old.first + self.old.size }
+        ensures { self.new ≡ record self.old { sending = Some slot } }
+    {
+        // So few that all uses can be counted.
+        let _indices = self.links.len();
+        self.slots.claim(slot);
+        self.sending = Some(slot);
+    }
+
+    /// Makes the message that is being sent the newest of the history; of more than may be kept the oldest leaves.
+    pub fn remember(&mut self)
+        ensures sent { (slot : ℕ) → self.old.sending ≡ Some slot → self.new ≡ record self.old { history = newest self.old.kept (self.old.history ++ slot ∷ []) } }
+        ensures none { self.old.sending ≡ None → self.new ≡ self.old }
+    {
+        let Some(slot) = self.sending else {
+            return;
+        };
+        // So few that all uses can be counted.
+        let _indices = self.links.len();
+        self.slots.remember(slot);
     }
 
     /// Puts the message that is being sent into the mailbox of a connection; answers whether it found room.
@@ -318,6 +344,34 @@ impl SlotUses {
         ensures { result ≡ self.now.sending }
     {
         self.sending
+    }
+
+    /// The first slot of the current segment.
+    pub fn first(&self) -> usize
+        ensures { result ≡ self.now.first }
+    {
+        self.slots.first()
+    }
+
+    /// How many slots a segment has.
+    pub fn size(&self) -> usize
+        ensures { result ≡ self.now.size }
+    {
+        self.slots.size()
+    }
+
+    /// How many loans may be out.
+    pub fn most_loans(&self) -> usize
+        ensures { result ≡ self.now.most_loans }
+    {
+        self.slots.most_loans()
+    }
+
+    /// How long the history may be.
+    pub fn kept(&self) -> usize
+        ensures { result ≡ self.now.kept }
+    {
+        self.slots.kept()
     }
 
     /// Whether one more loan may be out: the condition of `loan`.

@@ -152,6 +152,48 @@ impl PublisherLane {
         answer_of(call, self.port.answer())
     }
 
+    /// The number of its first slot.
+    pub fn first_slot(&self) -> u64
+        ensures { result ≡ self.now.port.book.first }
+    {
+        self.port.first_slot()
+    }
+
+    /// How many slots it has.
+    pub fn slots(&self) -> usize
+        ensures { result ≡ length self.now.port.book.loans }
+    {
+        self.port.slots()
+    }
+
+    /// How many loans it may have out.
+    pub fn most_loans(&self) -> u64
+        ensures { result ≡ self.now.port.book.most_loans }
+    {
+        self.port.most_loans()
+    }
+
+    /// The slots of its history, the oldest first.
+    pub fn history(&self) -> &[u64]
+        ensures { result.now ≡ self.now.port.book.history }
+    {
+        self.port.history()
+    }
+
+    /// Its connections, in place order.
+    pub fn routes(&self) -> &[Route]
+        ensures { result.now ≡ self.now.port.routes }
+    {
+        self.port.routes()
+    }
+
+    /// The words that the headers of its slots say, slot by slot.
+    pub fn heads(&self) -> &[Head]
+        ensures { result.now ≡ self.now.heads }
+    {
+        self.heads.as_slice()
+    }
+
     /// The connection at a place, if there is one.
     pub fn route(&self, place: u64) -> Option<Route>
         ensures { result ≡ slice_get self.now.port.routes place }

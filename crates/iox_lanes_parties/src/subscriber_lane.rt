@@ -83,6 +83,20 @@ impl SubscriberLane {
         self.port.meet(route);
     }
 
+    /// Its connections, in the order in which it receives from them.
+    pub fn routes(&self) -> &[Route]
+        ensures { result.now ≡ self.now.port.routes }
+    {
+        self.port.routes()
+    }
+
+    /// How many samples of a connection it may borrow.
+    pub fn most_borrowed(&self) -> u64
+        ensures { result ≡ self.now.port.most_borrowed }
+    {
+        self.port.most_borrowed()
+    }
+
     /// How many connections it has.
     pub fn connections(&self) -> usize
         ensures { result ≡ length self.now.port.routes }

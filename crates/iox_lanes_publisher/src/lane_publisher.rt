@@ -74,6 +74,34 @@ impl LanePublisher {
         self.book.first()
     }
 
+    /// How many slots it has.
+    pub fn slots(&self) -> usize
+        ensures { result ≡ length self.now.book.loans }
+    {
+        self.book.slots()
+    }
+
+    /// How many loans it may have out.
+    pub fn most_loans(&self) -> u64
+        ensures { result ≡ self.now.book.most_loans }
+    {
+        self.book.most_loans()
+    }
+
+    /// The slots of its history, the oldest first.
+    pub fn history(&self) -> &[u64]
+        ensures { result.now ≡ self.now.book.history }
+    {
+        self.book.history()
+    }
+
+    /// Its connections, in place order.
+    pub fn routes(&self) -> &[Route]
+        ensures { result.now ≡ self.now.routes }
+    {
+        self.routes.as_slice()
+    }
+
     /// Whether a slot of the service is its loan.
     pub fn loan(&self, slot: u64) -> LoanMark
         ensures { result ≡ loan_of slot self.now.book }

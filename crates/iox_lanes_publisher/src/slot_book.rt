@@ -109,6 +109,27 @@ impl SlotBook {
         self.first
     }
 
+    /// How many slots it has.
+    pub fn slots(&self) -> usize
+        ensures { result ≡ length self.now.loans }
+    {
+        self.loans.len()
+    }
+
+    /// How many loans may be out.
+    pub fn most_loans(&self) -> u64
+        ensures { result ≡ self.now.most_loans }
+    {
+        self.most_loans
+    }
+
+    /// The slots of its history, the oldest first.
+    pub fn history(&self) -> &[u64]
+        ensures { result.now ≡ self.now.history }
+    {
+        self.history.as_slice()
+    }
+
     /// Whether a slot of the service is lent by this publisher.
     pub fn loan(&self, slot: u64) -> LoanMark
         ensures { result ≡ loan_of slot self.now }

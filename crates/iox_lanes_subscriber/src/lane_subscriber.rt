@@ -75,6 +75,20 @@ impl LaneSubscriber {
         }
     }
 
+    /// Its connections, in the order in which it receives from them.
+    pub fn routes(&self) -> &[Route]
+        ensures { result.now ≡ self.now.routes }
+    {
+        self.routes.as_slice()
+    }
+
+    /// How many samples of a connection it may borrow.
+    pub fn most_borrowed(&self) -> u64
+        ensures { result ≡ self.now.most_borrowed }
+    {
+        self.most_borrowed
+    }
+
     /// The connection at a place; None beyond the last one.
     pub fn route(&self, place: u64) -> Option<Route>
         ensures { result ≡ slice_get self.now.routes place }
