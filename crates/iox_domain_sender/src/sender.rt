@@ -1,7 +1,7 @@
 //! One publisher with its messages.
 ghost use Rattle.std.specs.Prelude.{◌≡◌, ℕ, ◌+◌, ◌<◌, ◌≤◌, length, get_or, set, map, is_some, option_copied, slice_get, position, nat_lt, IsSome, IfSome, IfOk, OnErr, ◌-◌, ◌^◌, ◌==◌, ◌++◌, ◌∷◌, [], true, false, None, Some};
 ghost use Rattle.iox_domain_slots.specs.declared.stage.Stage.TheVariants as stage;
-ghost use Rattle.iox_domain_slots.specs.Uses.{Uses, nobody, placed, connected, is_there, worst_case, accepts, offered, taken, given_back, ended, newest, welcomed, dropped, begun, finished, connection_at, with_connection, in_use};
+ghost use Rattle.iox_domain_slots.specs.Uses.{Uses, nobody, placed, connected, is_there, worst_case, accepts, offered, taken, given_back, ended, emptied, newest, welcomed, dropped, begun, finished, connection_at, with_connection, in_use};
 ghost use Rattle.iox_domain_slots.specs.Counting.{times};
 ghost use Rattle.std.specs.Borrow.{sem};
 ghost use Rattle.iox_domain_sender.specs.Messages.{Message, Loan, write_value, write_all, write_user_header, written_of, sent_as};
@@ -400,6 +400,14 @@ impl<T: Copy, U: Copy> Sender<T, U> {
         ensures { self.new ≡ with_uses (with_connection index (ended (connection_at index self.old.uses)) self.old.uses) self.old }
     {
         self.uses.end(index);
+    }
+
+    /// Loses all that waits at the connection, which goes on.
+    pub fn lose_waiting(&mut self, index: usize)
+        requires { is_there (connection_at index self.old.uses) ≡ true }
+        ensures { self.new ≡ with_uses (with_connection index (emptied (connection_at index self.old.uses)) self.old.uses) self.old }
+    {
+        self.uses.lose_waiting(index);
     }
 
     /// Makes a connection where at most `limit` messages may wait, and answers its index, at which there was none. It fails where

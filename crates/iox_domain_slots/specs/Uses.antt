@@ -112,6 +112,10 @@ given_back at connection = settled connection.stage connection.limit connection.
 abbrev pub ended : {X : Type 0} → Connection X → Connection X
 ended connection = settled stage.Ended connection.limit [] connection.borrowed
 
+-- all that waits is lost
+abbrev pub emptied : {X : Type 0} → Connection X → Connection X
+emptied connection = record connection { waiting = [] }
+
 -- a new connection, to which nothing was delivered
 abbrev pub connected : {X : Type 0} → ℕ → Connection X
 connected limit = record { stage = stage.Live; limit = limit; waiting = []; borrowed = [] }

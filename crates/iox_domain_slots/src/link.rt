@@ -185,10 +185,11 @@ impl Link {
         slots.let_go(slot as usize);
     }
 
-    // Loses all that waits.
-    fn lose_waiting(&mut self, slots: &mut Slots)
+    /// Loses all that waits.
+    pub fn lose_waiting(&mut self, slots: &mut Slots)
         requires { Covers slots.old (all_of self.old) }
         ensures after { self.new ≡ record self.old { waiting = [] } }
+        ensures fits { IsFit self.new }
         ensures moved { Moves slots.old (all_of self.old) slots.new (all_of self.new) }
     {
         for _ in 0..self.mailbox.len() {

@@ -1,6 +1,6 @@
 //! The connections of one publisher.
 ghost use Rattle.std.specs.Prelude.{◌≡◌, ℕ, ◌+◌, ◌*◌, ◌^◌, ◌<◌, ◌≤◌, ◌==◌, ◌++◌, ◌∷◌, [], length, map, set, drop, take, get_or, remove, is_some, position, slice_get, IfOk, IsOk, OnErr, Some, None, true, false};
-ghost use Rattle.iox_domain_slots.specs.Uses.{nobody, placed, accepts, offered, taken, given_back, settled, ended, held, connected, how_many};
+ghost use Rattle.iox_domain_slots.specs.Uses.{nobody, placed, accepts, offered, taken, given_back, settled, ended, emptied, held, connected, how_many};
 ghost use Rattle.iox_domain_slots.specs.declared.stage.Stage.TheVariants as stage;
 ghost use Rattle.iox_domain_slots.specs.Counting.{SlotsState, times, uses_of, Moves, Covers};
 ghost use Rattle.iox_domain_slots.specs.Links.{LinksState, LinkState, seen, all_slots, all_of, connection_of, taken_back, IsGone, IsOf};
@@ -197,6 +197,20 @@ impl Links {
     {
         self.end_link(index, slots);
         self.settle(index);
+    }
+
+    /// Loses all that waits at the connection, which goes on.
+    pub fn lose_waiting(&mut self, index: usize, slots: &mut Slots)
+        requires there { is_some (get_or self.old.links index None) ≡ true }
+        requires covered { Covers slots.old (all_slots self.old.links) }
+        ensures after { map seen self.new.links ≡ set (map seen self.old.links) index (emptied (seen (get_or self.old.links index None))) }
+        ensures same { self.new ≡ record self.old { links = self.new.links } }
+        ensures moved { Moves slots.old (all_slots self.old.links) slots.new (all_slots self.new.links) }
+    {
+        let Some(link) = &mut self.items[index] else {
+            return;
+        };
+        link.lose_waiting(slots);
     }
 
     // Takes back what came back at an index.

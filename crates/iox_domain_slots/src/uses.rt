@@ -1,7 +1,7 @@
 //! All that one publisher's slots are used for.
 ghost use Rattle.std.specs.Prelude.{◌≡◌, ℕ, ◌+◌, ◌^◌, ◌<◌, ◌≤◌, ◌==◌, ◌++◌, ◌∷◌, [], length, map, set, drop, take, get_or, remove, nat_lt, is_some, position, option_to_list, slice_get, IfOk, IsOk, IsSome, OnErr, Some, None, true, false};
 ghost use Rattle.iox_domain_slots.specs.declared.stage.Stage.TheVariants as stage;
-ghost use Rattle.iox_domain_slots.specs.Uses.{Uses, nobody, placed, accepts, offered, taken, given_back, settled, ended, held, in_use, newest, loaned, dropped, begun, finished, connection_at, with_connection, connected, worst_case, welcomed, is_there, segment_opened};
+ghost use Rattle.iox_domain_slots.specs.Uses.{Uses, nobody, placed, accepts, offered, taken, given_back, settled, ended, emptied, held, in_use, newest, loaned, dropped, begun, finished, connection_at, with_connection, connected, worst_case, welcomed, is_there, segment_opened};
 ghost use Rattle.iox_domain_slots.specs.Counting.{times, LoanUse};
 
 use crate::links::Links;
@@ -154,6 +154,14 @@ impl SlotUses {
         ensures { self.new ≡ with_connection index (ended (connection_at index self.old)) self.old }
     {
         self.links.end(index, &mut self.slots);
+    }
+
+    /// Loses all that waits at the connection, which goes on.
+    pub fn lose_waiting(&mut self, index: usize)
+        requires { is_there (connection_at index self.old) ≡ true }
+        ensures { self.new ≡ with_connection index (emptied (connection_at index self.old)) self.old }
+    {
+        self.links.lose_waiting(index, &mut self.slots);
     }
 
     /// Makes a connection where at most `limit` may wait, and answers its index, at which there was none. It fails where an allocation
