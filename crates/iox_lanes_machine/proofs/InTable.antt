@@ -40,7 +40,7 @@ pub cells_length : (table : TableWords) (connection cells : ℕ) → IsSeat tabl
 cells_length table connection cells s =
     omega (arith, length-take cells (drop (start table connection) table.words), length-drop (start table connection) table.words, ends_below table connection cells s)
 
-cell_held : (table : TableWords) (connection cells k : ℕ) → k < cells → slice_index (cells_in table connection cells) k ≡ held_by table (sent_word connection (Cell k))
+pub cell_held : (table : TableWords) (connection cells k : ℕ) → k < cells → slice_index (cells_in table connection cells) k ≡ held_by table (sent_word connection (Cell k))
 cell_held table connection cells k h =
     let e : start table connection + k ≡ number_of table.sizes (sent_word connection (Cell k)) = omega arith in
     get_or-take cells (drop (start table connection) table.words) k 0 h ∙ get_or-drop (start table connection) table.words k 0 ∙ ap (slice_index table.words) e

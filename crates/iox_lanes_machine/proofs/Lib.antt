@@ -7,6 +7,7 @@ pub mod Kept
 pub mod Steps
 pub mod Start
 pub mod Mailboxes
+pub mod RestingRings
 pub mod Arrivals
 pub mod Apart
 pub mod Receipts

@@ -22,7 +22,7 @@ use Rattle.iox_lanes_machine.specs.Links.{LinkState}
 pub orders_follow : (m : World) → IsKept m → OrdersFollow m
 orders_follow m k = λ connection order got few link found. ((k.rings few) connection link order found got).mailbox
 
-order_there : (m : World) (connection : ℕ) (link : LinkState) → IsKept m → slice_get m.links connection ≡ Some link → slice_get m.orders connection ≡ Some (get_or m.orders connection [])
+pub order_there : (m : World) (connection : ℕ) (link : LinkState) → IsKept m → slice_get m.links connection ≡ Some link → slice_get m.orders connection ≡ Some (get_or m.orders connection [])
 order_there m connection link k found = slice_get-get_or m.orders connection [] (omega (arith, slice_get_within m.links connection link found, k.within.orders))
 
 pub order_follows : (m : World) (connection : ℕ) → IsKept m → OrderFollows m connection (get_or m.orders connection [])

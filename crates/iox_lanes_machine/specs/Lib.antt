@@ -7,6 +7,7 @@ pub mod Apart
 pub mod State
 pub mod Made
 pub mod Mailboxes
+pub mod Resting
 pub mod Receipts
 pub mod Calls
 pub mod Sends

@@ -493,7 +493,7 @@ fn with_buffer(messages: u64, route: Route) -> Route
 }
 
 // How many cells the ring of a buffer has.
-fn cells(kind: RingKind, limit: u64) -> u64
+pub(crate) fn cells(kind: RingKind, limit: u64) -> u64
     requires { cells_of kind limit < 2 ^ 64 }
     ensures { result ≡ cells_of kind limit }
 {

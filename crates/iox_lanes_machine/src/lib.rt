@@ -9,6 +9,7 @@
 //! - `state`: all ports with their words, and one step.
 //! - [`lanes`]: the lanes as one value.
 //! - [`laws`]: what they do over many steps.
+//! - [`waiting`]: what waits at a connection.
 //! - [`parts`]: the lanes taken apart.
 //!
 //! First calls. Tests in `iox_lanes_rows` make them.
@@ -31,6 +32,7 @@ pub mod parts;
 mod placing;
 pub mod sizes;
 mod state;
+pub mod waiting;
 
 pub use found::Found;
 pub use lanes::Lanes;

@@ -1,0 +1,23 @@
+-- What waits at a connection, where its two ports are between calls.
+use Rattle.std.specs.Prelude.{ℕ, ◌≡◌, ◌≤◌, ◌^◌, true, List, [], get_or, slice_get, Option, Some, None}
+use Rattle.iox_lanes_ledger.specs.QueuesSteps.declared.order.Placed.{Placed}
+use Rattle.iox_lanes_ledger.specs.LanesCalls.Publishing.{publisher_is_idle}
+use Rattle.iox_lanes_ledger.specs.LanesCalls.Subscribing.{subscriber_is_idle}
+use Rattle.iox_lanes_machine.specs.Links.{LinkState}
+use Rattle.iox_lanes_machine.specs.Rings.{waiting}
+use Rattle.iox_lanes_machine.specs.World.{World, publisher_stage, subscriber_stage}
+
+-- the slots of what waits at a connection by its order, the oldest first; none where there is no connection
+abbrev pub mail_by : Option LinkState → List Placed → List ℕ
+mail_by None order = []
+mail_by (Some link) order = waiting link order
+
+-- the slots of what waits at a connection of a number, by its order
+abbrev pub mail_at : World → ℕ → List ℕ
+mail_at m connection = mail_by (slice_get m.links connection) (get_or m.orders connection [])
+
+-- at most 2^63 steps were made, and the publisher and the subscriber of a connection are between calls
+pub record Rests (m : World) (connection : ℕ) : Type 0 where
+  pub few : m.moments ≤ 2 ^ 63
+  pub sender : (link : LinkState) → slice_get m.links connection ≡ Some link → publisher_is_idle (publisher_stage (slice_get m.publishers link.publisher)) ≡ true
+  pub receiver : (link : LinkState) → slice_get m.links connection ≡ Some link → subscriber_is_idle (subscriber_stage (slice_get m.subscribers link.subscriber)) ≡ true
