@@ -1,0 +1,7 @@
+-- Lemmas on what lanes leave.
+pub mod SlotWords
+pub mod Losing
+pub mod Left
+pub mod Waits
+pub mod Returning
+pub mod Remembering

@@ -1,0 +1,13 @@
+-- A publisher that forgets its messages.
+use Rattle.std.specs.Prelude.{ℕ, ◌≡◌, [], length}
+use Rattle.iox_domain_sender.specs.DomainSlots.Uses.{Uses, connection_at, emptied}
+
+-- nothing is borrowed of any connection
+abbrev pub NoneBorrowed : {L X : Type 0} → Uses L X → Type 0
+NoneBorrowed uses = (index : ℕ) → (connection_at index uses).borrowed ≡ []
+
+-- Nothing waits at any connection any longer, and the history is empty; all else is as it was.
+pub record IsCleared {L X : Type 0} (old new : Uses L X) : Type 0 where
+  pub same : new ≡ record old { history = []; connections = new.connections }
+  pub count : length new.connections ≡ length old.connections
+  pub each : (index : ℕ) → connection_at index new ≡ emptied (connection_at index old)

@@ -1,0 +1,5 @@
+-- What lanes leave.
+pub mod Leaving
+pub mod Clearing
+pub mod Restoring
+pub use Rattle.iox_domain_sender.specs as DomainSender
