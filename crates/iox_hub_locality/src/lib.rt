@@ -9,7 +9,8 @@
 ghost use Rattle.iox_hub_commands.specs.DescribeBase.Detail.{detail};
 ghost use Rattle.iox_hub_commands.specs.DescribeBase.declared.type_detail.TypeVariant.TheVariants.{FixedSize};
 ghost use Rattle.iox_hub_factories.specs.HubRequests.Asked.{types_of};
-ghost use Rattle.iox_hub_locality.specs.Locality.{CloseAnswersAlike, ForeignAnswersAlike, PortsAnswerAlike, RunsAnswerAlike};
+ghost use Rattle.iox_hub_locality.specs.Locality.{CloseAnswersAlike, ForeignAnswersAlike, OpensAnswerAlike, PortsAnswerAlike, RunsAnswerAlike};
+ghost use Rattle.iox_hub_locality.specs.Order.{RunsAreInOrder, StaysInOrder};
 ghost use Rattle.iox_hub_run.specs.Steps.{Step};
 
 use iox_describe_base::ZeroCopySend;
@@ -29,5 +30,8 @@ pub fn commands_look_at_their_service<
     ensures ports { PortsAnswerAlike (Step (detail FixedSize T.name T.size T.alignment) (detail FixedSize U.name U.size U.alignment) (types_of T.name T.size T.alignment U.name U.size U.alignment) T.is_default U.is_default B.fixed (λ handlers. B.degrades handlers) (λ handlers. B.decides handlers) D.fixed (λ handler. D.degrades handler)) }
     ensures foreign { ForeignAnswersAlike (Step (detail FixedSize T.name T.size T.alignment) (detail FixedSize U.name U.size U.alignment) (types_of T.name T.size T.alignment U.name U.size U.alignment) T.is_default U.is_default B.fixed (λ handlers. B.degrades handlers) (λ handlers. B.decides handlers) D.fixed (λ handler. D.degrades handler)) }
     ensures close { CloseAnswersAlike (Step (detail FixedSize T.name T.size T.alignment) (detail FixedSize U.name U.size U.alignment) (types_of T.name T.size T.alignment U.name U.size U.alignment) T.is_default U.is_default B.fixed (λ handlers. B.degrades handlers) (λ handlers. B.decides handlers) D.fixed (λ handler. D.degrades handler)) }
+    ensures opens { OpensAnswerAlike (Step (detail FixedSize T.name T.size T.alignment) (detail FixedSize U.name U.size U.alignment) (types_of T.name T.size T.alignment U.name U.size U.alignment) T.is_default U.is_default B.fixed (λ handlers. B.degrades handlers) (λ handlers. B.decides handlers) D.fixed (λ handler. D.degrades handler)) }
+    ensures order { StaysInOrder (Step (detail FixedSize T.name T.size T.alignment) (detail FixedSize U.name U.size U.alignment) (types_of T.name T.size T.alignment U.name U.size U.alignment) T.is_default U.is_default B.fixed (λ handlers. B.degrades handlers) (λ handlers. B.decides handlers) D.fixed (λ handler. D.degrades handler)) }
+    ensures run_order { RunsAreInOrder (Step (detail FixedSize T.name T.size T.alignment) (detail FixedSize U.name U.size U.alignment) (types_of T.name T.size T.alignment U.name U.size U.alignment) T.is_default U.is_default B.fixed (λ handlers. B.degrades handlers) (λ handlers. B.decides handlers) D.fixed (λ handler. D.degrades handler)) }
     ensures runs { RunsAnswerAlike (Step (detail FixedSize T.name T.size T.alignment) (detail FixedSize U.name U.size U.alignment) (types_of T.name T.size T.alignment U.name U.size U.alignment) T.is_default U.is_default B.fixed (λ handlers. B.degrades handlers) (λ handlers. B.decides handlers) D.fixed (λ handler. D.degrades handler)) }
 {}
