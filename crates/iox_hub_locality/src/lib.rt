@@ -18,9 +18,10 @@ use iox_hub_commands::{PublisherHandlers, SubscriberHandler};
 use iox_queues_base::Words;
 
 /// Of two hubs that agree on a service: what the one may reply to a command that asks something of a port, a loan or a sample of this
-/// service, makes a port of it, closes a factory of it, or has nodes of others do steps on it, the other may reply, and then they agree on
-/// it again. So neither the reply nor what is left of the service depends on any other service. Two such hubs reply alike to any list of
-/// commands of its ports. Commands that create or open a service aren't spoken of. It is the contract of a function that does nothing.
+/// service, makes a port of it, creates or opens it, closes a factory of it, or has nodes of others do steps on it, the other may reply, and
+/// then they agree on it again. So neither the reply nor what is left of the service depends on any other service. A reply that no memory was
+/// found to create or open it isn't spoken of. Two such hubs reply alike to any list of commands of its ports. In every run the numbers of a
+/// hub's domains are in order, and so are those of its counts of factories. It is the contract of a function that does nothing.
 pub fn commands_look_at_their_service<
     T: Words + ZeroCopySend + Default,
     U: Copy + ZeroCopySend + Default,
