@@ -45,7 +45,7 @@ module _ {T U B D : Type 0} (hash : ServiceHash) (payload user_header : Detail) 
     (skip : (table after : FactoryTable) (old new : Hub T U B D) → SameNumbers table after → new ≡ old → P table after old new)
     (roomier : (table roomy after : FactoryTable) (old new : Hub T U B D) → SameNumbers table roomy → P roomy after old new → P table after old new)
     (gets : (E : Type 0) (lacking : Bool → E) (negotiates : Steps → Result Membership E → Steps → Type 0) → IsNegotiation hash negotiates → (lists : List (List ForeignStep)) (pattern : MessagingPattern) (refusal : E → Refusal) (reply : Result ℕ Refusal)
-        (table after : FactoryTable) (old new : Hub T U B D) → GetsNumber pattern refusal (λ before made later. OpensInHub payload user_header lacking negotiates lists before made later) table old reply after new → P table after old new) where
+    (table after : FactoryTable) (old new : Hub T U B D) → GetsNumber pattern refusal (λ before made later. OpensInHub payload user_header lacking negotiates lists before made later) table old reply after new → P table after old new) where
   skipped : (table after : FactoryTable) (old new : Hub T U B D) → after ≡ table → new ≡ old → P table after old new
   skipped table after old new unchanged still = skip table after old new (ap (λ t. t.entries) unchanged, ap (λ t. t.next) unchanged) still
 
