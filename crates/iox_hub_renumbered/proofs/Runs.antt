@@ -24,8 +24,10 @@ use Rattle.iox_hub_run.proofs.StepChanges.{step_changes, numbers_go_on}
 use Rattle.iox_hub_alone.specs.Alone.{StepWithMemory, RunsAlone}
 use Rattle.iox_hub_alone.specs.Passing.{PassesIn, PassesOver}
 use Rattle.iox_hub_alone.proofs.Numbers.{passed_rises}
+use Rattle.iox_hub_alone.specs.Telling.{replies_told}
 use Rattle.iox_hub_alone.proofs.Runs.{is_as_if_alone}
-use Rattle.iox_hub_renumbered.specs.Anew.{RunsAnew, CountsAnew, IsAloneAnew}
+use Rattle.iox_hub_alone.proofs.Telling.{each_run_can_be_told}
+use Rattle.iox_hub_renumbered.specs.Anew.{RunsAnew, CountsAnew, IsAloneAnew, EachServiceIsAloneAnew}
 use Rattle.iox_hub_renumbered.specs.Renaming.{Renaming, renamed, renamed_reply}
 use Rattle.iox_hub_renumbered.proofs.Made.{MadeRenamed}
 use Rattle.iox_hub_renumbered.proofs.Steps.{TablesRenamed, AllNew, AllGo, step_anew}
@@ -460,3 +462,9 @@ module _ {T U B D : Type 0} (payload user_header : Detail) (types : MessageTypeD
   is_alone_anew config hash mine commands first alone new replies is_first is_alone go =
       let (after, runs, agree) = is_as_if_alone payload user_header types is_default is_default_header fixed degrades decides fixed_reader reader_degrades config hash mine commands first alone new replies is_first is_alone go in
       are_counted_anew config commands alone after replies is_alone runs
+
+  pub each_service_is_alone_anew : EachServiceIsAloneAnew (Step {T = T} {U = U} payload user_header types is_default is_default_header fixed degrades decides fixed_reader reader_degrades)
+  each_service_is_alone_anew config hash commands first alone new replies is_first is_alone go =
+      let (mine, told, same, among) = each_run_can_be_told payload user_header types is_default is_default_header fixed degrades decides fixed_reader reader_degrades config hash commands first new replies is_first go in
+      let (by, later, runs) = is_alone_anew config hash mine told first alone new (replies_told told replies) is_first is_alone among in
+      (mine, told, by, later, same, among, runs)

@@ -6,9 +6,11 @@ use Rattle.iox_hub_run.specs.Command.declared.reply.Reply.{Reply}
 use Rattle.iox_hub_run.specs.HubBase.DescribeBase.declared.hash.ServiceHash.{ServiceHash}
 use Rattle.iox_hub_run.specs.HubBase.declared.hub.HubConfig.{HubConfig}
 use Rattle.iox_hub_run.specs.Numbers.{IsNew}
+use Rattle.iox_hub_run.specs.Runs.{Runs}
 use Rattle.iox_hub_run.specs.declared.numbered_hub.NumberedHub.{NumberedHub}
 use Rattle.iox_hub_alone.specs.Alone.{StepWithMemory, RunsAmongOthers, RunsAlone}
 use Rattle.iox_hub_alone.specs.Passing.{PassesHub}
+use Rattle.iox_hub_alone.specs.Telling.{commands_told, replies_told}
 use Rattle.iox_hub_renumbered.specs.Renaming.{Renaming, renamed, renamed_reply}
 
 -- Numbers of lives are passed over, and of the factories that the hub counts; nothing else happens, and what commands name goes by the
@@ -39,3 +41,11 @@ module _ {T U B D : Type 0} (step : Command T → NumberedHub T U B D → Result
   IsAloneAnew = (config : HubConfig) (hash : ServiceHash) (mine : ℕ → Bool) (commands : List (Bool × Command T)) (first alone new : NumberedHub T U B D) (replies : List (Reply T))
       → IsNew config first → IsNew config alone → RunsAmongOthers hash mine step commands first replies new
       → (by : Renaming) × (later : NumberedHub T U B D) × RunsAnew by commands alone replies later
+
+  -- Whatever run of a new hub in which no memory is wanted to create or open a service, and whatever service: it can be told which commands
+  -- are the service's, and which are of others, and those of the service may be replied to alone as they were, by its own numbers.
+  abbrev pub EachServiceIsAloneAnew : Type 0
+  EachServiceIsAloneAnew = (config : HubConfig) (hash : ServiceHash) (commands : List (Command T)) (first alone new : NumberedHub T U B D) (replies : List (Reply T))
+      → IsNew config first → IsNew config alone → Runs (StepWithMemory step) commands first replies new
+      → (mine : ℕ → Bool) × (told : List (Bool × Command T)) × (by : Renaming) × (later : NumberedHub T U B D)
+      × (commands_told told ≡ commands) × RunsAmongOthers hash mine step told first (replies_told told replies) new × RunsAnew by told alone (replies_told told replies) later
