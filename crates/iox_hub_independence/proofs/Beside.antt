@@ -70,7 +70,7 @@ module _ {T U B D : Type 0} (payload user_header : Detail) (types : MessageTypeD
     (fixed_reader : DegradationAction → D) (reader_degrades : D → DegradationCause → DegradationInfo → DegradationAction → Type 0) where
   pub leaves_others : LeavesOthers (Step payload user_header types is_default is_default_header fixed degrades decides fixed_reader reader_degrades)
   leaves_others hash number asked old new answer rises one_agreement service (step, nothing) =
-      (step_left hash number payload user_header types is_default is_default_header fixed degrades decides fixed_reader reader_degrades asked old new answer rises one_agreement.is_reached service nothing step).0
+      (step_left hash number payload user_header types is_default is_default_header fixed degrades decides fixed_reader reader_degrades asked old new answer rises (λ kind. (one_agreement.is_reached, service)) nothing step).0
 
   abbrev each : Command T → NumberedHub T U B D → Result (Reply T) AllocError → NumberedHub T U B D → Type 0
   each asked old answer new = Step payload user_header types is_default is_default_header fixed degrades decides fixed_reader reader_degrades asked old answer new
@@ -97,7 +97,7 @@ module _ {T U B D : Type 0} (payload user_header : Detail) (types : MessageTypeD
 
     beside_step : (asked : Command T) (old new : NumberedHub T U B D) (answer : Result (Reply T) AllocError) → StepBeside each hash number asked old answer new → Goes old new
     beside_step asked old new answer (step, nothing) holds service =
-        let (left, past) = step_left hash number payload user_header types is_default is_default_header fixed degrades decides fixed_reader reader_degrades asked old new answer holds.rise holds.agree.is_reached service nothing step in
+        let (left, past) = step_left hash number payload user_header types is_default is_default_header fixed degrades decides fixed_reader reader_degrades asked old new answer holds.rise (λ kind. (holds.agree.is_reached, service)) nothing step in
         let (agreed, was, same) = service in
         (step_holds asked old new answer step holds, (agreed, was-agreed-on number agreed old.hub.table new.hub.table was past, same), left)
 

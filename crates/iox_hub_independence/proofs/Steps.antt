@@ -57,6 +57,13 @@ use Rattle.iox_hub_independence.proofs.Services.{BothLeft, create_left, open_lef
 use Rattle.iox_hub_independence.proofs.Ports.{PortsLeft, PortApart, under_apart, lender_apart, ready_apart, same_ports, stepped_left, makes_left, at_port_left, at_port_if_left, lends_left, lends_written_left, changed_if_left, sends_under_left, puts_left, retries_left, gives_up_left, releases_left, receives_left, follows_left, follows_publishers_left, tells_left, publisher_goes_left, subscriber_goes_left, same_made, made_on, roomier_left, publisher_spent, subscriber_spent, loan_spent, sample_spent, loan_numbered, sample_numbered, publisher_numbered, subscriber_numbered}
 
 -- the port that is named isn't of the service of a number, if there is one
+-- a command that creates a service, or opens one
+abbrev pub IsOpening : {T : Type 0} → Command T → Type 0
+IsOpening (command.Create node name options attributes steps) = Unit {0}
+IsOpening (command.Open node name options requirements steps) = Unit {0}
+IsOpening (command.OpenOrCreate node name options requirements steps) = Unit {0}
+IsOpening asked = ⊥
+
 abbrev pub LeaveApart : ℕ → PortNumber → Made → Type 0
 LeaveApart number (port_number.Publisher one) made = IsApart publisher_service number (value_at made.publishers one)
 LeaveApart number (port_number.Subscriber one) made = IsApart service_at number (value_at made.subscribers one)
@@ -202,73 +209,74 @@ module _ {T U B D : Type 0} (hash : ServiceHash) (number : ℕ) where
   module _ (payload user_header : Detail) (types : MessageTypeDetails) (is_default : T → Type 0) (is_default_header : U → Type 0)
       (fixed : BackpressureStrategy → Option BackpressureAction → DegradationAction → B) (degrades : B → DegradationCause → DegradationInfo → DegradationAction → Type 0) (decides : B → BackpressureInfo → BackpressureDecision → Type 0)
       (fixed_reader : DegradationAction → D) (reader_degrades : D → DegradationCause → DegradationInfo → DegradationAction → Type 0) where
-    pub step_left : (asked : Command T) (old new : NumberedHub T U B D) (answer : Result (Reply T) AllocError) → NumbersRise old → IsReached old.hub.table → IsService hash number old.hub.table → AsksNothing hash number asked old
+    -- of a command that creates or opens something the service must have been agreed
+    pub step_left : (asked : Command T) (old new : NumberedHub T U B D) (answer : Result (Reply T) AllocError) → NumbersRise old → (IsOpening asked → IsReached old.hub.table × IsService hash number old.hub.table) → AsksNothing hash number asked old
         → Step payload user_header types is_default is_default_header fixed degrades decides fixed_reader reader_degrades asked old answer new → Moved old new
-    step_left command.Node old new answer rises reached service (named, apart) step =
+    step_left command.Node old new answer rises standing (named, apart) step =
         replied _ old new answer (λ reply does. node_left old new _ does.1) step
-    step_left (command.Create node name options attributes steps) old new answer rises reached service (named, apart) step =
-        replied _ old new answer (λ reply does. let (made, opens, same, is) = does in by_services old new (create_left hash number payload user_header types _ _ attributes steps old.factories.made new.factories.made old.hub new.hub made (named_apart hash _ named) reached service opens) same) step
-    step_left (command.Open node name options requirements steps) old new answer rises reached service (named, apart) step =
-        replied _ old new answer (λ reply does. let (made, opens, same, is) = does in by_services old new (open_left hash number payload user_header types _ _ requirements steps old.factories.made new.factories.made old.hub new.hub made (named_apart hash _ named) reached service opens) same) step
-    step_left (command.OpenOrCreate node name options requirements steps) old new answer rises reached service (named, apart) step =
-        replied _ old new answer (λ reply does. let (made, opens, same, is) = does in by_services old new (either_left hash number payload user_header types _ _ requirements steps old.factories.made new.factories.made old.hub new.hub made (named_apart hash _ named) reached service opens) same) step
-    step_left (command.Foreign pattern name steps) old new answer rises reached service (named, apart) step =
+    step_left (command.Create node name options attributes steps) old new answer rises standing (named, apart) step =
+        replied _ old new answer (λ reply does. let (made, opens, same, is) = does in by_services old new (create_left hash number payload user_header types _ _ attributes steps old.factories.made new.factories.made old.hub new.hub made (named_apart hash _ named) (standing tt).0 (standing tt).1 opens) same) step
+    step_left (command.Open node name options requirements steps) old new answer rises standing (named, apart) step =
+        replied _ old new answer (λ reply does. let (made, opens, same, is) = does in by_services old new (open_left hash number payload user_header types _ _ requirements steps old.factories.made new.factories.made old.hub new.hub made (named_apart hash _ named) (standing tt).0 (standing tt).1 opens) same) step
+    step_left (command.OpenOrCreate node name options requirements steps) old new answer rises standing (named, apart) step =
+        replied _ old new answer (λ reply does. let (made, opens, same, is) = does in by_services old new (either_left hash number payload user_header types _ _ requirements steps old.factories.made new.factories.made old.hub new.hub made (named_apart hash _ named) (standing tt).0 (standing tt).1 opens) same) step
+    step_left (command.Foreign pattern name steps) old new answer rises standing (named, apart) step =
         replied _ old new answer (λ reply does. let (acted, acts, same, is) = does in
         let (left, past) = foreign_left hash number pattern name types steps old.hub new.hub acted (named_apart hash _ named) acts in
         by_services old new (left, same_left service_of number old.factories.made new.factories.made (ap (λ numbered. numbered.factories.made.entries) same), past) (ap (λ numbered. numbered.made) same)) step
-    step_left (command.Close factory) old new answer rises reached service (named, apart) step =
+    step_left (command.Close factory) old new answer rises standing (named, apart) step =
         replied _ old new answer (λ reply does. let (closed, closes, same, is) = does in by_services old new (close_left hash number factory old.factories.made new.factories.made old.hub new.hub closed named apart rises.0 closes) same) step
-    step_left (command.Publisher factory options) old new answer rises reached service (named, apart) step =
+    step_left (command.Publisher factory options) old new answer rises standing (named, apart) step =
         replied _ old new answer (λ reply does. publisher_found is_default_header fixed degrades (value_at old.factories.made factory) options old new reply (not_asked service_of number _ apart) does) step
-    step_left (command.Subscriber factory options) old new answer rises reached service (named, apart) step =
+    step_left (command.Subscriber factory options) old new answer rises standing (named, apart) step =
         replied _ old new answer (λ reply does. subscriber_found fixed_reader reader_degrades (value_at old.factories.made factory) options old new reply (not_asked service_of number _ apart) does) step
-    step_left (command.Loan publisher length) old new answer rises reached service (named, apart) step =
+    step_left (command.Loan publisher length) old new answer rises standing (named, apart) step =
         by_ports old new (loan_beside number is_default publisher length old.made new.made old.hub new.hub answer (not_asked publisher_service number _ apart) step.0) step.1
-    step_left (command.LoanUninit publisher length) old new answer rises reached service (named, apart) step =
+    step_left (command.LoanUninit publisher length) old new answer rises standing (named, apart) step =
         by_ports old new (loan_uninit_beside number publisher length old.made new.made old.hub new.hub answer (not_asked publisher_service number _ apart) step.0) step.1
-    step_left (command.Set loan place value) old new answer rises reached service (named, apart) step =
+    step_left (command.Set loan place value) old new answer rises standing (named, apart) step =
         replied _ old new answer (λ reply does. let ((done, is_done, is_new, is), same) = does in
         by_hub old new (changed_if_left number done (set_in place value) (value_at old.made.loans loan) (not_asked loan_service number _ apart) old.hub new.hub is_new) same) step
-    step_left (command.Fill loan values) old new answer rises reached service (named, apart) step =
+    step_left (command.Fill loan values) old new answer rises standing (named, apart) step =
         replied _ old new answer (λ reply does. let ((done, is_done, is_new, is), same) = does in
         by_hub old new (changed_if_left number true (filled_in values) (value_at old.made.loans loan) (not_asked loan_service number _ apart) old.hub new.hub is_new) same) step
-    step_left (command.Drop loan) old new answer rises reached service (named, apart) step =
+    step_left (command.Drop loan) old new answer rises standing (named, apart) step =
         replied _ old new answer (λ reply does. let ((done, is_done, is_new, is_made, is), same) = does in
         let off = not_asked loan_service number (value_at old.made.loans loan) apart in
         by_ports old new (changed_if_left number done gave_up_in (value_at old.made.loans loan) off old.hub new.hub is_new, loan_spent number done loan old.made new.made rises.3 off is_made) same) step
-    step_left (command.Send loan) old new answer rises reached service (named, apart) step =
+    step_left (command.Send loan) old new answer rises standing (named, apart) step =
         replied _ old new answer (λ reply does. let ((sent, sends, is_made, is), same) = does in
         let off = not_asked loan_service number (value_at old.made.loans loan) apart in
         by_ports old new (sends_under_left number (publisher_may_degrade degrades) (publisher_may_decide decides) (value_at old.made.loans loan) off old.hub new.hub sent sends, loan_spent number _ loan old.made new.made rises.3 off is_made) same) step
-    step_left (command.Put publisher values) old new answer rises reached service (named, apart) step =
+    step_left (command.Put publisher values) old new answer rises standing (named, apart) step =
         replied _ old new answer (λ reply does. let ((sent, at, is), same) = does in
         by_hub old new (at_port_left number (Puts hub_ports with_hub_ports (publisher_may_degrade degrades) (publisher_may_decide decides) values) (λ port off home next told goes. puts_left number (publisher_may_degrade degrades) (publisher_may_decide decides) values port off home next told goes)
         (ready hub_ports (lender (length values) (value_at old.made.publishers publisher)) old.hub)
         (ready_apart number (lender (length values) (value_at old.made.publishers publisher)) old.hub (lender_apart number (length values) (value_at old.made.publishers publisher) (not_asked publisher_service number _ apart))) old.hub new.hub sent at) same) step
-    step_left (command.Retry publisher nanoseconds) old new answer rises reached service (named, apart) step =
+    step_left (command.Retry publisher nanoseconds) old new answer rises standing (named, apart) step =
         replied _ old new answer (λ reply does. let ((sent, at, is), same) = does in
         by_hub old new (at_port_left number (Retries hub_ports with_hub_ports (publisher_may_decide decides) nanoseconds) (λ port off home next told goes. retries_left number (publisher_may_degrade degrades) (publisher_may_decide decides) nanoseconds port off home next told goes)
         (port_under (value_at old.made.publishers publisher)) (under_apart number (value_at old.made.publishers publisher) (not_asked publisher_service number _ apart)) old.hub new.hub sent at) same) step
-    step_left (command.GiveUp publisher) old new answer rises reached service (named, apart) step =
+    step_left (command.GiveUp publisher) old new answer rises standing (named, apart) step =
         replied _ old new answer (λ reply does. let ((count, at, is), same) = does in
         by_hub old new (at_port_left number (GivesUp hub_ports with_hub_ports) (λ port off home next told goes. gives_up_left number port off home next told goes)
         (port_under (value_at old.made.publishers publisher)) (under_apart number (value_at old.made.publishers publisher) (not_asked publisher_service number _ apart)) old.hub new.hub count at) same) step
-    step_left (command.Receive subscriber) old new answer rises reached service (named, apart) step =
+    step_left (command.Receive subscriber) old new answer rises standing (named, apart) step =
         by_ports old new (receive_beside number (subscriber_may_degrade reader_degrades) subscriber old.made new.made old.hub new.hub answer (not_asked service_at number _ apart) step.0) step.1
-    step_left (command.Read sample) old new answer rises reached service (named, apart) step = by_same old new step.1
-    step_left (command.Release sample) old new answer rises reached service (named, apart) step =
+    step_left (command.Read sample) old new answer rises standing (named, apart) step = by_same old new step.1
+    step_left (command.Release sample) old new answer rises standing (named, apart) step =
         replied _ old new answer (λ reply does. let ((done, is_done, releases, is_made, is), same) = does in
         let off = not_asked sample_service number (value_at old.made.samples sample) apart in
         by_ports old new (releases_left number (value_at old.made.samples sample) off done old.hub new.hub releases, sample_spent number done sample old.made new.made rises.4 off is_made) same) step
-    step_left (command.Update (port_number.Publisher one)) old new answer rises reached service (named, apart) step =
+    step_left (command.Update (port_number.Publisher one)) old new answer rises standing (named, apart) step =
         replied _ old new answer (λ reply does. by_hub old new (update_beside number (publisher_may_degrade degrades) (subscriber_may_degrade reader_degrades) (port_number.Publisher one) old.made old.hub new.hub reply (not_asked publisher_service number _ apart) does.0) does.1) step
-    step_left (command.Update (port_number.Subscriber one)) old new answer rises reached service (named, apart) step =
+    step_left (command.Update (port_number.Subscriber one)) old new answer rises standing (named, apart) step =
         replied _ old new answer (λ reply does. by_hub old new (update_beside number (publisher_may_degrade degrades) (subscriber_may_degrade reader_degrades) (port_number.Subscriber one) old.made old.hub new.hub reply (not_asked service_at number _ apart) does.0) does.1) step
-    step_left (command.Leave (port_number.Publisher one)) old new answer rises reached service (named, apart) step =
+    step_left (command.Leave (port_number.Publisher one)) old new answer rises standing (named, apart) step =
         replied _ old new answer (λ reply does. by_ports old new (leave_beside number (port_number.Publisher one) old.made new.made old.hub new.hub reply (not_asked publisher_service number _ apart) rises.1 rises.2 does.0) does.1) step
-    step_left (command.Leave (port_number.Subscriber one)) old new answer rises reached service (named, apart) step =
+    step_left (command.Leave (port_number.Subscriber one)) old new answer rises standing (named, apart) step =
         replied _ old new answer (λ reply does. by_ports old new (leave_beside number (port_number.Subscriber one) old.made new.made old.hub new.hub reply (not_asked service_at number _ apart) rises.1 rises.2 does.0) does.1) step
-    step_left (command.Has subscriber) old new answer rises reached service (named, apart) step =
+    step_left (command.Has subscriber) old new answer rises standing (named, apart) step =
         replied _ old new answer (λ reply does. let ((outcome, at, is), same) = does in
         by_hub old new (at_port_left number (Tells hub_ports with_hub_ports (subscriber_may_degrade reader_degrades)) (λ port off home next told goes. tells_left number (subscriber_may_degrade reader_degrades) port off home next told goes)
         (value_at old.made.subscribers subscriber) (not_asked service_at number _ apart) old.hub new.hub outcome at) same) step

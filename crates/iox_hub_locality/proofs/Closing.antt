@@ -40,7 +40,6 @@ use Rattle.iox_hub_run.specs.declared.numbered_hub.NumberedHub.{NumberedHub}
 use Rattle.iox_hub_independence.proofs.Names.{closes_under, AllUnder}
 use Rattle.iox_negotiate_laws.specs.Negotiate.declared.factory.Membership.{Membership}
 use Rattle.iox_negotiate_laws.specs.NegotiateErrors.declared.close.CloseError.{CloseError}
-use Rattle.iox_negotiate_laws.specs.Histories.{IsReached}
 use Rattle.iox_negotiate_laws.specs.NegotiateRounds.Runs.{Went}
 use Rattle.iox_negotiate_laws.specs.NegotiateTable.Sights.{Sight}
 use Rattle.iox_negotiate_laws.proofs.Maps.{Distinct, no, remove-apart, remove-same}
@@ -116,11 +115,11 @@ put_there number key x w rest later Equal is found = rw is refl
 put_there number key x w rest later Greater is found = rw is found
 
 -- what is put under a number is found
-put_found : {X : Type 0} (number : ℕ) (values : List (ℕ × X)) (w : X) → lookup (is_at (nat_cmp number)) (insert_entry nat_cmp values number w) ≡ Some w
+pub put_found : {X : Type 0} (number : ℕ) (values : List (ℕ × X)) (w : X) → lookup (is_at (nat_cmp number)) (insert_entry nat_cmp values number w) ≡ Some w
 put_found number [] w = rw (itself number) refl
 put_found number (value ∷ values) w = put_there number value.0 value.1 w values (insert_entry nat_cmp values number w) (nat_cmp number value.0) refl (put_found number values w)
 
-put_count : (number n w w_there : ℕ) (is : Bool) → nat_eq number n ≡ is → (one other : List (ℕ × ℕ)) → w_there ≡ w → factories_of n other ≡ factories_of n one → factories_of n (kept number w_there other) ≡ factories_of n (kept number w one)
+pub put_count : (number n w w_there : ℕ) (is : Bool) → nat_eq number n ≡ is → (one other : List (ℕ × ℕ)) → w_there ≡ w → factories_of n other ≡ factories_of n one → factories_of n (kept number w_there other) ≡ factories_of n (kept number w one)
 put_count number n w w_there true is one other same agree =
     subst (λ m. factories_of m (kept number w_there other) ≡ factories_of m (kept number w one)) (eqb-true number n is)
     (ap count_of (put_found number other w_there) ∙ same ∙ sym (ap count_of (put_found number one w)))
@@ -202,13 +201,13 @@ module _ {T U B D : Type 0} (hash : ServiceHash) (mine : ℕ → Bool) where
         (there, hub, subst (λ id. ClosesIfOf (nat_eq (parts_of made).0.storage id) n made other_table other answer there hub) (sym agree.table_id) done, tables, hubs)
 
 module _ {T U B D : Type 0} (hash : ServiceHash) (mine : ℕ → Bool) where
-  close_alike : (factory : ℕ) (one new other : NumberedHub T U B D) (reply : Reply T) → IsReached one.hub.table → IsReached other.hub.table → NumbersRise one → NumbersRise other → NumbersOnce one.hub → NumbersOnce other.hub → AgreeOn hash mine one other
+  pub close_alike : (factory : ℕ) (one new other : NumberedHub T U B D) (reply : Reply T) → IsTable one.hub.table → IsTable other.hub.table → NumbersRise one → NumbersRise other → NumbersOnce one.hub → NumbersOnce other.hub → AgreeOn hash mine one other
       → FoundMine mine (option_map service_of (value_at one.factories.made factory)) (option_map service_of (value_at other.factories.made factory)) → HashFound hash (option_map (λ made. (carried_by made).service_hash) (value_at one.factories.made factory))
       → Closes factory one reply new → (after : NumberedHub T U B D) × Closes factory other reply after × AgreeOn hash mine new after
-  close_alike factory one new other reply reached_one reached_other rises other_rises once other_once agree named under (closed, closes, unchanged, is) =
+  close_alike factory one new other reply first second rises other_rises once other_once agree named under (closed, closes, unchanged, is) =
       let (found, of) = named_alike service_of mine one.factories.made other.factories.made factory agree.factories named in
       let (there, hub, done, tables, hubs) =
-      closes_numbered hash mine one.hub other.hub agree.hubs (reached one.hub.table reached_one) (reached other.hub.table reached_other) once other_once one.factories.made other.factories.made agree.factories rises.0 other_rises.0
+      closes_numbered hash mine one.hub other.hub agree.hubs first second once other_once one.factories.made other.factories.made agree.factories rises.0 other_rises.0
       factory (value_at one.factories.made factory) closed new.factories.made new.hub of under closes in (
         record other { hub = hub; factories = record other.factories { made = there } },
         (closed, subst (λ it. ClosesNumbered factory it other.factories.made other.hub closed there hub) (sym found) done, refl, is),
@@ -220,5 +219,5 @@ module _ {T U B D : Type 0} (payload user_header : Detail) (types : MessageTypeD
     (fixed_reader : DegradationAction → D) (reader_degrades : D → DegradationCause → DegradationInfo → DegradationAction → Type 0) where
   pub close_answers_alike : CloseAnswersAlike (Step {T = T} {U = U} payload user_header types is_default is_default_header fixed degrades decides fixed_reader reader_degrades)
   close_answers_alike hash mine (command.Close factory) one new other reply kind reached_one reached_other rises other_rises once other_once agree named under step =
-      close_alike hash mine factory one new other reply reached_one reached_other rises other_rises once other_once agree named under step
+      close_alike hash mine factory one new other reply (reached one.hub.table reached_one) (reached other.hub.table reached_other) rises other_rises once other_once agree named under step
   close_answers_alike hash mine asked one new other reply kind reached_one reached_other rises other_rises once other_once agree named under step = absurd kind

@@ -21,15 +21,14 @@ use Rattle.iox_hub_factories.specs.HubBase.declared.hub.Hub.{Hub}
 use Rattle.iox_hub_run.specs.Services.{Acts}
 use Rattle.iox_hub_run.specs.Steps.{Step}
 use Rattle.iox_hub_run.specs.declared.numbered_hub.NumberedHub.{NumberedHub}
-use Rattle.iox_negotiate_laws.specs.Histories.{IsReached}
 use Rattle.iox_negotiate_laws.specs.NegotiateTable.Contents.{Contents}
-use Rattle.iox_negotiate_laws.proofs.Tables.{reached}
+use Rattle.iox_negotiate_laws.proofs.Tables.{IsTable, reached}
 use Rattle.iox_hub_locality.specs.Agreeing.{HubsAgree, AgreeOn}
 use Rattle.iox_hub_locality.specs.Locality.{ForeignAnswersAlike}
 use Rattle.iox_hub_locality.proofs.Names.{TablesAgree, acts_all_alike}
 use Rattle.iox_hub_locality.proofs.Steps.{agree_in_hub}
 
-hash_named : (one other : ServiceHash) → Some one ≡ Some other → one ≡ other
+pub hash_named : (one other : ServiceHash) → Some one ≡ Some other → one ≡ other
 hash_named one other same = cc
 
 module _ {T U B D : Type 0} (hash : ServiceHash) (mine : ℕ → Bool) where
@@ -55,20 +54,20 @@ module _ {T U B D : Type 0} (hash : ServiceHash) (mine : ℕ → Bool) where
 
 module _ {T U B D : Type 0} (mine : ℕ → Bool) where
   acts_named : (pattern : MessagingPattern) (name : List ℕ) (types : MessageTypeDetails) (steps : List Named) (one new other : Hub T U B D) (acted : Result (Unit {0}) HubError)
-      → IsReached one.table → IsReached other.table → HubsAgree (service_hash_of pattern name) mine one other → ActsNamed pattern name types steps one acted new
+      → IsTable one.table → IsTable other.table → HubsAgree (service_hash_of pattern name) mine one other → ActsNamed pattern name types steps one acted new
       → (after : Hub T U B D) × ActsNamed pattern name types steps other acted after × HubsAgree (service_hash_of pattern name) mine new after
-  acts_named pattern name types steps one new other acted reached_one reached_other agree (inl ((happened, does, is), same)) =
+  acts_named pattern name types steps one new other acted first second agree (inl ((happened, does, is), same)) =
       let under = service_hash_of pattern name in
-      let (table, there, later) = acts_all_alike under _ one.table new.table other.table happened (tables_agree under mine one other agree) (reached one.table reached_one) (reached other.table reached_other) does in
+      let (table, there, later) = acts_all_alike under _ one.table new.table other.table happened (tables_agree under mine one other agree) first second does in
       (record other { table = table }, inl ((happened, there, is), refl), with_tables under mine one new other table agree same later)
-  acts_named pattern name types steps one new other acted reached_one reached_other agree (inr (some, lacking, same)) =
+  acts_named pattern name types steps one new other acted first second agree (inr (some, lacking, same)) =
       (other, inr (some, lacking, refl), subst (λ hub. HubsAgree (service_hash_of pattern name) mine hub other) (sym same) agree)
 
-  foreign_alike : (pattern : MessagingPattern) (name : List ℕ) (types : MessageTypeDetails) (steps : List Named) (one new other : NumberedHub T U B D) (reply : Reply T)
-      → IsReached one.hub.table → IsReached other.hub.table → AgreeOn (service_hash_of pattern name) mine one other → Acts pattern name types steps one reply new
+  pub foreign_alike : (pattern : MessagingPattern) (name : List ℕ) (types : MessageTypeDetails) (steps : List Named) (one new other : NumberedHub T U B D) (reply : Reply T)
+      → IsTable one.hub.table → IsTable other.hub.table → AgreeOn (service_hash_of pattern name) mine one other → Acts pattern name types steps one reply new
       → (after : NumberedHub T U B D) × Acts pattern name types steps other reply after × AgreeOn (service_hash_of pattern name) mine new after
-  foreign_alike pattern name types steps one new other reply reached_one reached_other agree (acted, acts, same, is) =
-      let (hub, there, later) = acts_named pattern name types steps one.hub new.hub other.hub acted reached_one reached_other agree.hubs acts in
+  foreign_alike pattern name types steps one new other reply first second agree (acted, acts, same, is) =
+      let (hub, there, later) = acts_named pattern name types steps one.hub new.hub other.hub acted first second agree.hubs acts in
       (record other { hub = hub }, (acted, there, refl, is), agree_in_hub (service_hash_of pattern name) mine one new other hub agree same later)
 
 module _ {T U B D : Type 0} (payload user_header : Detail) (types : MessageTypeDetails) (is_default : T → Type 0) (is_default_header : U → Type 0)
@@ -77,6 +76,6 @@ module _ {T U B D : Type 0} (payload user_header : Detail) (types : MessageTypeD
   pub foreign_answers_alike : ForeignAnswersAlike (Step {T = T} {U = U} payload user_header types is_default is_default_header fixed degrades decides fixed_reader reader_degrades)
   foreign_answers_alike hash mine (command.Foreign pattern name steps) one new other reply kind reached_one reached_other agree named step =
       let under : service_hash_of pattern name ≡ hash = hash_named (service_hash_of pattern name) hash named in
-      let (after, there, later) = foreign_alike mine pattern name types steps one new other reply reached_one reached_other (subst (λ h. AgreeOn h mine one other) (sym under) agree) step in
+      let (after, there, later) = foreign_alike mine pattern name types steps one new other reply (reached one.hub.table reached_one) (reached other.hub.table reached_other) (subst (λ h. AgreeOn h mine one other) (sym under) agree) step in
       (after, there, subst (λ h. AgreeOn h mine new after) under later)
   foreign_answers_alike hash mine asked one new other reply kind reached_one reached_other agree named step = absurd kind

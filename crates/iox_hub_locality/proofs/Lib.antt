@@ -7,3 +7,11 @@ pub mod Names
 pub mod Foreign
 pub mod Runs
 pub mod Closing
+pub mod Lives
+pub mod Stepped
+pub mod Negotiated
+pub mod Opening
+pub mod Opened
+pub mod Keeping
+pub mod Framed
+pub mod Ordered

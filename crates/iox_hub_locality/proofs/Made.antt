@@ -32,7 +32,7 @@ pub same_room : (made : Made) → IsRoomier made made
 same_room made =
     ((refl, refl, at_most_itself made.publishers.room), (refl, refl, at_most_itself made.subscribers.room), (refl, refl, at_most_itself made.loans.room), (refl, refl, at_most_itself made.samples.room))
 
-rises_as : {V : Type 0} (table roomier : NumberTable V) → roomier.entries ≡ table.entries → roomier.next ≡ table.next → Rises 1 table.entries table.next → Rises 1 roomier.entries roomier.next
+pub rises_as : {V : Type 0} (table roomier : NumberTable V) → roomier.entries ≡ table.entries → roomier.next ≡ table.next → Rises 1 table.entries table.next → Rises 1 roomier.entries roomier.next
 rises_as {V} table roomier same next rises =
     subst (λ (entries : List (ℕ × V)). Rises 1 entries roomier.next) (sym same) (subst (λ n. Rises 1 table.entries n) (sym next) rises)
 

@@ -49,7 +49,7 @@ module _ {K X : Type 0} (test : K → Bool) where
   set_there e es w false is later = rw is later
 
   -- what is found after a value was set
-  set_at : (es : List (K × X)) (w : X) → lookup test (set_value test es w) ≡ option_map (λ x. w) (lookup test es)
+  pub set_at : (es : List (K × X)) (w : X) → lookup test (set_value test es w) ≡ option_map (λ x. w) (lookup test es)
   set_at [] w = refl
   set_at (e ∷ es) w = set_there e es w (test e.0) refl (set_at es w)
 
@@ -61,7 +61,7 @@ module _ {K X : Type 0} (cmp : K → K → Ordering) (k : K) (v : X) (self : cmp
   insert_there e es later Greater is found = rw is found
 
   -- what was put in is found
-  insert_at : (es : List (K × X)) → lookup (is_at (cmp k)) (insert_entry cmp es k v) ≡ Some v
+  pub insert_at : (es : List (K × X)) → lookup (is_at (cmp k)) (insert_entry cmp es k v) ≡ Some v
   insert_at [] = rw self refl
   insert_at (e ∷ es) = insert_there e es (insert_entry cmp es k v) (cmp k e.0) refl (insert_at es)
 
@@ -223,7 +223,7 @@ module _ (hash : ServiceHash) where
     published_same number = ap (is_description_of number) agree.entry
 
 -- an access under its hash
-sight_alike : (access : Access) (one new other : Contents) → TablesAgree (hash_of (Accesses access)) one other → IsTable one → IsTable other → Sight one access new
+pub sight_alike : (access : Access) (one new other : Contents) → TablesAgree (hash_of (Accesses access)) one other → IsTable one → IsTable other → Sight one access new
     → (after : Contents) × Sight other access after × TablesAgree (hash_of (Accesses access)) new after
 sight_alike (Look hash answer) one new other agree first second h = (other, (subst (λ found. Looks found answer) (sym agree.entry) h.0, refl), still hash one new other agree h.1)
 sight_alike (Lock hash node answer) one new other agree first second h =

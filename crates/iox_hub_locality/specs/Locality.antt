@@ -1,10 +1,14 @@
 -- What a command looks at: the service that it asks, and no other.
-use Rattle.std.specs.Prelude.{ℕ, ◌≡◌, ◌≢◌, ◌⊎◌, Bool, true, List, [], ◌∷◌, Option, None, Some, Result, Ok}
+use Rattle.std.specs.Prelude.{ℕ, ◌≡◌, ◌≢◌, ◌≤◌, ◌<◌, ◌⊎◌, Bool, true, List, [], ◌∷◌, Option, None, Some, Result, Ok, Err}
 use Rattle.std.specs.List.{AllByRecursion}
 use Rattle.std.specs.declared.alloc.AllocError.{AllocError}
 use Rattle.iox_hub_run.specs.Command.declared.command.Command.{Command}
 use Rattle.iox_hub_run.specs.Command.declared.command.Command.TheVariants as command
 use Rattle.iox_hub_run.specs.Command.declared.reply.Reply.{Reply}
+use Rattle.iox_hub_commands.specs.Replies.{factory_reply}
+use Rattle.iox_hub_factories.specs.Creating.{create_lacking}
+use Rattle.iox_hub_factories.specs.Either.{either_lacking}
+use Rattle.iox_hub_factories.specs.Opening.{open_lacking}
 use Rattle.iox_hub_run.specs.HubBase.DescribeBase.declared.hash.ServiceHash.{ServiceHash}
 use Rattle.iox_hub_run.specs.HubBase.declared.hub.Hub.{Hub}
 use Rattle.iox_hub_run.specs.Lives.{NumbersRise}
@@ -12,6 +16,9 @@ use Rattle.iox_hub_run.specs.Runs.{Runs}
 use Rattle.iox_hub_run.specs.declared.numbered_hub.NumberedHub.{NumberedHub}
 use Rattle.iox_hub_independence.specs.Asking.{hash_asked, number_asked}
 use Rattle.iox_negotiate_laws.specs.Histories.{IsReached}
+use Rattle.iox_negotiate_laws.specs.Lives.{number_of}
+use Rattle.iox_negotiate_laws.specs.NegotiateTable.Contents.{Contents, entry_at}
+use Rattle.iox_negotiate_laws.specs.NegotiateTable.declared.entry.Entry.{Entry}
 use Rattle.iox_hub_locality.specs.Agreeing.{AgreeOn}
 
 -- A command that makes a node or a port, or asks something of a port, a loan or a sample: any but those that create, open and close
@@ -23,6 +30,25 @@ IsOfPorts (command.OpenOrCreate node name options requirements steps) = ⊥
 IsOfPorts (command.Foreign pattern name steps) = ⊥
 IsOfPorts (command.Close factory) = ⊥
 IsOfPorts asked = Unit {0}
+
+-- A command that makes a node.
+abbrev pub IsNode : {T : Type 0} → Command T → Type 0
+IsNode command.Node = Unit {0}
+IsNode asked = ⊥
+
+-- A command that creates a service, or opens one.
+abbrev pub IsOpening : {T : Type 0} → Command T → Type 0
+IsOpening (command.Create node name options attributes steps) = Unit {0}
+IsOpening (command.Open node name options requirements steps) = Unit {0}
+IsOpening (command.OpenOrCreate node name options requirements steps) = Unit {0}
+IsOpening asked = ⊥
+
+-- A command that creates or opens a service is refused since no memory was found for it.
+abbrev pub IsMemoryWanted : {T : Type 0} → Command T → Reply T → Type 0
+IsMemoryWanted (command.Create node name options attributes steps) reply = reply ≡ factory_reply (Some (Err (create_lacking options)))
+IsMemoryWanted (command.Open node name options requirements steps) reply = reply ≡ factory_reply (Some (Err (open_lacking options)))
+IsMemoryWanted (command.OpenOrCreate node name options requirements steps) reply = reply ≡ factory_reply (Some (Err (either_lacking options)))
+IsMemoryWanted asked reply = ⊥
 
 -- A command that has nodes of others do steps on a service.
 abbrev pub IsForeign : {T : Type 0} → Command T → Type 0
@@ -58,6 +84,15 @@ FoundMine mine None (Some number) = ⊥
 abbrev pub IsMine : (ℕ → Bool) → Option ℕ → Type 0
 IsMine mine (Some number) = mine number ≡ true
 IsMine mine None = ⊥
+
+-- A lock or a description, if there is one, is of a life of the service.
+abbrev pub IsOfLife : (ℕ → Bool) → Option Entry → Type 0
+IsOfLife mine (Some entry) = mine (number_of entry) ≡ true
+IsOfLife mine None = Unit {0}
+
+-- What lies under the hash in the one table is of a life of the service, and so is each life that began from the one table to the other.
+abbrev pub LivesAreMine : ServiceHash → (ℕ → Bool) → Contents → Contents → Type 0
+LivesAreMine hash mine old new = IsOfLife mine (entry_at hash old) × ((number : ℕ) → old.next ≤ number → number < new.next → mine number ≡ true)
 
 module _ {T U B D : Type 0} where
   -- A command makes a node, or what it names by its number is of the service.
@@ -104,5 +139,15 @@ module _ {T U B D : Type 0} where
     CloseAnswersAlike = (hash : ServiceHash) (mine : ℕ → Bool) (asked : Command T) (one new other : NumberedHub T U B D) (reply : Reply T)
         → IsClose asked → IsReached one.hub.table → IsReached other.hub.table → NumbersRise one → NumbersRise other → NumbersOnce one.hub → NumbersOnce other.hub
         → AgreeOn hash mine one other → Concerns mine asked one other → HashFound hash (hash_asked asked one)
+        → step asked one (Ok reply) new
+        → (after : NumberedHub T U B D) × step asked other (Ok reply) after × AgreeOn hash mine new after
+
+    -- Of two hubs that agree on a service: what the one may reply to a command that creates it or opens it, the other may reply, unless no
+    -- memory was found, and then they agree on it again. The lives under its hash are the service's, and the same number of a life comes next
+    -- in both hubs. The tables of both came about by accesses and foreign steps.
+    abbrev pub OpensAnswerAlike : Type 0
+    OpensAnswerAlike = (hash : ServiceHash) (mine : ℕ → Bool) (asked : Command T) (one new other : NumberedHub T U B D) (reply : Reply T)
+        → IsOpening asked → IsReached one.hub.table → IsReached other.hub.table → NumbersRise one → NumbersRise other
+        → AgreeOn hash mine one other → hash_asked asked one ≡ Some hash → LivesAreMine hash mine one.hub.table new.hub.table → (IsMemoryWanted asked reply → ⊥)
         → step asked one (Ok reply) new
         → (after : NumberedHub T U B D) × step asked other (Ok reply) after × AgreeOn hash mine new after

@@ -1,0 +1,4 @@
+-- The definitions that the contract about a service alone cites.
+pub mod Passing
+pub mod Alone
+pub mod Telling

@@ -1,0 +1,33 @@
+//! A service among others is as if it were alone: a law of every run of a hub. The law is the contract of a function that does nothing. A
+//! proof cites a law by a call of its function; what it states is then among the facts of the caller:
+//!
+//! ```
+//! a_service_is_as_if_alone::<u64, (), FixedHandlers, FixedDegradation>();
+//! ```
+#![tactic(auto)]
+
+ghost use Rattle.iox_hub_alone.specs.Alone.{IsAsIfAlone};
+ghost use Rattle.iox_hub_alone.specs.Telling.{EachRunCanBeTold};
+ghost use Rattle.iox_hub_commands.specs.DescribeBase.Detail.{detail};
+ghost use Rattle.iox_hub_commands.specs.DescribeBase.declared.type_detail.TypeVariant.TheVariants.{FixedSize};
+ghost use Rattle.iox_hub_factories.specs.HubRequests.Asked.{types_of};
+ghost use Rattle.iox_hub_run.specs.Steps.{Step};
+
+use iox_describe_base::ZeroCopySend;
+use iox_hub_commands::{PublisherHandlers, SubscriberHandler};
+use iox_queues_base::Words;
+
+/// In any run of a new hub, leave out all commands that ask nothing of a service, but for those that make nodes. Those that are left may be
+/// replied to just so in a run of a new hub without the others, if only the numbers that the others took are passed over: of factories,
+/// ports, loans and samples, of lives of services, and of the factories that a hub counts. So what is replied about a service, and what is
+/// left of it, depends on no other service. Every run can be told so, for any service, if no memory was wanted to create or open one. It is
+/// the contract of a function that does nothing.
+pub fn a_service_is_as_if_alone<
+    T: Words + ZeroCopySend + Default,
+    U: Copy + ZeroCopySend + Default,
+    B: PublisherHandlers,
+    D: SubscriberHandler,
+>()
+    ensures alone { IsAsIfAlone (Step (detail FixedSize T.name T.size T.alignment) (detail FixedSize U.name U.size U.alignment) (types_of T.name T.size T.alignment U.name U.size U.alignment) T.is_default U.is_default B.fixed (λ handlers. B.degrades handlers) (λ handlers. B.decides handlers) D.fixed (λ handler. D.degrades handler)) }
+    ensures told { EachRunCanBeTold (Step (detail FixedSize T.name T.size T.alignment) (detail FixedSize U.name U.size U.alignment) (types_of T.name T.size T.alignment U.name U.size U.alignment) T.is_default U.is_default B.fixed (λ handlers. B.degrades handlers) (λ handlers. B.decides handlers) D.fixed (λ handler. D.degrades handler)) }
+{}

@@ -1,0 +1,4 @@
+pub mod Tables
+pub mod Made
+pub mod Steps
+pub mod Runs

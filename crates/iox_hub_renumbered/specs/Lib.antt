@@ -1,0 +1,3 @@
+-- The definitions that the contract about numbers that are counted anew cites.
+pub mod Renaming
+pub mod Anew
