@@ -4,6 +4,7 @@ use Rattle.std.proofs.lemmas.Option.{slice_get-map, slice_get_past}
 use Rattle.iox_domain.specs.DomainPorts.DomainSender.Messages.{Message}
 use Rattle.iox_domain.specs.DomainPublisher.declared.publisher_port.PublisherPort.{PublisherPort}
 use Rattle.iox_lanes_machine.specs.LanesWords.Table.{TableWords}
+use Rattle.iox_lanes.specs.Holding.{IsNamedIf}
 use Rattle.iox_lanes.specs.Lying.{WordsLie, Lies, IsLaidAt, AreLaid}
 
 -- the words of the same elements, user header and values lie there
@@ -42,3 +43,11 @@ laid_all payload_words header_words table first port laid messages count few bel
     by : (less : Bool) → nat_lt at count ≡ less → IsLaidAt payload_words header_words table first port (slice_get laid at) (slice_get messages at)
     by true less = below at (grind (arith, less))
     by false less = subst (λ m. IsLaidAt payload_words header_words table first port (slice_get laid at) m) (sym (slice_get_past messages at (grind (arith, less, few)))) tt
+
+-- all headers are named so, where the first so many are and there are no more
+pub named_all : {T U : Type 0} (port : PublisherPort T U) (heads : List (List ℕ)) (count : ℕ) → length heads ≤ count → ((at : ℕ) → at < count → IsNamedIf port (slice_get heads at)) → (at : ℕ) → IsNamedIf port (slice_get heads at)
+named_all port heads count few below at = by (nat_lt at count) refl
+  where
+    by : (less : Bool) → nat_lt at count ≡ less → IsNamedIf port (slice_get heads at)
+    by true less = below at (grind (arith, less))
+    by false less = subst (λ h. IsNamedIf port h) (sym (slice_get_past heads at (grind (arith, less, few)))) tt

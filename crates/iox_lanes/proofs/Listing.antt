@@ -14,7 +14,7 @@ numbers_behind number (None ∷ rest) count = numbers_behind number rest count
 numbers_behind number (Some member ∷ rest) count = ap (λ numbers. number member.value ∷ numbers) (numbers_behind number rest count)
 
 numbers_more : {V : Type 0} (number : V → ℕ) (places : List (Option (Member V))) (k : ℕ) (last : Option (Member V)) → k < length places → last ≡ get_or places k last
-    → numbers_of number (take (k + 1) places) ≡ numbers_of number (take k places) ++ numbers_of number (last ∷ [])
+    → numbers_of number (take (suc k) places) ≡ numbers_of number (take k places) ++ numbers_of number (last ∷ [])
 numbers_more number [] k last below is = absurd (omega (arith, below))
 numbers_more number (place ∷ rest) zero last below is = ap (λ at. numbers_of number (at ∷ [])) (sym is)
 numbers_more number (None ∷ rest) (suc k) last below is = numbers_more number rest k last (omega (arith, below)) is
@@ -24,10 +24,12 @@ numbers_more number (Some member ∷ rest) (suc k) last below is = ap (λ number
 pub numbers_next : {V : Type 0} (number : V → ℕ) (places : List (Option (Member V))) (k : ℕ) (last : Option (Member V)) (before after : List ℕ) → k < length places → last ≡ get_or places k last
     → before ≡ numbers_of number (take k places) → after ≡ before ++ numbers_of number (last ∷ []) → after ≡ numbers_of number (take (k + 1) places)
 numbers_next number places k last before after below is sofar added =
-    added ∙ ap (λ numbers. numbers ++ numbers_of number (last ∷ [])) sofar ∙ sym (numbers_more number places k last below is)
+    let next : suc k ≡ k + 1 = omega arith in
+    added ∙ ap (λ numbers. numbers ++ numbers_of number (last ∷ [])) sofar ∙ sym (numbers_more number places k last below is) ∙ ap (λ n. numbers_of number (take n places)) next
 
 numbers_all : {V : Type 0} (number : V → ℕ) (places : List (Option (Member V))) (k : ℕ) → length places ≤ k → numbers_of number (take k places) ≡ numbers_of number places
-numbers_all number [] k few = refl
+numbers_all number [] zero few = refl
+numbers_all number [] (suc k) few = refl
 numbers_all number (place ∷ rest) zero few = absurd (omega (arith, few))
 numbers_all number (None ∷ rest) (suc k) few = numbers_all number rest k (omega (arith, few))
 numbers_all number (Some member ∷ rest) (suc k) few = ap (λ numbers. number member.value ∷ numbers) (numbers_all number rest k (omega (arith, few)))

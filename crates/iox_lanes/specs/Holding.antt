@@ -43,12 +43,17 @@ reader_if ports (Some number) = subscriber_of number ports
 abbrev pub IsNamed : {T U : Type 0} → PublisherPort T U → List ℕ → Type 0
 IsNamed port head = (slice_get head 0 ≡ Some port.owner.node_id) × (slice_get head 1 ≡ Some port.number)
 
+-- a header, if there is one, does
+abbrev pub IsNamedIf : {T U : Type 0} → PublisherPort T U → Option (List ℕ) → Type 0
+IsNamedIf port None = Unit {0}
+IsNamedIf port (Some head) = IsNamed port head
+
 -- A lane is that of a publisher: as many slots and loans, its history, and headers of its node and number.
 pub record IsLaneOf {T U : Type 0} (payload_words : T → List ℕ) (header_words : U → List ℕ) (table : TableWords) (port : PublisherPort T U) (lane : PublisherLaneState) : Type 0 where
   pub slots : length lane.port.book.loans ≡ port.sender.uses.first + port.sender.uses.size
   pub most_loans : lane.port.book.most_loans ≡ port.sender.uses.most_loans
   pub history : AreLaid payload_words header_words table lane.port.book.first port lane.port.book.history port.sender.uses.history
-  pub named : (at : ℕ) (head : List ℕ) → slice_get lane.heads at ≡ Some head → IsNamed port head
+  pub named : (at : ℕ) → IsNamedIf port (slice_get lane.heads at)
 
 -- a lane, if there is one, is that of a publisher, if there is one; where one is wanting it isn't
 abbrev pub IsLaneIf : {T U : Type 0} → (T → List ℕ) → (U → List ℕ) → TableWords → Option (PublisherPort T U) → Option PublisherLaneState → Type 0

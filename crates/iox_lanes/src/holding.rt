@@ -79,7 +79,7 @@ fn senders_hold<T: Words, U: Words>(domain: &Domain<T, U>, opened: &Opened) -> b
     ensures { OnTrue result ((place : ℕ) → place < length opened.now.publishers.items → SenderHolds T.parts U.parts domain.now opened.now.lanes opened.now.publishers.items place) }
 {
     for place in 0..opened.publishers.len() {
-        if !sender_holds(domain, &opened.lanes, &opened.publishers, place) {
+        if !sender_holds(domain, opened, place) {
             return false;
         }
     }
@@ -118,13 +118,7 @@ fn readers_hold<T: Words, U: Words>(domain: &Domain<T, U>, opened: &Opened) -> b
     ensures { OnTrue result ((place : ℕ) → place < length opened.now.subscribers.items → ReaderHolds domain.now opened.now.lanes opened.now.publishers.items opened.now.subscribers.items place) }
 {
     for place in 0..opened.subscribers.len() {
-        if !reader_holds(
-            domain,
-            &opened.lanes,
-            &opened.publishers,
-            &opened.subscribers,
-            place,
-        ) {
+        if !reader_holds(domain, opened, place) {
             return false;
         }
     }

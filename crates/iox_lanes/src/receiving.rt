@@ -4,6 +4,7 @@ ghost use Rattle.std.specs.Bool.{OnTrue};
 ghost use Rattle.iox_domain.specs.DomainPorts.DomainSubscriber.Subscribing.{attached_at};
 ghost use Rattle.iox_lanes.specs.Holding.{LeadsFrom, IsRouteOf, IsRouteIf, FollowKeys, FollowIf, ReaderHolds};
 
+use crate::domain_lanes::Opened;
 use crate::linking::subscriber_at;
 use iox_domain::Domain;
 use iox_domain_subscriber::{Attached, SubscriberPort};
@@ -15,20 +16,18 @@ use iox_queues_base::Words;
 /// Whether the subscriber at a place of the lanes goes over its connections in the order of the keys of that of the domain.
 pub(crate) fn reader_holds<T: Words, U: Words>(
     domain: &Domain<T, U>,
-    lanes: &Lanes,
-    publishers: &[u64],
-    subscribers: &[u64],
+    opened: &Opened,
     place: usize,
 ) -> bool
-    ensures { OnTrue result (ReaderHolds domain.now lanes.now publishers.now subscribers.now place) }
+    ensures { OnTrue result (ReaderHolds domain.now opened.now.lanes opened.now.publishers.items opened.now.subscribers.items place) }
 {
-    match subscriber_at(domain, subscribers, place) {
+    match subscriber_at(domain, &opened.subscribers, place) {
         Some(port) => follows_if(
-            lanes,
-            publishers,
+            &opened.lanes,
+            &opened.publishers,
             place as u64,
             port,
-            lanes.subscribers().get(place),
+            opened.lanes.subscribers().get(place),
         ),
         None => false,
     }

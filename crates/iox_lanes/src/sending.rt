@@ -1,13 +1,13 @@
 //! Whether publishers of lanes are those of a domain.
-ghost use Rattle.std.specs.Prelude.{◌≡◌, ◌+◌, ◌<◌, ℕ, List, length, slice_get, option_copied, IfSome, Some};
+ghost use Rattle.std.specs.Prelude.{◌≡◌, ◌+◌, ◌<◌, ℕ, length, slice_get, option_copied, IfSome, Some};
 ghost use Rattle.std.specs.Bool.{OnTrue};
 ghost use Rattle.iox_lanes.specs.Lying.{AreLaid, IsLaidAt};
-ghost use Rattle.iox_lanes.specs.Holding.{port_if, IsNamed, IsLaneOf, IsLaneIf, SenderHolds};
+ghost use Rattle.iox_lanes.specs.Holding.{port_if, IsNamed, IsNamedIf, IsLaneOf, IsLaneIf, SenderHolds};
 
+use crate::domain_lanes::Opened;
 use crate::lying::lies;
 use iox_domain::Domain;
 use iox_domain_publisher::PublisherPort;
-use iox_lanes_machine::Lanes;
 use iox_lanes_parties::{Head, PublisherLane};
 use iox_lanes_words::WordTable;
 use iox_queues_base::Words;
@@ -29,14 +29,17 @@ pub(crate) fn publisher_at<'a, T: Words, U: Words>(
 /// Whether the publisher at a place of the lanes is that of the domain.
 pub(crate) fn sender_holds<T: Words, U: Words>(
     domain: &Domain<T, U>,
-    lanes: &Lanes,
-    publishers: &[u64],
+    opened: &Opened,
     place: usize,
 ) -> bool
-    ensures { OnTrue result (SenderHolds T.parts U.parts domain.now lanes.now publishers.now place) }
+    ensures { OnTrue result (SenderHolds T.parts U.parts domain.now opened.now.lanes opened.now.publishers.items place) }
 {
-    match publisher_at(domain, publishers, place) {
-        Some(port) => is_lane_if(lanes.table(), port, lanes.publishers().get(place)),
+    match publisher_at(domain, &opened.publishers, place) {
+        Some(port) => is_lane_if(
+            opened.lanes.table(),
+            port,
+            opened.lanes.publishers().get(place),
+        ),
         None => false,
     }
 }
@@ -156,14 +159,23 @@ pub(crate) fn has(list: &[u64], at: usize, value: u64) -> bool
 
 // Whether each of these headers says the node and the number of a publisher.
 fn are_named<T: Words, U: Words>(port: &PublisherPort<T, U>, heads: &[Head]) -> bool
-    ensures { OnTrue result ((at : ℕ) (head : List ℕ) → slice_get heads.now at ≡ Some head → IsNamed port.now head) }
+    ensures { OnTrue result ((at : ℕ) → IsNamedIf port.now (slice_get heads.now at)) }
 {
     for at in 0..heads.len() {
-        if !is_named(port, heads[at].words()) {
+        if !is_named_at(port, heads, at) {
             return false;
         }
     }
     true
+}
+
+fn is_named_at<T: Words, U: Words>(port: &PublisherPort<T, U>, heads: &[Head], at: usize) -> bool
+    ensures { OnTrue result (IsNamedIf port.now (slice_get heads.now at)) }
+{
+    match heads.get(at) {
+        Some(head) => is_named(port, head.words()),
+        None => false,
+    }
 }
 
 fn is_named<T: Words, U: Words>(port: &PublisherPort<T, U>, head: &[u64]) -> bool
