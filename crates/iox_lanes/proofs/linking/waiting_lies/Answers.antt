@@ -1,0 +1,15 @@
+use Rattle.std.proofs.Common.{arith, slice_get, sym}
+use Rattle.iox_domain.specs.DomainPublisher.Ports.{connection_of}
+use Rattle.iox_lanes.specs.Lying.{IsLaidAt, AreLaid}
+use Rattle.iox_lanes.proofs.Laying.{laid_all}
+use borrow.Author.Count.{below_more}
+use Rattle.iox_lanes.proofs.linking.waiting_lies.Goals as goal
+
+pub returns : goal.returns
+returns g c = record {
+  as_many = omega (arith, c.waiting-messages.ensures);
+  each = laid_all g.T.Words.parts g.U.Words.parts c.args.table.now c.args.first c.args.port.now c.args.slots.now (connection_of c.args.index c.args.port.now).waiting c.loop-at.at (omega (arith, c.loop-at-test.false, c.waiting-messages.ensures)) c.loop-at.invariant;
+}
+
+pub loop-at-preserved : goal.loop-at-preserved
+loop-at-preserved g c = below_more (λ k. IsLaidAt g.T.Words.parts g.U.Words.parts c.args.table.now c.args.first c.args.port.now (slice_get c.args.slots.now k) (slice_get (connection_of c.args.index c.args.port.now).waiting k)) c.loop-at.at c.loop-at.invariant c.if-not-is_waiting.ensures

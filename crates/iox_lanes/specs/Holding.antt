@@ -1,0 +1,141 @@
+-- What lanes hold of a domain.
+use Rattle.std.specs.Prelude.{ℕ, ◌≡◌, ◌+◌, ◌*◌, ◌<◌, Bool, true, false, is_some, count_by, List, [], ◌∷◌, length, take, get_or, slice_get, Option, None, Some}
+use Rattle.iox_domain.specs.DomainPorts.IndexBase.declared.container.Member.{Member}
+use Rattle.iox_domain.specs.DomainPorts.DomainSubscriber.Publishers.{port_of}
+use Rattle.iox_domain.specs.DomainPorts.DomainSubscriber.Subscribing.{attached_at}
+use Rattle.iox_domain.specs.DomainPorts.DomainSubscriber.declared.attached.Attached.{Attached}
+use Rattle.iox_domain.specs.DomainPorts.DomainSubscriber.declared.subscriber_port.SubscriberPort.{SubscriberPort}
+use Rattle.iox_domain.specs.DomainPublisher.Ports.{connection_of}
+use Rattle.iox_domain.specs.DomainPublisher.declared.publisher_port.PublisherPort.{PublisherPort}
+use Rattle.iox_domain.specs.DomainPorts.Subscribers.{subscriber_of}
+use Rattle.iox_domain.specs.declared.domain.Domain.{Domain}
+use Rattle.iox_lanes_machine.specs.Links.{LinkState}
+use Rattle.iox_lanes_machine.specs.World.{World}
+use Rattle.iox_lanes_machine.specs.LanesCalls.declared.route.Route.{Route}
+use Rattle.iox_lanes_machine.specs.LanesParties.Parties.{PublisherLaneState, SubscriberLaneState}
+use Rattle.iox_lanes_machine.specs.LanesWords.Table.{TableWords}
+use Rattle.iox_queues_rings.specs.declared.ends.RingKind.{RingKind}
+use Rattle.iox_queues_rings.specs.declared.ends.RingKind.TheVariants as kind
+use Rattle.iox_lanes.specs.Lying.{AreLaid}
+
+-- the numbers of the ports that are listed, in the order of their places
+abbrev pub numbers_of : {V : Type 0} → (V → ℕ) → List (Option (Member V)) → List ℕ
+numbers_of number [] = []
+numbers_of number (None ∷ rest) = numbers_of number rest
+numbers_of number (Some member ∷ rest) = number member.value ∷ numbers_of number rest
+
+-- what a full ring does with one more
+abbrev pub kind_of : Bool → RingKind
+kind_of true = kind.Overflowing
+kind_of false = kind.Refusing
+
+-- the publisher of a number, if there is one
+abbrev pub port_if : {T U : Type 0} → List (ℕ × PublisherPort T U) → Option ℕ → Option (PublisherPort T U)
+port_if ports None = None
+port_if ports (Some number) = port_of number ports
+
+-- the subscriber of a number, if there is one
+abbrev pub reader_if : List (ℕ × SubscriberPort) → Option ℕ → Option SubscriberPort
+reader_if ports None = None
+reader_if ports (Some number) = subscriber_of number ports
+
+-- a header says the node and the number of a publisher
+abbrev pub IsNamed : {T U : Type 0} → PublisherPort T U → List ℕ → Type 0
+IsNamed port head = (slice_get head 0 ≡ Some port.owner.node_id) × (slice_get head 1 ≡ Some port.number)
+
+-- a header, if there is one, does
+abbrev pub IsNamedIf : {T U : Type 0} → PublisherPort T U → Option (List ℕ) → Type 0
+IsNamedIf port None = Unit {0}
+IsNamedIf port (Some head) = IsNamed port head
+
+-- A lane is that of a publisher: as many slots and loans, its history, and headers of its node and number.
+pub record IsLaneOf {T U : Type 0} (payload_words : T → List ℕ) (header_words : U → List ℕ) (table : TableWords) (port : PublisherPort T U) (lane : PublisherLaneState) : Type 0 where
+  pub slots : length lane.port.book.loans ≡ port.sender.uses.first + port.sender.uses.size
+  pub most_loans : lane.port.book.most_loans ≡ port.sender.uses.most_loans
+  pub history : AreLaid payload_words header_words table lane.port.book.first port lane.port.book.history port.sender.uses.history
+  pub named : (at : ℕ) → IsNamedIf port (slice_get lane.heads at)
+
+-- a lane, if there is one, is that of a publisher, if there is one; where one is wanting it isn't
+abbrev pub IsLaneIf : {T U : Type 0} → (T → List ℕ) → (U → List ℕ) → TableWords → Option (PublisherPort T U) → Option PublisherLaneState → Type 0
+IsLaneIf payload_words header_words table None lane = ⊥
+IsLaneIf payload_words header_words table (Some port) None = ⊥
+IsLaneIf payload_words header_words table (Some port) (Some lane) = IsLaneOf payload_words header_words table port lane
+
+-- the publisher at a place of the lanes is the one of the domain that has the number of this place
+abbrev pub SenderHolds : {T U B D : Type 0} → (T → List ℕ) → (U → List ℕ) → Domain T U B D → World → List ℕ → ℕ → Type 0
+SenderHolds payload_words header_words domain lanes publishers place =
+    IsLaneIf payload_words header_words lanes.table (port_if domain.ports.publishers (slice_get publishers place)) (slice_get lanes.publishers place)
+
+-- A link is a connection of a publisher to a subscriber, the one that its messages for the subscriber's place go to: it leads from the one's place to the other's, as
+-- many may wait, and the same messages do.
+pub record IsLinkOf {T U : Type 0} (payload_words : T → List ℕ) (header_words : U → List ℕ) (table : TableWords) (overflows : Bool) (port : PublisherPort T U) (reader : SubscriberPort) (first index publisher subscriber : ℕ) (link : LinkState) : Type 0 where
+  pub from : link.publisher ≡ publisher
+  pub to : link.subscriber ≡ subscriber
+  pub tie : get_or port.ties.items reader.place None ≡ Some index
+  pub kind : link.kind ≡ kind_of overflows
+  pub limit : link.limit ≡ (connection_of index port).limit
+  pub waiting : AreLaid payload_words header_words table first port link.found (connection_of index port).waiting
+
+-- the same of a link, a lane, an index and ports that may be wanting; where one is it isn't so
+abbrev pub IsLinkIf : {T U : Type 0} → (T → List ℕ) → (U → List ℕ) → TableWords → Bool → ℕ → ℕ → Option (PublisherPort T U) → Option SubscriberPort → Option PublisherLaneState → Option ℕ → Option LinkState → Type 0
+IsLinkIf payload_words header_words table overflows publisher subscriber None reader lane index link = ⊥
+IsLinkIf payload_words header_words table overflows publisher subscriber (Some port) None lane index link = ⊥
+IsLinkIf payload_words header_words table overflows publisher subscriber (Some port) (Some reader) None index link = ⊥
+IsLinkIf payload_words header_words table overflows publisher subscriber (Some port) (Some reader) (Some lane) None link = ⊥
+IsLinkIf payload_words header_words table overflows publisher subscriber (Some port) (Some reader) (Some lane) (Some index) None = ⊥
+IsLinkIf payload_words header_words table overflows publisher subscriber (Some port) (Some reader) (Some lane) (Some index) (Some link) =
+    IsLinkOf payload_words header_words table overflows port reader lane.port.book.first index publisher subscriber link
+
+-- the connection of the lanes between a publisher and a subscriber, at these places, is that of the domain; it has the number of its place, publisher by publisher
+abbrev pub LinkHolds : {T U B D : Type 0} → (T → List ℕ) → (U → List ℕ) → Domain T U B D → World → List ℕ → List ℕ → List ℕ → ℕ → ℕ → Type 0
+LinkHolds payload_words header_words domain lanes publishers subscribers connections publisher subscriber =
+    IsLinkIf payload_words header_words lanes.table domain.ports.sizes.enable_safe_overflow publisher subscriber
+    (port_if domain.ports.publishers (slice_get publishers publisher)) (reader_if domain.ports.subscribers (slice_get subscribers subscriber))
+    (slice_get lanes.publishers publisher) (slice_get connections (publisher * length subscribers + subscriber))
+    (slice_get lanes.links (publisher * length subscribers + subscriber))
+
+-- a link leads to this subscriber, from the publisher of a number; none doesn't
+abbrev pub LeadsFrom : List ℕ → ℕ → ℕ → Option LinkState → Type 0
+LeadsFrom publishers subscriber number None = ⊥
+LeadsFrom publishers subscriber number (Some link) = (link.subscriber ≡ subscriber) × (slice_get publishers link.publisher ≡ Some number)
+
+-- a route is that of a connection of a subscriber, from the publisher that it is attached to; none isn't
+abbrev pub IsRouteOf : World → List ℕ → ℕ → Attached → Option Route → Type 0
+IsRouteOf lanes publishers subscriber attached None = ⊥
+IsRouteOf lanes publishers subscriber attached (Some route) = LeadsFrom publishers subscriber attached.publisher (slice_get lanes.links route.connection)
+
+-- the same of a connection, if there is one
+abbrev pub IsRouteIf : World → List ℕ → ℕ → Option Attached → Option Route → Type 0
+IsRouteIf lanes publishers subscriber None route = Unit {0}
+IsRouteIf lanes publishers subscriber (Some attached) route = IsRouteOf lanes publishers subscriber attached route
+
+-- these routes are those of the connections of a subscriber, in the order of its keys
+abbrev pub FollowKeys : World → List ℕ → ℕ → SubscriberPort → List Route → Type 0
+FollowKeys lanes publishers subscriber port routes =
+    (key : ℕ) → IsRouteIf lanes publishers subscriber (attached_at key port) (slice_get routes (count_by is_some (take key port.connections.values)))
+
+-- a lane, if there is one, goes over its connections as a subscriber does, if there is one
+abbrev pub FollowIf : World → List ℕ → ℕ → Option SubscriberPort → Option SubscriberLaneState → Type 0
+FollowIf lanes publishers subscriber None lane = ⊥
+FollowIf lanes publishers subscriber (Some port) None = ⊥
+FollowIf lanes publishers subscriber (Some port) (Some lane) = FollowKeys lanes publishers subscriber port lane.port.routes
+
+-- the subscriber at a place of the lanes goes over its connections in the order of the keys of the one of the domain that has the number of this place
+abbrev pub ReaderHolds : {T U B D : Type 0} → Domain T U B D → World → List ℕ → List ℕ → ℕ → Type 0
+ReaderHolds domain lanes publishers subscribers place =
+    FollowIf lanes publishers place (reader_if domain.ports.subscribers (slice_get subscribers place)) (slice_get lanes.subscribers place)
+
+-- Lanes hold what a domain has: before their first step, its publishers and subscribers by their places, with their connections.
+pub record LanesHold {T U B D : Type 0} (payload_words : T → List ℕ) (header_words : U → List ℕ) (payload_count header_count : ℕ) (domain : Domain T U B D) (lanes : World) (senders readers indices : List ℕ) : Type 0 where
+  pub moments : lanes.moments ≡ 0
+  pub payload : lanes.table.sizes.payload_words ≡ payload_count
+  pub user_header : lanes.table.sizes.user_header_words ≡ header_count
+  pub publishers : senders ≡ numbers_of (λ entry. entry.publisher) domain.ports.publisher_list.places
+  pub subscribers : readers ≡ numbers_of (λ entry. entry.subscriber) domain.ports.subscriber_list.places
+  pub publisher_count : length lanes.publishers ≡ length senders
+  pub subscriber_count : length lanes.subscribers ≡ length readers
+  pub link_count : length lanes.links ≡ length senders * length readers
+  pub sending : (place : ℕ) → place < length senders → SenderHolds payload_words header_words domain lanes senders place
+  pub linking : (publisher subscriber : ℕ) → publisher < length senders → subscriber < length readers
+      → LinkHolds payload_words header_words domain lanes senders readers indices publisher subscriber
+  pub receiving : (place : ℕ) → place < length readers → ReaderHolds domain lanes senders readers place

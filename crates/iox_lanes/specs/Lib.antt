@@ -1,0 +1,3 @@
+pub mod Lying
+pub mod Holding
+pub mod Opening

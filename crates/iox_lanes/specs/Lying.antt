@@ -1,0 +1,49 @@
+-- Messages of a domain that lie in the slots of lanes.
+use Rattle.std.specs.Prelude.{ℕ, ◌≡◌, ◌+◌, ◌<◌, List, [], ◌∷◌, length, slice_get, slice_index, Option, None, Some}
+use Rattle.iox_domain.specs.DomainPorts.DomainSender.Messages.{Message}
+use Rattle.iox_domain.specs.DomainPublisher.declared.publisher_port.PublisherPort.{PublisherPort}
+use Rattle.iox_lanes_machine.specs.LanesWords.Table.{TableWords, held_by}
+use Rattle.iox_lanes_machine.specs.LanesWords.declared.word.SharedWord.TheVariants.{Slot}
+use Rattle.iox_lanes_machine.specs.LanesWords.declared.word.SlotWord.TheVariants.{Header, UserHeader, Payload}
+
+-- the header of a slot says this node, this publisher and so many elements
+abbrev pub HeaderLies : TableWords → ℕ → ℕ → ℕ → ℕ → Type 0
+HeaderLies table slot node number elements =
+    (held_by table (Slot slot (Header 0)) ≡ node) × (held_by table (Slot slot (Header 1)) ≡ number) × (held_by table (Slot slot (Header 2)) ≡ elements)
+
+-- the user header of a slot has the words of this one
+abbrev pub UserHeaderLies : {U : Type 0} → (U → List ℕ) → TableWords → ℕ → U → Type 0
+UserHeaderLies words table slot user_header =
+    (word : ℕ) → word < table.sizes.user_header_words → held_by table (Slot slot (UserHeader word)) ≡ slice_index (words user_header) word
+
+-- the payload of a slot has the words of this value
+abbrev pub ValueLies : {T : Type 0} → (T → List ℕ) → TableWords → ℕ → T → Type 0
+ValueLies words table slot value =
+    (word : ℕ) → word < table.sizes.payload_words → held_by table (Slot slot (Payload word)) ≡ slice_index (words value) word
+
+-- there is just one value, and the payload of a slot has its words
+abbrev pub PayloadLies : {T : Type 0} → (T → List ℕ) → TableWords → ℕ → List T → Type 0
+PayloadLies words table slot [] = ⊥
+PayloadLies words table slot (value ∷ []) = ValueLies words table slot value
+PayloadLies words table slot (value ∷ more ∷ rest) = ⊥
+
+-- a slot has the words of a header, a user header and one value
+abbrev pub WordsLie : {T U : Type 0} → (T → List ℕ) → (U → List ℕ) → TableWords → ℕ → ℕ → ℕ → ℕ → U → List T → Type 0
+WordsLie payload_words header_words table slot node number elements user_header values =
+    HeaderLies table slot node number elements × UserHeaderLies header_words table slot user_header × PayloadLies payload_words table slot values
+
+-- a message of a publisher lies in its slot, where the publisher's slots begin at this one
+abbrev pub Lies : {T U : Type 0} → (T → List ℕ) → (U → List ℕ) → TableWords → ℕ → PublisherPort T U → Message T U → Type 0
+Lies payload_words header_words table first port message =
+    WordsLie payload_words header_words table (first + message.slot) port.owner.node_id port.number message.elements message.user_header message.values
+
+-- a message of a publisher, if there is one, has this slot and lies there
+abbrev pub IsLaidAt : {T U : Type 0} → (T → List ℕ) → (U → List ℕ) → TableWords → ℕ → PublisherPort T U → Option ℕ → Option (Message T U) → Type 0
+IsLaidAt payload_words header_words table first port slot None = Unit {0}
+IsLaidAt payload_words header_words table first port slot (Some message) =
+    (slot ≡ Some (first + message.slot)) × Lies payload_words header_words table first port message
+
+-- These are the slots of these messages of a publisher, in their order, and each message lies in its slot.
+pub record AreLaid {T U : Type 0} (payload_words : T → List ℕ) (header_words : U → List ℕ) (table : TableWords) (first : ℕ) (port : PublisherPort T U) (laid : List ℕ) (messages : List (Message T U)) : Type 0 where
+  pub as_many : length laid ≡ length messages
+  pub each : (at : ℕ) → IsLaidAt payload_words header_words table first port (slice_get laid at) (slice_get messages at)

@@ -1,0 +1,363 @@
+//! Lanes find what a domain has.
+ghost use Rattle.std.specs.Prelude.{◌≡◌, ◌+◌, ◌<◌, IfOk};
+ghost use Rattle.iox_lanes.specs.Holding.{numbers_of};
+
+use crate::domain_lanes::Opened;
+use crate::listed::{publishers_listed, subscribers_listed};
+use iox_domain::Domain;
+use iox_domain_publisher::{PublisherPort, Stage};
+use iox_domain_subscriber::SubscriberPort;
+use iox_domain_subscriber::reading::waiting_at;
+use iox_lanes_machine::{Found, LaneSizes, Lanes};
+use iox_lanes_words::SlotWord;
+use iox_queues_base::Words;
+use iox_queues_rings::RingKind;
+use std::alloc::{AllocError, Global};
+
+/// Lanes at which all that the domain has was found.
+pub(crate) fn build<T: Words, U: Words>(
+    alloc: Global,
+    domain: &Domain<T, U>,
+) -> Result<Opened, AllocError>
+    ensures publishers { IfOk result (λ opened. opened.publishers.items ≡ numbers_of (λ entry. entry.publisher) domain.now.ports.publisher_list.places) }
+    ensures subscribers { IfOk result (λ opened. opened.subscribers.items ≡ numbers_of (λ entry. entry.subscriber) domain.now.ports.subscriber_list.places) }
+{
+    let publishers = publishers_listed(alloc, &domain.ports.publisher_list)?;
+    let subscribers = subscribers_listed(alloc, &domain.ports.subscriber_list)?;
+    let mut lanes = Lanes::new(
+        alloc,
+        sizes_of(
+            domain,
+            &publishers,
+            publishers.len() as u64,
+            subscribers.len() as u64,
+        ),
+    )?;
+    let mut connections = Vec::new(alloc);
+    find_publishers(
+        &mut lanes,
+        domain,
+        &publishers,
+        &subscribers,
+        &mut connections,
+    )?;
+    find_orders(&mut lanes, domain, &publishers, &subscribers)?;
+    Ok(Opened {
+        lanes,
+        publishers,
+        subscribers,
+        connections,
+    })
+}
+
+// The sizes of the lanes: as many slots and loans as the publisher has that has most.
+fn sizes_of<T: Words, U: Words>(
+    domain: &Domain<T, U>,
+    numbers: &[u64],
+    publishers: u64,
+    subscribers: u64,
+) -> LaneSizes
+    ensures { 0 < result.buffer }
+{
+    let sizes = domain.ports.sizes;
+    LaneSizes {
+        publishers,
+        subscribers,
+        kind: kind_of(sizes.enable_safe_overflow),
+        buffer: (sizes.subscriber_max_buffer_size as u64).max(1),
+        most_borrowed: sizes.subscriber_max_borrowed_samples as u64,
+        history: sizes.history_size as u64,
+        most_loans: most_loans(domain, numbers),
+        slots: most_slots(domain, numbers),
+        user_header_words: U::WORDS as u64,
+        payload_words: T::WORDS as u64,
+    }
+}
+
+fn kind_of(overflows: bool) -> RingKind {
+    if overflows {
+        RingKind::Overflowing
+    } else {
+        RingKind::Refusing
+    }
+}
+
+fn most_loans<T: Words, U: Words>(domain: &Domain<T, U>, numbers: &[u64]) -> u64 {
+    let mut most = 0;
+    for number in numbers {
+        if let Some(port) = domain.ports.publishers.get(*number) {
+            most = (port.sender.most_loans() as u64).max(most);
+        }
+    }
+    most
+}
+
+fn most_slots<T: Words, U: Words>(domain: &Domain<T, U>, numbers: &[u64]) -> u64 {
+    let mut most = 0;
+    for number in numbers {
+        if let Some(port) = domain.ports.publishers.get(*number) {
+            most = slots_of(port).max(most);
+        }
+    }
+    most
+}
+
+// How many slots a publisher has, with those of segments that are no longer lent.
+fn slots_of<T: Words, U: Words>(port: &PublisherPort<T, U>) -> u64 {
+    (port.sender.first() as u64).saturating_add(port.sender.slots() as u64)
+}
+
+fn find_publishers<T: Words, U: Words>(
+    lanes: &mut Lanes,
+    domain: &Domain<T, U>,
+    publishers: &[u64],
+    subscribers: &[u64],
+    connections: &mut Vec<usize>,
+) -> Result<(), AllocError> {
+    for place in 0..publishers.len() {
+        if let Some(port) = domain.ports.publishers.get(publishers[place]) {
+            find_publisher(lanes, place, port)?;
+            let first = first_slot(lanes, place);
+            find_history(lanes, place, first, port)?;
+            find_connections(lanes, domain, place, first, port, subscribers, connections)?;
+        }
+    }
+    Ok(())
+}
+
+// A publisher has so many slots and loans, and its headers say its node and number.
+fn find_publisher<T: Words, U: Words>(
+    lanes: &mut Lanes,
+    place: usize,
+    port: &PublisherPort<T, U>,
+) -> Result<(), AllocError> {
+    lanes.find(Found::Slots {
+        publisher: place,
+        slots: slots_of(port),
+        most_loans: port.sender.most_loans() as u64,
+    })?;
+    lanes.find(Found::Header {
+        publisher: place,
+        node_id: port.owner.node_id,
+        publisher_id: port.number,
+    })?;
+    Ok(())
+}
+
+// The number of a publisher's first slot in the lanes.
+fn first_slot(lanes: &Lanes, place: usize) -> u64 {
+    match lanes.publishers().get(place) {
+        Some(lane) => lane.first_slot(),
+        None => 0,
+    }
+}
+
+fn find_history<T: Words, U: Words>(
+    lanes: &mut Lanes,
+    place: usize,
+    first: u64,
+    port: &PublisherPort<T, U>,
+) -> Result<(), AllocError> {
+    for at in 0..port.sender.history() {
+        let slot = port.sender.remembered(at);
+        find_message(lanes, first, port, slot)?;
+        lanes.find(Found::Newest {
+            publisher: place,
+            slot: first.saturating_add(slot as u64),
+        })?;
+    }
+    Ok(())
+}
+
+fn find_connections<T: Words, U: Words>(
+    lanes: &mut Lanes,
+    domain: &Domain<T, U>,
+    place: usize,
+    first: u64,
+    port: &PublisherPort<T, U>,
+    subscribers: &[u64],
+    connections: &mut Vec<usize>,
+) -> Result<(), AllocError> {
+    for other in 0..subscribers.len() {
+        let index = tie_to(domain, port, subscribers[other]);
+        connections.push(index)?;
+        lanes.find(Found::Buffer {
+            publisher: place,
+            place: other as u64,
+            messages: limit_at(port, index) as u64,
+        })?;
+        find_waiting(lanes, place, first, port, other as u64, index)?;
+    }
+    Ok(())
+}
+
+// The index of the connection that a publisher's messages for a subscriber go to; one that isn't there if there is none.
+fn tie_to<T: Words, U: Words>(
+    domain: &Domain<T, U>,
+    port: &PublisherPort<T, U>,
+    subscriber: u64,
+) -> usize {
+    match domain.ports.subscribers.get(subscriber) {
+        Some(reader) => port.ties.get(reader.place).unwrap_or(usize::MAX),
+        None => usize::MAX,
+    }
+}
+
+fn limit_at<T: Words, U: Words>(port: &PublisherPort<T, U>, index: usize) -> usize {
+    match port.sender.stage(index) {
+        Stage::Vacant => 0,
+        Stage::Live | Stage::Ended => port.sender.limit(index),
+    }
+}
+
+fn find_waiting<T: Words, U: Words>(
+    lanes: &mut Lanes,
+    place: usize,
+    first: u64,
+    port: &PublisherPort<T, U>,
+    other: u64,
+    index: usize,
+) -> Result<(), AllocError> {
+    for at in 0..waiting_at(port, index) {
+        let Some(slot) = waiting_slot(port, index, at) else {
+            return Ok(());
+        };
+        if !port.sender.has_slot(slot) {
+            return Ok(());
+        }
+        find_message(lanes, first, port, slot)?;
+        lanes.find(Found::Waiting {
+            publisher: place,
+            place: other,
+            slot: first.saturating_add(slot as u64),
+        })?;
+    }
+    Ok(())
+}
+
+// The slot of the message that waits at a place of a connection, if one does.
+fn waiting_slot<T: Words, U: Words>(
+    port: &PublisherPort<T, U>,
+    index: usize,
+    at: usize,
+) -> Option<usize> {
+    match port.sender.stage(index) {
+        Stage::Vacant => None,
+        Stage::Live | Stage::Ended => {
+            if at < port.sender.waiting(index) {
+                Some(port.sender.waiting_slot(index, at))
+            } else {
+                None
+            }
+        }
+    }
+}
+
+// The words of the message in a slot.
+fn find_message<T: Words, U: Words>(
+    lanes: &mut Lanes,
+    first: u64,
+    port: &PublisherPort<T, U>,
+    slot: usize,
+) -> Result<(), AllocError>
+    requires { slot < port.now.sender.uses.first + port.now.sender.uses.size }
+{
+    let at = first.saturating_add(slot as u64);
+    find_word(lanes, at, SlotWord::Header(0), port.owner.node_id)?;
+    find_word(lanes, at, SlotWord::Header(1), port.number)?;
+    find_word(lanes, at, SlotWord::Header(2), port.sender.elements(slot))?;
+    find_user_header(lanes, at, port.sender.user_header(slot))?;
+    match port.sender.payload(slot).first() {
+        Some(value) => find_value(lanes, at, value),
+        None => Ok(()),
+    }
+}
+
+fn find_word(lanes: &mut Lanes, slot: u64, word: SlotWord, value: u64) -> Result<(), AllocError> {
+    lanes.find(Found::Held { slot, word, value })?;
+    Ok(())
+}
+
+fn find_user_header<U: Words>(
+    lanes: &mut Lanes,
+    slot: u64,
+    user_header: &U,
+) -> Result<(), AllocError> {
+    for word in 0..U::WORDS {
+        find_word(
+            lanes,
+            slot,
+            SlotWord::UserHeader(word as u64),
+            user_header.word(word),
+        )?;
+    }
+    Ok(())
+}
+
+fn find_value<T: Words>(lanes: &mut Lanes, slot: u64, value: &T) -> Result<(), AllocError> {
+    for word in 0..T::WORDS {
+        find_word(
+            lanes,
+            slot,
+            SlotWord::Payload(word as u64),
+            value.word(word),
+        )?;
+    }
+    Ok(())
+}
+
+// Each subscriber goes over its connections in the order of its keys.
+fn find_orders<T: Words, U: Words>(
+    lanes: &mut Lanes,
+    domain: &Domain<T, U>,
+    publishers: &[u64],
+    subscribers: &[u64],
+) -> Result<(), AllocError> {
+    for place in 0..subscribers.len() {
+        if let Some(port) = domain.ports.subscribers.get(subscribers[place]) {
+            find_order(lanes, place, port, publishers)?;
+        }
+    }
+    Ok(())
+}
+
+fn find_order(
+    lanes: &mut Lanes,
+    place: usize,
+    port: &SubscriberPort,
+    publishers: &[u64],
+) -> Result<(), AllocError> {
+    let mut to = 0u64;
+    for key in 0..port.connections.reached() {
+        if let Some(attached) = port.attached(key) {
+            let from = route_from(lanes, place, publishers, attached.publisher);
+            lanes.find(Found::Swapped {
+                subscriber: place,
+                one: to,
+                other: from,
+            })?;
+            to = to.saturating_add(1);
+        }
+    }
+    Ok(())
+}
+
+// The place at which a subscriber of the lanes has the connection from the publisher of this number.
+fn route_from(lanes: &Lanes, place: usize, publishers: &[u64], number: u64) -> u64 {
+    let Some(lane) = lanes.subscribers().get(place) else {
+        return u64::MAX;
+    };
+    let routes = lane.routes();
+    for at in 0..routes.len() {
+        if sender_of(lanes, publishers, routes[at].connection) == Some(number) {
+            return at as u64;
+        }
+    }
+    u64::MAX
+}
+
+// The number of the publisher of a connection.
+fn sender_of(lanes: &Lanes, publishers: &[u64], connection: u64) -> Option<u64> {
+    let link = lanes.links().get(connection as usize)?;
+    publishers.get(link.publisher() as usize).copied()
+}

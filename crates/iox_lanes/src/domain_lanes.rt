@@ -1,0 +1,103 @@
+//! Lanes with the domain that they came from.
+ghost use Rattle.std.specs.Prelude.{◌≡◌, IfSome, IfOk, IfErr, OnOk, None};
+ghost use Rattle.iox_lanes_refusals.specs.Refusals.{first_reason};
+ghost use Rattle.iox_lanes.specs.Opening.{told_of};
+ghost use Rattle.iox_lanes.specs.Holding.{LanesHold};
+
+use crate::building::build;
+use crate::holding::hold;
+use iox_domain::Domain;
+use iox_lanes_machine::Lanes;
+use iox_lanes_refusals::{IntoLanesError, refusal};
+use iox_queues_base::Words;
+use std::alloc::Global;
+
+/// The ports of a domain as lanes, and the domain as it was when they began.
+///
+/// This port's own.
+#[derive(Drop)]
+pub struct DomainLanes<T, U> {
+    /// The lanes: a publisher and a subscriber for each that the domain lists, in the order of their places there.
+    pub lanes: Lanes,
+    /// The domain, as it was.
+    pub domain: Domain<T, U>,
+    /// The numbers of the publishers in the domain, by their places in the lanes.
+    pub publishers: Vec<u64>,
+    /// The numbers of the subscribers in the domain, by their places in the lanes.
+    pub subscribers: Vec<u64>,
+    /// For each connection of the lanes its index at the publisher in the domain.
+    pub connections: Vec<usize>,
+}
+
+/// A domain that didn't become lanes, as it was, and why.
+#[derive(Drop)]
+pub struct Refused<T, U> {
+    /// Why it didn't.
+    pub error: IntoLanesError,
+    /// The domain.
+    pub domain: Domain<T, U>,
+}
+
+/// What lanes are made of.
+#[derive(Drop)]
+pub(crate) struct Opened {
+    pub(crate) lanes: Lanes,
+    pub(crate) publishers: Vec<u64>,
+    pub(crate) subscribers: Vec<u64>,
+    pub(crate) connections: Vec<usize>,
+}
+
+/// The lanes of a domain: each publisher and subscriber that it lists, in the order of their places, with the buffer of each connection, the slots, loans and
+/// history of each publisher, what waits at each connection, the words of each message, and the order in which each subscriber goes over its connections.
+///
+/// Refused with the first reason of `refusal` that applies, else with `OutOfMemory` where an allocation fails; then the domain is handed back as it was.
+pub fn into_lanes<T: Words, U: Words>(
+    alloc: Global,
+    domain: Domain<T, U>,
+) -> Result<DomainLanes<T, U>, Refused<T, U>>
+    ensures lanes { IfOk result (λ opened. LanesHold T.parts U.parts T.WORDS U.WORDS domain opened.lanes opened.publishers.items opened.subscribers.items opened.connections.items) }
+    ensures domain { IfOk result (λ opened. opened.domain ≡ domain) }
+    ensures none { OnOk result (first_reason domain ≡ None) }
+    ensures told { IfErr result (λ refused. refused.error ≡ told_of (first_reason domain)) }
+    ensures same { IfErr result (λ refused. refused.domain ≡ domain) }
+{
+    if let Some(error) = refusal(&domain) {
+        return Err(Refused { error, domain });
+    }
+    match open(alloc, &domain) {
+        Some(opened) => Ok(with(opened, domain)),
+        None => Err(Refused {
+            error: IntoLanesError::OutOfMemory,
+            domain,
+        }),
+    }
+}
+
+// The lanes beside their domain.
+fn with<T, U>(opened: Opened, domain: Domain<T, U>) -> DomainLanes<T, U>
+    ensures { result ≡ record { lanes = opened.lanes; domain = domain; publishers = opened.publishers; subscribers = opened.subscribers; connections = opened.connections } }
+{
+    DomainLanes {
+        lanes: opened.lanes,
+        domain,
+        publishers: opened.publishers,
+        subscribers: opened.subscribers,
+        connections: opened.connections,
+    }
+}
+
+// The lanes of a domain, if memory is found for them.
+fn open<T: Words, U: Words>(alloc: Global, domain: &Domain<T, U>) -> Option<Opened>
+    ensures { IfSome result (λ opened. LanesHold T.parts U.parts T.WORDS U.WORDS domain.now opened.lanes opened.publishers.items opened.subscribers.items opened.connections.items) }
+{
+    match build(alloc, domain) {
+        Ok(opened) => {
+            if hold(domain, &opened) {
+                Some(opened)
+            } else {
+                None
+            }
+        }
+        Err(_) => None,
+    }
+}

@@ -1,0 +1,3 @@
+mod Listing
+mod Going
+mod Slicing

@@ -1,0 +1,64 @@
+-- Who decides by an object, and who waits at a full mailbox.
+use Rattle.std.specs.Prelude.{ℕ, ◌&&◌, ◌||◌, Bool, true, false, is_none, not, List, Option, None, Some}
+use Rattle.std.specs.List.{list_any}
+use Rattle.iox_domain.specs.DomainValues.Actions.{decision_of}
+use Rattle.iox_domain.specs.DomainValues.BackpressureAnswers.{fixed_action_of}
+use Rattle.iox_domain.specs.DomainValues.DegradationAnswers as degradation
+use Rattle.iox_domain.specs.DomainValues.declared.backpressure.BackpressureAction.{BackpressureAction}
+use Rattle.iox_domain.specs.DomainValues.declared.backpressure.BackpressureDecision.{BackpressureDecision}
+use Rattle.iox_domain.specs.DomainValues.declared.backpressure.BackpressureDecision.TheVariants as decided
+use Rattle.iox_domain.specs.DomainValues.declared.backpressure_handler.BackpressureHandler.{BackpressureHandler}
+use Rattle.iox_domain.specs.DomainValues.declared.degradation_handler.DegradationHandler.{DegradationHandler}
+use Rattle.iox_domain.specs.DomainValues.declared.handlers.Handlers.{Handlers}
+use Rattle.iox_domain.specs.DomainPublisher.declared.publisher_port.PublisherPort.{PublisherPort}
+use Rattle.iox_domain.specs.Kept.{kept_under}
+use Rattle.iox_domain.specs.declared.domain.Domain.{Domain}
+
+-- whether an object is asked at a full mailbox
+abbrev pub asks_object : {X : Type 0} {F : X → Type 0} → Option (BackpressureHandler X F) → Bool
+asks_object None = false
+asks_object (Some handler) = is_none (fixed_action_of handler)
+
+-- whether an object is asked where a connection failed
+abbrev pub is_object : {X : Type 0} {F : X → Type 0} → DegradationHandler X F → Bool
+is_object handler = is_none (degradation.fixed_action_of handler)
+
+-- whether an object decides for a publisher
+abbrev pub has_object : {X Y : Type 0} {F : X → Type 0} {G : Y → Type 0} → Option (Handlers X Y F G) → Bool
+has_object None = false
+has_object (Some handlers) = asks_object handlers.backpressure || is_object handlers.degradation
+
+-- whether an object decides for a subscriber
+abbrev pub is_kept_object : {X : Type 0} {F : X → Type 0} → Option (DegradationHandler X F) → Bool
+is_kept_object None = false
+is_kept_object (Some handler) = is_object handler
+
+-- An object that the caller made decides for some port.
+abbrev pub has_handlers : {T U X Y Z : Type 0} {F : X → Type 0} {G : Y → Type 0} {H : Z → Type 0} → Domain T U (Handlers X Y F G) (DegradationHandler Z H) → Bool
+has_handlers domain = list_any (λ entry. has_object (kept_under entry.0 domain.publisher_handlers)) domain.ports.publishers
+    || list_any (λ entry. is_kept_object (kept_under entry.0 domain.subscriber_handlers)) domain.ports.subscribers
+
+-- what is answered at a full mailbox each time, if anybody answers the same each time
+abbrev pub fixed_answer : {X : Type 0} {F : X → Type 0} → Option (BackpressureHandler X F) → Option BackpressureAction
+fixed_answer None = None
+fixed_answer (Some handler) = fixed_action_of handler
+
+-- whether that is to wait
+abbrev pub is_retry : BackpressureDecision → Bool
+is_retry decided.Retry = true
+is_retry decided.DiscardData = false
+is_retry decided.DiscardDataAndFail = false
+
+-- whether a send waits at a full mailbox: the fixed action says so, or the strategy where no action stands or it follows; where nobody
+-- decides a send waits
+abbrev pub would_wait : {X Y : Type 0} {F : X → Type 0} {G : Y → Type 0} → Option (Handlers X Y F G) → Bool
+would_wait None = true
+would_wait (Some handlers) = is_retry (decision_of handlers.strategy (fixed_answer handlers.backpressure))
+
+-- whether a publisher that didn't leave would wait at a full mailbox
+abbrev pub retries : {T U X Y : Type 0} {F : X → Type 0} {G : Y → Type 0} → List (ℕ × Handlers X Y F G) → ℕ × PublisherPort T U → Bool
+retries handlers entry = entry.1.stands && would_wait (kept_under entry.0 handlers)
+
+-- A full mailbox doesn't drop its oldest message, and a send of some publisher would wait there.
+abbrev pub is_retrying : {T U X Y D : Type 0} {F : X → Type 0} {G : Y → Type 0} → Domain T U (Handlers X Y F G) D → Bool
+is_retrying domain = not domain.ports.sizes.enable_safe_overflow && list_any (retries domain.publisher_handlers) domain.ports.publishers

@@ -1,0 +1,39 @@
+-- What isn't one value.
+use Rattle.std.specs.Prelude.{◌==◌, ◌||◌, Bool, true, false, not, length, Option, None, Some}
+use Rattle.std.specs.List.{list_any}
+use Rattle.iox_domain.specs.DescribeBase.declared.type_detail.TypeVariant.{TypeVariant}
+use Rattle.iox_domain.specs.DescribeBase.declared.type_detail.TypeVariant.TheVariants as variant
+use Rattle.iox_domain.specs.DomainPorts.DomainSender.Messages.{Message}
+use Rattle.iox_domain.specs.DomainPorts.DomainSlots.Uses.{Connection}
+use Rattle.iox_domain.specs.DomainPublisher.declared.publisher_port.PublisherPort.{PublisherPort}
+use Rattle.iox_domain.specs.declared.domain.Domain.{Domain}
+
+-- whether messages of this kind are slices
+abbrev pub is_dynamic : TypeVariant → Bool
+is_dynamic variant.FixedSize = false
+is_dynamic variant.Dynamic = true
+
+-- whether a message has another number of values than one
+abbrev pub is_slice : {T U : Type 0} → Message T U → Bool
+is_slice message = not (length message.values == 1)
+
+-- whether that is such a message
+abbrev pub is_slice_in : {T U : Type 0} → Option (Message T U) → Bool
+is_slice_in None = false
+is_slice_in (Some message) = is_slice message
+
+-- whether such a message waits at a connection
+abbrev pub slice_waits : {T U : Type 0} → Connection (Message T U) → Bool
+slice_waits connection = list_any is_slice connection.waiting
+
+-- whether a publisher keeps such a message, or one waits at a connection of it
+abbrev pub keeps_slice : {T U : Type 0} → PublisherPort T U → Bool
+keeps_slice port = list_any is_slice port.sender.uses.history || list_any slice_waits port.sender.uses.connections
+
+-- whether an element of a publisher has another number of values than one, its slots have room for another, or a message has another
+abbrev pub deals_in_slices : {T U : Type 0} → PublisherPort T U → Bool
+deals_in_slices port = not (port.unit == 1) || (not (port.sender.room == 1) || keeps_slice port)
+
+-- The messages of a domain are slices, or some publisher deals in slices.
+abbrev pub has_slices : {T U B D : Type 0} → Domain T U B D → Bool
+has_slices domain = is_dynamic domain.agreed.types.payload.variant || list_any (λ entry. deals_in_slices entry.1) domain.ports.publishers
