@@ -1,5 +1,5 @@
 -- What a command leaves of what it asks nothing of, be that agreed or not.
-use Rattle.std.proofs.Common.{◌≡◌, ◌≢◌, ◌∙◌, ◌+◌, ◌≤◌, ◌⊎◌, ℕ, nat_eq, Bool, true, false, List, Option, None, Some, Result, Ok, Err, refl, sym, ap, subst, inl, inr, arith}
+use Rattle.std.proofs.Common.{◌≡◌, ◌≢◌, ◌∙◌, ◌+◌, ◌⊎◌, ℕ, nat_eq, Bool, true, false, List, Option, None, Some, Result, Ok, Err, refl, sym, ap, subst, inl, inr, arith}
 use Rattle.std.specs.Map.{lookup}
 use Rattle.std.specs.Option.{unwrap_or}
 use Rattle.std.proofs.lemmas.Bool.{eqb-true, eq-eqb}
@@ -22,7 +22,7 @@ use Rattle.iox_hub_commands.specs.DomainValues.declared.degradation.DegradationC
 use Rattle.iox_hub_commands.specs.DomainValues.declared.degradation.DegradationInfo.{DegradationInfo}
 use Rattle.iox_hub_factories.specs.Asking.{hash_of}
 use Rattle.iox_hub_factories.specs.HubBase.Hubs.{factories_of}
-use Rattle.iox_hub_factories.specs.HubBase.Opening.{Made, Enters, Settles, OpensInHub}
+use Rattle.iox_hub_factories.specs.HubBase.Opening.{Made, Settles, OpensInHub}
 use Rattle.iox_hub_factories.specs.HubBase.declared.hub.Hub.{Hub}
 use Rattle.iox_hub_factories.specs.HubServices.Numbered.{others_beside}
 use Rattle.iox_hub_factories.specs.HubServices.Open.{OpenServices, presence_of}

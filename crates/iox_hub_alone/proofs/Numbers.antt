@@ -1,5 +1,5 @@
 -- Tables of what goes by numbers: all of one service, and numbers that are passed over.
-use Rattle.std.proofs.Common.{◌≡◌, ◌≢◌, ◌∙◌, ◌+◌, ◌≤◌, ◌<◌, ℕ, Bool, true, false, List, [], ◌∷◌, Option, None, Some, option_map, refl, sym, ap, nat_eq, arith}
+use Rattle.std.proofs.Common.{◌≡◌, ◌∙◌, ◌+◌, ◌≤◌, ◌<◌, ℕ, Bool, true, false, List, [], ◌∷◌, Option, None, Some, option_map, refl, sym, ap, nat_eq, arith}
 use Rattle.std.specs.Map.{lookup}
 use Rattle.iox_hub_factories.specs.Numbered.NumberTable.{NumberTable, Rises, value_at}
 use Rattle.iox_hub_independence.specs.Left.{AllLeft}
@@ -8,7 +8,6 @@ use Rattle.iox_hub_locality.specs.Agreeing.{SameOf}
 use Rattle.iox_hub_locality.specs.Locality.{FoundMine}
 use Rattle.iox_negotiate_laws.specs.Lives.{number_of}
 use Rattle.iox_negotiate_laws.specs.NegotiateTable.Contents.{Contents}
-use Rattle.iox_negotiate_laws.specs.NegotiateTable.declared.entry.Entry.{Entry}
 use Rattle.iox_negotiate_laws.proofs.Maps.{weaker}
 use Rattle.iox_negotiate_laws.proofs.Tables.{IsTable}
 use Rattle.iox_hub_alone.specs.Alone.{NumberFound}

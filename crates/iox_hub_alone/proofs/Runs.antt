@@ -1,5 +1,5 @@
 -- A whole run among others, and alone.
-use Rattle.std.proofs.Common.{◌≡◌, ◌≢◌, ◌∙◌, ◌+◌, ◌-◌, ◌^◌, ◌≤◌, ◌<◌, ◌⊎◌, ℕ, Bool, true, false, List, [], ◌∷◌, Option, None, Some, Result, Ok, min, refl, sym, ap, subst, inl, inr, arith}
+use Rattle.std.proofs.Common.{◌≡◌, ◌≢◌, ◌∙◌, ◌-◌, ◌^◌, ◌≤◌, ◌<◌, ◌⊎◌, ℕ, Bool, true, false, List, [], ◌∷◌, Option, None, Some, Result, Ok, refl, sym, ap, subst, inl, inr, arith}
 use Rattle.std.specs.Ordering.{nat_cmp}
 use Rattle.std.specs.declared.alloc.AllocError.{AllocError}
 use Rattle.iox_hub_commands.specs.Command.declared.command.Command.{Command}
@@ -17,10 +17,9 @@ use Rattle.iox_hub_commands.specs.DomainValues.declared.degradation.DegradationI
 use Rattle.iox_hub_factories.specs.HubBase.Hubs.{factories_of, one_more}
 use Rattle.iox_hub_factories.specs.HubServices.Open.{presence_of}
 use Rattle.iox_hub_factories.specs.Numbered.NumberTable.{value_at}
-use Rattle.iox_hub_factories.specs.HubBase.declared.hub.Hub.{Hub}
 use Rattle.iox_hub_factories.specs.HubBase.declared.hub.HubConfig.{HubConfig}
 use Rattle.iox_hub_run.specs.AgreementLaws.{service_of}
-use Rattle.iox_hub_run.specs.Lives.{NumbersRise, NumbersGoOn}
+use Rattle.iox_hub_run.specs.Lives.{NumbersGoOn}
 use Rattle.iox_hub_run.specs.Numbers.{IsNew}
 use Rattle.iox_hub_run.specs.Steps.{Step}
 use Rattle.iox_hub_run.specs.declared.numbered_hub.NumberedHub.{NumberedHub}
@@ -37,9 +36,8 @@ use Rattle.iox_negotiate_laws.specs.Lives.{number_of}
 use Rattle.iox_negotiate_laws.specs.NegotiateTable.Contents.{Contents, entry_at, segment_at}
 use Rattle.iox_negotiate_laws.specs.NegotiateTable.declared.entry.Entry.{Entry}
 use Rattle.iox_negotiate_laws.proofs.Maps.{Rising, on}
-use Rattle.iox_negotiate_laws.proofs.Stepping.{Past}
 use Rattle.iox_negotiate_laws.proofs.Tables.{IsTable, new-table, runs}
-use Rattle.iox_hub_alone.specs.Alone.{StepWithMemory, NumberFound, LivesBegin, AsksNothingOf, OfService, OfOthers, RunsAmongOthers, RunsAlone, IsAsIfAlone}
+use Rattle.iox_hub_alone.specs.Alone.{StepWithMemory, NumberFound, LivesBegin, OfService, OfOthers, RunsAmongOthers, RunsAlone, IsAsIfAlone}
 use Rattle.iox_hub_alone.specs.Passing.{PassesOver}
 use Rattle.iox_hub_alone.proofs.Beside.{left, untouched}
 use Rattle.iox_hub_alone.proofs.Concerning.{AllMine, concerns, number_there, hash_there, found_apart, hash_apart}

@@ -29,14 +29,14 @@ use Rattle.iox_hub_run.specs.Steps.{Step}
 use Rattle.iox_hub_run.specs.declared.numbered_hub.NumberedHub.{NumberedHub}
 use Rattle.iox_hub_independence.specs.Asking.{hash_asked, number_asked, service_at, publisher_service, loan_service, sample_service}
 use Rattle.iox_hub_independence.specs.Left.{IsLeft}
-use Rattle.iox_hub_locality.specs.Locality.{HashFound, IsMemoryWanted}
+use Rattle.iox_hub_locality.specs.Locality.{HashFound}
 use Rattle.iox_hub_locality.proofs.Framed.{step_goes_on}
 use Rattle.iox_hub_locality.proofs.Lives.{IsFrom, past_rises}
 use Rattle.iox_negotiate_laws.specs.Lives.{number_of}
 use Rattle.iox_negotiate_laws.specs.NegotiateTable.Contents.{Contents, entry_at, digest_cmp}
 use Rattle.iox_negotiate_laws.specs.NegotiateTable.declared.entry.Entry.{Entry}
 use Rattle.iox_negotiate_laws.proofs.Changes.{by_hash}
-use Rattle.iox_negotiate_laws.proofs.Maps.{found-all, on}
+use Rattle.iox_negotiate_laws.proofs.Maps.{found-all}
 use Rattle.iox_negotiate_laws.proofs.Tables.{IsTable}
 use Rattle.iox_hub_alone.specs.Alone.{NumberFound, LivesBegin, AsksNoOther, AsksNothingOf, StepWithMemory, OfService, OfOthers, RunsAmongOthers}
 use Rattle.iox_hub_alone.specs.Telling.{commands_told, replies_told, EachRunCanBeTold}
@@ -44,7 +44,7 @@ use Rattle.iox_hub_alone.proofs.Beside.{left}
 use Rattle.iox_hub_alone.proofs.Concerning.{AllMine}
 use Rattle.iox_hub_alone.proofs.Factories.{IsNewcomer, factories_come}
 use Rattle.iox_hub_alone.proofs.Numbers.{AllOf, all_of_on}
-use Rattle.iox_hub_alone.proofs.Runs.{Among, other_than, other_apart, from_is, both_ways, new_among, new_alone, Alone, kept_among, others_among}
+use Rattle.iox_hub_alone.proofs.Runs.{Among, other_than, other_apart, from_is, both_ways, new_among, new_alone, kept_among, others_among}
 
 number_is : (one other : ℕ) → Some one ≡ Some other → one ≡ other
 number_is one other e = cc

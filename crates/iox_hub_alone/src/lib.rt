@@ -20,8 +20,8 @@ use iox_queues_base::Words;
 /// In any run of a new hub, leave out all commands that ask nothing of a service, but for those that make nodes. Those that are left may be
 /// replied to just so in a run of a new hub without the others, if only the numbers that the others took are passed over: of factories,
 /// ports, loans and samples, of lives of services, and of the factories that a hub counts. So what is replied about a service, and what is
-/// left of it, depends on no other service. Every run can be told so, for any service, if no memory was wanted to create or open one. It is
-/// the contract of a function that does nothing.
+/// left of it, depends on other services by nothing but the numbers that they take. Every run can be told so, for any service, if no memory
+/// was wanted to create or open one. It is the contract of a function that does nothing.
 pub fn a_service_is_as_if_alone<
     T: Words + ZeroCopySend + Default,
     U: Copy + ZeroCopySend + Default,

@@ -1,5 +1,5 @@
 -- What a command leaves of a hub besides its services: what no command but a node's changes, what grows, and that numbers stay in order.
-use Rattle.std.proofs.Common.{◌≡◌, ◌∙◌, ◌⊎◌, ◌-◌, ℕ, Bool, true, false, List, [], ◌∷◌, Option, None, Some, Result, Ok, Err, refl, sym, ap, subst, inl, inr, if◌then◌else◌}
+use Rattle.std.proofs.Common.{◌≡◌, ◌∙◌, ◌⊎◌, ◌-◌, ℕ, Bool, true, false, List, Option, None, Some, Result, Ok, Err, refl, sym, ap, subst, inl, inr, if◌then◌else◌}
 use Rattle.std.specs.BTreeMap.{is_at}
 use Rattle.std.specs.Cmp.{nat_cmp_total}
 use Rattle.std.specs.Ordering.{nat_cmp}
@@ -37,7 +37,7 @@ use Rattle.iox_hub_factories.specs.HubServices.Open.{OpenServices}
 use Rattle.iox_hub_factories.specs.HubServices.Opening.{Opens as ServiceOpens}
 use Rattle.iox_hub_factories.specs.HubServices.declared.presence.Presence.TheVariants.{Here}
 use Rattle.iox_hub_factories.specs.Numbering.{GetsNumber}
-use Rattle.iox_hub_factories.specs.Tables.{FactoryTable, SameNumbers, parts_of}
+use Rattle.iox_hub_factories.specs.Tables.{FactoryTable, parts_of}
 use Rattle.iox_hub_factories.specs.declared.made.MadeFactory.{MadeFactory}
 use Rattle.iox_hub_run.specs.Steps.{IsReplied, Step}
 use Rattle.iox_hub_run.specs.declared.numbered_hub.NumberedHub.{NumberedHub}

@@ -1,11 +1,11 @@
 -- Which life lies under a hash, from one table to a later one.
-use Rattle.std.proofs.Common.{◌≡◌, ◌≢◌, ◌∙◌, ◌+◌, ◌≤◌, ◌<◌, ◌⊎◌, ℕ, List, [], ◌∷◌, None, Some, option_map, refl, sym, ap, subst, inl, inr, arith}
+use Rattle.std.proofs.Common.{◌≡◌, ◌∙◌, ◌+◌, ◌≤◌, ◌<◌, ◌⊎◌, ℕ, List, [], ◌∷◌, None, Some, option_map, refl, sym, ap, subst, inl, inr, arith}
 use Rattle.std.specs.BTreeMap.{is_at}
 use Rattle.iox_negotiate_laws.specs.Describe.DescribeBase.declared.hash.ServiceHash.{ServiceHash}
 use Rattle.iox_negotiate_laws.specs.Describe.Line.{line}
 use Rattle.iox_negotiate_laws.specs.Histories.{Event, Happens, Ran}
 use Rattle.iox_negotiate_laws.specs.Lives.{number_of}
-use Rattle.iox_negotiate_laws.specs.NegotiateTable.Contents.{Contents, entry_at, digest_cmp, without_entry, without_segment}
+use Rattle.iox_negotiate_laws.specs.NegotiateTable.Contents.{Contents, entry_at, digest_cmp}
 use Rattle.iox_negotiate_laws.specs.NegotiateTable.declared.entry.Entry.{Entry}
 use Rattle.iox_negotiate_laws.specs.NegotiateTable.declared.entry.Entry.TheVariants.{Locked, Described}
 use Rattle.iox_negotiate_laws.specs.NegotiateTable.declared.node.Node.TheVariants.{Own, Foreign}

@@ -1,5 +1,5 @@
 -- What the calls that open or create come to in two tables that have the same under their hash.
-use Rattle.std.proofs.Common.{◌≡◌, ◌∙◌, ⊎_elim, ℕ, List, [], ◌∷◌, Some, Result, Ok, Err, refl, sym, ap, subst, inl}
+use Rattle.std.proofs.Common.{◌≡◌, ⊎_elim, ℕ, List, [], ◌∷◌, Some, Result, Ok, Err, refl, sym, ap, subst, inl}
 use Rattle.std.specs.Result.{result_map_both}
 use Rattle.iox_hub_commands.specs.DescribeBase.declared.hash.ServiceHash.{ServiceHash}
 use Rattle.iox_hub_commands.specs.DescribeSettings.Agreement.{Agreement}

@@ -25,7 +25,7 @@ use Rattle.iox_hub_commands.specs.DomainValues.declared.degradation.DegradationI
 use Rattle.iox_hub_factories.specs.Asking.{hash_of, agreed_of, required_agreement}
 use Rattle.iox_hub_factories.specs.Creating.{CreatesAs, CreatesNumbered}
 use Rattle.iox_hub_factories.specs.Either.{EitherAs, EitherNumbered}
-use Rattle.iox_hub_factories.specs.HubBase.Opening.{Made, OpensInHub}
+use Rattle.iox_hub_factories.specs.HubBase.Opening.{OpensInHub}
 use Rattle.iox_hub_factories.specs.HubBase.declared.hub.Hub.{Hub}
 use Rattle.iox_hub_factories.specs.Numbering.{GetsNumber}
 use Rattle.iox_hub_factories.specs.Opening.{OpensAs, OpensNumbered}

@@ -1,9 +1,8 @@
 -- What creating and opening do in two hubs that agree on the service.
-use Rattle.std.proofs.Common.{◌≡◌, ◌≢◌, ◌∙◌, ◌+◌, ◌≤◌, ◌<◌, ◌⊎◌, ℕ, nat_eq, Bool, true, false, List, [], Option, None, Some, Result, Ok, Err, refl, sym, ap, subst, inl, inr, length, is_some, arith}
+use Rattle.std.proofs.Common.{◌≡◌, ◌≢◌, ◌∙◌, ◌+◌, ◌≤◌, ◌<◌, ℕ, nat_eq, Bool, true, false, List, Option, Some, Result, Ok, Err, refl, sym, ap, subst, inl, inr, length, is_some, arith}
 use Rattle.std.specs.BTreeMap.{insert_entry, is_at}
 use Rattle.std.specs.Map.{lookup}
 use Rattle.std.specs.Ordering.{nat_cmp}
-use Rattle.std.specs.Result.{result_map_both}
 use Rattle.std.specs.declared.alloc.AllocError.{AllocError}
 use Rattle.std.proofs.lemmas.Bool.{eqb-true, eq-eqb}
 use Rattle.iox_hub_commands.specs.Command.declared.command.Command.{Command}
@@ -29,8 +28,8 @@ use Rattle.iox_hub_commands.specs.DomainValues.declared.degradation.DegradationC
 use Rattle.iox_hub_commands.specs.DomainValues.declared.degradation.DegradationInfo.{DegradationInfo}
 use Rattle.iox_hub_commands.specs.Replies.{factory_reply}
 use Rattle.iox_hub_factories.specs.Asking.{hash_of, agreed_of, required_agreement}
-use Rattle.iox_hub_factories.specs.Creating.{CreatesAs, CreatesPrepared, CreatesNumbered, create_lacking}
-use Rattle.iox_hub_factories.specs.Either.{EitherAs, EitherPrepared, EitherNumbered, either_lacking}
+use Rattle.iox_hub_factories.specs.Creating.{CreatesAs, CreatesNumbered, create_lacking}
+use Rattle.iox_hub_factories.specs.Either.{EitherAs, EitherNumbered, either_lacking}
 use Rattle.iox_hub_factories.specs.HubBase.Hubs.{factories_of, with_factory, one_more, is_node}
 use Rattle.iox_hub_factories.specs.HubBase.Opening.{Made, Enters, Settles, OpensInHub}
 use Rattle.iox_hub_factories.specs.HubBase.declared.hub.Hub.{Hub}
@@ -40,21 +39,16 @@ use Rattle.iox_hub_factories.specs.HubServices.Opening.{Opens as ServiceOpens}
 use Rattle.iox_hub_factories.specs.Domain.Domains.{IsNewDomain}
 use Rattle.iox_hub_factories.specs.HubServices.declared.presence.Presence.TheVariants.{Here}
 use Rattle.iox_hub_factories.specs.Numbered.NumberTable.{Rises, inserted}
-use Rattle.iox_hub_factories.specs.Numbering.{Prepares, Numbers, GetsNumber}
-use Rattle.iox_hub_factories.specs.Opening.{OpensAs, OpensPrepared, OpensNumbered, open_lacking}
-use Rattle.iox_hub_factories.specs.Tables.{FactoryTable, SameNumbers}
+use Rattle.iox_hub_factories.specs.Numbering.{Numbers, GetsNumber}
+use Rattle.iox_hub_factories.specs.Opening.{OpensAs, OpensNumbered, open_lacking}
+use Rattle.iox_hub_factories.specs.Tables.{FactoryTable}
 use Rattle.iox_hub_factories.specs.declared.asked.ServiceAsked.{ServiceAsked}
 use Rattle.iox_hub_run.specs.AgreementLaws.{service_of}
-use Rattle.iox_hub_run.specs.Lives.{NumbersRise}
-use Rattle.iox_hub_run.specs.Services.{Creates, Opens, OpensOrCreates}
 use Rattle.iox_hub_run.specs.Steps.{Step}
 use Rattle.iox_hub_run.specs.declared.numbered_hub.NumberedHub.{NumberedHub}
-use Rattle.iox_negotiate_laws.specs.Histories.{IsReached}
 use Rattle.iox_negotiate_laws.specs.Lives.{number_of}
 use Rattle.iox_negotiate_laws.specs.Negotiate.declared.factory.Membership.{Membership}
-use Rattle.iox_negotiate_laws.specs.NegotiateRounds.Runs.{Went}
 use Rattle.iox_negotiate_laws.specs.NegotiateTable.Contents.{Contents, entry_at}
-use Rattle.iox_negotiate_laws.specs.NegotiateTable.Sights.{Sight}
 use Rattle.iox_negotiate_laws.specs.NegotiateTable.Stepped.{Steps}
 use Rattle.iox_negotiate_laws.specs.NegotiateTable.declared.entry.Entry.{Entry}
 use Rattle.iox_negotiate_laws.specs.NegotiateTable.declared.entry.Entry.TheVariants.{Described}
@@ -71,9 +65,9 @@ use Rattle.iox_hub_locality.proofs.Domains.{agree_still}
 use Rattle.iox_hub_locality.proofs.Foreign.{hash_named, tables_agree, with_tables}
 use Rattle.iox_hub_locality.proofs.Lives.{IsFrom, past_rises, past_follows}
 use Rattle.iox_hub_locality.proofs.Made.{made_still, roomier_same, rises_as}
-use Rattle.iox_hub_locality.proofs.Names.{TablesAgree, went_alike}
+use Rattle.iox_hub_locality.proofs.Names.{went_alike}
 use Rattle.iox_hub_locality.proofs.Negotiated.{IsNegotiation, StandsAs, of_hash, creating, opening, either}
-use Rattle.iox_hub_locality.proofs.Stepped.{StepsAgree, stepped-went-table}
+use Rattle.iox_hub_locality.proofs.Stepped.{stepped-went-table}
 use Rattle.iox_hub_locality.proofs.Tables.{inserted_both}
 
 put_both : {X : Type 0} (number n : ℕ) (is : Bool) → nat_eq number n ≡ is → (one other : List (ℕ × X)) (w : X) → lookup (is_at (nat_cmp n)) other ≡ lookup (is_at (nat_cmp n)) one

@@ -1,5 +1,5 @@
 -- A whole run alone, where numbers are passed over, and where none is.
-use Rattle.std.proofs.Common.{◌≡◌, ◌≢◌, ◌∙◌, ◌+◌, ◌-◌, ◌≤◌, ◌<◌, ◌⊎◌, ℕ, nat_lt, nat_eq, Bool, true, false, if◌then◌else◌, List, [], ◌∷◌, Option, None, Some, Result, Ok, refl, sym, ap, subst, inl, inr, arith}
+use Rattle.std.proofs.Common.{◌≡◌, ◌∙◌, ◌+◌, ◌-◌, ◌≤◌, ◌<◌, ◌⊎◌, ℕ, nat_lt, nat_eq, Bool, true, false, if◌then◌else◌, List, [], ◌∷◌, Option, None, Result, Ok, refl, sym, ap, subst, inl, inr, arith}
 use Rattle.std.proofs.lemmas.Bool.Decides.{nat_tests}
 use Rattle.std.specs.Map.{lookup}
 use Rattle.std.specs.declared.alloc.AllocError.{AllocError}
@@ -29,9 +29,8 @@ use Rattle.iox_hub_alone.proofs.Runs.{is_as_if_alone}
 use Rattle.iox_hub_alone.proofs.Telling.{each_run_can_be_told}
 use Rattle.iox_hub_renumbered.specs.Anew.{RunsAnew, CountsAnew, IsAloneAnew, EachServiceIsAloneAnew}
 use Rattle.iox_hub_renumbered.specs.Renaming.{Renaming, renamed, renamed_reply}
-use Rattle.iox_hub_renumbered.proofs.Made.{MadeRenamed}
 use Rattle.iox_hub_renumbered.proofs.Steps.{TablesRenamed, AllNew, AllGo, step_anew}
-use Rattle.iox_hub_renumbered.proofs.Tables.{RenamedIn, NewBy, Alike, roomier_renamed}
+use Rattle.iox_hub_renumbered.proofs.Tables.{RenamedIn, NewBy, roomier_renamed}
 
 -- ---- one table
 

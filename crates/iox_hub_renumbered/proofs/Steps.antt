@@ -1,5 +1,5 @@
 -- What each command does in two hubs where the same goes by numbers that differ.
-use Rattle.std.proofs.Common.{◌≡◌, ◌∙◌, ◌+◌, ◌<◌, ◌⊎◌, ℕ, nat_eq, Bool, true, false, List, [], Option, None, Some, Result, Ok, Err, refl, sym, ap, subst, inl, inr, length, if◌then◌else◌, arith}
+use Rattle.std.proofs.Common.{◌≡◌, ◌∙◌, ◌+◌, ◌<◌, ◌⊎◌, ℕ, Bool, true, false, List, Option, None, Some, Result, Ok, Err, refl, sym, ap, subst, inl, inr, length, if◌then◌else◌, arith}
 use Rattle.std.specs.Prelude.{is_some}
 use Rattle.std.specs.declared.alloc.AllocError.{AllocError}
 use Rattle.iox_hub_commands.specs.Command.declared.command.Command.{Command}
@@ -10,7 +10,6 @@ use Rattle.iox_hub_commands.specs.Command.declared.port.SubscriberOptions.{Subsc
 use Rattle.iox_hub_commands.specs.Command.declared.refusal.Refusal.{Refusal}
 use Rattle.iox_hub_commands.specs.Command.declared.refusal.HubError.{HubError}
 use Rattle.iox_hub_commands.specs.Command.declared.reply.Reply.{Reply}
-use Rattle.iox_hub_commands.specs.Command.declared.reply.Reply.TheVariants as reply_of
 use Rattle.iox_hub_commands.specs.Command.declared.service.ServiceOptions.{ServiceOptions}
 use Rattle.iox_hub_commands.specs.Command.declared.service.ServiceOptions.TheVariants as options
 use Rattle.iox_hub_commands.specs.Command.declared.step.StepBefore.{StepBefore}
