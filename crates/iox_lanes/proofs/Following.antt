@@ -11,7 +11,10 @@ counted_more [] (suc k) = refl
 counted_more (None ∷ rest) zero = refl
 counted_more (Some a ∷ rest) zero = refl
 counted_more (None ∷ rest) (suc k) = counted_more rest k
-counted_more (Some a ∷ rest) (suc k) = let more = counted_more rest k in omega (arith, more)
+counted_more (Some a ∷ rest) (suc k) =
+    let more = counted_more rest k in
+    let sum : 1 + count_by is_some (take (suc k) rest) ≡ (1 + count_by is_some (take k rest)) + cond (is_some (get_or rest k None)) 1 0 = omega (arith, more) in
+    sum
 
 -- the next key's connection has its route at the place behind those of the keys before it
 pub follows_next : (lanes : World) (publishers : List ℕ) (subscriber : ℕ) (values : List (Option Attached)) (routes : List Route) (key at next : ℕ) → at ≡ count_by is_some (take key values)
