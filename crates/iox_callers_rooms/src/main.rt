@@ -2,23 +2,29 @@
 //! the contracts of that crate alone; each is run, and what it returns is printed.
 #![tactic(auto)]
 
-ghost use Rattle.std.specs.Prelude.{◌≡◌, IfOk, IfSome, Some};
+ghost use Rattle.std.specs.Prelude.{◌≡◌, Ok, IfOk, IfSome, Some};
 ghost use Rattle.iox_domain_settings.specs.PortSettings.{publisher_defaults};
 ghost use Rattle.iox_domain_settings.specs.Sizes.{SizesOf};
 ghost use Rattle.iox_domain_values.specs.declared.backpressure.BackpressureDecision.TheVariants as decided;
+ghost use Rattle.iox_negotiate_rounds.specs.Opening.{OpensOrCreates};
+ghost use Rattle.iox_negotiate_rounds.specs.Runs.{Does};
+ghost use Rattle.iox_negotiate_rounds.specs.declared.request.Opened.{Opened};
 ghost use Rattle.iox_negotiate_table.specs.Contents.{empty_table, with_lock};
 ghost use Rattle.iox_negotiate_table.specs.declared.node.Node.TheVariants.{Foreign};
 
+use iox_describe::pattern::Event;
 use iox_describe::publish_subscribe::StaticConfig;
+use iox_describe::requirement::event::Requirement;
 use iox_describe::{
-    AttributeSpecifier, Description, Header, MessageTypeDetails, MessagingPattern, ServiceHash,
-    ServiceName, Settings, TypeVariant, service_hash,
+    AttributeSpecifier, AttributeVerifier, Description, Header, MessageTypeDetails,
+    MessagingPattern, ServiceHash, ServiceName, Settings, TypeVariant, service_hash,
 };
 use iox_domain_settings::{PublisherSettings, sizes_of};
 use iox_domain_values::backpressure::{BackpressureAction, BackpressureDecision, BackpressureInfo};
 use iox_domain_values::{BackpressureHandler, BackpressureStrategy, ServiceSizes, backpressure};
-use iox_negotiate::Builder;
+use iox_negotiate::{Asked, Builder};
 use iox_negotiate_errors::PublishSubscribeOpenOrCreateError;
+use iox_negotiate_rounds::{OpenOrCreateFailure, Request, Storage, open_or_create};
 use iox_negotiate_table::{ForeignStep, Table};
 use std::alloc::{AllocError, Global};
 use std::io::{self, Print};
@@ -73,6 +79,20 @@ fn joined(
     Ok(joined)
 }
 
+/// `iox_negotiate_rounds`: opens or creates the service that is asked for: its number, and whether it is new.
+fn agreed<R: Request + Drop, S: Storage + Drop>(
+    alloc: Global,
+    request: R,
+    storage: S,
+) -> Result<(u64, bool), OpenOrCreateFailure<R::ClauseError>>
+    ensures { IfOk result (λ agreed. (opened : Opened) × (after : S) × (agreed ≡ (opened.number, opened.is_new))
+        × Does S.gives storage (λ made. OpensOrCreates (R.hash request) (R.node request) (R.verdict request) (R.created request) (R.refusal request) made (Ok opened)) after) }
+{
+    let mut storage = storage;
+    let opened = open_or_create(alloc, &request, &mut storage)?;
+    Ok((opened.number, opened.is_new))
+}
+
 /// The description of a service of numbers.
 fn of_numbers(name: ServiceName) -> Description {
     let types = MessageTypeDetails::from::<Header, (), u64>(TypeVariant::FixedSize);
@@ -89,6 +109,18 @@ fn print_services(rt: &impl Print, alloc: Global, name: ServiceName) -> io::Resu
     println!(rt; "iox_negotiate_table: {late:?}")
 }
 
+/// Whether an event service is new that a node asks for in a table where there is none.
+fn print_event(rt: &impl Print, alloc: Global, name: ServiceName) -> io::Result<()> {
+    let requirement = Requirement::new(AttributeVerifier::new());
+    let attributes = AttributeSpecifier::new();
+    let asked = Asked::<Event>::new(name, 5, &requirement, &attributes);
+    let is_new = match agreed(alloc, asked, Table::new(alloc, 1)) {
+        Ok((_, is_new)) => Some(is_new),
+        Err(_) => None,
+    };
+    println!(rt; "iox_negotiate_rounds: {is_new:?}")
+}
+
 fn main(rt: HostRuntime) -> io::Result<()> {
     let info = BackpressureInfo {
         service_id: 1,
@@ -103,5 +135,6 @@ fn main(rt: HostRuntime) -> io::Result<()> {
         return Ok(());
     };
     println!(rt; "iox_domain_settings: {:?}", sized(of_numbers(name)))?;
+    print_event(&rt, rt.alloc(), name)?;
     print_services(&rt, rt.alloc(), name)
 }
