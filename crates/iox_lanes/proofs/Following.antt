@@ -1,20 +1,25 @@
 -- The routes of a subscriber, by the keys of its connections.
 use Rattle.std.proofs.Common.{rules, arith, ℕ, zero, suc, ◌≡◌, ◌+◌, ◌<◌, ◌≤◌, ◌∷◌, [], Bool, true, false, nat_lt, cond, is_some, count_by, List, length, take, get_or, slice_get, Option, None, Some, refl, ap, sym, subst, ◌∙◌}
+use Rattle.std.proofs.lemmas.List.Sums.{sum_by-cons}
 use Rattle.iox_domain.specs.DomainPorts.DomainSubscriber.declared.attached.Attached.{Attached}
 use Rattle.iox_lanes_machine.specs.World.{World}
 use Rattle.iox_lanes_machine.specs.LanesCalls.declared.route.Route.{Route}
 use Rattle.iox_lanes.specs.Holding.{IsRouteIf}
+
+-- a value more, and what it adds to those that are there
+counted_cons : {A : Type 0} (value : Option A) (values : List (Option A)) → count_by is_some (value ∷ values) ≡ cond (is_some value) 1 0 + count_by is_some values
+counted_cons value values = sum_by-cons (λ v. cond (is_some v) 1 0) value values
 
 counted_more : {A : Type 0} (values : List (Option A)) (k : ℕ) → count_by is_some (take (suc k) values) ≡ count_by is_some (take k values) + cond (is_some (get_or values k None)) 1 0
 counted_more [] zero = refl
 counted_more [] (suc k) = refl
 counted_more (None ∷ rest) zero = refl
 counted_more (Some a ∷ rest) zero = refl
-counted_more (None ∷ rest) (suc k) = counted_more rest k
-counted_more (Some a ∷ rest) (suc k) =
+counted_more (value ∷ rest) (suc k) =
     let more = counted_more rest k in
-    let sum : 1 + count_by is_some (take (suc k) rest) ≡ (1 + count_by is_some (take k rest)) + cond (is_some (get_or rest k None)) 1 0 = omega (arith, more) in
-    sum
+    let longer = counted_cons value (take (suc k) rest) in
+    let shorter = counted_cons value (take k rest) in
+    omega (arith, more, longer, shorter)
 
 -- the next key's connection has its route at the place behind those of the keys before it
 pub follows_next : (lanes : World) (publishers : List ℕ) (subscriber : ℕ) (values : List (Option Attached)) (routes : List Route) (key at next : ℕ) → at ≡ count_by is_some (take key values)
