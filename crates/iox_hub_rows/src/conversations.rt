@@ -1,10 +1,10 @@
 //! Messages go from node to node.
-use crate::shared::{CONFIG, Messages, create, open, wanted};
+use crate::shared::{Messages, Step, create, go, open, wanted};
 use iox_delivery::{Publisher, Sent, Subscriber};
 use iox_delivery_factories::{PortFactoryPublisher, PortFactorySubscriber};
 use iox_domain_home::Home;
 use iox_domain_values::{PublisherCreateError, SubscriberCreateError};
-use iox_hub_base::Hub;
+use iox_hub_base::NodeHandle;
 use std::alloc::Global;
 use std::process::Abort;
 use std::test::Fail;
@@ -122,14 +122,17 @@ fn understand(
     Ok(sized && heard?)
 }
 
-#[test]
-fn a_message_goes_from_node_to_node(rt: HostRuntime) -> Result<(), Fail> {
-    let mut hub: Messages = Hub::new(rt.alloc(), CONFIG);
-    let first = hub.new_node()?;
+/// Messages go from the first node to a second one.
+pub(crate) fn goes_on_from(
+    rt: &impl Abort,
+    alloc: Global,
+    hub: &mut Messages,
+    first: &NodeHandle,
+) -> Result<(), Fail> {
     let second = hub.new_node()?;
     wanted((hub.id(), first.number(), second.number()), (7, 1, 2))?;
-    let made = create(&rt, rt.alloc(), &mut hub, &first)?;
-    let opened = open(&rt, rt.alloc(), &mut hub, &second)?;
+    let made = create(rt, alloc, hub, first)?;
+    let opened = open(rt, alloc, hub, &second)?;
     wanted(
         (made.node(), opened.node(), opened.number()),
         (1, 2, made.number()),
@@ -142,6 +145,11 @@ fn a_message_goes_from_node_to_node(rt: HostRuntime) -> Result<(), Fail> {
     let Some(writers) = hub.publisher_builder(&made) else {
         return wanted(false, true);
     };
-    let understood = understand(&rt, writers, readers, rt.alloc(), &mut hub)?;
+    let understood = understand(rt, writers, readers, alloc, hub)?;
     wanted(understood, true)
+}
+
+#[test]
+fn a_message_goes_from_node_to_node(rt: HostRuntime) -> Result<(), Fail> {
+    go(&rt, rt.alloc(), &[Step::Converse])
 }

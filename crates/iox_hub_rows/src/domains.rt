@@ -1,5 +1,5 @@
 //! Domains that are made, taken and put back.
-use crate::shared::{Messages, Step, World, go, new_world, wanted};
+use crate::shared::{Messages, Step, go};
 use iox_describe::ServiceName;
 use iox_describe::pattern::PublishSubscribe;
 use iox_hub_base::{HubBuilder, NodeHandle, PortFactory};
@@ -49,16 +49,20 @@ fn creates_smaller(
     builder.create_in(alloc, hub, Vec::new(alloc))
 }
 
-// Whether it has no domain, and is closed.
-fn has_none(rt: &impl Abort, alloc: Global, world: &mut World) -> Result<bool, Fail> {
-    let made = creates_smaller(rt, alloc, &mut world.hub, &world.node)?;
-    assert!(rt; world.hub.holds(&made));
-    let none = world.hub.domain(&made).is_none();
-    Ok(none && world.hub.close(made).is_ok())
+/// Whether it has no domain, and is closed.
+pub(crate) fn has_none(
+    rt: &impl Abort,
+    alloc: Global,
+    hub: &mut Messages,
+    node: &NodeHandle,
+) -> Result<bool, PublishSubscribeCreateError> {
+    let made = creates_smaller(rt, alloc, hub, node)?;
+    assert!(rt; hub.holds(&made));
+    let none = hub.domain(&made).is_none();
+    Ok(none && hub.close(made).is_ok())
 }
 
 #[test]
 fn no_domain_is_made_of_other_types(rt: HostRuntime) -> Result<(), Fail> {
-    let mut world = new_world(rt.alloc())?;
-    wanted(has_none(&rt, rt.alloc(), &mut world)?, true)
+    go(&rt, rt.alloc(), &[Step::CreateSmaller])
 }

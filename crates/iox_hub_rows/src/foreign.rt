@@ -1,5 +1,5 @@
 //! Nodes of others act between the calls, and between the accesses of one.
-use crate::shared::{Messages, Step, go, locking, new_world, wanted};
+use crate::shared::{Messages, Step, go, locking};
 use iox_describe::ServiceName;
 use iox_hub_base::{HubBuilder, NodeHandle};
 use iox_negotiate_errors::{PublishSubscribeCreateError, PublishSubscribeOpenError};
@@ -29,8 +29,8 @@ fn lists(alloc: Global) -> Result<Vec<StepList>, AllocError> {
     Ok(lists)
 }
 
-// Why the service `A` isn't created where another node locks between looking for it and locking it.
-fn refusal(
+/// Why the service `A` isn't created where another node locks between looking for it and locking it.
+pub(crate) fn created_between(
     rt: &impl Abort,
     alloc: Global,
     hub: &mut Messages,
@@ -45,12 +45,11 @@ fn refusal(
     Ok(builder.create_in(alloc, hub, lists).err())
 }
 
+const BETWEEN: [Step; 1] = [Step::CreateBetween(Some(
+    PublishSubscribeCreateError::IsBeingCreatedByAnotherInstance,
+))];
+
 #[test]
 fn a_lock_of_others_comes_between_two_accesses(rt: HostRuntime) -> Result<(), Fail> {
-    let mut world = new_world(rt.alloc())?;
-    let found = refusal(&rt, rt.alloc(), &mut world.hub, &world.node)?;
-    wanted(
-        found,
-        Some(PublishSubscribeCreateError::IsBeingCreatedByAnotherInstance),
-    )
+    go(&rt, rt.alloc(), &BETWEEN)
 }

@@ -1,4 +1,7 @@
 //! A hub with a service, and what is done there as rows of a table.
+use crate::conversations::goes_on_from;
+use crate::domains::has_none;
+use crate::foreign::created_between;
 use iox_describe::pattern::PublishSubscribe;
 use iox_describe::{LimitError, MessagingPattern, ServiceName};
 use iox_domain::Domain;
@@ -28,7 +31,6 @@ pub const CONFIG: HubConfig = HubConfig {
 };
 
 /// What is done, and what it must come to. Factories go by the order in which they were made, from 0; ports by their numbers in the service.
-#[derive(Clone, Copy, Debug)]
 pub enum Step {
     /// The service `A` is created, or refused.
     Create(Option<PublishSubscribeCreateError>),
@@ -60,13 +62,19 @@ pub enum Step {
     PutDomain,
     /// A node of others locks the service, or gives its lock back.
     Lock(bool),
+    /// The service `A` is created, while another node locks it between looking for it and locking it; why it isn't.
+    CreateBetween(Option<PublishSubscribeCreateError>),
+    /// A service whose payload isn't that of the hub's messages is created: it has no domain, and is closed.
+    CreateSmaller,
+    /// Messages go from the node to a second one.
+    Converse,
 }
 
 /// A hub with one node, and what was made there.
 #[derive(Drop)]
-pub struct World {
-    pub hub: Messages,
-    pub node: NodeHandle,
+struct World {
+    hub: Messages,
+    node: NodeHandle,
     factories: Vec<Option<PortFactory<PublishSubscribe>>>,
     domain: Option<Domain<u64, u8>>,
     id: DomainId,
@@ -83,8 +91,8 @@ pub(crate) fn wanted<T: Copy + Debug + PartialEq>(answer: T, wanted: T) -> Resul
     }
 }
 
-/// A hub with one node.
-pub(crate) fn new_world(alloc: Global) -> Result<World, Fail> {
+// A hub with one node.
+fn new_world(alloc: Global) -> Result<World, Fail> {
     let mut hub: Messages = Hub::new(alloc, CONFIG);
     let node = hub.new_node()?;
     Ok(World {
@@ -317,8 +325,8 @@ fn locks(alloc: Global, hub: &mut Messages, locks: bool) -> Result<(), Fail> {
 }
 
 // A step at ports.
-fn at_ports(alloc: Global, world: &mut World, step: Step) -> bool {
-    match step {
+fn at_ports(alloc: Global, world: &mut World, step: &Step) -> bool {
+    match *step {
         Step::Publish(place, number) => publish(alloc, world, place) == number,
         Step::Subscribe(place, number) => subscribe(alloc, world, place) == number,
         Step::Loan(publisher) => loan(alloc, world, publisher).is_some(),
@@ -338,9 +346,9 @@ fn goes(
     alloc: Global,
     world: &mut World,
     row: usize,
-    step: Step,
+    step: &Step,
 ) -> Result<(), Fail> {
-    match step {
+    match *step {
         Step::Create(refusal) => {
             let found = creates(rt, alloc, world)?;
             wanted((row, found), (row, refusal))
@@ -355,13 +363,22 @@ fn goes(
         }
         Step::PutDomain => wanted((row, puts_domain(world)), (row, true)),
         Step::Lock(locked) => locks(alloc, &mut world.hub, locked),
+        Step::CreateBetween(refusal) => {
+            let found = created_between(rt, alloc, &mut world.hub, &world.node)?;
+            wanted((row, found), (row, refusal))
+        }
+        Step::CreateSmaller => {
+            let none = has_none(rt, alloc, &mut world.hub, &world.node)?;
+            wanted((row, none), (row, true))
+        }
+        Step::Converse => goes_on_from(rt, alloc, &mut world.hub, &world.node),
         _ => wanted((row, at_ports(alloc, world, step)), (row, true)),
     }
 }
 
 fn go_on(rt: &impl Abort, alloc: Global, world: &mut World, steps: &[Step]) -> Result<(), Fail> {
     for (row, step) in steps.iter().enumerate() {
-        goes(rt, alloc, world, row, *step)?;
+        goes(rt, alloc, world, row, step)?;
     }
     Ok(())
 }
