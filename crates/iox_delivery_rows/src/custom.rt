@@ -1,9 +1,7 @@
 //! Ports of a payload that only the description says.
 use iox_delivery::Sent;
-use iox_delivery_factories::{
-    PortFactoryPublisher, PortFactorySubscriber, publisher_builder, subscriber_builder,
-};
-use iox_delivery_slices::{Publisher, Sample, SampleMut, SampleMutUninit, Subscriber};
+use iox_delivery_factories::{publisher_builder, subscriber_builder};
+use iox_delivery_slices::{Publisher, SampleMut, SampleMutUninit, Subscriber};
 use iox_describe_base::{
     AttributeSpecifier, Header, MessageTypeDetails, ServiceName, TypeDetail, TypeVariant,
 };
@@ -17,7 +15,6 @@ use iox_domain_values::{
 };
 use std::alloc::Global;
 use std::process::Abort;
-use std::test::Fail;
 
 // Which domain it is.
 const DOMAIN: DomainId = DomainId { hub: 2, service: 7 };
@@ -28,25 +25,44 @@ type Byte = CustomPayloadMarker;
 // A user header that isn't reached.
 type Any = CustomHeaderMarker;
 
-// The domain of a service of slices, whose elements have so many bytes.
-fn make(alloc: Global, size: u64) -> Option<Domain<Byte, Any>> {
+// A service of slices, whose elements have so many bytes.
+fn described(size: u64) -> Option<Description> {
     let name = ServiceName::new(b"A").ok()?;
     let mut types = MessageTypeDetails::from::<Header, u16, u64>(TypeVariant::Dynamic);
     types.payload = TypeDetail::new(TypeVariant::Dynamic, b"Element", size, 1).ok()?;
     let settings = Settings::PublishSubscribe(StaticConfig::new(types));
-    let description = Description::new(name, settings, AttributeSpecifier::new());
-    if !Domain::<Byte, Any>::fits(&description) {
-        return None;
-    }
-    Domain::new(alloc, DOMAIN, &description, 5).ok()
+    Some(Description::new(name, settings, AttributeSpecifier::new()))
 }
 
+// Its domain.
+fn make(alloc: Global, size: u64) -> Option<Domain<Byte, Any>> {
+    let description = described(size)?;
+    if Domain::<Byte, Any>::fits(&description) {
+        Domain::new(alloc, DOMAIN, &description, 5).ok()
+    } else {
+        None
+    }
+}
+
+// How many elements a publisher lends at first, and what a longer loan does, where these are named; and why it isn't made, if it isn't.
+struct Setting {
+    first: Option<usize>,
+    allocation: Option<AllocationStrategy>,
+    refused: Option<PublisherCreateError>,
+}
+
+// What a builder makes.
+type Made = Result<Publisher<Byte, Any>, PublisherCreateError>;
+
 // A publisher that a builder makes.
-fn publish(
-    builder: PortFactoryPublisher<Byte, Any>,
-    alloc: Global,
-    domain: &mut Domain<Byte, Any>,
-) -> Result<Publisher<Byte, Any>, PublisherCreateError> {
+fn publish(alloc: Global, domain: &mut Domain<Byte, Any>, setting: &Setting) -> Made {
+    let mut builder = publisher_builder(domain, 4, 3);
+    if let Some(first) = setting.first {
+        builder = builder.initial_max_slice_len(first);
+    }
+    if let Some(allocation) = setting.allocation {
+        builder = builder.allocation_strategy(allocation);
+    }
     match domain.ports(builder.domain) {
         Some(_) => builder.create_slice(alloc, domain),
         None => Err(PublisherCreateError::ExceedsMaxSupportedPublishers),
@@ -55,300 +71,345 @@ fn publish(
 
 // A subscriber that a builder makes.
 fn subscribe(
-    builder: PortFactorySubscriber<Byte, Any>,
     alloc: Global,
     domain: &mut Domain<Byte, Any>,
 ) -> Result<Subscriber<Byte, Any>, SubscriberCreateError> {
+    let builder = subscriber_builder(domain, 4, 3);
     match domain.ports(builder.domain) {
         Some(_) => builder.create_slice(alloc, domain),
         None => Err(SubscriberCreateError::OutOfMemory),
     }
 }
 
-// The publisher leaves.
-fn leave(rt: &impl Abort, domain: &mut Domain<Byte, Any>, publisher: Publisher<Byte, Any>) {
-    assert!(rt; publisher.holds(domain));
-    assert!(rt; !publisher.is_blocked(domain));
-    publisher.leave(domain);
+// One call, and what it answers.
+enum Call {
+    // A loan might have so many elements at first.
+    First(usize),
+    // So many elements are lent, which are so many bytes, or why not; they are given up again.
+    Lends(usize, Result<usize, LoanError>),
+    // So many bytes fit in a slot.
+    Room(usize),
+    // Five elements of eight bytes are sent, and one connection takes them.
+    SendsFive,
+    // They are received.
+    ReceivesFive,
 }
 
 // Lends so many elements.
-fn lends(
+fn lends<H: Home<Byte, Any>>(
     rt: &impl Abort,
     alloc: Global,
-    domain: &mut Domain<Byte, Any>,
+    home: &mut H,
     publisher: &Publisher<Byte, Any>,
     len: usize,
 ) -> Result<SampleMutUninit<Byte, Any>, LoanError> {
-    assert!(rt; publisher.holds(domain));
-    assert!(rt; !publisher.is_blocked(domain));
-    publisher.loan_custom_payload(alloc, domain, len)
+    assert!(rt; publisher.holds(home));
+    assert!(rt; !publisher.is_blocked(home));
+    publisher.loan_custom_payload(alloc, home, len)
 }
 
-// How many bytes and elements are lent of so many elements, or why it was refused; they are given up again.
-fn is_lent(
+// How many bytes are lent of so many elements, or why it was refused; the header says as many elements. They are given up again.
+fn is_lent<H: Home<Byte, Any>>(
     rt: &impl Abort,
     alloc: Global,
-    domain: &mut Domain<Byte, Any>,
+    home: &mut H,
     publisher: &Publisher<Byte, Any>,
     len: usize,
-) -> Result<(usize, u64), LoanError> {
-    let loan = lends(rt, alloc, domain, publisher, len)?;
-    assert!(rt; loan.holds(domain));
-    let lent = (loan.len(), loan.header(domain).number_of_elements);
-    loan.drop_with(domain);
-    Ok(lent)
+) -> Result<usize, LoanError> {
+    let loan = lends(rt, alloc, home, publisher, len)?;
+    assert!(rt; loan.holds(home));
+    assert!(rt; loan.header(home).number_of_elements == len as u64);
+    let bytes = loan.len();
+    loan.drop_with(home);
+    Ok(bytes)
 }
 
-// Five elements of eight bytes, each with this byte; a loan of another length is given up.
-fn writes(
-    domain: &mut Domain<Byte, Any>,
+// How many bytes fit in a slot of the publisher.
+fn room<H: Home<Byte, Any>>(home: &H, publisher: &Publisher<Byte, Any>) -> Option<usize> {
+    let ports = home.ports(publisher.domain())?;
+    let publisher = ports.publishers.get(publisher.id())?;
+    Some(publisher.sender.room())
+}
+
+// Five elements of eight bytes.
+const FIVE: [Byte; 40] = [CustomPayloadMarker { byte: 7 }; 40];
+
+// They are written; a loan of another length is given up.
+fn writes<H: Home<Byte, Any>>(
+    home: &mut H,
     loan: SampleMutUninit<Byte, Any>,
-    byte: u8,
 ) -> Option<SampleMut<Byte, Any>> {
     if loan.len() == 40 {
-        Some(loan.write_from_slice(domain, &[CustomPayloadMarker { byte }; 40]))
+        Some(loan.write_from_slice(home, &FIVE))
     } else {
-        loan.drop_with(domain);
+        loan.drop_with(home);
         None
     }
 }
 
-// Whether one connection takes five elements of eight bytes.
-fn sends(
+// Whether one connection takes what was written.
+fn is_delivered<H: Home<Byte, Any>>(
     rt: &impl Abort,
     alloc: Global,
-    domain: &mut Domain<Byte, Any>,
-    publisher: &Publisher<Byte, Any>,
+    home: &mut H,
+    sample: SampleMut<Byte, Any>,
 ) -> bool {
-    let Ok(loan) = lends(rt, alloc, domain, publisher, 5) else {
-        return false;
-    };
-    let Some(sample) = writes(domain, loan, 7) else {
-        return false;
-    };
-    assert!(rt; sample.holds(domain));
-    assert!(rt; !sample.is_blocked(domain));
-    match sample.send(alloc, domain) {
+    assert!(rt; sample.holds(home));
+    assert!(rt; !sample.is_blocked(home));
+    match sample.send(alloc, home) {
         Ok(Sent::Delivered(delivered)) => delivered == 1,
         Ok(Sent::Blocked(blocked)) => {
-            assert!(rt; blocked.holds(domain));
-            let _ = blocked.give_up(domain);
+            blocked.drop_with(home);
             false
         }
         Err(_) => false,
     }
 }
 
-// Whether a sample has forty bytes, all the same, and a header that tells five elements; it is released.
-fn is_read(
+// Whether one connection takes five elements.
+fn sends_five<H: Home<Byte, Any>>(
     rt: &impl Abort,
-    domain: &mut Domain<Byte, Any>,
-    sample: Sample<Byte, Any>,
-    byte: u8,
+    alloc: Global,
+    home: &mut H,
+    publisher: &Publisher<Byte, Any>,
 ) -> bool {
-    assert!(rt; sample.holds(domain));
-    let bytes = [CustomPayloadMarker { byte }; 40];
-    let same = sample.payload(domain) == bytes.as_slice();
-    let elements = sample.header(domain).number_of_elements;
-    sample.release(domain);
+    let Ok(loan) = lends(rt, alloc, home, publisher, 5) else {
+        return false;
+    };
+    match writes(home, loan) {
+        Some(sample) => is_delivered(rt, alloc, home, sample),
+        None => false,
+    }
+}
+
+// Whether five elements are received, with a header that says so; they are released.
+fn receives_five<H: Home<Byte, Any>>(
+    rt: &impl Abort,
+    alloc: Global,
+    home: &mut H,
+    subscriber: &Subscriber<Byte, Any>,
+) -> bool {
+    assert!(rt; subscriber.holds(home));
+    let Ok(Some(sample)) = subscriber.receive_custom_payload(alloc, home) else {
+        return false;
+    };
+    assert!(rt; sample.holds(home));
+    let same = sample.payload(home) == FIVE.as_slice();
+    let elements = sample.header(home).number_of_elements;
+    sample.release(home);
     same && elements == 5
 }
 
-// Whether five elements of eight bytes are received.
-fn receives(
+// Whether a call goes so.
+fn goes<H: Home<Byte, Any>>(
+    rt: &impl Abort,
+    alloc: Global,
+    home: &mut H,
+    publisher: &Publisher<Byte, Any>,
+    subscriber: &Subscriber<Byte, Any>,
+    call: &Call,
+) -> bool {
+    match *call {
+        Call::First(len) => publisher.initial_max_slice_len() == len,
+        Call::Lends(len, lent) => is_lent(rt, alloc, home, publisher, len) == lent,
+        Call::Room(bytes) => room(home, publisher) == Some(bytes),
+        Call::SendsFive => sends_five(rt, alloc, home, publisher),
+        Call::ReceivesFive => receives_five(rt, alloc, home, subscriber),
+    }
+}
+
+// Each call must go so; then the publisher leaves.
+fn go_on<H: Home<Byte, Any>>(
+    rt: &impl Abort,
+    alloc: Global,
+    home: &mut H,
+    publisher: Publisher<Byte, Any>,
+    subscriber: &Subscriber<Byte, Any>,
+    calls: &[Call],
+) {
+    for (place, call) in calls.iter().enumerate() {
+        assert!(rt;
+            goes(rt, alloc, home, &publisher, subscriber, call),
+            "call {place}"
+        );
+    }
+    assert!(rt; publisher.holds(home));
+    assert!(rt; !publisher.is_blocked(home));
+    publisher.leave(home);
+}
+
+// Whether a publisher comes or is refused so, and each call goes so.
+fn publishes(
     rt: &impl Abort,
     alloc: Global,
     domain: &mut Domain<Byte, Any>,
     subscriber: &Subscriber<Byte, Any>,
+    setting: &Setting,
+    calls: &[Call],
 ) -> bool {
-    assert!(rt; subscriber.holds(domain));
-    match subscriber.receive_custom_payload(alloc, domain) {
-        Ok(Some(sample)) => is_read(rt, domain, sample, 7),
-        _ => false,
+    match publish(alloc, domain, setting) {
+        Ok(publisher) => {
+            go_on(rt, alloc, domain, publisher, subscriber, calls);
+            setting.refused.is_none()
+        }
+        Err(error) => setting.refused == Some(error),
     }
 }
 
-// What passes between a subscriber and a publisher of at most five elements.
+// A subscriber comes; then publishers of these settings come or are refused so, one after the other, and each call goes so with each of them.
 fn converse(
     rt: &impl Abort,
-    builder: PortFactoryPublisher<Byte, Any>,
     alloc: Global,
     domain: &mut Domain<Byte, Any>,
-    subscriber: &Subscriber<Byte, Any>,
-) -> Result<bool, PublisherCreateError> {
-    let publisher = publish(builder, alloc, domain)?;
-    let first = publisher.initial_max_slice_len() == 5;
-    let too_long = is_lent(rt, alloc, domain, &publisher, 6);
-    let fitting = is_lent(rt, alloc, domain, &publisher, 5);
-    let sent = sends(rt, alloc, domain, &publisher);
-    let received = receives(rt, alloc, domain, subscriber);
-    leave(rt, domain, publisher);
-    let refused = too_long == Err(LoanError::ExceedsMaxLoanSize);
-    Ok(first && refused && fitting == Ok((40, 5)) && sent && received)
-}
-
-#[test]
-fn elements_of_eight_bytes_are_sent(rt: HostRuntime) -> Result<(), Fail> {
-    let Some(mut domain) = make(rt.alloc(), 8) else {
-        assert!(rt; false);
-        return Ok(());
+    settings: &[Setting],
+    calls: &[Call],
+) -> bool {
+    let Ok(subscriber) = subscribe(alloc, domain) else {
+        return false;
     };
-    let reading = subscriber_builder(&domain, 4, 3);
-    let Ok(subscriber) = subscribe(reading, rt.alloc(), &mut domain) else {
-        assert!(rt; false);
-        return Ok(());
-    };
-    let builder = publisher_builder(&domain, 4, 3).initial_max_slice_len(5);
-    let said = converse(&rt, builder, rt.alloc(), &mut domain, &subscriber);
-    assert!(rt; subscriber.holds(&domain));
-    subscriber.leave(&mut domain);
-    assert!(rt; said == Ok(true));
-    Ok(())
-}
-
-// How many bytes fit in a slot of the first publisher.
-fn room(domain: &Domain<Byte, Any>) -> usize {
-    match domain.ports.publishers.get(1) {
-        Some(publisher) => publisher.sender.room(),
-        None => 0,
+    for setting in settings {
+        assert!(rt; publishes(rt, alloc, domain, &subscriber, setting, calls));
     }
+    assert!(rt; subscriber.holds(domain));
+    subscriber.leave(domain);
+    true
 }
 
-// Lengths of loans, one after the other, with the bytes that fit after each.
-type Rooms = [(usize, usize); 5];
-
-// Whether the room grows so with these loans, of elements of three bytes.
-fn grows(
-    rt: &impl Abort,
-    builder: PortFactoryPublisher<Byte, Any>,
-    alloc: Global,
-    domain: &mut Domain<Byte, Any>,
-    rooms: &Rooms,
-) -> Result<bool, PublisherCreateError> {
-    let publisher = publish(builder, alloc, domain)?;
-    let mut grown = true;
-    for (len, bytes) in rooms {
-        let lent = is_lent(rt, alloc, domain, &publisher, *len);
-        grown = grown && lent == Ok((len.saturating_mul(3), *len as u64)) && room(domain) == *bytes;
-    }
-    leave(rt, domain, publisher);
-    Ok(grown)
+// Each call must go so, where elements have so many bytes.
+fn go(rt: &impl Abort, alloc: Global, size: u64, settings: &[Setting], calls: &[Call]) {
+    let Some(mut domain) = make(alloc, size) else {
+        assert!(rt; false);
+        return;
+    };
+    assert!(rt; converse(rt, alloc, &mut domain, settings, calls));
 }
 
-// With the next power of two.
-const POWERS: Rooms = [(4, 12), (5, 24), (8, 24), (9, 48), (2, 48)];
+const FIVE_AT_MOST: [Setting; 1] = [Setting {
+    first: Some(5),
+    allocation: None,
+    refused: None,
+}];
+
+const SENT: [Call; 7] = [
+    Call::First(5),
+    Call::Lends(6, Err(LoanError::ExceedsMaxLoanSize)),
+    Call::Room(40),
+    Call::Lends(5, Ok(40)),
+    Call::Room(40),
+    Call::SendsFive,
+    Call::ReceivesFive,
+];
 
 #[test]
-fn a_longer_loan_takes_the_next_power_of_two_elements(rt: HostRuntime) -> Result<(), Fail> {
-    let Some(mut domain) = make(rt.alloc(), 3) else {
-        assert!(rt; false);
-        return Ok(());
-    };
-    let builder = publisher_builder(&domain, 4, 3)
-        .initial_max_slice_len(4)
-        .allocation_strategy(AllocationStrategy::PowerOfTwo);
-    assert!(rt; grows(&rt, builder, rt.alloc(), &mut domain, &POWERS) == Ok(true));
-    Ok(())
+fn elements_of_eight_bytes_are_sent(rt: HostRuntime) {
+    go(&rt, rt.alloc(), 8, &FIVE_AT_MOST, &SENT);
 }
 
-// With just as many.
-const FITS: Rooms = [(4, 12), (5, 15), (8, 24), (9, 27), (2, 27)];
+const BY_POWERS: [Setting; 1] = [Setting {
+    first: Some(4),
+    allocation: Some(AllocationStrategy::PowerOfTwo),
+    refused: None,
+}];
+
+const POWERS: [Call; 10] = [
+    Call::Lends(4, Ok(12)),
+    Call::Room(12),
+    Call::Lends(5, Ok(15)),
+    Call::Room(24),
+    Call::Lends(8, Ok(24)),
+    Call::Room(24),
+    Call::Lends(9, Ok(27)),
+    Call::Room(48),
+    Call::Lends(2, Ok(6)),
+    Call::Room(48),
+];
 
 #[test]
-fn a_longer_loan_takes_just_as_many_elements(rt: HostRuntime) -> Result<(), Fail> {
-    let Some(mut domain) = make(rt.alloc(), 3) else {
-        assert!(rt; false);
-        return Ok(());
-    };
-    let builder = publisher_builder(&domain, 4, 3)
-        .initial_max_slice_len(4)
-        .allocation_strategy(AllocationStrategy::BestFit);
-    assert!(rt; grows(&rt, builder, rt.alloc(), &mut domain, &FITS) == Ok(true));
-    Ok(())
+fn a_longer_loan_takes_the_next_power_of_two_elements(rt: HostRuntime) {
+    go(&rt, rt.alloc(), 3, &BY_POWERS, &POWERS);
 }
 
-// Whether elements without bytes are lent, at most two of them; the header tells how many.
-fn counts_elements(
-    rt: &impl Abort,
-    builder: PortFactoryPublisher<Byte, Any>,
-    alloc: Global,
-    domain: &mut Domain<Byte, Any>,
-) -> Result<bool, PublisherCreateError> {
-    let publisher = publish(builder, alloc, domain)?;
-    let fitting = is_lent(rt, alloc, domain, &publisher, 2);
-    let too_long = is_lent(rt, alloc, domain, &publisher, 3);
-    leave(rt, domain, publisher);
-    Ok(fitting == Ok((0, 2)) && too_long == Err(LoanError::ExceedsMaxLoanSize))
-}
+const BY_FITS: [Setting; 1] = [Setting {
+    first: Some(4),
+    allocation: Some(AllocationStrategy::BestFit),
+    refused: None,
+}];
+
+const FITS: [Call; 10] = [
+    Call::Lends(4, Ok(12)),
+    Call::Room(12),
+    Call::Lends(5, Ok(15)),
+    Call::Room(15),
+    Call::Lends(8, Ok(24)),
+    Call::Room(24),
+    Call::Lends(9, Ok(27)),
+    Call::Room(27),
+    Call::Lends(2, Ok(6)),
+    Call::Room(27),
+];
 
 #[test]
-fn elements_without_bytes_are_counted(rt: HostRuntime) -> Result<(), Fail> {
-    let Some(mut domain) = make(rt.alloc(), 0) else {
-        assert!(rt; false);
-        return Ok(());
-    };
-    let builder = publisher_builder(&domain, 4, 3).initial_max_slice_len(2);
-    assert!(rt; counts_elements(&rt, builder, rt.alloc(), &mut domain) == Ok(true));
-    Ok(())
+fn a_longer_loan_takes_just_as_many_elements(rt: HostRuntime) {
+    go(&rt, rt.alloc(), 3, &BY_FITS, &FITS);
 }
 
-// Why a publisher isn't made, if it isn't.
-fn refusal(
-    rt: &impl Abort,
-    builder: PortFactoryPublisher<Byte, Any>,
-    alloc: Global,
-    domain: &mut Domain<Byte, Any>,
-) -> Option<PublisherCreateError> {
-    match publish(builder, alloc, domain) {
-        Ok(publisher) => {
-            leave(rt, domain, publisher);
-            None
-        }
-        Err(error) => Some(error),
-    }
-}
+const TWO_AT_MOST: [Setting; 1] = [Setting {
+    first: Some(2),
+    allocation: None,
+    refused: None,
+}];
+
+const COUNTED: [Call; 2] = [
+    Call::Lends(2, Ok(0)),
+    Call::Lends(3, Err(LoanError::ExceedsMaxLoanSize)),
+];
 
 #[test]
-fn a_slot_is_at_most_2_to_the_32_less_1_bytes_long(rt: HostRuntime) -> Result<(), Fail> {
-    let Some(mut domain) = make(rt.alloc(), 8) else {
-        assert!(rt; false);
-        return Ok(());
-    };
-    for len in [0x2000_0000, 0x1_0000_0000, usize::MAX] {
-        let builder = publisher_builder(&domain, 4, 3).initial_max_slice_len(len);
-        let refused = refusal(&rt, builder, rt.alloc(), &mut domain);
-        assert!(rt; refused == Some(PublisherCreateError::UnableToCreateDataSegment));
-    }
-    Ok(())
+fn elements_without_bytes_are_counted(rt: HostRuntime) {
+    go(&rt, rt.alloc(), 0, &TWO_AT_MOST, &COUNTED);
 }
 
-// Whether longer segments aren't opened, however many elements are asked for.
-fn ends(
-    rt: &impl Abort,
-    builder: PortFactoryPublisher<Byte, Any>,
-    alloc: Global,
-    domain: &mut Domain<Byte, Any>,
-) -> Result<bool, PublisherCreateError> {
-    let publisher = publish(builder, alloc, domain)?;
-    let mut lacks = true;
-    for len in [0x1000_0001, 0x1_0000_0000, usize::MAX] {
-        let lent = is_lent(rt, alloc, domain, &publisher, len);
-        lacks = lacks && lent == Err(LoanError::OutOfMemory) && room(domain) == 8;
-    }
-    leave(rt, domain, publisher);
-    Ok(lacks)
-}
+// No publisher comes whose slots would be of 2^32 bytes or more.
+const TOO_LONG: [Setting; 3] = [
+    Setting {
+        first: Some(0x2000_0000),
+        allocation: None,
+        refused: Some(PublisherCreateError::UnableToCreateDataSegment),
+    },
+    Setting {
+        first: Some(0x1_0000_0000),
+        allocation: None,
+        refused: Some(PublisherCreateError::UnableToCreateDataSegment),
+    },
+    Setting {
+        first: Some(usize::MAX),
+        allocation: None,
+        refused: Some(PublisherCreateError::UnableToCreateDataSegment),
+    },
+];
 
 #[test]
-fn a_segment_is_at_most_2_to_the_32_less_1_bytes_long(rt: HostRuntime) -> Result<(), Fail> {
-    let Some(mut domain) = make(rt.alloc(), 8) else {
-        assert!(rt; false);
-        return Ok(());
-    };
-    let builder = publisher_builder(&domain, 4, 3).allocation_strategy(
-        AllocationStrategy::PowerOfTwo,
-    );
-    assert!(rt; ends(&rt, builder, rt.alloc(), &mut domain) == Ok(true));
-    Ok(())
+fn a_slot_is_at_most_2_to_the_32_less_1_bytes_long(rt: HostRuntime) {
+    go(&rt, rt.alloc(), 8, &TOO_LONG, &[]);
+}
+
+const ONE_AT_FIRST: [Setting; 1] = [Setting {
+    first: None,
+    allocation: Some(AllocationStrategy::PowerOfTwo),
+    refused: None,
+}];
+
+// Longer segments aren't opened, however many elements are asked for.
+const ENDS: [Call; 6] = [
+    Call::Lends(0x1000_0001, Err(LoanError::OutOfMemory)),
+    Call::Room(8),
+    Call::Lends(0x1_0000_0000, Err(LoanError::OutOfMemory)),
+    Call::Room(8),
+    Call::Lends(usize::MAX, Err(LoanError::OutOfMemory)),
+    Call::Room(8),
+];
+
+#[test]
+fn a_segment_is_at_most_2_to_the_32_less_1_bytes_long(rt: HostRuntime) {
+    go(&rt, rt.alloc(), 8, &ONE_AT_FIRST, &ENDS);
 }

@@ -1,4 +1,4 @@
-//! One service with who decides for its ports.
+//! Domains by what their nodes agreed on, and who decides for their ports.
 use iox_describe_base::{AttributeSpecifier, Header, MessageTypeDetails, ServiceName, TypeVariant};
 use iox_describe_settings::publish_subscribe::StaticConfig;
 use iox_describe_settings::{Description, Settings};
@@ -10,7 +10,7 @@ use iox_domain_values::{
     PortOwner, PreallocatedSamplesOverride, PublisherCreateError, SendError,
 };
 use std::alloc::Global;
-use std::test::Fail;
+use std::process::Abort;
 
 // Who the ports belong to.
 const OWNER: PortOwner = PortOwner {
@@ -18,29 +18,54 @@ const OWNER: PortOwner = PortOwner {
     node_id: 4,
 };
 
-// A service of one publisher, whose mailboxes hold one message and refuse more.
-fn described() -> Option<Description> {
+/// A service whose mailboxes hold so many messages and refuse more, of so many publishers and of one subscriber.
+pub(crate) fn described(buffer: u64, publishers: u64) -> Option<Description> {
     let name = ServiceName::new(b"A").ok()?;
     let types = MessageTypeDetails::from::<Header, u8, u64>(TypeVariant::FixedSize);
     let mut config = StaticConfig::new(types);
     config.enable_safe_overflow = false;
-    config.subscriber_max_buffer_size = 1;
-    config.max_publishers = 1;
+    config.subscriber_max_buffer_size = buffer;
+    config.max_publishers = publishers;
+    config.max_subscribers = 1;
     let settings = Settings::PublishSubscribe(config);
     Some(Description::new(name, settings, AttributeSpecifier::new()))
 }
 
-// Its domain.
-fn make(alloc: Global) -> Option<Domain<u64, u8>> {
-    let description = described()?;
-    if !Domain::<u64, u8>::fits(&description) {
-        return None;
+/// The domain of such a service.
+pub(crate) fn make(
+    alloc: Global,
+    id: DomainId,
+    description: Option<Description>,
+) -> Option<Domain<u64, u8>> {
+    let description = description?;
+    if Domain::<u64, u8>::fits(&description) {
+        Domain::new(alloc, id, &description, 5).ok()
+    } else {
+        None
     }
-    let id = DomainId { hub: 7, service: 9 };
-    Domain::new(alloc, id, &description, 5).ok()
 }
 
-// A publisher comes that does this at a full mailbox.
+// A call of a port by its number, and what it answers. The subscriber is number 1.
+enum Call {
+    // It comes.
+    Subscribe,
+    // A publisher comes that does this at a full mailbox.
+    Publish(BackpressureStrategy, Result<u64, PublisherCreateError>),
+    // Whether the subscriber has samples.
+    Has(bool),
+    // A publisher lends, writes and sends a value.
+    Put(u64, u64, Sent),
+    // Its send is tried again, after so many nanoseconds.
+    Retry(u64, u64, Sent),
+    // The subscriber receives this value.
+    Receive(u64),
+    // Whether somebody decides for a publisher.
+    Decides(u64, bool),
+    // A publisher leaves.
+    Leave(u64),
+}
+
+// A publisher comes.
 fn publish(
     domain: &mut Domain<u64, u8>,
     alloc: Global,
@@ -58,16 +83,11 @@ fn publish(
         backpressure: None,
         degradation: DegradationHandler::Fixed(DegradationAction::Warn),
     };
-    domain.create_publisher(
-        alloc,
-        config,
-        0,
-        &PreallocatedSamplesOverride::WorstCase,
-        by,
-    )
+    let slots = PreallocatedSamplesOverride::WorstCase;
+    domain.create_publisher(alloc, config, 0, &slots, by)
 }
 
-// A subscriber comes.
+// The subscriber comes.
 fn subscribe(domain: &mut Domain<u64, u8>, alloc: Global) -> bool {
     let config = SubscriberConfig {
         owner: OWNER,
@@ -85,10 +105,11 @@ fn put(
     value: u64,
 ) -> Option<Result<Sent, SendError>> {
     let slot = domain.loan(alloc, number, 1, 1)?.ok()?;
-    if !domain.ports.write_payload(number, slot, value) {
-        return None;
+    if domain.ports.write_payload(number, slot, value) {
+        domain.send(alloc, number, slot)
+    } else {
+        None
     }
-    domain.send(alloc, number, slot)
 }
 
 // Whether just this value is received.
@@ -99,46 +120,65 @@ fn receives(domain: &mut Domain<u64, u8>, alloc: Global, value: u64) -> bool {
     }
 }
 
-// Whether a send came to this.
-fn came(answer: Option<Result<Sent, SendError>>, sent: Sent) -> bool {
-    answer == Some(Ok(sent))
+// Whether a call goes so.
+fn goes(domain: &mut Domain<u64, u8>, alloc: Global, call: &Call) -> bool {
+    match *call {
+        Call::Subscribe => subscribe(domain, alloc),
+        Call::Publish(strategy, number) => publish(domain, alloc, strategy) == number,
+        Call::Has(has) => domain.has_samples(alloc, 1) == Some(Ok(has)),
+        Call::Put(number, value, sent) => put(domain, alloc, number, value) == Some(Ok(sent)),
+        Call::Retry(number, elapsed, sent) => domain.retry(number, elapsed) == Some(Ok(sent)),
+        Call::Receive(value) => receives(domain, alloc, value),
+        Call::Decides(number, does) => domain.publisher_handlers.get(number).is_some() == does,
+        Call::Leave(number) => domain.leave_publisher(number),
+    }
 }
 
-// Whether the first publisher discards at a full mailbox, no other has room beside it, and nobody decides for it once it left.
-fn discards(domain: &mut Domain<u64, u8>, alloc: Global) -> bool {
-    let is_made = publish(domain, alloc, BackpressureStrategy::DiscardData) == Ok(2);
-    let reads = domain.has_samples(alloc, 1) == Some(Ok(false));
-    let sent = came(put(domain, alloc, 2, 11), Sent::Delivered(1))
-        && came(put(domain, alloc, 2, 12), Sent::Delivered(0));
-    let full = publish(domain, alloc, BackpressureStrategy::DiscardData)
-        == Err(PublisherCreateError::ExceedsMaxSupportedPublishers);
-    let kept = domain.publisher_handlers.get(2).is_some()
-        && domain.publisher_handlers.get(3).is_none();
-    let left = domain.leave_publisher(2) && domain.publisher_handlers.get(2).is_none();
-    is_made && reads && sent && full && kept && left
+// The first publisher discards at a full mailbox, no other has room beside it, and nobody decides for it once it left. The next one waits at
+// a full mailbox, and goes on once there is room.
+const CALLS: [Call; 18] = [
+    Call::Subscribe,
+    Call::Publish(BackpressureStrategy::DiscardData, Ok(2)),
+    Call::Has(false),
+    Call::Put(2, 11, Sent::Delivered(1)),
+    Call::Put(2, 12, Sent::Delivered(0)),
+    Call::Publish(
+        BackpressureStrategy::DiscardData,
+        Err(PublisherCreateError::ExceedsMaxSupportedPublishers),
+    ),
+    Call::Decides(2, true),
+    Call::Decides(3, false),
+    Call::Leave(2),
+    Call::Decides(2, false),
+    Call::Publish(BackpressureStrategy::RetryUntilDelivered, Ok(3)),
+    Call::Has(true),
+    Call::Put(3, 21, Sent::Delivered(1)),
+    Call::Put(3, 22, Sent::Blocked),
+    Call::Retry(3, 10, Sent::Blocked),
+    Call::Receive(11),
+    Call::Receive(21),
+    Call::Retry(3, 20, Sent::Delivered(1)),
+];
+
+// Each call must go so.
+fn go_on(rt: &impl Abort, alloc: Global, domain: &mut Domain<u64, u8>, calls: &[Call]) {
+    for (place, call) in calls.iter().enumerate() {
+        assert!(rt; goes(domain, alloc, call), "call {place}");
+    }
 }
 
-// Whether the next publisher waits at a full mailbox, and goes on once there is room.
-fn waits(domain: &mut Domain<u64, u8>, alloc: Global) -> bool {
-    let is_made = publish(domain, alloc, BackpressureStrategy::RetryUntilDelivered) == Ok(3);
-    let follows = domain.has_samples(alloc, 1) == Some(Ok(true));
-    let sent = came(put(domain, alloc, 3, 21), Sent::Delivered(1))
-        && came(put(domain, alloc, 3, 22), Sent::Blocked)
-        && came(domain.retry(3, 10), Sent::Blocked);
-    let received = receives(domain, alloc, 11) && receives(domain, alloc, 21);
-    is_made && follows && sent && received && came(domain.retry(3, 20), Sent::Delivered(1))
+// Whether a domain is of this id, and keeps so many expired connections.
+fn is_of(domain: &Domain<u64, u8>, id: DomainId, expired: u32) -> bool {
+    domain.id == id && domain.ports.sizes.expired_connections == expired
 }
 
 #[test]
-fn who_decides_is_kept_for_each_port(rt: HostRuntime) -> Result<(), Fail> {
-    let Some(mut domain) = make(rt.alloc()) else {
+fn who_decides_is_kept_for_each_port(rt: HostRuntime) {
+    let id = DomainId { hub: 7, service: 9 };
+    let Some(mut domain) = make(rt.alloc(), id, described(1, 1)) else {
         assert!(rt; false);
-        return Ok(());
+        return;
     };
-    assert!(rt; domain.id.hub == 7 && domain.id.service == 9);
-    assert!(rt; domain.ports.sizes.expired_connections == 5);
-    assert!(rt; subscribe(&mut domain, rt.alloc()));
-    assert!(rt; discards(&mut domain, rt.alloc()));
-    assert!(rt; waits(&mut domain, rt.alloc()));
-    Ok(())
+    assert!(rt; is_of(&domain, id, 5));
+    go_on(&rt, rt.alloc(), &mut domain, &CALLS);
 }

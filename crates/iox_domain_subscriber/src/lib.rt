@@ -16,7 +16,13 @@
 //! A first call. `ServicePorts` of `iox_domain_ports` makes them.
 //!
 //! ```
-//! let taken = port.receive(alloc, list.places(), list.changes(), &handler, &mut publishers)?;
+//! let taken = port.receive(
+//!     alloc,
+//!     list.places(),
+//!     list.changes(),
+//!     &handler,
+//!     &mut publishers,
+//! )?;
 //! ```
 #![tactic(auto)]
 

@@ -15,7 +15,7 @@
 //! ```
 //! let builder = Builder::new(node, name).publish_subscribe::<u64>();
 //! let factory = builder.open_or_create(alloc, &mut table)?;
-//! factory.close(&mut table);
+//! let _ = factory.close(&mut table);
 //! ```
 #![tactic(auto)]
 
