@@ -8,6 +8,7 @@ pub mod Steps
 pub mod Start
 pub mod Mailboxes
 pub mod RestingRings
+pub mod FreeSlots
 pub mod Arrivals
 pub mod Apart
 pub mod Receipts
@@ -16,6 +17,7 @@ pub mod Puts
 pub mod Sends
 pub mod SendSteps
 pub mod Slots
+pub mod Fixed
 pub mod Told
 pub mod ReadWords
 pub mod InBack
@@ -42,6 +44,7 @@ pub mod TakenIn
 pub mod StartRooms
 pub mod StartUses
 pub mod Alone
+pub mod Owned
 pub mod Held
 pub mod Left
 pub mod Loans

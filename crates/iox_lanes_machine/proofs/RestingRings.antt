@@ -17,6 +17,7 @@ use Rattle.iox_lanes_ledger.specs.LanesCalls.declared.subscriber.SubscriberCall.
 use Rattle.iox_lanes_machine.specs.Kept.{IsKept, IsWithin}
 use Rattle.iox_lanes_machine.specs.Links.{LinkState}
 use Rattle.iox_lanes_machine.specs.Mailboxes.{positions_of}
+use Rattle.iox_lanes_machine.specs.Owned.{MailHasRoom}
 use Rattle.iox_lanes_machine.specs.Resting.{Rests, mail_at, mail_by}
 use Rattle.iox_lanes_machine.specs.Rings.{sent_word, ring_in, cells_in, waiting, push_on, pop_on}
 use Rattle.iox_lanes_machine.specs.World.{World, publisher_stage, subscriber_stage}
@@ -82,7 +83,7 @@ seat_of m connection link k found = record {
   words = k.within.words;
 }
 
-mail_is : (m : World) (connection : ℕ) (link : LinkState) → slice_get m.links connection ≡ Some link → mail_at m connection ≡ waiting link (get_or m.orders connection [])
+pub mail_is : (m : World) (connection : ℕ) (link : LinkState) → slice_get m.links connection ≡ Some link → mail_at m connection ≡ waiting link (get_or m.orders connection [])
 mail_is m connection link found = ap (λ it. mail_by it (get_or m.orders connection [])) found
 
 ring_rests : (m : World) (connection : ℕ) (link : LinkState) → IsKept m → Rests m connection → slice_get m.links connection ≡ Some link
@@ -98,6 +99,10 @@ ring_rests m connection link k rests found =
     (subst (λ p. Shape link.kind link.limit ring q p (pop_on connection link.kind (subscriber_stage (slice_get m.subscribers link.subscriber)))) sends is.shape) in
     subst (HoldsJust link.kind link.limit ring) (sym (mail_is m connection link found))
     (just_holds link.kind link.limit ring q (cells_length m.table connection (cells_of link.kind link.limit) (seat_of m connection link k found)) shape)
+
+-- no more wait than may
+pub mail_has_room : (m : World) (connection : ℕ) → IsKept m → MailHasRoom m connection
+mail_has_room m connection k = λ rests link found. (ring_rests m connection link k rests found).room
 
 abbrev link_at : (m : World) (connection : ℕ) → connection < length m.links → LinkState
 link_at m connection below = get_or m.links connection (record { publisher = 0; subscriber = 0; kind = kind.Refusing; limit = 0; found = [] })

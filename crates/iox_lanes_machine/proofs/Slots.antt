@@ -121,9 +121,9 @@ take_stands book routes words (publishing.Sent slot delivery) a h = tt
 take_stands book routes words (publishing.Dropping slot) a h = tt
 
 -- no step moves a publisher's slots
-record SameSlots (book after : BookState) : Type 0 where
-  first : after.first ≡ book.first
-  loans : length after.loans ≡ length book.loans
+pub record SameSlots (book after : BookState) : Type 0 where
+  pub first : after.first ≡ book.first
+  pub loans : length after.loans ≡ length book.loans
 
 put_at_length : {X : Type 0} (xs : List X) (at : ℕ) (x : X) → length (put_at xs at x) ≡ length xs
 put_at_length {X} xs at x = by_test (nat_lt at (length xs))
@@ -160,7 +160,7 @@ remembered_slots slot book = by_test (nat_lt 0 book.kept)
     by_test true = newest_slots slot book (unlent slot book) (record { first = refl; loans = put_at_length book.loans (slot - book.first) mark.No })
     by_test false = record { first = refl; loans = put_at_length book.loans (slot - book.first) mark.No }
 
-changed_slots : (c : PublisherChange) (book : BookState) → SameSlots book (changed c book)
+pub changed_slots : (c : PublisherChange) (book : BookState) → SameSlots book (changed c book)
 changed_slots change.Nothing book = same_slots book
 changed_slots change.Lend book = lent_slots book
 changed_slots (change.Mark slot) book = record { first = refl; loans = put_at_length book.loans (slot - book.first) mark.Written }
@@ -170,7 +170,7 @@ changed_slots (change.Put place slot) book = record { first = refl; loans = refl
 changed_slots (change.LeftOut place slot) book = record { first = refl; loans = refl }
 changed_slots (change.DropLoan slot) book = record { first = refl; loans = put_at_length book.loans (slot - book.first) mark.No }
 
-begun_slots : (moment : ℕ) (c : Call) (lane : PublisherLaneState) → SameSlots lane.port.book (publisher_begun moment c lane).port.book
+pub begun_slots : (moment : ℕ) (c : Call) (lane : PublisherLaneState) → SameSlots lane.port.book (publisher_begun moment c lane).port.book
 begun_slots moment call.LoanUninit lane = same_slots lane.port.book
 begun_slots moment (call.Write loan payload user_header) lane = same_slots lane.port.book
 begun_slots moment (call.Send loan) lane = same_slots lane.port.book

@@ -12,9 +12,11 @@ pub mod Receipts
 pub mod Calls
 pub mod Sends
 pub mod Slots
+pub mod Fixed
 pub mod Told
 pub mod Returns
 pub mod Uses
+pub mod Owned
 pub mod Alone
 pub mod Held
 pub mod Left

@@ -1,11 +1,16 @@
--- What waits at a connection, where its two ports are between calls.
-use Rattle.std.specs.Prelude.{ℕ, ◌≡◌, ◌≤◌, ◌^◌, true, List, [], get_or, slice_get, Option, Some, None}
+-- Lanes whose ports are between calls: what waits at a connection, and whether anything is out.
+use Rattle.std.specs.Prelude.{ℕ, ◌≡◌, ◌≤◌, ◌^◌, true, false, List, [], get_or, slice_get, Option, Some, None}
+use Rattle.std.specs.List.{All}
 use Rattle.iox_lanes_ledger.specs.QueuesSteps.declared.order.Placed.{Placed}
 use Rattle.iox_lanes_ledger.specs.LanesCalls.Publishing.{publisher_is_idle}
 use Rattle.iox_lanes_ledger.specs.LanesCalls.Subscribing.{subscriber_is_idle}
+use Rattle.iox_lanes_ledger.specs.LanesPublisher.Keeping.{loan_of}
+use Rattle.iox_lanes_ledger.specs.LanesParties.Parties.{is_out, is_borrowed, place_of}
 use Rattle.iox_lanes_machine.specs.Links.{LinkState}
 use Rattle.iox_lanes_machine.specs.Rings.{waiting}
 use Rattle.iox_lanes_machine.specs.World.{World, publisher_stage, subscriber_stage}
+use Rattle.iox_lanes_machine.specs.declared.resting.Unrest.{Unrest}
+use Rattle.iox_lanes_machine.specs.declared.resting.Unrest.TheVariants as unrest
 
 -- the slots of what waits at a connection by its order, the oldest first; none where there is no connection
 abbrev pub mail_by : Option LinkState → List Placed → List ℕ
@@ -21,3 +26,18 @@ pub record Rests (m : World) (connection : ℕ) : Type 0 where
   pub few : m.moments ≤ 2 ^ 63
   pub sender : (link : LinkState) → slice_get m.links connection ≡ Some link → publisher_is_idle (publisher_stage (slice_get m.publishers link.publisher)) ≡ true
   pub receiver : (link : LinkState) → slice_get m.links connection ≡ Some link → subscriber_is_idle (subscriber_stage (slice_get m.subscribers link.subscriber)) ≡ true
+
+-- no party is inside a call
+pub record AllBetween (m : World) : Type 0 where
+  pub publishers : All (λ lane. publisher_is_idle lane.port.call ≡ true) m.publishers
+  pub subscribers : All (λ lane. subscriber_is_idle lane.port.call ≡ true) m.subscribers
+
+-- no slot is a loan, and none is a sample
+pub record NoneOut (m : World) : Type 0 where
+  pub loans : All (λ lane. (slot : ℕ) → is_out (loan_of slot lane.port.book) ≡ false) m.publishers
+  pub samples : All (λ lane. (slot : ℕ) → is_borrowed (place_of slot lane) ≡ false) m.subscribers
+
+-- why lanes can't be handed on: a party is inside a call, or none is and something is out
+abbrev pub IsUnrest : Unrest → World → Type 0
+IsUnrest unrest.PartyInCall m = AllBetween m → ⊥
+IsUnrest unrest.SamplesOut m = AllBetween m × (NoneOut m → ⊥)

@@ -40,6 +40,7 @@ impl Lanes {
     ghost use Rattle.iox_lanes_machine.specs.Arrivals.{OrderArrives};
     ghost use Rattle.iox_lanes_machine.specs.Calls.{CallsKeepTime};
     ghost use Rattle.iox_lanes_machine.specs.Findings.{FindsTo};
+    ghost use Rattle.iox_lanes_machine.specs.Fixed.{StaysFixed};
     ghost use Rattle.iox_lanes_machine.specs.Held.{ReadsWhole};
     ghost use Rattle.iox_lanes_machine.specs.Left.{StoresLeft};
     ghost use Rattle.iox_lanes_machine.specs.Loans.{LoansLent};
@@ -101,6 +102,9 @@ impl Lanes {
     /// where it finds no memory for the call that it ends or for what it puts into an order, nothing changes. A begin fits between calls, if the call is of the party's kind, and the
     /// loan or sample that it names is its own and out; a send needs a finished write of its loan. A go on fits inside a call.
     ///
+    /// No step changes the connections, the sizes of the words, how many publishers and subscribers there are, or of a publisher the number of its first slot,
+    /// how many slots it has, how many of them may be lent at once, and how many its history may have.
+    ///
     /// As long as at most 2^63 steps were made: a loan stands in no history and at no connection; no step changes a word of a slot that does; a write and a
     /// send leave in their slot what they were given; and a read gives just what its slot holds. A loan is refused just where as many loans are out as may be,
     /// and finds no slot only where each has a use; with fewer out, and as many slots as the worst case wants, it gives one. A release gives its sample back, behind
@@ -110,6 +114,7 @@ impl Lanes {
         ensures apart { StaysApart self.old party step.now result self.new }
         ensures told { Told self.old party step.now result self.new }
         ensures slots { SlotsStay self.old party self.new }
+        ensures fixed { StaysFixed self.old self.new }
         ensures uses { UsedSlotsStay self.old self.new }
         ensures left { StoresLeft self.old self.new }
         ensures lent { LoansLent self.old self.new }
@@ -128,8 +133,10 @@ impl Lanes {
     }
 
     /// Makes the entries one after the other, leaves out those that do not fit, and stops where an allocation fails. The answer is how many were made.
+    /// It leaves as it was what no step changes.
     pub fn run(&mut self, schedule: &[Entry]) -> usize
         ensures runs { RunsTo self.old schedule.now result self.new }
+        ensures fixed { StaysFixed self.old self.new }
         ensures orders { OrdersFollow self.new }
         ensures receipts { ReceiptsFollow self.new }
         ensures sends { SendsFollow self.new }

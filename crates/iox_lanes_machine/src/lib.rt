@@ -11,6 +11,7 @@
 //! - [`laws`]: what they do over many steps.
 //! - [`waiting`]: what waits at a connection.
 //! - [`parts`]: the lanes taken apart.
+//! - [`resting`]: whether a party is inside a call, or something is out.
 //!
 //! First calls. Tests in `iox_lanes_rows` make them.
 //!
@@ -30,6 +31,7 @@ mod made;
 mod order;
 pub mod parts;
 mod placing;
+pub mod resting;
 pub mod sizes;
 mod state;
 pub mod waiting;
@@ -37,4 +39,5 @@ pub mod waiting;
 pub use found::Found;
 pub use lanes::Lanes;
 pub use link::{Link, Positions};
+pub use resting::Unrest;
 pub use sizes::LaneSizes;

@@ -3,6 +3,7 @@ ghost use Rattle.std.specs.Prelude.{◌≡◌, ℕ};
 ghost use Rattle.iox_lanes_machine.specs.Kept.{IsWithin};
 ghost use Rattle.iox_lanes_machine.specs.Mailboxes.{PositionsNear, positions_of};
 ghost use Rattle.iox_lanes_machine.specs.Opening.{SlotsNamed};
+ghost use Rattle.iox_lanes_machine.specs.Owned.{HistoriesAreOwn, MailHasRoom, MailIsOwn};
 ghost use Rattle.iox_lanes_machine.specs.Slots.{SlotsInRows};
 
 use crate::lanes::Lanes;
@@ -18,9 +19,11 @@ impl Lanes {
         &self.state.table
     }
 
-    /// The publishers, by their numbers.
+    /// The publishers, by their numbers. As long as at most 2^63 steps were made, each has slots of its own alone in its history, and no more of them than it
+    /// may.
     pub fn publishers(&self) -> &[PublisherLane]
-        ensures { result.now ≡ self.now.publishers }
+        ensures value { result.now ≡ self.now.publishers }
+        ensures histories { HistoriesAreOwn self.now }
     {
         self.state.publishers.as_slice()
     }
@@ -33,12 +36,16 @@ impl Lanes {
     }
 
     /// What all lanes are: ports, connections and words are those of one service, and the slots of each publisher lie before those of the publishers behind
-    /// it; each cell of a ring names a slot. As long as at most 2^63 steps were made, no read position is beyond its write position.
+    /// it; each cell of a ring names a slot. As long as at most 2^63 steps were made, no read position is beyond its write position, what waits at a connection and what a
+    /// history has are slots of its publisher, and no more wait at a connection between calls than may.
     pub fn are_of_one_service(&self)
         ensures within { IsWithin self.now }
         ensures rows { SlotsInRows self.now }
         ensures named { SlotsNamed self.now }
         ensures near { (connection : ℕ) → PositionsNear self.now connection (positions_of self.now.table connection) }
+        ensures mail { (connection : ℕ) → MailIsOwn self.now connection }
+        ensures room { (connection : ℕ) → MailHasRoom self.now connection }
+        ensures histories { HistoriesAreOwn self.now }
     {
         let _ = &self.state;
     }

@@ -6,6 +6,7 @@ ghost use Rattle.iox_lanes_ledger.specs.LanesWords.Table.{held_by};
 ghost use Rattle.iox_lanes_machine.specs.Kept.{IsWithin};
 ghost use Rattle.iox_lanes_machine.specs.Links.{LinkState};
 ghost use Rattle.iox_lanes_machine.specs.Mailboxes.{positions_of};
+ghost use Rattle.iox_lanes_machine.specs.Owned.{MailIsOwn};
 ghost use Rattle.iox_lanes_machine.specs.Resting.{Rests, mail_at};
 ghost use Rattle.iox_lanes_machine.specs.Rings.{sent_word};
 ghost use Rattle.iox_lanes_machine.specs.State.{world_of};
@@ -60,11 +61,13 @@ impl State {
 impl Lanes {
     /// How many messages wait at a connection: as many as lie between the positions of its ring, and no more than may wait there.
     ///
-    /// Where its publisher and its subscriber are between calls, and at most 2^63 steps were made, just these wait there by its order.
+    /// Where its publisher and its subscriber are between calls, and at most 2^63 steps were made, just these wait there by its order. As long as at most 2^63
+    /// steps were made, what waits there by its order are slots of its publisher's own.
     pub fn waiting(&self, connection: u64) -> u64
         requires { connection < length self.now.links }
         ensures few { (link : LinkState) → slice_get self.now.links connection ≡ Some link → result ≤ link.limit }
         ensures waits { Rests self.now connection → result ≡ length (mail_at self.now connection) }
+        ensures own { MailIsOwn self.now connection }
     {
         self.state.message_count(connection)
     }

@@ -173,6 +173,13 @@ impl PublisherLane {
         self.port.most_loans()
     }
 
+    /// Of how many of the last messages its history is.
+    pub fn kept(&self) -> usize
+        ensures { result ≡ self.now.port.book.kept }
+    {
+        self.port.kept()
+    }
+
     /// The slots of its history, the oldest first.
     pub fn history(&self) -> &[u64]
         ensures { result.now ≡ self.now.port.book.history }

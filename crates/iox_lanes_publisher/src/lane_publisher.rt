@@ -88,6 +88,13 @@ impl LanePublisher {
         self.book.most_loans()
     }
 
+    /// Of how many of the last messages its history is.
+    pub fn kept(&self) -> usize
+        ensures { result ≡ self.now.book.kept }
+    {
+        self.book.kept()
+    }
+
     /// The slots of its history, the oldest first.
     pub fn history(&self) -> &[u64]
         ensures { result.now ≡ self.now.book.history }

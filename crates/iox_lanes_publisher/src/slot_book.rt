@@ -123,6 +123,13 @@ impl SlotBook {
         self.most_loans
     }
 
+    /// Of how many of the last messages its history is.
+    pub fn kept(&self) -> usize
+        ensures { result ≡ self.now.kept }
+    {
+        self.kept
+    }
+
     /// The slots of its history, the oldest first.
     pub fn history(&self) -> &[u64]
         ensures { result.now ≡ self.now.history }

@@ -2,6 +2,5 @@
 pub mod Lists
 pub mod Standing
 pub mod Giving
-pub mod Refusing
 pub mod Seating
 pub mod Leaving

@@ -1,12 +1,9 @@
 -- Ports in threads as callers see them, and how they follow from lanes.
-use Rattle.std.specs.Prelude.{ℕ, ◌≡◌, ◌+◌, ◌≤◌, ◌^◌, true, false, List, [], ◌∷◌, length}
-use Rattle.std.specs.List.{All}
+use Rattle.std.specs.Prelude.{ℕ, ◌≡◌, ◌+◌, ◌≤◌, ◌^◌, List, [], ◌∷◌, length}
 use Rattle.atomic_table.specs.Seated.{TableId}
-use Rattle.iox_lanes_machine.specs.LanesCalls.Publishing.{publisher_is_idle}
-use Rattle.iox_lanes_machine.specs.LanesCalls.Subscribing.{subscriber_is_idle}
-use Rattle.iox_lanes_machine.specs.LanesPublisher.Keeping.{loan_of}
-use Rattle.iox_lanes_machine.specs.LanesParties.Parties.{PublisherLaneState, SubscriberLaneState, is_out, is_borrowed, place_of}
+use Rattle.iox_lanes_machine.specs.LanesParties.Parties.{PublisherLaneState, SubscriberLaneState}
 use Rattle.iox_lanes_machine.specs.LanesParties.declared.call.Party.TheVariants.{Publisher, Subscriber}
+use Rattle.iox_lanes_machine.specs.Resting.{AllBetween, NoneOut}
 use Rattle.iox_lanes_machine.specs.World.{World}
 use Rattle.iox_lanes_threads_ports.specs.LanesThreadsRule.declared.view.PortParty.TheVariants as party
 use Rattle.iox_lanes_threads_ports.specs.Values.{PublisherPort, SubscriberPort, SamePublisher, SameSubscriber}
@@ -52,16 +49,6 @@ opened_subscribers board table m place [] = []
 opened_subscribers board table m place (lane ∷ lanes) =
     record { board = board; place = place; own = record { table = table; port = opened m (length m.publishers + place) (Subscriber place) (party.Subscriber lane); lane = lane; words = [] } }
     ∷ opened_subscribers board table m (place + 1) lanes
-
--- no party is inside a call
-pub record AllBetween (m : World) : Type 0 where
-  pub publishers : All (λ lane. publisher_is_idle lane.port.call ≡ true) m.publishers
-  pub subscribers : All (λ lane. subscriber_is_idle lane.port.call ≡ true) m.subscribers
-
--- no slot is a loan, and none is a sample
-pub record NoneOut (m : World) : Type 0 where
-  pub loans : All (λ lane. (slot : ℕ) → is_out (loan_of slot lane.port.book) ≡ false) m.publishers
-  pub samples : All (λ lane. (slot : ℕ) → is_borrowed (place_of slot lane) ≡ false) m.subscribers
 
 -- lanes that threads may take over
 pub record MayOpen (m : World) : Type 0 where

@@ -1,7 +1,8 @@
 -- What opening lanes gives, and when it is refused.
 use Rattle.std.specs.Prelude.{ℕ, ◌≡◌, ◌<◌, ◌^◌, length}
+use Rattle.iox_lanes_machine.specs.Resting.{AllBetween, NoneOut}
 use Rattle.iox_lanes_machine.specs.World.{World}
-use Rattle.iox_lanes_threads.specs.Ports.{AllBetween, NoneOut, MayOpen, opened_publishers, opened_subscribers}
+use Rattle.iox_lanes_threads.specs.Ports.{MayOpen, opened_publishers, opened_subscribers}
 use Rattle.iox_lanes_threads.specs.declared.errors.OpenError.{OpenError}
 use Rattle.iox_lanes_threads.specs.declared.errors.OpenError.TheVariants as open_error
 use Rattle.iox_lanes_threads.specs.declared.threads.LaneThreads.{LaneThreads}

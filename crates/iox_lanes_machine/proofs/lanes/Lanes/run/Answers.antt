@@ -1,6 +1,7 @@
 use Rattle.std.proofs.Common.{rules, arith, ℕ, ◌≡◌, ◌+◌, ◌≤◌, length, List, [], ◌∷◌, refl, sym, subst, ap, ◌∙◌}
 use Rattle.iox_lanes_machine.specs.World.{RunsTo}
 use Rattle.iox_lanes_ledger.specs.LanesParties.declared.call.Entry.{Entry}
+use Rattle.iox_lanes_machine.proofs.Fixed.{fixed_on}
 use Rattle.iox_lanes_machine.proofs.Runs.{run_more, run_stops, counts_one, none_left}
 use Rattle.iox_lanes_machine.proofs.lanes.Lanes.run.Goals as goal
 
@@ -23,6 +24,7 @@ loop-entry-preserved c =
           (subst (λ (xs : List Entry). RunsTo c.loop-entry.self xs (c.count-made.result + k) n) (sym is)
           (run_more c.loop-entry.self c.in-Some.entry.now c.in-Some.tail.now c.step-stepped.result c.step-stepped.new.self n k (c.count-made.result + k) c.step-stepped.ensures.steps (sym c.is_stopped.ensures ∙ c.if-is_stopped.false) (ap (λ (x : ℕ). x + k) c.count-made.ensures) runs))),
       omega (arith, c.loop-entry.invariant.1),
+      fixed_on c.args.self.now c.loop-entry.self c.step-stepped.new.self c.loop-entry.invariant.2 c.step-stepped.ensures.fixed,
       c.step-stepped.ensures.orders,
       c.step-stepped.ensures.receipts,
       c.step-stepped.ensures.sends,

@@ -1,5 +1,6 @@
 use Rattle.std.proofs.Common.{◌≡◌, subst, sym}
 use Rattle.iox_lanes_machine.specs.Apart.{StaysApart}
+use Rattle.iox_lanes_machine.specs.Fixed.{StaysFixed}
 use Rattle.iox_lanes_machine.specs.Held.{ReadsWhole}
 use Rattle.iox_lanes_machine.specs.Left.{StoresLeft}
 use Rattle.iox_lanes_machine.specs.Loans.{LoansLent}
@@ -11,6 +12,7 @@ use Rattle.iox_lanes_machine.specs.State.{world_of}
 use Rattle.iox_lanes_machine.specs.Alone.{UsedSlotsStay}
 use Rattle.iox_lanes_machine.proofs.Alone.{loans_alone, used_stay}
 use Rattle.iox_lanes_machine.proofs.Apart.{steps_apart}
+use Rattle.iox_lanes_machine.proofs.Fixed.{steps_fixed}
 use Rattle.iox_lanes_machine.proofs.Held.{reads_whole}
 use Rattle.iox_lanes_machine.proofs.Left.{stores_left}
 use Rattle.iox_lanes_machine.proofs.Loans.{loans_lent}
@@ -54,6 +56,12 @@ returns-clause-slots c =
     subst (λ (m : World). SlotsStay m c.args.party (world_of c.step.new.self)) (sym is)
     (slots_stay (world_of c.self.inside.state) c.args.party c.args.step.now c.step.result (world_of c.step.new.self) c.self.invariant.loans
     (steps_apart (world_of c.self.inside.state) c.args.party c.args.step.now c.step.result (world_of c.step.new.self) c.step.ensures c.self.invariant.within))
+
+pub returns-clause-fixed : goal.returns-clause-fixed
+returns-clause-fixed c =
+    let is : c.args.self.now ≡ world_of c.self.inside.state = cc c.self.view_is in
+    subst (λ (m : World). StaysFixed m (world_of c.step.new.self)) (sym is)
+    (steps_fixed (world_of c.self.inside.state) c.args.party c.args.step.now c.step.result (world_of c.step.new.self) c.step.ensures)
 
 pub returns-clause-loans : goal.returns-clause-loans
 returns-clause-loans c =

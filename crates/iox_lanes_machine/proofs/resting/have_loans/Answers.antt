@@ -1,10 +1,10 @@
 use Rattle.std.proofs.Common.{ℕ, ◌≡◌, ◌+◌, ◌≤◌, false, length, sym, subst}
 use Rattle.std.proofs.lemmas.List.{take_all}
 use Rattle.std.proofs.lemmas.List.Elements.{All-get_or, All-more, All-same}
-use Rattle.iox_lanes_machine.specs.LanesPublisher.Keeping.{loan_of}
-use Rattle.iox_lanes_machine.specs.LanesParties.Parties.{PublisherLaneState, is_out}
-use Rattle.iox_lanes_threads.proofs.Refusing.{free_beyond}
-use Rattle.iox_lanes_threads.proofs.opening.have_loans.Goals as goal
+use Rattle.iox_lanes_ledger.specs.LanesPublisher.Keeping.{loan_of}
+use Rattle.iox_lanes_ledger.specs.LanesParties.Parties.{PublisherLaneState, is_out}
+use Rattle.iox_lanes_machine.proofs.FreeSlots.{free_beyond}
+use Rattle.iox_lanes_machine.proofs.resting.have_loans.Goals as goal
 
 abbrev IsFree : PublisherLaneState → Type 0
 IsFree lane = (slot : ℕ) → is_out (loan_of slot lane.port.book) ≡ false

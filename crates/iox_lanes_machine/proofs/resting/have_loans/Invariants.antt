@@ -1,8 +1,8 @@
 use Rattle.std.proofs.Common.{ℕ, ◌≡◌, false, take}
 use Rattle.std.specs.List.{All}
-use Rattle.iox_lanes_machine.specs.LanesPublisher.Keeping.{loan_of}
-use Rattle.iox_lanes_machine.specs.LanesParties.Parties.{PublisherLaneState, is_out}
-use Rattle.iox_lanes_threads.proofs.opening.have_loans.Given as goal
+use Rattle.iox_lanes_ledger.specs.LanesPublisher.Keeping.{loan_of}
+use Rattle.iox_lanes_ledger.specs.LanesParties.Parties.{PublisherLaneState, is_out}
+use Rattle.iox_lanes_machine.proofs.resting.have_loans.Given as goal
 
 abbrev pub invariant-loop-lane : goal.invariant-loop-lane
 invariant-loop-lane l = All (λ (lane : PublisherLaneState). (slot : ℕ) → is_out (loan_of slot lane.port.book) ≡ false) (take l.lane-index l.lanes)

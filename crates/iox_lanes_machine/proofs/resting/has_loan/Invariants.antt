@@ -1,7 +1,7 @@
 use Rattle.std.proofs.Common.{ℕ, ◌≡◌, ◌<◌, false}
-use Rattle.iox_lanes_machine.specs.LanesPublisher.Keeping.{loan_of}
-use Rattle.iox_lanes_machine.specs.LanesParties.Parties.{is_out}
-use Rattle.iox_lanes_threads.proofs.opening.has_loan.Given as goal
+use Rattle.iox_lanes_ledger.specs.LanesPublisher.Keeping.{loan_of}
+use Rattle.iox_lanes_ledger.specs.LanesParties.Parties.{is_out}
+use Rattle.iox_lanes_machine.proofs.resting.has_loan.Given as goal
 
 abbrev pub invariant-loop-slot : goal.invariant-loop-slot
 invariant-loop-slot l = (slot : ℕ) → slot < l.slot → is_out (loan_of slot l.lane.port.book) ≡ false

@@ -1,0 +1,32 @@
+-- What no step changes: the connections, the sizes of the words, how many ports there are, and which slots each publisher has.
+use Rattle.std.specs.Prelude.{ℕ, ◌≡◌, length, slice_get, Option, option_map}
+use Rattle.iox_lanes_ledger.specs.LanesParties.Parties.{PublisherLaneState}
+use Rattle.iox_lanes_machine.specs.World.{World}
+
+-- of a publisher's slots: the number of the first, how many there are, how many may be lent at once, and how many its history may have
+pub record FixedSlots : Type 0 where
+  pub first : ℕ
+  pub slots : ℕ
+  pub most_loans : ℕ
+  pub kept : ℕ
+
+-- these numbers of a publisher
+abbrev pub fixed_slots : PublisherLaneState → FixedSlots
+fixed_slots lane = record {
+  first = lane.port.book.first;
+  slots = length lane.port.book.loans;
+  most_loans = lane.port.book.most_loans;
+  kept = lane.port.book.kept;
+}
+
+-- these numbers of the publisher at a place, if there is one
+abbrev pub slots_at : World → ℕ → Option FixedSlots
+slots_at m place = option_map fixed_slots (slice_get m.publishers place)
+
+-- the connections stay, as do the sizes of the words, these numbers of each publisher, and how many publishers and subscribers there are
+pub record StaysFixed (m n : World) : Type 0 where
+  pub links : n.links ≡ m.links
+  pub sizes : n.table.sizes ≡ m.table.sizes
+  pub publishers : (place : ℕ) → slots_at n place ≡ slots_at m place
+  pub publisher_count : length n.publishers ≡ length m.publishers
+  pub subscriber_count : length n.subscribers ≡ length m.subscribers

@@ -1,0 +1,115 @@
+//! Lanes whose parties stand between calls, and nothing of theirs out.
+ghost use Rattle.std.specs.Prelude.{◌≡◌, ◌<◌, ◌≤◌, ◌+◌, ℕ, true, false, IsTrue, ◌↔◌, length, IfSome, IfNone};
+ghost use Rattle.std.specs.List.{All};
+ghost use Rattle.iox_lanes_ledger.specs.LanesCalls.Publishing.{publisher_is_idle};
+ghost use Rattle.iox_lanes_ledger.specs.LanesCalls.Subscribing.{subscriber_is_idle};
+ghost use Rattle.iox_lanes_ledger.specs.LanesPublisher.Keeping.{loan_of};
+ghost use Rattle.iox_lanes_ledger.specs.LanesParties.Parties.{is_out, is_borrowed, place_of};
+ghost use Rattle.iox_lanes_machine.specs.Resting.{AllBetween, NoneOut, IsUnrest};
+
+use crate::lanes::Lanes;
+use iox_lanes_parties::{Call, Move, PublisherLane, SubscriberLane};
+
+/// Why lanes can't be handed on: what a party is at, or has.
+///
+/// This port's own.
+#[derive(Clone, Copy, Debug, PartialEq, Eq)]
+pub enum Unrest {
+    /// A publisher or a subscriber is inside a call.
+    PartyInCall,
+    /// None is, and a loan is out, or a sample.
+    SamplesOut,
+}
+
+// No publisher of these is inside a call.
+fn are_publishers_between(lanes: &[PublisherLane]) -> bool
+    ensures { IsTrue result ↔ All (λ lane. publisher_is_idle lane.port.call ≡ true) lanes.now }
+{
+    lanes.iter().all(|lane| !lane.fits(&Move::GoOn))
+}
+
+// No subscriber of these is inside a call.
+fn are_subscribers_between(lanes: &[SubscriberLane]) -> bool
+    ensures { IsTrue result ↔ All (λ lane. subscriber_is_idle lane.port.call ≡ true) lanes.now }
+{
+    lanes.iter().all(|lane| !lane.fits(&Move::GoOn))
+}
+
+// Whether the publisher has a loan out, of one of so many slots.
+fn has_loan(lane: &PublisherLane, slots: u64) -> bool
+    requires { publisher_is_idle lane.now.port.call ≡ true }
+    ensures none { result ≡ false → (slot : ℕ) → slot < slots → is_out (loan_of slot lane.now.port.book) ≡ false }
+    ensures some { result ≡ true → (slot : ℕ) × (is_out (loan_of slot lane.now.port.book) ≡ true) }
+{
+    for slot in 0..slots {
+        if lane.fits(&Move::Begin(Call::DropLoan { loan: slot })) {
+            return true;
+        }
+    }
+    false
+}
+
+// Whether the subscriber has a sample out, of one of so many slots.
+fn has_sample(lane: &SubscriberLane, slots: u64) -> bool
+    requires { subscriber_is_idle lane.now.port.call ≡ true }
+    ensures none { result ≡ false → (slot : ℕ) → slot < slots → is_borrowed (place_of slot lane.now) ≡ false }
+    ensures some { result ≡ true → (slot : ℕ) × (is_borrowed (place_of slot lane.now) ≡ true) }
+{
+    for slot in 0..slots {
+        if lane.fits(&Move::Begin(Call::Read { sample: slot })) {
+            return true;
+        }
+    }
+    false
+}
+
+// Whether one of the publishers has a loan out.
+fn have_loans(lanes: &[PublisherLane], slots: u64) -> bool
+    requires between { All (λ lane. publisher_is_idle lane.port.call ≡ true) lanes.now }
+    requires slots { All (λ lane. lane.port.book.first + length lane.port.book.loans ≤ slots) lanes.now }
+    ensures none { result ≡ false → All (λ lane. (slot : ℕ) → is_out (loan_of slot lane.port.book) ≡ false) lanes.now }
+    ensures some { result ≡ true → All (λ lane. (slot : ℕ) → is_out (loan_of slot lane.port.book) ≡ false) lanes.now → ⊥ }
+{
+    for lane in lanes {
+        if has_loan(lane, slots) {
+            return true;
+        }
+    }
+    false
+}
+
+// Whether one of the subscribers has a sample out.
+fn have_samples(lanes: &[SubscriberLane], slots: u64) -> bool
+    requires between { All (λ lane. subscriber_is_idle lane.port.call ≡ true) lanes.now }
+    requires slots { All (λ lane. length lane.port.samples ≤ slots) lanes.now }
+    ensures none { result ≡ false → All (λ lane. (slot : ℕ) → is_borrowed (place_of slot lane) ≡ false) lanes.now }
+    ensures some { result ≡ true → All (λ lane. (slot : ℕ) → is_borrowed (place_of slot lane) ≡ false) lanes.now → ⊥ }
+{
+    for lane in lanes {
+        if has_sample(lane, slots) {
+            return true;
+        }
+    }
+    false
+}
+
+impl Lanes {
+    /// Why these lanes can't be handed on, where they can't: a party is inside a call, or none is and a loan or a sample is out. None where all parties stand
+    /// between calls and nothing is out.
+    pub fn unrest(&self) -> Option<Unrest>
+        ensures some { IfSome result (λ unrest. IsUnrest unrest self.now) }
+        ensures none { IfNone result (AllBetween self.now × NoneOut self.now) }
+    {
+        let slots = self.table().sizes().slots;
+        self.are_of_one_service();
+        if !are_publishers_between(self.publishers())
+            || !are_subscribers_between(self.subscribers())
+        {
+            return Some(Unrest::PartyInCall);
+        }
+        if have_loans(self.publishers(), slots) || have_samples(self.subscribers(), slots) {
+            return Some(Unrest::SamplesOut);
+        }
+        None
+    }
+}
