@@ -1,3 +1,6 @@
 mod Laying
 mod Listing
 mod Following
+mod PortsLeft
+mod Numbers
+mod JoinedLanes

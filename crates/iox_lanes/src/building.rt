@@ -18,7 +18,7 @@ use std::alloc::{AllocError, Global};
 pub(crate) fn build<T: Words, U: Words>(
     alloc: Global,
     domain: &Domain<T, U>,
-) -> Result<Opened, AllocError>
+) -> Result<Opened<T>, AllocError>
     ensures publishers { IfOk result (λ opened. opened.publishers.items ≡ numbers_of (λ entry. entry.publisher) domain.now.ports.publisher_list.places) }
     ensures subscribers { IfOk result (λ opened. opened.subscribers.items ≡ numbers_of (λ entry. entry.subscriber) domain.now.ports.subscriber_list.places) }
 {
@@ -42,11 +42,14 @@ pub(crate) fn build<T: Words, U: Words>(
         &mut connections,
     )?;
     find_orders(&mut lanes, domain, &publishers, &subscribers)?;
+    let mut one = Vec::new(alloc);
+    one.push(domain.blank)?;
     Ok(Opened {
         lanes,
         publishers,
         subscribers,
         connections,
+        one,
     })
 }
 

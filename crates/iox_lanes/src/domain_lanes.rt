@@ -1,11 +1,13 @@
 //! Lanes with the domain that they came from.
-ghost use Rattle.std.specs.Prelude.{◌≡◌, IfSome, IfOk, IfErr, OnOk, None};
+ghost use Rattle.std.specs.Prelude.{◌≡◌, length, IfSome, IfOk, IfErr, OnOk, None};
 ghost use Rattle.iox_lanes_refusals.specs.Refusals.{first_reason};
 ghost use Rattle.iox_lanes.specs.Opening.{told_of};
 ghost use Rattle.iox_lanes.specs.Holding.{LanesHold};
+ghost use Rattle.iox_lanes.specs.Joined.{IsJoined};
 
 use crate::building::build;
 use crate::holding::hold;
+use crate::joining::joins;
 use iox_domain::Domain;
 use iox_lanes_machine::Lanes;
 use iox_lanes_refusals::{IntoLanesError, refusal};
@@ -27,6 +29,8 @@ pub struct DomainLanes<T, U> {
     pub subscribers: Vec<u64>,
     /// For each connection of the lanes its index at the publisher in the domain.
     pub connections: Vec<usize>,
+    /// One value, in whose place each goes once that comes back into the domain.
+    pub one: Vec<T>,
 }
 
 /// A domain that didn't become lanes, as it was, and why.
@@ -40,11 +44,12 @@ pub struct Refused<T, U> {
 
 /// What lanes are made of.
 #[derive(Drop)]
-pub(crate) struct Opened {
+pub(crate) struct Opened<T> {
     pub(crate) lanes: Lanes,
     pub(crate) publishers: Vec<u64>,
     pub(crate) subscribers: Vec<u64>,
     pub(crate) connections: Vec<usize>,
+    pub(crate) one: Vec<T>,
 }
 
 /// The lanes of a domain: each publisher and subscriber that it lists, in the order of their places, with the buffer of each connection, the slots, loans and
@@ -57,6 +62,7 @@ pub fn into_lanes<T: Words, U: Words>(
 ) -> Result<DomainLanes<T, U>, Refused<T, U>>
     ensures lanes { IfOk result (λ opened. LanesHold T.parts U.parts T.WORDS U.WORDS domain opened.lanes opened.publishers.items opened.subscribers.items opened.connections.items) }
     ensures domain { IfOk result (λ opened. opened.domain ≡ domain) }
+    ensures joined { IfOk result (λ opened. IsJoined T.WORDS U.WORDS (length opened.one.items) opened.lanes domain.ports.publishers opened.publishers.items (length opened.subscribers.items) opened.connections.items) }
     ensures none { OnOk result (first_reason domain ≡ None) }
     ensures told { IfErr result (λ refused. refused.error ≡ told_of (first_reason domain)) }
     ensures same { IfErr result (λ refused. refused.domain ≡ domain) }
@@ -74,8 +80,8 @@ pub fn into_lanes<T: Words, U: Words>(
 }
 
 // The lanes beside their domain.
-fn with<T, U>(opened: Opened, domain: Domain<T, U>) -> DomainLanes<T, U>
-    ensures { result ≡ record { lanes = opened.lanes; domain = domain; publishers = opened.publishers; subscribers = opened.subscribers; connections = opened.connections } }
+fn with<T, U>(opened: Opened<T>, domain: Domain<T, U>) -> DomainLanes<T, U>
+    ensures { result ≡ record { lanes = opened.lanes; domain = domain; publishers = opened.publishers; subscribers = opened.subscribers; connections = opened.connections; one = opened.one } }
 {
     DomainLanes {
         lanes: opened.lanes,
@@ -83,16 +89,18 @@ fn with<T, U>(opened: Opened, domain: Domain<T, U>) -> DomainLanes<T, U>
         publishers: opened.publishers,
         subscribers: opened.subscribers,
         connections: opened.connections,
+        one: opened.one,
     }
 }
 
 // The lanes of a domain, if memory is found for them.
-fn open<T: Words, U: Words>(alloc: Global, domain: &Domain<T, U>) -> Option<Opened>
-    ensures { IfSome result (λ opened. LanesHold T.parts U.parts T.WORDS U.WORDS domain.now opened.lanes opened.publishers.items opened.subscribers.items opened.connections.items) }
+fn open<T: Words, U: Words>(alloc: Global, domain: &Domain<T, U>) -> Option<Opened<T>>
+    ensures joined { IfSome result (λ opened. IsJoined T.WORDS U.WORDS (length opened.one.items) opened.lanes domain.now.ports.publishers opened.publishers.items (length opened.subscribers.items) opened.connections.items) }
+    ensures holds { IfSome result (λ opened. LanesHold T.parts U.parts T.WORDS U.WORDS domain.now opened.lanes opened.publishers.items opened.subscribers.items opened.connections.items) }
 {
     match build(alloc, domain) {
         Ok(opened) => {
-            if hold(domain, &opened) {
+            if hold(domain, &opened) && joins(domain, &opened) {
                 Some(opened)
             } else {
                 None

@@ -11,7 +11,7 @@ use iox_domain::Domain;
 use iox_queues_base::Words;
 
 /// Whether lanes hold what a domain has, whose listed ports have these numbers.
-pub(crate) fn hold<T: Words, U: Words>(domain: &Domain<T, U>, opened: &Opened) -> bool
+pub(crate) fn hold<T: Words, U: Words>(domain: &Domain<T, U>, opened: &Opened<T>) -> bool
     requires publishers { opened.now.publishers.items ≡ numbers_of (λ entry. entry.publisher) domain.now.ports.publisher_list.places }
     requires subscribers { opened.now.subscribers.items ≡ numbers_of (λ entry. entry.subscriber) domain.now.ports.subscriber_list.places }
     ensures { OnTrue result (LanesHold T.parts U.parts T.WORDS U.WORDS domain.now opened.now.lanes opened.now.publishers.items opened.now.subscribers.items opened.now.connections.items) }
@@ -32,7 +32,7 @@ pub(crate) fn hold<T: Words, U: Words>(domain: &Domain<T, U>, opened: &Opened) -
 }
 
 // Whether nothing was done yet, and there are as many ports and words as there are to be.
-fn are_sized<T: Words, U: Words>(opened: &Opened) -> bool
+fn are_sized<T: Words, U: Words>(opened: &Opened<T>) -> bool
     ensures moments { OnTrue result (opened.now.lanes.moments ≡ 0) }
     ensures payload { OnTrue result (opened.now.lanes.table.sizes.payload_words ≡ T.WORDS) }
     ensures user_header { OnTrue result (opened.now.lanes.table.sizes.user_header_words ≡ U.WORDS) }
@@ -75,7 +75,7 @@ fn is_product(one: usize, other: usize, product: usize) -> bool
     }
 }
 
-fn senders_hold<T: Words, U: Words>(domain: &Domain<T, U>, opened: &Opened) -> bool
+fn senders_hold<T: Words, U: Words>(domain: &Domain<T, U>, opened: &Opened<T>) -> bool
     ensures { OnTrue result ((place : ℕ) → place < length opened.now.publishers.items → SenderHolds T.parts U.parts domain.now opened.now.lanes opened.now.publishers.items place) }
 {
     for place in 0..opened.publishers.len() {
@@ -86,7 +86,7 @@ fn senders_hold<T: Words, U: Words>(domain: &Domain<T, U>, opened: &Opened) -> b
     true
 }
 
-fn links_hold<T: Words, U: Words>(domain: &Domain<T, U>, opened: &Opened) -> bool
+fn links_hold<T: Words, U: Words>(domain: &Domain<T, U>, opened: &Opened<T>) -> bool
     ensures { OnTrue result ((publisher : ℕ) → publisher < length opened.now.publishers.items → (subscriber : ℕ) → subscriber < length opened.now.subscribers.items
         → LinkHolds T.parts U.parts domain.now opened.now.lanes opened.now.publishers.items opened.now.subscribers.items opened.now.connections.items publisher subscriber) }
 {
@@ -100,7 +100,7 @@ fn links_hold<T: Words, U: Words>(domain: &Domain<T, U>, opened: &Opened) -> boo
 
 fn links_of_hold<T: Words, U: Words>(
     domain: &Domain<T, U>,
-    opened: &Opened,
+    opened: &Opened<T>,
     publisher: usize,
 ) -> bool
     ensures { OnTrue result ((subscriber : ℕ) → subscriber < length opened.now.subscribers.items
@@ -114,7 +114,7 @@ fn links_of_hold<T: Words, U: Words>(
     true
 }
 
-fn readers_hold<T: Words, U: Words>(domain: &Domain<T, U>, opened: &Opened) -> bool
+fn readers_hold<T: Words, U: Words>(domain: &Domain<T, U>, opened: &Opened<T>) -> bool
     ensures { OnTrue result ((place : ℕ) → place < length opened.now.subscribers.items → ReaderHolds domain.now opened.now.lanes opened.now.publishers.items opened.now.subscribers.items place) }
 {
     for place in 0..opened.subscribers.len() {

@@ -6,12 +6,19 @@
 //! - `lying`: whether a message of the domain lies in a slot of the lanes.
 //! - `sending`, `linking`, `receiving`: whether publishers, connections and subscribers of the lanes are those of the domain.
 //! - `holding`: whether lanes hold what the domain has.
+//! - `joining`: whether they go with it, whatever steps they make.
+//! - [`returning`]: the domain that lanes leave.
+//! - [`into_domain_error`]: why lanes don't become a domain.
+//! - [`laws`]: what holds of lanes and of the domain beside them.
 //!
 //! First calls. Tests in `iox_lanes_opening_rows` make them.
 //!
 //! ```
 //! match into_lanes(alloc, domain) {
-//!     Ok(mut opened) => opened.lanes.run(&schedule),
+//!     Ok(mut opened) => {
+//!         opened.lanes.run(&schedule);
+//!         let domain = opened.into_domain();
+//!     }
 //!     Err(refused) => return Err(refused.error),
 //! }
 //! ```
@@ -20,11 +27,17 @@
 mod building;
 pub mod domain_lanes;
 mod holding;
+pub mod into_domain_error;
+mod joining;
+pub mod laws;
 mod linking;
 mod listed;
 mod lying;
 mod receiving;
+pub mod returning;
 mod sending;
 
 pub use domain_lanes::{DomainLanes, Refused, into_lanes};
+pub use into_domain_error::IntoDomainError;
 pub use iox_lanes_refusals::IntoLanesError;
+pub use returning::StillLanes;

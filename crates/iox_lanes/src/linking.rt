@@ -35,7 +35,7 @@ pub(crate) fn subscriber_at<'a, T: Words, U: Words>(
 /// Whether the connection of the lanes between a publisher and a subscriber is that of the domain.
 pub(crate) fn link_holds<T: Words, U: Words>(
     domain: &Domain<T, U>,
-    opened: &Opened,
+    opened: &Opened<T>,
     publisher: usize,
     subscriber: usize,
 ) -> bool
@@ -57,8 +57,8 @@ pub(crate) fn link_holds<T: Words, U: Words>(
     }
 }
 
-// The number of a connection.
-fn number_of(publisher: usize, subscribers: usize, subscriber: usize) -> Option<usize>
+/// The number of a connection.
+pub(crate) fn number_of(publisher: usize, subscribers: usize, subscriber: usize) -> Option<usize>
     ensures { IfSome result (λ number. number ≡ publisher * subscribers + subscriber) }
 {
     publisher.checked_mul(subscribers)?.checked_add(subscriber)
@@ -121,7 +121,8 @@ fn is_link_of<T: Words, U: Words>(
     true
 }
 
-fn leads_from(link: &Link, publisher: usize) -> bool
+/// Whether a link leads from the publisher at this place.
+pub(crate) fn leads_from(link: &Link, publisher: usize) -> bool
     ensures { OnTrue result (link.now.publisher ≡ publisher) }
 {
     link.publisher() == publisher as u64

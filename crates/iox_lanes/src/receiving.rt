@@ -16,7 +16,7 @@ use iox_queues_base::Words;
 /// Whether the subscriber at a place of the lanes goes over its connections in the order of the keys of that of the domain.
 pub(crate) fn reader_holds<T: Words, U: Words>(
     domain: &Domain<T, U>,
-    opened: &Opened,
+    opened: &Opened<T>,
     place: usize,
 ) -> bool
     ensures { OnTrue result (ReaderHolds domain.now opened.now.lanes opened.now.publishers.items opened.now.subscribers.items place) }

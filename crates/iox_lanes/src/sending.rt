@@ -29,7 +29,7 @@ pub(crate) fn publisher_at<'a, T: Words, U: Words>(
 /// Whether the publisher at a place of the lanes is that of the domain.
 pub(crate) fn sender_holds<T: Words, U: Words>(
     domain: &Domain<T, U>,
-    opened: &Opened,
+    opened: &Opened<T>,
     place: usize,
 ) -> bool
     ensures { OnTrue result (SenderHolds T.parts U.parts domain.now opened.now.lanes opened.now.publishers.items place) }

@@ -1,12 +1,12 @@
 -- The messages that lanes leave.
-use Rattle.std.proofs.Common.{rules, arith, ◌≡◌, ◌-◌, ◌<◌, ◌∷◌, [], ◌++◌, ℕ, zero, suc, Bool, true, false, nat_lt, if◌then◌else◌, List, length, get_or, set, drop, refl, sym, subst, ap, ◌∙◌}
+use Rattle.std.proofs.Common.{◌≡◌, ◌-◌, ◌∷◌, [], ◌++◌, ℕ, zero, suc, Bool, true, false, nat_lt, if◌then◌else◌, List, length, get_or, refl, ap, ◌∙◌}
 use Rattle.std.specs.List.{All, list_any}
 use Rattle.std.proofs.Math.Dec.{eqb}
 use Rattle.std.proofs.lemmas.List.Elements.{All-nil, All-cons, All-head, All-tail, All-set, All-drop, All-push}
 use Rattle.iox_domain_sender.specs.DomainSlots.QueuesBase.Waiting.{put, put_over}
 use Rattle.iox_domain_sender.specs.DomainSlots.Uses.{Uses, Connection, nobody, connection_at, with_connection, offered, newest}
 use Rattle.iox_domain_sender.specs.Messages.{Message, Loan}
-use Rattle.iox_domain_sender.specs.Sending.{IsIfInSlot, StandsAlone, has_loan}
+use Rattle.iox_domain_sender.specs.Sending.{IsIfInSlot, StandsAlone}
 use Rattle.iox_lanes_machine.specs.LanesWords.Table.{TableWords}
 use Rattle.iox_lanes_leaving.specs.Leaving.{message_in}
 use Rattle.iox_lanes_leaving.specs.Restoring.{IsLeft, AreLeft}

@@ -5,3 +5,4 @@ pub mod Left
 pub mod Waits
 pub mod Returning
 pub mod Remembering
+pub mod Filling

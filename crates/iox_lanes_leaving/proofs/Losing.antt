@@ -1,11 +1,10 @@
 -- A publisher that goes over its connections.
-use Rattle.std.proofs.Common.{arith, ◌≡◌, ◌≢◌, ◌+◌, ◌<◌, ◌≤◌, ℕ, List, [], length, get_or, set, refl, sym, subst, ap, inl, inr, ◌∙◌}
+use Rattle.std.proofs.Common.{arith, ◌≡◌, ◌≢◌, ◌+◌, ◌<◌, ◌≤◌, ℕ, [], length, get_or, set, sym, subst, ap, inl, inr, ◌∙◌}
 use Rattle.std.proofs.Math.Logic.{⊎_elim}
-use Rattle.std.proofs.Math.Dec.{eqb}
 use Rattle.std.proofs.lemmas.Bool.{cases_lt}
 use Rattle.std.proofs.lemmas.Bool.Decides.{eqb_tells}
 use Rattle.std.proofs.lemmas.List.{get_or_past, get_or-set_same, get_or-set_other, length-set}
-use Rattle.iox_domain_sender.specs.DomainSlots.Uses.{Uses, Connection, nobody, connection_at, with_connection, emptied}
+use Rattle.iox_domain_sender.specs.DomainSlots.Uses.{Uses, nobody, connection_at, with_connection, emptied}
 use Rattle.iox_domain_sender.specs.Sending.{SenderState, with_uses}
 use Rattle.iox_lanes_leaving.specs.Clearing.{NoneBorrowed}
 

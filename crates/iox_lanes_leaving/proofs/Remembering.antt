@@ -1,9 +1,8 @@
 -- The history comes back, one message after the other.
-use Rattle.std.proofs.Common.{arith, ◌≡◌, ◌+◌, ◌-◌, ◌<◌, ◌≤◌, ◌∷◌, [], ◌++◌, ℕ, List, length, length-append, map, take, drop, get_or, slice_get, Some, refl, sym, subst, ap, ◌∙◌}
+use Rattle.std.proofs.Common.{arith, ◌≡◌, ◌+◌, ◌-◌, ◌<◌, ◌≤◌, ◌∷◌, [], ◌++◌, ℕ, List, length, length-append, map, take, drop, get_or, slice_get, Some, sym, ap, ◌∙◌}
 use Rattle.std.proofs.lemmas.List.{map-append, length-map, length-take-le, take_more}
 use Rattle.std.proofs.lemmas.Option.{get_or_from_slice_get, slice_get-get_or}
-use Rattle.iox_domain_sender.specs.DomainSlots.Uses.{Uses, newest}
-use Rattle.iox_domain_sender.specs.Messages.{Message, Loan}
+use Rattle.iox_domain_sender.specs.DomainSlots.Uses.{newest}
 use Rattle.iox_domain_sender.specs.Sending.{SenderState, with_uses}
 use Rattle.iox_lanes_machine.specs.LanesWords.Table.{TableWords}
 use Rattle.iox_lanes_leaving.specs.Leaving.{message_in}

@@ -1,11 +1,11 @@
 -- Messages come back to a connection, one after the other.
-use Rattle.std.proofs.Common.{rules, arith, ◌≡◌, ◌+◌, ◌-◌, ◌<◌, ◌≤◌, ◌∷◌, [], ◌++◌, ℕ, zero, suc, Bool, true, false, nat_lt, if◌then◌else◌, List, length, map, take, get_or, set, slice_get, Some, refl, sym, subst, ap, ◌∙◌}
-use Rattle.std.proofs.lemmas.List.{get_or-set_same, map-append, length-map, length-take-le, take_more, length-set}
+use Rattle.std.proofs.Common.{rules, arith, ◌≡◌, ◌+◌, ◌-◌, ◌<◌, ◌∷◌, [], ◌++◌, ℕ, zero, suc, Bool, true, false, nat_lt, if◌then◌else◌, List, length, map, take, get_or, slice_get, Some, refl, sym, ap, ◌∙◌}
+use Rattle.std.proofs.lemmas.List.{get_or-set_same, map-append, length-map, length-take-le, take_more}
 use Rattle.std.proofs.lemmas.Option.{get_or_from_slice_get}
 use Rattle.iox_domain_sender.specs.DomainSlots.QueuesBase.Waiting.{put, put_over}
 use Rattle.iox_domain_sender.specs.DomainSlots.declared.stage.Stage.TheVariants as stage
-use Rattle.iox_domain_sender.specs.DomainSlots.Uses.{Uses, Connection, nobody, connection_at, with_connection, offered}
-use Rattle.iox_domain_sender.specs.Messages.{Message, Loan}
+use Rattle.iox_domain_sender.specs.DomainSlots.Uses.{Connection, nobody, connection_at, with_connection, offered}
+use Rattle.iox_domain_sender.specs.Messages.{Message}
 use Rattle.iox_domain_sender.specs.Sending.{SenderState, with_uses}
 use Rattle.iox_lanes_machine.specs.LanesWords.Table.{TableWords}
 use Rattle.iox_lanes_machine.specs.Resting.{Rests, mail_at}
@@ -20,7 +20,7 @@ room_for : {X : Type 0} (overflows : Bool) (limit : ℕ) (waiting : List X) (mes
 room_for true limit waiting message below = let fits : nat_lt (length waiting) limit ≡ true = grind (arith, below) in rw fits refl
 room_for false limit waiting message below = let fits : nat_lt (length waiting) limit ≡ true = grind (arith, below) in rw fits refl
 
-within : {X : Type 0} (connections : List (Connection X)) (i : ℕ) → (get_or connections i nobody).stage ≡ stage.Live → i < length connections
+pub within : {X : Type 0} (connections : List (Connection X)) (i : ℕ) → (get_or connections i nobody).stage ≡ stage.Live → i < length connections
 within [] i on = search (rules, on)
 within (x ∷ xs) zero on = omega arith
 within (x ∷ xs) (suc i) on = omega (arith, within xs i on)

@@ -1,11 +1,10 @@
 -- What waits at a connection while messages come back to it.
-use Rattle.std.proofs.Common.{arith, ◌≡◌, ◌+◌, ◌-◌, ◌<◌, ◌≤◌, ◌∷◌, [], ◌++◌, ℕ, zero, suc, rules, Bool, true, false, List, length, map, take, get_or, set, slice_get, Some, refl, sym, subst, ap, inl, inr, ◌∙◌}
+use Rattle.std.proofs.Common.{arith, ◌≡◌, ◌<◌, ◌≤◌, ◌∷◌, [], ℕ, zero, suc, rules, Bool, List, length, get_or, set, refl, sym, subst, ap, inl, inr, ◌∙◌}
 use Rattle.std.proofs.lemmas.Bool.{cases_lt}
-use Rattle.std.proofs.lemmas.List.{get_or_past, get_or-set_same, set-get_or, map-append, length-map, length-take-le}
-use Rattle.std.proofs.lemmas.Option.{slice_get-get_or}
+use Rattle.std.proofs.lemmas.List.{get_or-set_same, set-get_or}
 use Rattle.iox_domain_sender.specs.DomainSlots.declared.stage.Stage.TheVariants as stage
-use Rattle.iox_domain_sender.specs.DomainSlots.Uses.{Uses, Connection, nobody, connection_at, with_connection, offered}
-use Rattle.iox_domain_sender.specs.Messages.{Message, Loan}
+use Rattle.iox_domain_sender.specs.DomainSlots.Uses.{Connection, nobody, connection_at, with_connection, offered}
+use Rattle.iox_domain_sender.specs.Messages.{Message}
 use Rattle.iox_domain_sender.specs.Sending.{SenderState, with_uses}
 use Rattle.iox_lanes_leaving.specs.Restoring.{OnlyWaits}
 

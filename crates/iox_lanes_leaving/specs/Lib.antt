@@ -2,4 +2,5 @@
 pub mod Leaving
 pub mod Clearing
 pub mod Restoring
+pub mod Restored
 pub use Rattle.iox_domain_sender.specs as DomainSender

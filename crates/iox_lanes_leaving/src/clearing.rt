@@ -4,29 +4,47 @@ ghost use Rattle.std.specs.Bool.{OnTrue};
 ghost use Rattle.iox_domain_sender.specs.Sending.{with_uses};
 ghost use Rattle.iox_domain_sender.specs.DomainSlots.Uses.{connection_at, with_connection, emptied};
 ghost use Rattle.iox_lanes_leaving.specs.Clearing.{NoneBorrowed, IsCleared};
+ghost use Rattle.iox_lanes_leaving.specs.Restored.{IsRested};
+ghost use Rattle.iox_lanes_leaving.specs.Restoring.{IsQuiet};
 
 use iox_domain_sender::Sender;
 use iox_domain_slots::Stage;
 
-/// A publisher of whose connections nothing is borrowed forgets what waits at them, and its history. Answers false where something is borrowed; then
-/// nothing has changed.
-pub fn clear<T: Copy, U: Copy>(sender: &mut Sender<T, U>) -> bool
-    ensures same { result ≡ false → sender.new ≡ sender.old }
-    ensures rest { sender.new ≡ with_uses sender.new.uses sender.old }
-    ensures cleared { OnTrue result (IsCleared sender.old.uses sender.new.uses) }
-    ensures none { OnTrue result (NoneBorrowed sender.new.uses) }
+/// Whether nothing of a publisher is out: it sends nothing, lends nothing, and nothing is borrowed of its connections; and whether it has room for a value in each slot.
+pub fn is_rested<T: Copy, U: Copy>(sender: &Sender<T, U>) -> bool
+    ensures rested { OnTrue result (IsRested sender.now) }
+    ensures not { result ≡ false → IsRested sender.now → ⊥ }
 {
+    if !is_quiet(sender) {
+        return false;
+    }
     if !is_none_borrowed(sender) {
         return false;
     }
+    true
+}
+
+// Whether a publisher sends nothing and lends nothing, and has room for a value in each slot.
+fn is_quiet<T: Copy, U: Copy>(sender: &Sender<T, U>) -> bool
+    ensures quiet { OnTrue result (IsQuiet sender.now) }
+    ensures not { result ≡ false → IsQuiet sender.now → ⊥ }
+{
+    !sender.is_sending() && sender.loans() == 0 && sender.room() >= 1
+}
+
+/// A publisher forgets what waits at its connections, and its history. What is borrowed stays in use.
+pub fn forget_messages<T: Copy, U: Copy>(sender: &mut Sender<T, U>)
+    ensures rest { sender.new ≡ with_uses sender.new.uses sender.old }
+    ensures cleared { IsCleared sender.old.uses sender.new.uses }
+{
     sender.forget_history();
     lose_waiting(sender);
-    true
 }
 
 // Whether nothing is borrowed of the connection of an index.
 fn lends_nothing<T: Copy, U: Copy>(sender: &Sender<T, U>, index: usize) -> bool
-    ensures { OnTrue result ((connection_at index sender.now.uses).borrowed ≡ []) }
+    ensures none { OnTrue result ((connection_at index sender.now.uses).borrowed ≡ []) }
+    ensures some { result ≡ false → (connection_at index sender.now.uses).borrowed ≡ [] → ⊥ }
 {
     match sender.stage(index) {
         Stage::Vacant => true,
@@ -36,7 +54,8 @@ fn lends_nothing<T: Copy, U: Copy>(sender: &Sender<T, U>, index: usize) -> bool
 
 // Whether nothing is borrowed of any connection.
 fn is_none_borrowed<T: Copy, U: Copy>(sender: &Sender<T, U>) -> bool
-    ensures { OnTrue result (NoneBorrowed sender.now.uses) }
+    ensures none { OnTrue result (NoneBorrowed sender.now.uses) }
+    ensures some { result ≡ false → NoneBorrowed sender.now.uses → ⊥ }
 {
     for index in 0..sender.indices() {
         if !lends_nothing(sender, index) {

@@ -2,19 +2,20 @@
 //!
 //! - [`words`]: a message out of the words of a slot.
 //! - [`clearing`]: a publisher of a domain forgets its messages.
-//! - [`restoring`]: it gets those that the lanes leave.
+//! - [`restoring`]: it gets those that the lanes leave at a connection, and those of a history.
+//! - [`restored`]: it gets all of them.
 //!
 //! First calls. `into_domain` of `iox_lanes` makes them.
 //!
 //! ```
-//! if clear(&mut port.sender) {
-//!     put(table, first, slot, index, &mut port.sender);
-//! }
+//! let came_back = restore(&lanes, from, &indices, first, history, &mut port.sender, &mut one);
 //! ```
 #![tactic(auto)]
 
 pub mod clearing;
+pub mod restored;
 pub mod restoring;
 pub mod words;
 
-pub use clearing::clear;
+pub use clearing::{forget_messages, is_rested};
+pub use restored::restore;

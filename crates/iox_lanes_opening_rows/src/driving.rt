@@ -9,7 +9,7 @@ use iox_domain_values::{
     AllocationStrategy, BackpressureStrategy, DegradationAction, DegradationHandler, Handlers,
     PortOwner, PreallocatedSamplesOverride,
 };
-use iox_lanes::{DomainLanes, IntoLanesError, into_lanes};
+use iox_lanes::{DomainLanes, IntoDomainError, IntoLanesError, into_lanes};
 use iox_lanes_calls::{Delivery, Receipt};
 use iox_lanes_machine::Lanes;
 use iox_lanes_parties::{Answer, Call, Move, Party};
@@ -58,6 +58,8 @@ pub(crate) enum Lane {
     Keeps(usize, usize),
     /// So many messages waited at a connection, of so many that may.
     Waited(usize, usize, u64),
+    /// A subscriber begins to receive, and doesn't go on.
+    Begins(usize),
 }
 
 const OWNER: PortOwner = PortOwner {
@@ -256,6 +258,9 @@ fn runs(alloc: Global, opened: &mut DomainLanes<u64, u8>, step: &Lane) -> Result
         Lane::Lends(place, count, last) => lends(lanes, place, count, last),
         Lane::Keeps(place, count) => keeps(lanes, place, count),
         Lane::Waited(connection, count, limit) => waited(lanes, connection, count, limit),
+        Lane::Begins(place) => {
+            lanes.step(Party::Subscriber(place), &Move::Begin(Call::Receive)) == Stepped::Went
+        }
     })
 }
 
@@ -279,16 +284,74 @@ pub(crate) fn go(
     steps: &[Step],
     lanes: &[Lane],
 ) -> Result<(), Fail> {
-    let Some(mut domain) = make(alloc, service) else {
+    let Some(mut opened) = open(rt, alloc, service, steps) else {
         assert!(rt; false);
         return Ok(());
     };
-    go_on(rt, alloc, &mut domain, steps);
-    match into_lanes(alloc, domain) {
-        Ok(mut opened) => run_on(rt, alloc, &mut opened, lanes)?,
-        Err(_) => assert!(rt; false, "refused"),
+    run_on(rt, alloc, &mut opened, lanes)?;
+    Ok(())
+}
+
+/// The domain of a service goes so, becomes lanes, these go so and become a domain again, and it goes so.
+pub(crate) fn come_back(
+    rt: &impl Abort,
+    alloc: Global,
+    service: &Service,
+    steps: &[Step],
+    lanes: &[Lane],
+    after: &[Step],
+) -> Result<(), Fail> {
+    let Some(mut opened) = open(rt, alloc, service, steps) else {
+        assert!(rt; false);
+        return Ok(());
+    };
+    run_on(rt, alloc, &mut opened, lanes)?;
+    match opened.into_domain() {
+        Ok(domain) => {
+            let mut domain = domain;
+            go_on(rt, alloc, &mut domain, after);
+        }
+        Err(_) => assert!(rt; false, "still lanes"),
     }
     Ok(())
+}
+
+/// The domain of a service goes so, becomes lanes, these go so, don't become a domain for this reason, and go on so.
+pub(crate) fn stay_lanes(
+    rt: &impl Abort,
+    alloc: Global,
+    service: &Service,
+    steps: &[Step],
+    lanes: &[Lane],
+    reason: IntoDomainError,
+    after: &[Lane],
+) -> Result<(), Fail> {
+    let Some(mut opened) = open(rt, alloc, service, steps) else {
+        assert!(rt; false);
+        return Ok(());
+    };
+    run_on(rt, alloc, &mut opened, lanes)?;
+    match opened.into_domain() {
+        Ok(_) => assert!(rt; false, "a domain"),
+        Err(still) => {
+            let mut opened = still.lanes;
+            assert!(rt; still.error == reason);
+            run_on(rt, alloc, &mut opened, after)?;
+        }
+    }
+    Ok(())
+}
+
+// The lanes of a domain that goes so.
+fn open(
+    rt: &impl Abort,
+    alloc: Global,
+    service: &Service,
+    steps: &[Step],
+) -> Option<DomainLanes<u64, u8>> {
+    let mut domain = make(alloc, service)?;
+    go_on(rt, alloc, &mut domain, steps);
+    into_lanes(alloc, domain).ok()
 }
 
 /// The domain of a service goes so, doesn't become lanes for this reason, and goes on so.

@@ -4,26 +4,26 @@ use iox_lanes::IntoLanesError;
 use iox_lanes_publisher::LoanAnswer;
 use std::test::Fail;
 
-const OVERFLOWING: Service = Service {
+pub(crate) const OVERFLOWING: Service = Service {
     overflow: true,
     buffer: 3,
     history: 0,
 };
 
-const REFUSING: Service = Service {
+pub(crate) const REFUSING: Service = Service {
     overflow: false,
     buffer: 2,
     history: 0,
 };
 
-const REMEMBERING: Service = Service {
+pub(crate) const REMEMBERING: Service = Service {
     overflow: true,
     buffer: 2,
     history: 2,
 };
 
 // Two publishers, and three subscribers for which one, two and three messages may wait.
-const PORTS: [Step; 12] = [
+pub(crate) const PORTS: [Step; 12] = [
     Step::Subscribe(1, 1),
     Step::Subscribe(2, 2),
     Step::Subscribe(3, 3),
@@ -62,7 +62,7 @@ fn ports_of_different_sizes(rt: HostRuntime) -> Result<(), Fail> {
     go(&rt, rt.alloc(), &OVERFLOWING, &PORTS, &FOUND)
 }
 
-const FULL: [Step; 5] = [
+pub(crate) const FULL: [Step; 5] = [
     Step::Subscribe(1, 2),
     Step::Publish(2, 1, None),
     Step::Follow(1),
@@ -84,7 +84,7 @@ fn mailboxes_that_refuse(rt: HostRuntime) -> Result<(), Fail> {
     go(&rt, rt.alloc(), &REFUSING, &FULL, &REFUSES)
 }
 
-const KEPT: [Step; 7] = [
+pub(crate) const KEPT: [Step; 7] = [
     Step::Publish(1, 2, None),
     Step::Put(1, 11, 0),
     Step::Put(1, 12, 0),

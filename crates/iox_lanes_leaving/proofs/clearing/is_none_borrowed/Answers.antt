@@ -8,5 +8,5 @@ loop-index-preserved g c =
     let this : (connection_at c.loop-index.index c.args.sender.now.uses).borrowed ≡ [] = search rules in
     none_of_one_more c.args.sender.now.uses c.loop-index.index c.loop-index.invariant this
 
-pub returns : goal.returns
-returns g c = none_of_any c.args.sender.now.uses c.indices-index-end.result c.indices-index-end.ensures.value (λ k below. c.loop-index.invariant k (omega (arith, below, c.loop-index-test.false)))
+pub returns-clause-none : goal.returns-clause-none
+returns-clause-none g c = none_of_any c.args.sender.now.uses c.indices-index-end.result c.indices-index-end.ensures.value (λ k below. c.loop-index.invariant k (omega (arith, below, c.loop-index-test.false)))

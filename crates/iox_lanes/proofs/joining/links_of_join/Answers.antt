@@ -1,0 +1,10 @@
+use Rattle.std.proofs.Common.{arith, length}
+use Rattle.iox_lanes.specs.Joined.{LinkJoins}
+use borrow.Author.Count.{below_more}
+use Rattle.iox_lanes.proofs.joining.links_of_join.Goals as goal
+
+pub returns : goal.returns
+returns g c = λ k below. c.loop-subscriber.invariant k (omega (arith, below, c.loop-subscriber-test.false))
+
+pub loop-subscriber-preserved : goal.loop-subscriber-preserved
+loop-subscriber-preserved g c = below_more (λ k. LinkJoins c.args.domain.now.ports.publishers c.args.opened.now.lanes c.args.opened.now.publishers.items (length c.args.opened.now.subscribers.items) c.args.opened.now.connections.items c.args.publisher k) c.loop-subscriber.subscriber c.loop-subscriber.invariant c.if-not-link_joins.ensures

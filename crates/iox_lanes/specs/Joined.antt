@@ -1,0 +1,75 @@
+-- What lanes and the domain beside them have in common, whatever steps the lanes make.
+use Rattle.std.specs.Prelude.{ℕ, ◌≡◌, ◌+◌, ◌*◌, ◌<◌, List, length, take, drop, slice_get, Option, None, Some}
+use Rattle.iox_domain.specs.DomainPublisher.Ports.{connection_of}
+use Rattle.iox_domain.specs.DomainPublisher.declared.publisher_port.PublisherPort.{PublisherPort}
+use Rattle.iox_domain.specs.DomainPorts.DomainSlots.declared.stage.Stage.TheVariants as stage
+use Rattle.iox_lanes_leaving.specs.Restored.{IsRested, place_of}
+use Rattle.iox_lanes_machine.specs.Fixed.{FixedSlots, StaysFixed, slots_at}
+use Rattle.iox_lanes_machine.specs.Links.{LinkState}
+use Rattle.iox_lanes_machine.specs.World.{World}
+use Rattle.iox_lanes.specs.Holding.{port_if}
+
+-- of a list with a row of so many for each publisher, the row of the one at a place
+abbrev pub row_of : ℕ → List ℕ → ℕ → List ℕ
+row_of count indices place = take count (drop (place * count) indices)
+
+-- The slots of a lane are those of a publisher of the domain of which nothing is out: all of one segment, and as many are its history.
+pub record HasSlotsOf {T U : Type 0} (port : PublisherPort T U) (fixed : FixedSlots) : Type 0 where
+  pub rested : IsRested port.sender
+  pub first : port.sender.uses.first ≡ 0
+  pub slots : fixed.slots ≡ port.sender.uses.size
+  pub kept : fixed.kept ≡ port.sender.uses.kept
+
+-- the same of a publisher and a lane that may be wanting; where one is it isn't so
+abbrev pub HasSlotsIf : {T U : Type 0} → Option (PublisherPort T U) → Option FixedSlots → Type 0
+HasSlotsIf None fixed = ⊥
+HasSlotsIf (Some port) None = ⊥
+HasSlotsIf (Some port) (Some fixed) = HasSlotsOf port fixed
+
+-- where a number, if there is one, is first in a list
+abbrev pub place_if : Option ℕ → List ℕ → Option ℕ
+place_if None numbers = None
+place_if (Some number) numbers = place_of number numbers
+
+-- the publisher at a place of the lanes is the one of the domain that has the number of this place, which no place before it has
+pub record SenderJoins {T U : Type 0} (ports : List (ℕ × PublisherPort T U)) (lanes : World) (senders : List ℕ) (place : ℕ) : Type 0 where
+  pub slots : HasSlotsIf (port_if ports (slice_get senders place)) (slots_at lanes place)
+  pub alone : place_if (slice_get senders place) senders ≡ Some place
+
+-- A connection of the lanes, from the publisher at this place, is one of the publisher's in the domain: it goes on, as many may wait, and no other connection of the
+-- publisher before it has its index.
+pub record IsLinkTo {T U : Type 0} (port : PublisherPort T U) (publisher subscriber : ℕ) (row : List ℕ) (index : ℕ) (link : LinkState) : Type 0 where
+  pub from : link.publisher ≡ publisher
+  pub live : (connection_of index port).stage ≡ stage.Live
+  pub limit : link.limit ≡ (connection_of index port).limit
+  pub alone : place_of index row ≡ Some subscriber
+
+-- the same of a publisher, an index and a link that may be wanting; where one is it isn't so
+abbrev pub IsLinkToIf : {T U : Type 0} → Option (PublisherPort T U) → ℕ → ℕ → List ℕ → Option ℕ → Option LinkState → Type 0
+IsLinkToIf None publisher subscriber row index link = ⊥
+IsLinkToIf (Some port) publisher subscriber row None link = ⊥
+IsLinkToIf (Some port) publisher subscriber row (Some index) None = ⊥
+IsLinkToIf (Some port) publisher subscriber row (Some index) (Some link) = IsLinkTo port publisher subscriber row index link
+
+-- so is the connection between the publisher and the subscriber at these places
+abbrev pub LinkJoins : {T U : Type 0} → List (ℕ × PublisherPort T U) → World → List ℕ → ℕ → List ℕ → ℕ → ℕ → Type 0
+LinkJoins ports lanes senders readers indices publisher subscriber =
+    IsLinkToIf (port_if ports (slice_get senders publisher)) publisher subscriber (row_of readers indices publisher)
+    (slice_get indices (publisher * readers + subscriber)) (slice_get lanes.links (publisher * readers + subscriber))
+
+-- Lanes go with the publishers of a domain: as many words for its values, its publishers by their places, and for each of them a connection to each of so many subscribers;
+-- and there is a place for one value.
+pub record IsJoined {T U : Type 0} (payload_count header_count places : ℕ) (lanes : World) (ports : List (ℕ × PublisherPort T U)) (senders : List ℕ) (readers : ℕ) (indices : List ℕ) : Type 0 where
+  pub some : 0 < places
+  pub payload : lanes.table.sizes.payload_words ≡ payload_count
+  pub user_header : lanes.table.sizes.user_header_words ≡ header_count
+  pub publisher_count : length lanes.publishers ≡ length senders
+  pub link_count : length lanes.links ≡ length senders * readers
+  pub index_count : length indices ≡ length senders * readers
+  pub sending : (place : ℕ) → place < length senders → SenderJoins ports lanes senders place
+  pub linking : (publisher : ℕ) → publisher < length senders → (subscriber : ℕ) → subscriber < readers → LinkJoins ports lanes senders readers indices publisher subscriber
+
+-- steps keep it
+abbrev pub JoinedStays : (T U : Type 0) → Type 0
+JoinedStays T U = (payload_count header_count places : ℕ) (before after : World) (ports : List (ℕ × PublisherPort T U)) (senders : List ℕ) (readers : ℕ) (indices : List ℕ)
+    → IsJoined payload_count header_count places before ports senders readers indices → StaysFixed before after → IsJoined payload_count header_count places after ports senders readers indices

@@ -1,0 +1,15 @@
+//! Why lanes don't become a domain.
+use thiserror::Error;
+
+/// Why lanes didn't become a domain.
+///
+/// This port's own.
+#[derive(Clone, Copy, Debug, PartialEq, Eq, Error)]
+pub enum IntoDomainError {
+    /// A publisher or a subscriber is inside a call.
+    #[error("IntoDomainError::PartyInCall")]
+    PartyInCall,
+    /// None is, and a loan is out, or a sample.
+    #[error("IntoDomainError::SamplesOut")]
+    SamplesOut,
+}

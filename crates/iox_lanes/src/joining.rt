@@ -1,0 +1,259 @@
+//! Whether lanes go with the domain that they came from, whatever steps they make.
+ghost use Rattle.std.specs.Prelude.{◌≡◌, ◌+◌, ◌*◌, ◌<◌, ℕ, length, slice_get, option_copied, option_map, IfSome, None, Some};
+ghost use Rattle.std.specs.Bool.{OnTrue};
+ghost use Rattle.iox_domain.specs.DomainPublisher.Ports.{connection_of};
+ghost use Rattle.iox_domain.specs.DomainPorts.DomainSlots.declared.stage.Stage.TheVariants as stage;
+ghost use Rattle.iox_lanes_leaving.specs.Restored.{place_of};
+ghost use Rattle.iox_lanes_machine.specs.Fixed.{fixed_slots};
+ghost use Rattle.iox_lanes.specs.Holding.{LanesHold};
+ghost use Rattle.iox_lanes.specs.Joined.{HasSlotsIf, HasSlotsOf, IsJoined, IsLinkTo, IsLinkToIf, LinkJoins, SenderJoins, place_if, row_of};
+
+use crate::domain_lanes::Opened;
+use crate::linking::{leads_from, number_of};
+use crate::sending::publisher_at;
+use iox_domain::Domain;
+use iox_domain_publisher::{PublisherPort, Stage};
+use iox_lanes_leaving::is_rested;
+use iox_lanes_machine::Link;
+use iox_lanes_parties::PublisherLane;
+use iox_queues_base::Words;
+
+/// Whether lanes that hold what a domain has go with it.
+pub(crate) fn joins<T: Words, U: Words>(domain: &Domain<T, U>, opened: &Opened<T>) -> bool
+    requires { LanesHold T.parts U.parts T.WORDS U.WORDS domain.now opened.now.lanes opened.now.publishers.items opened.now.subscribers.items opened.now.connections.items }
+    ensures { OnTrue result (IsJoined T.WORDS U.WORDS (length opened.now.one.items) opened.now.lanes domain.now.ports.publishers opened.now.publishers.items (length opened.now.subscribers.items) opened.now.connections.items) }
+{
+    if !is_sized(opened) {
+        return false;
+    }
+    if !senders_join(domain, opened) {
+        return false;
+    }
+    if !links_join(domain, opened) {
+        return false;
+    }
+    true
+}
+
+// Whether there is a place for a value, and an index for each connection.
+fn is_sized<T: Words>(opened: &Opened<T>) -> bool
+    ensures some { OnTrue result (0 < length opened.now.one.items) }
+    ensures indices { OnTrue result (length opened.now.connections.items ≡ length opened.now.lanes.links) }
+{
+    if opened.one.is_empty() {
+        return false;
+    }
+    opened.connections.len() == opened.lanes.links().len()
+}
+
+fn senders_join<T: Words, U: Words>(domain: &Domain<T, U>, opened: &Opened<T>) -> bool
+    ensures { OnTrue result ((place : ℕ) → place < length opened.now.publishers.items → SenderJoins domain.now.ports.publishers opened.now.lanes opened.now.publishers.items place) }
+{
+    for place in 0..opened.publishers.len() {
+        if !sender_joins(domain, opened, place) {
+            return false;
+        }
+    }
+    true
+}
+
+fn sender_joins<T: Words, U: Words>(domain: &Domain<T, U>, opened: &Opened<T>, place: usize) -> bool
+    ensures { OnTrue result (SenderJoins domain.now.ports.publishers opened.now.lanes opened.now.publishers.items place) }
+{
+    if !is_alone_in(&opened.publishers, place) {
+        return false;
+    }
+    match publisher_at(domain, &opened.publishers, place) {
+        Some(port) => has_slots_if(port, opened.lanes.publishers().get(place)),
+        None => false,
+    }
+}
+
+// Whether no place before this one has the same number.
+fn is_alone_in(numbers: &[u64], place: usize) -> bool
+    ensures { OnTrue result (place_if (slice_get numbers.now place) numbers.now ≡ Some place) }
+{
+    match numbers.get(place) {
+        Some(number) => is_first_number(numbers, *number, place),
+        None => false,
+    }
+}
+
+// Where a number is first in a list.
+fn number_place(numbers: &[u64], number: u64) -> Option<usize>
+    ensures { result ≡ place_of number numbers.now }
+{
+    numbers.iter().position(|it| *it == number)
+}
+
+// Whether a number is first at this place of a list.
+fn is_first_number(numbers: &[u64], number: u64, place: usize) -> bool
+    ensures { OnTrue result (place_of number numbers.now ≡ Some place) }
+{
+    match number_place(numbers, number) {
+        Some(first) => first == place,
+        None => false,
+    }
+}
+
+fn has_slots_if<T: Words, U: Words>(
+    port: &PublisherPort<T, U>,
+    lane: Option<&PublisherLane>,
+) -> bool
+    ensures { OnTrue result (HasSlotsIf (Some port.now) (option_map fixed_slots (option_copied lane.entry))) }
+{
+    match lane {
+        Some(lane) => has_slots_of(port, lane),
+        None => false,
+    }
+}
+
+// Whether the slots of a lane are those of a publisher of which nothing is out.
+fn has_slots_of<T: Words, U: Words>(port: &PublisherPort<T, U>, lane: &PublisherLane) -> bool
+    ensures { OnTrue result (HasSlotsOf port.now (fixed_slots lane.now)) }
+{
+    if !is_rested(&port.sender) {
+        return false;
+    }
+    if port.sender.first() != 0 {
+        return false;
+    }
+    if lane.slots() != port.sender.slots() {
+        return false;
+    }
+    if lane.kept() != port.sender.kept() {
+        return false;
+    }
+    true
+}
+
+fn links_join<T: Words, U: Words>(domain: &Domain<T, U>, opened: &Opened<T>) -> bool
+    ensures { OnTrue result ((publisher : ℕ) → publisher < length opened.now.publishers.items → (subscriber : ℕ) → subscriber < length opened.now.subscribers.items
+        → LinkJoins domain.now.ports.publishers opened.now.lanes opened.now.publishers.items (length opened.now.subscribers.items) opened.now.connections.items publisher subscriber) }
+{
+    for publisher in 0..opened.publishers.len() {
+        if !links_of_join(domain, opened, publisher) {
+            return false;
+        }
+    }
+    true
+}
+
+fn links_of_join<T: Words, U: Words>(
+    domain: &Domain<T, U>,
+    opened: &Opened<T>,
+    publisher: usize,
+) -> bool
+    ensures { OnTrue result ((subscriber : ℕ) → subscriber < length opened.now.subscribers.items
+        → LinkJoins domain.now.ports.publishers opened.now.lanes opened.now.publishers.items (length opened.now.subscribers.items) opened.now.connections.items publisher subscriber) }
+{
+    for subscriber in 0..opened.subscribers.len() {
+        if !link_joins(domain, opened, publisher, subscriber) {
+            return false;
+        }
+    }
+    true
+}
+
+fn link_joins<T: Words, U: Words>(
+    domain: &Domain<T, U>,
+    opened: &Opened<T>,
+    publisher: usize,
+    subscriber: usize,
+) -> bool
+    ensures { OnTrue result (LinkJoins domain.now.ports.publishers opened.now.lanes opened.now.publishers.items (length opened.now.subscribers.items) opened.now.connections.items publisher subscriber) }
+{
+    let readers = opened.subscribers.len();
+    let Some(number) = number_of(publisher, readers, subscriber) else {
+        return false;
+    };
+    let Some(row) = row_of(&opened.connections, readers, publisher) else {
+        return false;
+    };
+    is_link_to_if(
+        publisher_at(domain, &opened.publishers, publisher),
+        publisher,
+        subscriber,
+        row,
+        opened.connections.get(number),
+        opened.lanes.links().get(number),
+    )
+}
+
+// The row of a publisher's connections, of the indices of all.
+fn row_of(indices: &[usize], readers: usize, publisher: usize) -> Option<&[usize]>
+    ensures { IfSome result (λ row. row.now ≡ row_of readers indices.now publisher) }
+{
+    let from = publisher.checked_mul(readers)?;
+    let end = from.checked_add(readers)?;
+    indices.get(from..end)
+}
+
+fn is_link_to_if<T: Words, U: Words>(
+    port: Option<&PublisherPort<T, U>>,
+    publisher: usize,
+    subscriber: usize,
+    row: &[usize],
+    index: Option<&usize>,
+    link: Option<&Link>,
+) -> bool
+    ensures { OnTrue result (IsLinkToIf (option_copied port.entry) publisher subscriber row.now (option_copied index.entry) (option_copied link.entry)) }
+{
+    match (port, index, link) {
+        (Some(port), Some(index), Some(link)) => {
+            is_link_to(port, publisher, subscriber, row, *index, link)
+        }
+        _ => false,
+    }
+}
+
+// Whether a link is the connection of an index of a publisher, which goes on.
+fn is_link_to<T: Words, U: Words>(
+    port: &PublisherPort<T, U>,
+    publisher: usize,
+    subscriber: usize,
+    row: &[usize],
+    index: usize,
+    link: &Link,
+) -> bool
+    ensures { OnTrue result (IsLinkTo port.now publisher subscriber row.now index link.now) }
+{
+    if !leads_from(link, publisher) {
+        return false;
+    }
+    if !is_first(row, index, subscriber) {
+        return false;
+    }
+    if !goes_on(port, index, link) {
+        return false;
+    }
+    true
+}
+
+// Where an index is first in a row.
+fn index_place(row: &[usize], index: usize) -> Option<usize>
+    ensures { result ≡ place_of index row.now }
+{
+    row.iter().position(|it| *it == index)
+}
+
+// Whether an index is first at this place of a row.
+fn is_first(row: &[usize], index: usize, place: usize) -> bool
+    ensures { OnTrue result (place_of index row.now ≡ Some place) }
+{
+    match index_place(row, index) {
+        Some(first) => first == place,
+        None => false,
+    }
+}
+
+// Whether a connection goes on, and as many may wait there as at a link.
+fn goes_on<T: Words, U: Words>(port: &PublisherPort<T, U>, index: usize, link: &Link) -> bool
+    ensures live { OnTrue result ((connection_of index port.now).stage ≡ stage.Live) }
+    ensures limit { OnTrue result (link.now.limit ≡ (connection_of index port.now).limit) }
+{
+    match port.sender.stage(index) {
+        Stage::Live => link.limit() == port.sender.limit(index) as u64,
+        Stage::Vacant | Stage::Ended => false,
+    }
+}

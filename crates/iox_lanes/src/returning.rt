@@ -1,0 +1,257 @@
+//! The domain that lanes leave.
+ghost use Rattle.std.specs.Prelude.{◌≡◌, ◌+◌, ◌*◌, ◌^◌, ◌<◌, ◌≤◌, ℕ, IfErr, IfOk, OnOk, length, slice_get, option_copied, vec_capacity, IfSome, None, Some, false};
+ghost use Rattle.std.specs.Bool.{OnTrue};
+ghost use Rattle.iox_domain.specs.DomainPorts.DomainSender.Sending.{with_uses};
+ghost use Rattle.iox_domain.specs.DomainPorts.DomainSubscriber.Publishers.{port_of};
+ghost use Rattle.iox_lanes_leaving.specs.Restored.{IsRested, IsRestored, place_of};
+ghost use Rattle.iox_lanes_leaving.specs.Restoring.{IsWhole};
+ghost use Rattle.iox_lanes_machine.specs.Kept.{IsWithin};
+ghost use Rattle.iox_lanes_machine.specs.Owned.{MailIsOwn, MailHasRoom, HistoriesAreOwn};
+ghost use Rattle.iox_lanes.specs.Joined.{IsJoined, row_of};
+ghost use Rattle.iox_lanes_machine.specs.Resting.{AllBetween, NoneOut, IsUnrest};
+ghost use Rattle.iox_lanes.specs.Returning.{AllRest, ArePortsLeft, IsPortLeftIf, JoinsAt, OnlyPublishers, unrest_of};
+
+use crate::domain_lanes::DomainLanes;
+use crate::into_domain_error::IntoDomainError;
+use iox_domain::Domain;
+use iox_domain_publisher::PublisherPort;
+use iox_domain_subscriber::Publishers;
+use iox_lanes_leaving::restore;
+use iox_lanes_machine::{Lanes, Unrest};
+use iox_lanes_parties::PublisherLane;
+use iox_queues_base::Words;
+
+/// Lanes that didn't become a domain, as they were, and why.
+#[derive(Drop)]
+pub struct StillLanes<T, U> {
+    /// Why they didn't.
+    pub error: IntoDomainError,
+    /// The lanes, with their domain.
+    pub lanes: DomainLanes<T, U>,
+}
+
+impl<T: Words, U: Words> DomainLanes<T, U> {
+    /// The domain as the lanes leave it: what waits at each connection by its order waits there in the domain, each publisher's history is that of its lane, each message with the
+    /// values, user header and number of elements that its slot holds, and all else is as it was when the lanes began. Where the lanes made no step, it is the domain as it was. It takes no memory.
+    ///
+    /// Refused with `PartyInCall` while a party is inside a call, else with `SamplesOut` while a loan or a sample is out; then the lanes are handed back as they were. What is
+    /// said of the messages is said of at most 2^63 steps, and of lanes that go with the domain beside them, as those do that `into_lanes` gives, and still do after any steps.
+    ///
+    /// This port's own.
+    pub fn into_domain(self) -> Result<Domain<T, U>, StillLanes<T, U>>
+        ensures told { IfErr result (λ still. IsUnrest (unrest_of still.error) self.lanes) }
+        ensures kept { IfErr result (λ still. still.lanes ≡ self) }
+        ensures rests { OnOk result (AllBetween self.lanes × NoneOut self.lanes) }
+        ensures same { IfOk result (λ domain. self.lanes.moments ≡ 0 → domain ≡ self.domain) }
+        ensures rest { IfOk result (λ domain. OnlyPublishers self.domain domain) }
+        ensures left { IfOk result (λ domain. 0 < self.lanes.moments → self.lanes.moments ≤ 2 ^ 63
+            → IsJoined T.WORDS U.WORDS (length self.one.items) self.lanes self.domain.ports.publishers self.publishers.items (length self.subscribers.items) self.connections.items
+            → ArePortsLeft T.of_parts U.of_parts self.lanes self.publishers.items (length self.subscribers.items) self.connections.items self.domain.ports.publishers domain.ports.publishers) }
+    {
+        if let Some(unrest) = self.lanes.unrest() {
+            return Err(StillLanes {
+                error: error_of(unrest),
+                lanes: self,
+            });
+        }
+        if self.lanes.moments() == 0 {
+            let DomainLanes { domain, .. } = self;
+            return Ok(domain);
+        }
+        Ok(returned(self))
+    }
+}
+
+fn error_of(unrest: Unrest) -> IntoDomainError
+    ensures { unrest_of result ≡ unrest }
+{
+    match unrest {
+        Unrest::PartyInCall => IntoDomainError::PartyInCall,
+        Unrest::SamplesOut => IntoDomainError::SamplesOut,
+    }
+}
+
+// The domain with the messages that the lanes leave, where these lanes go with it.
+fn returned<T: Words, U: Words>(opened: DomainLanes<T, U>) -> Domain<T, U>
+    ensures rest { OnlyPublishers opened.domain result }
+    ensures left { AllRest opened.lanes → IsJoined T.WORDS U.WORDS (length opened.one.items) opened.lanes opened.domain.ports.publishers opened.publishers.items (length opened.subscribers.items) opened.connections.items
+        → ArePortsLeft T.of_parts U.of_parts opened.lanes opened.publishers.items (length opened.subscribers.items) opened.connections.items opened.domain.ports.publishers result.ports.publishers }
+{
+    let DomainLanes {
+        lanes,
+        domain,
+        publishers,
+        subscribers,
+        connections,
+        one,
+    } = opened;
+    let mut domain = domain;
+    let mut one = one;
+    if one.is_empty() {
+        return domain;
+    }
+    if !has_words::<T, U>(&lanes) {
+        return domain;
+    }
+    let readers = count(&subscribers);
+    restore_publishers(
+        &lanes,
+        &publishers,
+        readers,
+        &connections,
+        &mut domain.ports.publishers,
+        &mut one,
+    );
+    domain
+}
+
+fn count(numbers: &[u64]) -> usize
+    ensures { result ≡ length numbers.now }
+{
+    numbers.len()
+}
+
+// Whether the words of the lanes are those of values of `T` and user headers of `U`.
+fn has_words<T: Words, U: Words>(lanes: &Lanes) -> bool
+    ensures whole { OnTrue result (IsWhole T.WORDS U.WORDS lanes.now.table) }
+    ensures not { result ≡ false → lanes.now.table.sizes.payload_words ≡ T.WORDS → lanes.now.table.sizes.user_header_words ≡ U.WORDS → ⊥ }
+{
+    lanes.are_of_one_service();
+    let sizes = lanes.table().sizes();
+    if sizes.payload_words != T::WORDS as u64 {
+        return false;
+    }
+    if sizes.user_header_words != U::WORDS as u64 {
+        return false;
+    }
+    true
+}
+
+// The publishers with the messages that the lanes leave, where these lanes go with them.
+fn restore_publishers<T: Words, U: Words>(
+    lanes: &Lanes,
+    numbers: &[u64],
+    readers: usize,
+    indices: &[usize],
+    publishers: &mut Publishers<T, U>,
+    one: &mut Vec<T>,
+)
+    requires room { 0 < vec_capacity one.old }
+    requires whole { IsWhole T.WORDS U.WORDS lanes.now.table }
+    ensures { AllRest lanes.now → (places : ℕ) → IsJoined T.WORDS U.WORDS places lanes.now publishers.old numbers.now readers indices.now
+        → ArePortsLeft T.of_parts U.of_parts lanes.now numbers.now readers indices.now publishers.old publishers.new }
+{
+    for place in 0..numbers.len() {
+        restore_publisher(
+            lanes,
+            numbers[place],
+            place,
+            readers,
+            indices,
+            publishers,
+            one,
+        );
+    }
+}
+
+// The publisher of a number, which is the one at a place of the lanes.
+fn restore_publisher<T: Words, U: Words>(
+    lanes: &Lanes,
+    number: u64,
+    place: usize,
+    readers: usize,
+    indices: &[usize],
+    publishers: &mut Publishers<T, U>,
+    one: &mut Vec<T>,
+)
+    requires room { 0 < vec_capacity one.old }
+    requires whole { IsWhole T.WORDS U.WORDS lanes.now.table }
+    ensures others { (other : ℕ) → (other ≡ number → ⊥) → port_of other publishers.new ≡ port_of other publishers.old }
+    ensures this { AllRest lanes.now → JoinsAt lanes.now (port_of number publishers.old) place readers indices.now
+        → IsPortLeftIf T.of_parts U.of_parts lanes.now (place * readers) (row_of readers indices.now place) (slice_get lanes.now.publishers place) (port_of number publishers.old) (port_of number publishers.new) }
+    ensures room { vec_capacity one.new ≡ vec_capacity one.old }
+{
+    if let Some(port) = publishers.get_mut(number) {
+        restore_port(lanes, place, readers, indices, port, one);
+    }
+}
+
+// A publisher that is the one at a place of the lanes.
+fn restore_port<T: Words, U: Words>(
+    lanes: &Lanes,
+    place: usize,
+    readers: usize,
+    indices: &[usize],
+    port: &mut PublisherPort<T, U>,
+    one: &mut Vec<T>,
+)
+    requires room { 0 < vec_capacity one.old }
+    requires whole { IsWhole T.WORDS U.WORDS lanes.now.table }
+    ensures left { AllRest lanes.now → JoinsAt lanes.now (Some port.old) place readers indices.now
+        → IsPortLeftIf T.of_parts U.of_parts lanes.now (place * readers) (row_of readers indices.now place) (slice_get lanes.now.publishers place) (Some port.old) (Some port.new) }
+    ensures room { vec_capacity one.new ≡ vec_capacity one.old }
+{
+    lanes.are_of_one_service();
+    let Some(lane) = lane_at(lanes, place) else {
+        return;
+    };
+    let Some((from, row)) = row_at(lanes, place, readers, indices) else {
+        return;
+    };
+    restore_lane(lanes, from, row, lane, port, one);
+}
+
+// The lane at a place, if there is one.
+fn lane_at(lanes: &Lanes, place: usize) -> Option<&PublisherLane>
+    ensures { option_copied result ≡ slice_get lanes.now.publishers place }
+{
+    lanes.publishers().get(place)
+}
+
+// The row of a publisher's connections, of the indices of all, and the number of its first one.
+fn row_at<'a>(
+    lanes: &Lanes,
+    place: usize,
+    readers: usize,
+    indices: &'a [usize],
+) -> Option<(u64, &'a [usize])>
+    ensures row { IfSome result (λ it. (it.0 ≡ place * readers) × (it.1.now ≡ row_of readers indices.now place)) }
+    ensures within { IfSome result (λ it. it.0 + length it.1.now ≤ length lanes.now.links) }
+    ensures none { result ≡ None → place * readers + readers ≤ length lanes.now.links → place * readers + readers ≤ length indices.now → ⊥ }
+{
+    let from = place.checked_mul(readers)?;
+    let end = from.checked_add(readers)?;
+    if end > lanes.links().len() {
+        return None;
+    }
+    let row = indices.get(from..end)?;
+    Some((from as u64, row))
+}
+
+// A publisher gets what the lanes leave of a lane.
+fn restore_lane<T: Words, U: Words>(
+    lanes: &Lanes,
+    from: u64,
+    row: &[usize],
+    lane: &PublisherLane,
+    port: &mut PublisherPort<T, U>,
+    one: &mut Vec<T>,
+)
+    requires room { 0 < vec_capacity one.old }
+    requires connections { from + length row.now ≤ length lanes.now.links }
+    requires whole { IsWhole T.WORDS U.WORDS lanes.now.table }
+    ensures rest { port.new ≡ record port.old { sender = port.new.sender } }
+    ensures restored { IsRested port.old.sender → IsRestored T.of_parts U.of_parts lanes.now from row.now lane.now.port.book.first lane.now.port.book.history port.old.sender port.new.sender }
+    ensures room { vec_capacity one.new ≡ vec_capacity one.old }
+{
+    let first = lane.first_slot();
+    let _rested = restore(
+        lanes,
+        from,
+        row,
+        first,
+        lane.history(),
+        &mut port.sender,
+        one,
+    );
+}
