@@ -1,0 +1,2 @@
+-- Lemmas on publishers that forget their messages.
+pub mod Forgetting

@@ -1,0 +1,4 @@
+-- The definitions that contracts about a domain's ports in threads cite.
+pub mod Boards
+pub mod Opened
+pub mod Emptied

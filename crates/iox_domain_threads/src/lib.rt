@@ -1,0 +1,26 @@
+//! The ports of a domain in threads of their own: its lanes go on as `iox_lanes_threads` has them, and the domain waits beside the board.
+//!
+//! - [`threads`]: the ports, and the board with the domain.
+//! - [`opening`]: from the lanes of a domain to threads.
+//! - [`ending`]: from threads back to the domain, without its messages.
+//! - `emptying`: publishers of a domain without messages.
+//!
+//! First calls. Tests in `iox_domain_threads_rows` make them.
+//!
+//! ```
+//! let DomainThreads { board, mut publishers, mut subscribers } = open_threads(alloc, 1, lanes)?;
+//! let lent = publishers[0].loan_uninit();
+//! let got = subscribers[0].receive(&rt);
+//! let domain = end(board, publishers, subscribers)?;
+//! ```
+#![tactic(auto)]
+
+mod emptying;
+pub mod ending;
+pub mod opening;
+pub mod threads;
+
+pub use ending::end;
+pub use iox_lanes_threads::{EndError, OpenError};
+pub use opening::open_threads;
+pub use threads::{DomainBoard, DomainThreads};
