@@ -1,14 +1,21 @@
 //! Tests of the ports' values, of the bookkeeping of slots and of messages: what no clause says.
 //!
+//! - `doing`: what is done to a publisher.
+//! - `driving`: steps of it, which one driver takes.
 //! - `loans`: loans of a publisher with their refusals.
 //! - `messages`: the way of a message by what it holds.
 //! - `publishers`: a publisher and the list of its subscribers.
 //! - `settings`: what ports take from a description and from their users.
 //! - `slots`: the way of a message through the slots of a publisher.
 //! - `subscribers`: the way of a message from publishers to a subscriber.
-//! - `values`: texts, and the objects that a caller hands in.
+//! - `texts`: how errors display.
+//! - `values`: the text form, and the objects that a caller hands in.
 #![tactic(auto)]
 
+#[cfg(test)]
+mod doing;
+#[cfg(test)]
+mod driving;
 #[cfg(test)]
 mod loans;
 #[cfg(test)]
@@ -22,13 +29,6 @@ mod slots;
 #[cfg(test)]
 mod subscribers;
 #[cfg(test)]
+mod texts;
+#[cfg(test)]
 mod values;
-
-#[cfg(test)]
-use std::process::Abort;
-
-// Fails the test where the answer is false.
-#[cfg(test)]
-pub(crate) fn holds(rt: &impl Abort, answer: bool) {
-    assert!(rt; answer);
-}

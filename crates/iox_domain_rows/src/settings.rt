@@ -1,5 +1,4 @@
 //! What ports take from a description and from their users.
-use crate::holds;
 use iox_describe_base::{
     AttributeSpecifier, Header, MessageTypeDetails, ServiceName, TypeVariant, ZeroCopySend,
 };
@@ -14,16 +13,33 @@ use iox_domain_values::{
 };
 use std::process::Abort;
 
-// The description of service A with these settings.
-fn described(settings: Settings) -> Option<Description> {
-    let name = ServiceName::new(b"A").ok()?;
-    Some(Description::new(name, settings, AttributeSpecifier::new()))
+// What is agreed: default settings over values or slices of numbers, or events.
+#[derive(Clone, Copy)]
+enum Agreed {
+    Values,
+    Slices,
+    Events,
 }
 
-// That of a publish-subscribe service with default settings over numbers or slices of them.
-fn over_u64(variant: TypeVariant) -> Option<Description> {
+// Messages of numbers, with default settings.
+fn over_u64(variant: TypeVariant) -> Settings {
     let types = MessageTypeDetails::from::<Header, u8, u64>(variant);
-    described(Settings::PublishSubscribe(StaticConfig::new(types)))
+    Settings::PublishSubscribe(StaticConfig::new(types))
+}
+
+// As settings.
+fn settings(agreed: Agreed) -> Settings {
+    match agreed {
+        Agreed::Values => over_u64(TypeVariant::FixedSize),
+        Agreed::Slices => over_u64(TypeVariant::Dynamic),
+        Agreed::Events => Settings::Event(event::StaticConfig::new()),
+    }
+}
+
+// The description of service A.
+fn described(agreed: Agreed) -> Option<Description> {
+    let name = ServiceName::new(b"A").ok()?;
+    Some(Description::new(name, settings(agreed), AttributeSpecifier::new()))
 }
 
 // Whether just ports over numbers of 64 bits with user headers of a byte fit, and markers.
@@ -38,38 +54,27 @@ fn only_its_types_fit(description: &Description) -> bool {
         && !fits::<u8, CustomHeaderMarker>(description)
 }
 
-// Whether only its types fit a description of messages that are values or slices.
-fn fits_its_types(variant: TypeVariant, slices: bool) -> bool {
-    match over_u64(variant) {
-        Some(description) => only_its_types_fit(&description) && is_slice(&description) == slices,
-        None => false,
-    }
+// What must be so of a description.
+#[derive(Clone, Copy)]
+enum Fact {
+    // Only its types fit, and whether its messages are slices.
+    FitsItsTypes(bool),
+    // Nothing fits, and it allows no ports.
+    FitsNothing,
+    // With so many expired connections it allows the default sizes, and so many of these.
+    Allows(u32, u32),
 }
 
-#[test]
-fn a_description_fits_its_types_as_values_and_as_slices(rt: HostRuntime) {
-    holds(&rt, fits_its_types(TypeVariant::FixedSize, false));
-    holds(&rt, fits_its_types(TypeVariant::Dynamic, true));
-}
-
-// Whether nothing fits an event service.
-fn nothing_fits_events() -> bool {
-    match described(Settings::Event(event::StaticConfig::new())) {
-        Some(events) => !fits::<CustomPayloadMarker, CustomHeaderMarker>(&events)
-            && !is_slice(&events)
-            && sizes_of(&events, 128) == None,
-        None => false,
-    }
-}
-
-#[test]
-fn an_event_service_fits_nothing(rt: HostRuntime) {
-    holds(&rt, nothing_fits_events());
+// Whether nothing fits.
+fn nothing_fits(description: &Description) -> bool {
+    !fits::<CustomPayloadMarker, CustomHeaderMarker>(description)
+        && !is_slice(description)
+        && sizes_of(description, 128) == None
 }
 
 // How much the default settings allow to ports, with so many expired connections.
-fn allowed(expired_connections: u32) -> Option<ServiceSizes> {
-    Some(ServiceSizes {
+fn allowed(expired_connections: u32) -> ServiceSizes {
+    ServiceSizes {
         max_publishers: 2,
         max_subscribers: 8,
         subscriber_max_buffer_size: 2,
@@ -77,21 +82,42 @@ fn allowed(expired_connections: u32) -> Option<ServiceSizes> {
         history_size: 0,
         enable_safe_overflow: true,
         expired_connections,
-    })
+    }
 }
 
-// Whether these are the sizes of the default settings.
-fn has_sizes(expired_connection_buffer: u32, sizes: Option<ServiceSizes>) -> bool {
-    match over_u64(TypeVariant::Dynamic) {
-        Some(description) => sizes_of(&description, expired_connection_buffer) == sizes,
+fn is_so(description: &Description, fact: Fact) -> bool {
+    match fact {
+        Fact::FitsItsTypes(slices) => is_slice(description) == slices
+            && only_its_types_fit(description),
+        Fact::FitsNothing => nothing_fits(description),
+        Fact::Allows(named, given) => sizes_of(description, named) == Some(allowed(given)),
+    }
+}
+
+fn is_so_of(agreed: Agreed, fact: Fact) -> bool {
+    match described(agreed) {
+        Some(description) => is_so(&description, fact),
         None => false,
     }
 }
 
+const FACTS: [(Agreed, Fact); 5] = [
+    (Agreed::Values, Fact::FitsItsTypes(false)),
+    (Agreed::Slices, Fact::FitsItsTypes(true)),
+    (Agreed::Events, Fact::FitsNothing),
+    (Agreed::Slices, Fact::Allows(128, 128)),
+    (Agreed::Slices, Fact::Allows(1, 2)),
+];
+
+fn facts_hold(rt: &impl Abort) {
+    for (place, (agreed, fact)) in FACTS.iter().enumerate() {
+        assert!(rt; is_so_of(*agreed, *fact), "{place}");
+    }
+}
+
 #[test]
-fn sizes_are_those_of_the_description(rt: HostRuntime) {
-    holds(&rt, has_sizes(128, allowed(128)));
-    holds(&rt, has_sizes(1, allowed(2)));
+fn a_description_fits_its_types_and_allows_its_sizes(rt: HostRuntime) {
+    facts_hold(&rt);
 }
 
 const TOO_LARGE: SubscriberCreateError =
@@ -108,17 +134,17 @@ const BUFFERS: [(Option<usize>, Result<usize, SubscriberCreateError>); 6] = [
 ];
 
 // What a subscriber is given that names this buffer, if it names one.
-fn given(buffer: Option<usize>) -> Option<Result<usize, SubscriberCreateError>> {
+fn given(buffer: Option<usize>) -> Result<usize, SubscriberCreateError> {
     let settings = match buffer {
         Some(size) => SubscriberSettings::default().buffer_size(size),
         None => SubscriberSettings::default(),
     };
-    Some(settings.buffer_size_within(&allowed(128)?))
+    settings.buffer_size_within(&allowed(128))
 }
 
 fn buffers_are_given(rt: &impl Abort) {
     for (buffer, answer) in &BUFFERS {
-        assert!(rt; given(*buffer) == Some(*answer), "{buffer:?}");
+        assert!(rt; given(*buffer) == *answer, "{buffer:?}");
     }
 }
 
@@ -151,6 +177,5 @@ fn made() -> PublisherSettings {
 
 #[test]
 fn a_publisher_is_made_with_the_defaults_or_what_is_named(rt: HostRuntime) {
-    holds(&rt, PublisherSettings::default() == DEFAULTS);
-    holds(&rt, made() == NAMED);
+    assert!(rt; [PublisherSettings::default(), made()] == [DEFAULTS, NAMED]);
 }

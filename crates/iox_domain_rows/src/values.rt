@@ -1,160 +1,17 @@
-//! What no clause says: how errors display, the text form, and that an object is asked once, with what was given.
+//! What no clause says: the text form, and that an object is asked once, with what was given.
 ghost use Rattle.std.specs.Prelude.{◌≡◌, ◌≤◌, ◌⊎◌, ⊤};
 ghost use Rattle.iox_domain_values.specs.declared.backpressure.BackpressureAction.TheVariants as action;
 
-use crate::holds;
 use iox_domain_values::{
     BackpressureAction, BackpressureFn, BackpressureHandler, BackpressureInfo,
-    BackpressureStrategy, ConnectionFailure, DegradationAction, DegradationCause, DegradationFn,
-    DegradationHandler, DegradationInfo, Degrades, DomainError, LoanError, PreallocatedSamplesFn,
-    PreallocatedSamplesOverride, PublisherCreateError, ReceiveError, SendError,
-    SubscriberCreateError, ZeroCopyCreationError, number_of_places,
+    BackpressureStrategy, DegradationAction, DegradationCause, DegradationFn, DegradationHandler,
+    DegradationInfo, Degrades, PreallocatedSamplesFn, PreallocatedSamplesOverride,
+    number_of_places,
 };
 use serde_json::Error;
 use std::alloc::{AllocError, Global};
 use std::cell::Cell;
-use std::fmt::Display;
 use std::process::Abort;
-use std::test::Fail;
-
-// The error must display so.
-fn displays<E: Display>(
-    rt: &impl Abort,
-    alloc: Global,
-    error: &E,
-    text: &str,
-) -> Result<(), AllocError> {
-    assert!(rt; format!(in alloc; "{error}")?.as_str() == text, "{text}");
-    Ok(())
-}
-
-// The error must display as this name between these texts.
-fn displays_in<E: Display>(
-    rt: &impl Abort,
-    alloc: Global,
-    error: &E,
-    start: &str,
-    name: &str,
-    end: &str,
-) -> Result<(), AllocError> {
-    let text = format!(in alloc; "{start}{name}{end}")?;
-    displays(rt, alloc, error, text.as_str())
-}
-
-// Each failure of a connection with its variant's name.
-const FAILURES: [(ConnectionFailure, &str); 4] = [
-    (
-        ConnectionFailure::FailedToEstablishConnection(ZeroCopyCreationError::OutOfMemory),
-        "FailedToEstablishConnection(OutOfMemory)",
-    ),
-    (
-        ConnectionFailure::FailedToEstablishConnection(
-            ZeroCopyCreationError::ExpiredConnectionBufferFull,
-        ),
-        "FailedToEstablishConnection(ExpiredConnectionBufferFull)",
-    ),
-    (
-        ConnectionFailure::FailedToEstablishConnection(
-            ZeroCopyCreationError::IncompatibleBufferSize,
-        ),
-        "FailedToEstablishConnection(IncompatibleBufferSize)",
-    ),
-    (
-        ConnectionFailure::UnableToMapSendersDataSegment,
-        "UnableToMapSendersDataSegment",
-    ),
-];
-
-// Each failure must display by its name, alone and inside those that it is made into.
-fn failures_display(rt: &impl Abort, alloc: Global) -> Result<(), AllocError> {
-    for (failure, name) in &FAILURES {
-        let send = SendError::from(*failure);
-        let receive = ReceiveError::from(*failure);
-        displays_in(rt, alloc, failure, "ConnectionFailure::", *name, "")?;
-        displays_in(rt, alloc, &send, "SendError::ConnectionError(", *name, ")")?;
-        displays_in(
-            rt,
-            alloc,
-            &receive,
-            "ReceiveError::ConnectionFailure(",
-            *name,
-            ")",
-        )?;
-    }
-    Ok(())
-}
-
-#[test]
-fn failures_of_connections_display_at_any_depth(rt: HostRuntime) -> Result<(), AllocError> {
-    failures_display(&rt, rt.alloc())
-}
-
-// Each refused loan with its variant's name.
-const LOANS: [(LoanError, &str); 4] = [
-    (LoanError::OutOfMemory, "OutOfMemory"),
-    (LoanError::ExceedsMaxLoans, "ExceedsMaxLoans"),
-    (LoanError::ExceedsMaxLoanSize, "ExceedsMaxLoanSize"),
-    (LoanError::InternalFailure, "InternalFailure"),
-];
-
-// Each refused loan must display by its name, alone and as a failed send.
-fn loans_display(rt: &impl Abort, alloc: Global) -> Result<(), AllocError> {
-    for (error, name) in &LOANS {
-        displays_in(rt, alloc, error, "LoanError::", *name, "")?;
-        displays_in(
-            rt,
-            alloc,
-            &SendError::from(*error),
-            "SendError::LoanError(",
-            *name,
-            ")",
-        )?;
-    }
-    Ok(())
-}
-
-const INCOMPATIBLE: ZeroCopyCreationError = ZeroCopyCreationError::IncompatibleBufferSize;
-
-const NOT_DELIVERED: SendError = SendError::UnableToDeliver;
-
-const TOO_MANY: ReceiveError = ReceiveError::ExceedsMaxBorrows;
-
-const NO_SEGMENT: PublisherCreateError = PublisherCreateError::UnableToCreateDataSegment;
-
-const NO_MEMORY: SubscriberCreateError = SubscriberCreateError::OutOfMemory;
-
-const NO_DOMAIN: DomainError = DomainError::OutOfMemory;
-
-// One variant of each error of a call must display so.
-fn errors_of_calls_display(rt: &impl Abort, alloc: Global) -> Result<(), AllocError> {
-    displays(
-        rt,
-        alloc,
-        &INCOMPATIBLE,
-        "ZeroCopyCreationError::IncompatibleBufferSize",
-    )?;
-    displays(rt, alloc, &NOT_DELIVERED, "SendError::UnableToDeliver")?;
-    displays(rt, alloc, &TOO_MANY, "ReceiveError::ExceedsMaxBorrows")
-}
-
-// One variant of each error of a creation must display so.
-fn errors_of_creations_display(rt: &impl Abort, alloc: Global) -> Result<(), AllocError> {
-    displays(
-        rt,
-        alloc,
-        &NO_SEGMENT,
-        "PublisherCreateError::UnableToCreateDataSegment",
-    )?;
-    displays(rt, alloc, &NO_MEMORY, "SubscriberCreateError::OutOfMemory")?;
-    displays(rt, alloc, &NO_DOMAIN, "DomainError::OutOfMemory")
-}
-
-#[test]
-fn other_errors_display_as_type_and_variant(rt: HostRuntime) -> Result<(), AllocError> {
-    loans_display(&rt, rt.alloc())?;
-    errors_of_calls_display(&rt, rt.alloc())?;
-    errors_of_creations_display(&rt, rt.alloc())
-}
 
 const STRATEGIES: [(BackpressureStrategy, &str); 2] = [
     (
@@ -282,11 +139,10 @@ fn new_counting() -> Counting {
     }
 }
 
-#[test]
-fn objects_are_asked_once_a_call(rt: HostRuntime) -> Result<(), Fail> {
-    let object = Box::new(rt.alloc(), new_counting())?;
-    holds(&rt, is_asked_once(&BackpressureHandler::boxed(object)));
-    Ok(())
+// The same of an object in a box.
+fn is_asked(alloc: Global) -> Result<bool, AllocError> {
+    let object = Box::new(alloc, new_counting())?;
+    Ok(is_asked_once(&BackpressureHandler::boxed(object)))
 }
 
 // Whether a new object is told of the connection.
@@ -301,14 +157,32 @@ fn is_told_of_places(places: &PreallocatedSamplesOverride) -> bool {
     number_of_places(places, 10) == 5 && number_of_places(places, 10) == 10
 }
 
-#[test]
-fn objects_are_told_of_connections_and_places(rt: HostRuntime) -> Result<(), Fail> {
-    let object = Box::new(rt.alloc(), new_counting())?;
-    let other = Box::new(rt.alloc(), new_counting())?;
-    holds(&rt, is_told_of_it(&DegradationHandler::boxed(object)));
-    holds(
-        &rt,
-        is_told_of_places(&PreallocatedSamplesOverride::boxed(other)),
-    );
+// The same of an object in a box.
+fn degrades(alloc: Global) -> Result<bool, AllocError> {
+    let object = Box::new(alloc, new_counting())?;
+    Ok(is_told_of_it(&DegradationHandler::boxed(object)))
+}
+
+// The same of an object in a box.
+fn overrides(alloc: Global) -> Result<bool, AllocError> {
+    let object = Box::new(alloc, new_counting())?;
+    Ok(is_told_of_places(&PreallocatedSamplesOverride::boxed(object)))
+}
+
+// Each must hold, where no allocation failed.
+fn hold(rt: &impl Abort, answers: &[Result<bool, AllocError>]) -> Result<(), AllocError> {
+    for (place, answer) in answers.iter().enumerate() {
+        assert!(rt; (*answer)?, "{place}");
+    }
     Ok(())
+}
+
+#[test]
+fn objects_are_asked_once_a_call(rt: HostRuntime) -> Result<(), AllocError> {
+    hold(&rt, &[is_asked(rt.alloc())])
+}
+
+#[test]
+fn objects_are_told_of_connections_and_places(rt: HostRuntime) -> Result<(), AllocError> {
+    hold(&rt, &[degrades(rt.alloc()), overrides(rt.alloc())])
 }

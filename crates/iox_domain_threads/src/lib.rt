@@ -5,7 +5,7 @@
 //! - [`ending`]: from threads back to the domain, without its messages.
 //! - `emptying`: publishers of a domain without messages.
 //!
-//! First calls. Tests in `iox_domain_threads_rows` make them.
+//! First calls. Tests in `iox_lanes_opening_rows` make them.
 //!
 //! ```
 //! let DomainThreads { board, mut publishers, mut subscribers } = open_threads(alloc, 1, lanes)?;

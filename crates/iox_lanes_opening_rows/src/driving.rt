@@ -1,65 +1,112 @@
-//! A domain, what is done to its ports, and what its lanes do then.
+//! A domain, and what is done to its ports.
+ghost use Rattle.std.specs.Prelude.{⊤};
+
 use iox_describe_base::{AttributeSpecifier, Header, MessageTypeDetails, ServiceName, TypeVariant};
 use iox_describe_settings::publish_subscribe::StaticConfig;
 use iox_describe_settings::{Description, Settings};
 use iox_domain::{Domain, DomainId};
 use iox_domain_ports::{PublisherConfig, SubscriberConfig};
 use iox_domain_publisher::Sent;
+use iox_domain_subscriber::Taken;
 use iox_domain_values::{
-    AllocationStrategy, BackpressureStrategy, DegradationAction, DegradationHandler, Handlers,
-    PortOwner, PreallocatedSamplesOverride,
+    AllocationStrategy, BackpressureAction, BackpressureFn, BackpressureHandler, BackpressureInfo,
+    BackpressureStrategy, ConnectionFailure, DegradationAction, DegradationCause, DegradationFn,
+    DegradationHandler, DegradationInfo, Handlers, PortOwner, PreallocatedSamplesOverride,
+    ReceiveError, SendError,
 };
-use iox_lanes::{DomainLanes, IntoDomainError, IntoLanesError, into_lanes};
-use iox_lanes_calls::{Delivery, Receipt};
-use iox_lanes_machine::Lanes;
-use iox_lanes_parties::{Answer, Call, Move, Party};
-use iox_lanes_publisher::LoanAnswer;
-use iox_queues_steps::Stepped;
+use iox_lanes::IntoLanesError;
+use iox_lanes_refusals::refusal;
 use std::alloc::{AllocError, Global};
 use std::process::Abort;
-use std::test::Fail;
+
+/// A domain of numbers, with user headers of a byte.
+pub(crate) type Numbers = Domain<u64, u8>;
 
 /// What is agreed.
 pub(crate) struct Service {
+    pub(crate) variant: TypeVariant,
     pub(crate) overflow: bool,
     pub(crate) buffer: u64,
     pub(crate) history: u64,
 }
 
+/// Who answers at a full mailbox.
+#[derive(Clone, Copy)]
+pub(crate) enum Asked {
+    /// Nobody.
+    Nobody,
+    /// This action, each time.
+    Fixed(BackpressureAction),
+    /// An object.
+    Object,
+}
+
+/// How a publisher is made: of so many loans, and of so many slots if that is named.
+#[derive(Clone, Copy)]
+pub(crate) struct Plan {
+    pub(crate) loans: usize,
+    pub(crate) slots: Option<usize>,
+    pub(crate) values: usize,
+    pub(crate) allocation: AllocationStrategy,
+    pub(crate) strategy: BackpressureStrategy,
+    pub(crate) asked: Asked,
+}
+
+/// A publisher of three loans, of single values, that discards at a full mailbox.
+pub(crate) const PLAIN: Plan = Plan {
+    loans: 3,
+    slots: None,
+    values: 1,
+    allocation: AllocationStrategy::Static,
+    strategy: BackpressureStrategy::DiscardData,
+    asked: Asked::Nobody,
+};
+
 /// What is done to the domain, and what comes of it.
 pub(crate) enum Step {
     /// A publisher comes, of so many loans, and of so many slots if that is named; its number.
     Publish(u64, usize, Option<usize>),
-    /// A subscriber comes, for which so many messages may wait; its number.
-    Subscribe(u64, usize),
-    /// A publisher sends a value, and so many connections take it.
-    Put(u64, u64, usize),
+    /// A publisher comes that is made so; its number.
+    Come(u64, Plan),
+    /// A subscriber comes, for which so many messages may wait if that is named; its number.
+    Subscribe(u64, Option<usize>),
+    /// A subscriber comes, for which an object decides; its number.
+    Watch(u64),
+    /// A publisher sends a value; what comes of it.
+    Put(u64, u64, Sent),
+    /// A publisher lends so many values, and the loan is kept.
+    Lend(u64, usize),
+    /// The loan of a publisher is given up.
+    Drop(u64),
+    /// The loan of a publisher is sent; what comes of it.
+    Send(u64, Sent),
+    /// A subscriber receives this value, and the sample is kept.
+    Hold(u64, u64),
+    /// The sample of a subscriber is released.
+    Release(u64),
     /// A subscriber receives this value and releases it.
     Take(u64, u64),
+    /// A subscriber receives nothing.
+    Nothing(u64),
     /// A publisher follows the subscribers.
     Update(u64),
     /// A subscriber follows the publishers.
     Follow(u64),
     /// A publisher leaves.
     Leave(u64),
+    /// A subscriber leaves.
+    Depart(u64),
+    /// This is why the domain can't become lanes.
+    Refused(IntoLanesError),
+    /// Nothing forbids it.
+    May,
 }
 
-/// What the lanes do, and what comes of it. Ports go by their places.
-pub(crate) enum Lane {
-    /// A subscriber receives and reads a message of the publisher of this number, of this value, and releases it.
-    Gets(usize, u64, u64),
-    /// It receives nothing.
-    Nothing(usize),
-    /// A publisher sends a value: so many connections take it, and so many refuse it.
-    Sends(usize, u64, u64, u64),
-    /// A publisher lends so many slots, and then this is answered.
-    Lends(usize, u64, LoanAnswer),
-    /// So many messages stand in the history of a publisher.
-    Keeps(usize, usize),
-    /// So many messages waited at a connection, of so many that may.
-    Waited(usize, usize, u64),
-    /// A subscriber begins to receive, and doesn't go on.
-    Begins(usize),
+// The loan and the sample that are kept.
+#[derive(Clone, Copy)]
+struct Kept {
+    loan: usize,
+    sample: Option<Taken>,
 }
 
 const OWNER: PortOwner = PortOwner {
@@ -67,9 +114,30 @@ const OWNER: PortOwner = PortOwner {
     node_id: 8,
 };
 
+// An object that decides as little as it can.
+#[derive(Drop)]
+struct Quiet;
+
+impl BackpressureFn for Quiet {
+    ghost allows = { λ _ _ _. ⊤ };
+
+    fn call(&self, _info: &BackpressureInfo) -> BackpressureAction {
+        BackpressureAction::DiscardData
+    }
+}
+
+impl DegradationFn for Quiet {
+    ghost allows = { λ _ _ _ _. ⊤ };
+
+    fn call(&self, _cause: DegradationCause, _info: &DegradationInfo) -> DegradationAction {
+        DegradationAction::Ignore
+    }
+}
+
+// What is agreed, as it is described.
 fn described(service: &Service) -> Option<Description> {
     let name = ServiceName::new(b"A").ok()?;
-    let types = MessageTypeDetails::from::<Header, u8, u64>(TypeVariant::FixedSize);
+    let types = MessageTypeDetails::from::<Header, u8, u64>(service.variant);
     let mut config = StaticConfig::new(types);
     config.enable_safe_overflow = service.overflow;
     config.subscriber_max_buffer_size = service.buffer;
@@ -81,300 +149,337 @@ fn described(service: &Service) -> Option<Description> {
     Some(Description::new(name, settings, AttributeSpecifier::new()))
 }
 
-fn make(alloc: Global, service: &Service) -> Option<Domain<u64, u8>> {
-    let description = described(service)?;
-    if !Domain::<u64, u8>::fits(&description) {
-        return None;
+// A domain of what is described.
+fn new_domain(alloc: Global, description: &Description) -> Result<Numbers, AllocError> {
+    if !Numbers::fits(description) {
+        return Err(AllocError);
     }
     let id = DomainId { hub: 7, service: 9 };
-    Domain::new(alloc, id, &description, 5).ok()
+    match Domain::new(alloc, id, description, 5) {
+        Ok(domain) => Ok(domain),
+        Err(_) => Err(AllocError),
+    }
+}
+
+// A domain of a service, without ports.
+fn make(alloc: Global, service: &Service) -> Result<Numbers, AllocError> {
+    match described(service) {
+        Some(description) => new_domain(alloc, &description),
+        None => Err(AllocError),
+    }
+}
+
+// Who answers at a full mailbox.
+fn backpressure(alloc: Global, asked: Asked) -> Result<Option<BackpressureHandler>, AllocError> {
+    Ok(match asked {
+        Asked::Nobody => None,
+        Asked::Fixed(action) => Some(BackpressureHandler::Fixed(action)),
+        Asked::Object => Some(BackpressureHandler::boxed(Box::new(alloc, Quiet)?)),
+    })
+}
+
+fn handlers(alloc: Global, plan: &Plan) -> Result<Handlers, AllocError> {
+    Ok(Handlers {
+        strategy: plan.strategy,
+        backpressure: backpressure(alloc, plan.asked)?,
+        degradation: DegradationHandler::Fixed(DegradationAction::DegradeAndFail),
+    })
+}
+
+fn overriding(slots: Option<usize>) -> PreallocatedSamplesOverride {
+    match slots {
+        Some(slots) => PreallocatedSamplesOverride::new_with(slots),
+        None => PreallocatedSamplesOverride::WorstCase,
+    }
+}
+
+// Whether a publisher is made, with user header 6, that gets this number.
+fn publishes(
+    domain: &mut Numbers,
+    alloc: Global,
+    plan: &Plan,
+    by: Handlers,
+    number: u64,
+) -> Result<bool, AllocError> {
+    let config = PublisherConfig {
+        owner: OWNER,
+        max_loaned_samples: plan.loans,
+        values: plan.values,
+        unit: 1,
+        allocation: plan.allocation,
+    };
+    match domain.create_publisher(alloc, config, 6, &overriding(plan.slots), by) {
+        Ok(made) => Ok(made == number),
+        Err(_) => Err(AllocError),
+    }
 }
 
 fn publish(
-    domain: &mut Domain<u64, u8>,
+    domain: &mut Numbers,
     alloc: Global,
-    loans: usize,
-    slots: Option<usize>,
-) -> Option<u64> {
-    let config = PublisherConfig {
-        owner: OWNER,
-        max_loaned_samples: loans,
-        values: 1,
-        unit: 1,
-        allocation: AllocationStrategy::Static,
-    };
-    let by = Handlers {
-        strategy: BackpressureStrategy::DiscardData,
-        backpressure: None,
-        degradation: DegradationHandler::Fixed(DegradationAction::Warn),
-    };
-    let overriding = match slots {
-        Some(slots) => PreallocatedSamplesOverride::new_with(slots),
-        None => PreallocatedSamplesOverride::WorstCase,
-    };
-    domain
-        .create_publisher(alloc, config, 6, &overriding, by)
-        .ok()
+    plan: &Plan,
+    number: u64,
+) -> Result<bool, AllocError> {
+    match handlers(alloc, plan) {
+        Ok(by) => publishes(domain, alloc, plan, by, number),
+        Err(error) => Err(error),
+    }
 }
 
-fn subscribe(domain: &mut Domain<u64, u8>, alloc: Global, buffer: usize) -> Option<u64> {
+// Whether a subscriber is made that gets this number.
+fn subscribes(
+    domain: &mut Numbers,
+    alloc: Global,
+    buffer_size: Option<usize>,
+    by: DegradationHandler,
+    number: u64,
+) -> Result<bool, AllocError> {
     let config = SubscriberConfig {
         owner: OWNER,
-        buffer_size: Some(buffer),
+        buffer_size,
     };
-    let by = DegradationHandler::Fixed(DegradationAction::Warn);
-    domain.create_subscriber(alloc, config, by).ok()
+    match domain.create_subscriber(alloc, config, by) {
+        Ok(made) => Ok(made == number),
+        Err(_) => Err(AllocError),
+    }
 }
 
-fn put(domain: &mut Domain<u64, u8>, alloc: Global, number: u64, value: u64) -> Option<Sent> {
-    let slot = domain.loan(alloc, number, 1, 1)?.ok()?;
-    domain.ports.write_payload(number, slot, value);
-    domain.send(alloc, number, slot)?.ok()
+fn subscribe(
+    domain: &mut Numbers,
+    alloc: Global,
+    number: u64,
+    buffer: Option<usize>,
+) -> Result<bool, AllocError> {
+    let by = DegradationHandler::Fixed(DegradationAction::DegradeAndFail);
+    subscribes(domain, alloc, buffer, by, number)
 }
 
-fn take(domain: &mut Domain<u64, u8>, alloc: Global, number: u64, value: u64) -> bool {
-    match domain.receive(alloc, number) {
-        Some(Ok(Some(sample))) => domain.ports.payload(sample) == Some(&[value])
-            && domain.ports.release(number, sample),
+fn watch(domain: &mut Numbers, alloc: Global, number: u64) -> Result<bool, AllocError> {
+    match Box::new(alloc, Quiet) {
+        Ok(object) => {
+            subscribes(
+                domain,
+                alloc,
+                None,
+                DegradationHandler::boxed(object),
+                number,
+            )
+        }
+        Err(_) => Err(AllocError),
+    }
+}
+
+// Lends, writes and keeps; whether that went well.
+fn lend(domain: &mut Numbers, kept: &mut Kept, alloc: Global, number: u64, values: usize) -> bool {
+    match domain.loan(alloc, number, values, values as u64) {
+        Some(Ok(slot)) => {
+            kept.loan = slot;
+            values == 0 || domain.ports.write_payload(number, slot, 5)
+        }
         _ => false,
     }
 }
 
-// Whether a step of the domain goes so.
-fn goes(domain: &mut Domain<u64, u8>, alloc: Global, step: &Step) -> bool {
+// Whether this comes of a send.
+fn sends(
+    domain: &mut Numbers,
+    alloc: Global,
+    number: u64,
+    slot: usize,
+    sent: Sent,
+) -> Result<bool, AllocError> {
+    match domain.send(alloc, number, slot) {
+        Some(Ok(answer)) => Ok(answer == sent),
+        Some(Err(SendError::ConnectionError(_))) => Err(AllocError),
+        _ => Ok(false),
+    }
+}
+
+// Whether this comes of a value that is lent, written and sent.
+fn puts(
+    domain: &mut Numbers,
+    alloc: Global,
+    number: u64,
+    value: u64,
+    sent: Sent,
+) -> Result<bool, AllocError> {
+    match domain.loan(alloc, number, 1, 1) {
+        Some(Ok(slot)) => {
+            domain.ports.write_payload(number, slot, value);
+            sends(domain, alloc, number, slot, sent)
+        }
+        _ => Ok(false),
+    }
+}
+
+// What a subscriber receives.
+fn receive(
+    domain: &mut Numbers,
+    alloc: Global,
+    number: u64,
+) -> Result<Option<Option<Taken>>, AllocError> {
+    match domain.receive(alloc, number) {
+        Some(Ok(taken)) => Ok(Some(taken)),
+        Some(Err(ReceiveError::ConnectionFailure(_))) => Err(AllocError),
+        _ => Ok(None),
+    }
+}
+
+// Receives and keeps; whether just this value came.
+fn holds(
+    domain: &mut Numbers,
+    kept: &mut Kept,
+    alloc: Global,
+    number: u64,
+    value: u64,
+) -> Result<bool, AllocError> {
+    match receive(domain, alloc, number) {
+        Ok(Some(Some(sample))) => {
+            kept.sample = Some(sample);
+            Ok(domain.ports.payload(sample) == Some(&[value]))
+        }
+        Ok(_) => Ok(false),
+        Err(error) => Err(error),
+    }
+}
+
+fn release(domain: &mut Numbers, kept: &Kept, number: u64) -> bool {
+    match kept.sample {
+        Some(sample) => domain.ports.release(number, sample),
+        None => false,
+    }
+}
+
+// Whether a port follows.
+fn follows(answer: Option<Result<(), ConnectionFailure>>) -> Result<bool, AllocError> {
+    match answer {
+        Some(Ok(())) => Ok(true),
+        Some(Err(_)) => Err(AllocError),
+        None => Ok(false),
+    }
+}
+
+// Whether a step goes so of those that take no memory.
+fn stands(domain: &mut Numbers, kept: &mut Kept, alloc: Global, step: &Step) -> bool {
+    match *step {
+        Step::Lend(number, values) => lend(domain, kept, alloc, number, values),
+        Step::Drop(number) => domain.ports.drop_loan(number, kept.loan),
+        Step::Release(number) => release(domain, kept, number),
+        Step::Leave(number) => domain.leave_publisher(number),
+        Step::Depart(number) => domain.leave_subscriber(number),
+        Step::Refused(reason) => refusal(domain) == Some(reason),
+        Step::May => refusal(domain).is_none(),
+        _ => false,
+    }
+}
+
+// Whether a step goes so of those that make no port.
+fn hands_on(
+    domain: &mut Numbers,
+    kept: &mut Kept,
+    alloc: Global,
+    step: &Step,
+) -> Result<bool, AllocError> {
+    match *step {
+        Step::Put(number, value, sent) => puts(domain, alloc, number, value, sent),
+        Step::Send(number, sent) => sends(domain, alloc, number, kept.loan, sent),
+        Step::Hold(number, value) => holds(domain, kept, alloc, number, value),
+        Step::Take(number, value) => {
+            Ok(holds(domain, kept, alloc, number, value)? && release(domain, kept, number))
+        }
+        Step::Nothing(number) => Ok(receive(domain, alloc, number)? == Some(None)),
+        Step::Update(number) => follows(domain.update_publisher(alloc, number)),
+        Step::Follow(number) => follows(domain.update_subscriber(alloc, number)),
+        _ => Ok(stands(domain, kept, alloc, step)),
+    }
+}
+
+// Whether a step goes so of those after which no object decides that didn't before.
+fn goes_again(
+    domain: &mut Numbers,
+    kept: &mut Kept,
+    alloc: Global,
+    step: &Step,
+) -> Result<bool, AllocError> {
+    match *step {
+        Step::Subscribe(number, buffer) => subscribe(domain, alloc, number, buffer),
+        _ => hands_on(domain, kept, alloc, step),
+    }
+}
+
+// Whether a step goes so.
+fn goes(
+    domain: &mut Numbers,
+    kept: &mut Kept,
+    alloc: Global,
+    step: &Step,
+) -> Result<bool, AllocError> {
     match *step {
         Step::Publish(number, loans, slots) => {
-            publish(domain, alloc, loans, slots) == Some(number)
+            let plan = Plan {
+                loans,
+                slots,
+                ..PLAIN
+            };
+            publish(domain, alloc, &plan, number)
         }
-        Step::Subscribe(number, buffer) => subscribe(domain, alloc, buffer) == Some(number),
-        Step::Put(number, value, to) => {
-            put(domain, alloc, number, value) == Some(Sent::Delivered(to))
-        }
-        Step::Take(number, value) => take(domain, alloc, number, value),
-        Step::Update(number) => domain.update_publisher(alloc, number) == Some(Ok(())),
-        Step::Follow(number) => domain.update_subscriber(alloc, number) == Some(Ok(())),
-        Step::Leave(number) => domain.leave_publisher(number),
+        Step::Come(number, plan) => publish(domain, alloc, &plan, number),
+        Step::Watch(number) => watch(domain, alloc, number),
+        _ => goes_again(domain, kept, alloc, step),
     }
 }
 
-fn go_on(rt: &impl Abort, alloc: Global, domain: &mut Domain<u64, u8>, steps: &[Step]) {
-    for (place, step) in steps.iter().enumerate() {
-        assert!(rt; goes(domain, alloc, step), "{place}");
-    }
-}
+// Nothing is kept yet.
+const NONE_KEPT: Kept = Kept {
+    loan: 0,
+    sample: None,
+};
 
-// Makes a whole call, and gives its answer.
-fn whole(lanes: &mut Lanes, party: Party, call: Call) -> Option<Answer> {
-    if lanes.step(party, &Move::Begin(call)) != Stepped::Went {
-        return None;
-    }
-    for _ in 0..1000 {
-        if lanes.step(party, &Move::GoOn) == Stepped::Finished {
-            return lanes.finished().last().map(|call| call.answer);
-        }
-    }
-    None
-}
-
-// Whether a subscriber receives, reads and releases such a message.
-fn gets(lanes: &mut Lanes, place: usize, number: u64, value: u64) -> bool {
-    let party = Party::Subscriber(place);
-    let Some(Answer::Received(Receipt::Taken { slot, .. })) = whole(lanes, party, Call::Receive)
-    else {
-        return false;
-    };
-    let before = lanes.words_read().len();
-    let is_read = whole(lanes, party, Call::Read { sample: slot }).is_some();
-    let is_right = lanes.words_read().get(before..) == Some(&[8, number, 1, 6, value]);
-    let is_back = whole(lanes, party, Call::Release { sample: slot });
-    is_read && is_right && is_back == Some(Answer::Released(true))
-}
-
-fn lend(lanes: &mut Lanes, place: usize) -> Option<LoanAnswer> {
-    match whole(lanes, Party::Publisher(place), Call::LoanUninit) {
-        Some(Answer::Lent(answer)) => Some(answer),
-        _ => None,
-    }
-}
-
-// Lends, writes and sends; what the send answers.
-fn send(
-    alloc: Global,
-    lanes: &mut Lanes,
-    place: usize,
-    value: u64,
-) -> Result<Option<Answer>, AllocError> {
-    let Some(LoanAnswer::Slot(loan)) = lend(lanes, place) else {
-        return Ok(None);
-    };
-    let call = Call::Write {
-        loan,
-        payload: Vec::from_slice(alloc, &[value])?,
-        user_header: Vec::from_slice(alloc, &[6])?,
-    };
-    if whole(lanes, Party::Publisher(place), call).is_none() {
-        return Ok(None);
-    }
-    Ok(whole(lanes, Party::Publisher(place), Call::Send { loan }))
-}
-
-// Whether so many slots are lent, and then this is answered.
-fn lends(lanes: &mut Lanes, place: usize, count: u64, last: LoanAnswer) -> bool {
-    for _ in 0..count {
-        match lend(lanes, place) {
-            Some(LoanAnswer::Slot(_)) => {}
-            _ => return false,
-        }
-    }
-    lend(lanes, place) == Some(last)
-}
-
-fn keeps(lanes: &Lanes, place: usize, count: usize) -> bool {
-    match lanes.publishers().get(place) {
-        Some(lane) => lane.history().len() == count,
-        None => false,
-    }
-}
-
-fn waited(lanes: &Lanes, connection: usize, count: usize, limit: u64) -> bool {
-    match lanes.links().get(connection) {
-        Some(link) => link.found().len() == count && link.limit() == limit,
-        None => false,
-    }
-}
-
-// Whether a step of the lanes goes so.
-fn runs(alloc: Global, opened: &mut DomainLanes<u64, u8>, step: &Lane) -> Result<bool, AllocError> {
-    let lanes = &mut opened.lanes;
-    Ok(match *step {
-        Lane::Gets(place, number, value) => gets(lanes, place, number, value),
-        Lane::Nothing(place) => {
-            whole(lanes, Party::Subscriber(place), Call::Receive)
-                == Some(Answer::Received(Receipt::Nothing))
-        }
-        Lane::Sends(place, value, taken, refused) => {
-            send(alloc, lanes, place, value)? == Some(Answer::Sent(Delivery { taken, refused }))
-        }
-        Lane::Lends(place, count, last) => lends(lanes, place, count, last),
-        Lane::Keeps(place, count) => keeps(lanes, place, count),
-        Lane::Waited(connection, count, limit) => waited(lanes, connection, count, limit),
-        Lane::Begins(place) => {
-            lanes.step(Party::Subscriber(place), &Move::Begin(Call::Receive)) == Stepped::Went
-        }
-    })
-}
-
-fn run_on(
+/// Each step must go so of a domain that was something else meanwhile, in a case of this name; no publisher comes, and no object decides.
+pub(crate) fn go_again(
     rt: &impl Abort,
     alloc: Global,
-    opened: &mut DomainLanes<u64, u8>,
-    steps: &[Lane],
+    domain: &mut Numbers,
+    name: &str,
+    steps: &[Step],
 ) -> Result<(), AllocError> {
+    let mut kept = NONE_KEPT;
     for (place, step) in steps.iter().enumerate() {
-        assert!(rt; runs(alloc, opened, step)?, "{place}");
+        assert!(rt;
+            goes_again(domain, &mut kept, alloc, step)?,
+            "{name}, step {place} behind its return"
+        );
     }
     Ok(())
 }
 
-/// The domain of a service goes so, becomes lanes, and these go so.
-pub(crate) fn go(
+// Each step must go so, in a case of this name.
+fn go_on(
     rt: &impl Abort,
     alloc: Global,
-    service: &Service,
+    domain: &mut Numbers,
+    name: &str,
     steps: &[Step],
-    lanes: &[Lane],
-) -> Result<(), Fail> {
-    let Some(mut opened) = open(rt, alloc, service, steps) else {
-        assert!(rt; false);
-        return Ok(());
-    };
-    run_on(rt, alloc, &mut opened, lanes)?;
-    Ok(())
-}
-
-/// The domain of a service goes so, becomes lanes, these go so and become a domain again, and it goes so.
-pub(crate) fn come_back(
-    rt: &impl Abort,
-    alloc: Global,
-    service: &Service,
-    steps: &[Step],
-    lanes: &[Lane],
-    after: &[Step],
-) -> Result<(), Fail> {
-    let Some(mut opened) = open(rt, alloc, service, steps) else {
-        assert!(rt; false);
-        return Ok(());
-    };
-    run_on(rt, alloc, &mut opened, lanes)?;
-    match opened.into_domain() {
-        Ok(domain) => {
-            let mut domain = domain;
-            go_on(rt, alloc, &mut domain, after);
-        }
-        Err(_) => assert!(rt; false, "still lanes"),
+) -> Result<(), AllocError> {
+    let mut kept = NONE_KEPT;
+    for (place, step) in steps.iter().enumerate() {
+        assert!(rt;
+            goes(domain, &mut kept, alloc, step)?,
+            "{name}, step {place}"
+        );
     }
     Ok(())
 }
 
-/// The domain of a service goes so, becomes lanes, these go so, don't become a domain for this reason, and go on so.
-pub(crate) fn stay_lanes(
+/// A domain of a service, of which each step must go so, in a case of this name.
+pub(crate) fn start(
     rt: &impl Abort,
     alloc: Global,
     service: &Service,
+    name: &str,
     steps: &[Step],
-    lanes: &[Lane],
-    reason: IntoDomainError,
-    after: &[Lane],
-) -> Result<(), Fail> {
-    let Some(mut opened) = open(rt, alloc, service, steps) else {
-        assert!(rt; false);
-        return Ok(());
-    };
-    run_on(rt, alloc, &mut opened, lanes)?;
-    match opened.into_domain() {
-        Ok(_) => assert!(rt; false, "a domain"),
-        Err(still) => {
-            let mut opened = still.lanes;
-            assert!(rt; still.error == reason);
-            run_on(rt, alloc, &mut opened, after)?;
-        }
-    }
-    Ok(())
-}
-
-// The lanes of a domain that goes so.
-fn open(
-    rt: &impl Abort,
-    alloc: Global,
-    service: &Service,
-    steps: &[Step],
-) -> Option<DomainLanes<u64, u8>> {
+) -> Result<Numbers, AllocError> {
     let mut domain = make(alloc, service)?;
-    go_on(rt, alloc, &mut domain, steps);
-    into_lanes(alloc, domain).ok()
-}
-
-/// The domain of a service goes so, doesn't become lanes for this reason, and goes on so.
-pub(crate) fn stay(
-    rt: &impl Abort,
-    alloc: Global,
-    service: &Service,
-    steps: &[Step],
-    reason: IntoLanesError,
-    after: &[Step],
-) -> Result<(), Fail> {
-    let Some(mut domain) = make(alloc, service) else {
-        assert!(rt; false);
-        return Ok(());
-    };
-    go_on(rt, alloc, &mut domain, steps);
-    match into_lanes(alloc, domain) {
-        Ok(_) => assert!(rt; false, "opened"),
-        Err(refused) => {
-            let mut domain = refused.domain;
-            assert!(rt; refused.error == reason);
-            go_on(rt, alloc, &mut domain, after);
-        }
-    }
-    Ok(())
+    go_on(rt, alloc, &mut domain, name, steps)?;
+    Ok(domain)
 }

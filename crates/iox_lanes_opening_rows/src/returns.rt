@@ -1,9 +1,13 @@
 //! What lanes leave in the domain that they become again.
-use crate::driving::{Lane, Step, come_back, stay_lanes};
+use crate::driving::Step;
+use crate::lanes::Lane;
 use crate::openings::{FULL, KEPT, OVERFLOWING, PORTS, REFUSING, REMEMBERING};
+use crate::ways::{Case, Next, Then, go_all};
+use iox_domain_publisher::Sent;
 use iox_lanes::IntoDomainError;
+use iox_lanes_parties::Party;
 use iox_lanes_publisher::LoanAnswer;
-use std::test::Fail;
+use std::alloc::AllocError;
 
 const NO_STEP: [Lane; 0] = [];
 
@@ -14,14 +18,9 @@ const AS_BEFORE: [Step; 8] = [
     Step::Take(2, 43),
     Step::Take(2, 51),
     Step::Take(3, 41),
-    Step::Put(4, 44, 3),
+    Step::Put(4, 44, Sent::Delivered(3)),
     Step::Take(1, 44),
 ];
-
-#[test]
-fn no_step_between(rt: HostRuntime) -> Result<(), Fail> {
-    come_back(&rt, rt.alloc(), &OVERFLOWING, &PORTS, &NO_STEP, &AS_BEFORE)
-}
 
 // One message is taken, and one is sent to all.
 const SOME_STEPS: [Lane; 2] = [Lane::Gets(0, 4, 43), Lane::Sends(1, 52, 3, 0)];
@@ -36,50 +35,63 @@ const WHAT_WAITS: [Step; 11] = [
     Step::Take(3, 41),
     Step::Take(3, 42),
     Step::Take(3, 43),
-    Step::Put(4, 44, 3),
+    Step::Put(4, 44, Sent::Delivered(3)),
     Step::Take(1, 44),
     Step::Take(3, 44),
 ];
-
-#[test]
-fn what_waits_comes_back(rt: HostRuntime) -> Result<(), Fail> {
-    come_back(
-        &rt,
-        rt.alloc(),
-        &OVERFLOWING,
-        &PORTS,
-        &SOME_STEPS,
-        &WHAT_WAITS,
-    )
-}
 
 const ONE_MORE: [Lane; 1] = [Lane::Sends(0, 14, 1, 0)];
 
 // The history is of the last two messages, and one comes later who gets both.
 const REMEMBERED: [Step; 6] = [
     Step::Take(2, 14),
-    Step::Subscribe(3, 2),
+    Step::Subscribe(3, Some(2)),
     Step::Update(1),
     Step::Follow(3),
     Step::Take(3, 13),
     Step::Take(3, 14),
 ];
 
-#[test]
-fn the_history_comes_back(rt: HostRuntime) -> Result<(), Fail> {
-    come_back(&rt, rt.alloc(), &REMEMBERING, &KEPT, &ONE_MORE, &REMEMBERED)
-}
-
 const A_LOAN: [Lane; 1] = [Lane::Lends(0, 1, LoanAnswer::ExceedsMaxLoans)];
 
-const BEGUN: [Lane; 1] = [Lane::Begins(0)];
+const BEGUN: [Lane; 1] = [Lane::Begins(Party::Subscriber(0))];
 
 const GOES_ON: [Lane; 1] = [Lane::Lends(0, 0, LoanAnswer::ExceedsMaxLoans)];
 
+const CASES: [Case; 5] = [
+    Case {
+        name: "no step between",
+        service: &OVERFLOWING,
+        steps: &PORTS,
+        then: Then::Opens(&NO_STEP, Next::Returns(&AS_BEFORE)),
+    },
+    Case {
+        name: "what waits comes back",
+        service: &OVERFLOWING,
+        steps: &PORTS,
+        then: Then::Opens(&SOME_STEPS, Next::Returns(&WHAT_WAITS)),
+    },
+    Case {
+        name: "the history comes back",
+        service: &REMEMBERING,
+        steps: &KEPT,
+        then: Then::Opens(&ONE_MORE, Next::Returns(&REMEMBERED)),
+    },
+    Case {
+        name: "a loan that is out",
+        service: &REFUSING,
+        steps: &FULL,
+        then: Then::Opens(&A_LOAN, Next::Stays(IntoDomainError::SamplesOut, &GOES_ON)),
+    },
+    Case {
+        name: "a party in a call",
+        service: &REFUSING,
+        steps: &FULL,
+        then: Then::Opens(&BEGUN, Next::Stays(IntoDomainError::PartyInCall, &A_LOAN)),
+    },
+];
+
 #[test]
-fn a_loan_out_and_a_party_in_a_call(rt: HostRuntime) -> Result<(), Fail> {
-    let loans = IntoDomainError::SamplesOut;
-    let call = IntoDomainError::PartyInCall;
-    stay_lanes(&rt, rt.alloc(), &REFUSING, &FULL, &A_LOAN, loans, &GOES_ON)?;
-    stay_lanes(&rt, rt.alloc(), &REFUSING, &FULL, &BEGUN, call, &A_LOAN)
+fn a_domain_has_what_its_lanes_left(rt: HostRuntime) -> Result<(), AllocError> {
+    go_all(&rt, rt.alloc(), &CASES)
 }

@@ -7,7 +7,7 @@
 //! - [`slices`]: what isn't one value.
 //! - [`reasons`]: the first reason that applies.
 //!
-//! A first call. Tests in `iox_lanes_entry_rows` make it.
+//! A first call. Tests in `iox_lanes_opening_rows` make it.
 //!
 //! ```
 //! if let Some(error) = refusal(&domain) {

@@ -1,126 +1,107 @@
 //! Each reason why a domain can't become lanes, and domains to which none applies.
-use crate::service::{Asked, OVERFLOWING, Plan, REFUSING, SLICES, Step, go};
+use crate::driving::{Asked, PLAIN, Plan, Service, Step};
+use crate::ways::{Case, Then, go_all};
+use iox_describe_base::TypeVariant;
 use iox_domain_publisher::Sent;
 use iox_domain_values::{AllocationStrategy, BackpressureAction, BackpressureStrategy};
-use iox_lanes_refusals::IntoLanesError;
+use iox_lanes::IntoLanesError;
 use std::alloc::{AllocError, Global};
 use std::process::Abort;
-use std::test::Fail;
 
-// A publisher of single values that discards at a full mailbox.
-const PLAIN: Plan = Plan {
-    strategy: BackpressureStrategy::DiscardData,
-    asked: Asked::Nobody,
-    allocation: AllocationStrategy::Static,
-    values: 1,
-    slots: None,
+// A service whose full mailboxes drop their oldest message.
+const OVERFLOWING: Service = Service {
+    variant: TypeVariant::FixedSize,
+    overflow: true,
+    buffer: 2,
+    history: 1,
+};
+
+// A service whose mailboxes hold one message, and refuse more.
+const REFUSING: Service = Service {
+    variant: TypeVariant::FixedSize,
+    overflow: false,
+    buffer: 1,
+    history: 0,
+};
+
+// A service of slices.
+const SLICES: Service = Service {
+    variant: TypeVariant::Dynamic,
+    overflow: true,
+    buffer: 1,
+    history: 0,
 };
 
 // A publisher that waits at a full mailbox.
 const WAITING: Plan = Plan {
     strategy: BackpressureStrategy::RetryUntilDelivered,
-    asked: Asked::Nobody,
-    allocation: AllocationStrategy::Static,
-    values: 1,
-    slots: None,
+    ..PLAIN
 };
 
 // A publisher whose room grows as far as is needed.
 const GROWING: Plan = Plan {
-    strategy: BackpressureStrategy::DiscardData,
-    asked: Asked::Nobody,
     allocation: AllocationStrategy::BestFit,
-    values: 1,
-    slots: None,
+    ..PLAIN
 };
 
 // A publisher whose room grows to the next power of two.
 const DOUBLING: Plan = Plan {
-    strategy: BackpressureStrategy::DiscardData,
-    asked: Asked::Nobody,
     allocation: AllocationStrategy::PowerOfTwo,
-    values: 1,
-    slots: None,
+    ..PLAIN
 };
 
 // A publisher for which an object decides.
 const ASKING: Plan = Plan {
-    strategy: BackpressureStrategy::DiscardData,
     asked: Asked::Object,
-    allocation: AllocationStrategy::Static,
-    values: 1,
-    slots: None,
+    ..PLAIN
 };
 
 // A publisher whose fixed action is to wait.
 const TOLD_TO_WAIT: Plan = Plan {
-    strategy: BackpressureStrategy::DiscardData,
     asked: Asked::Fixed(BackpressureAction::Retry),
-    allocation: AllocationStrategy::Static,
-    values: 1,
-    slots: None,
+    ..PLAIN
 };
 
 // A publisher whose fixed action is to pass over, though its strategy is to wait.
 const TOLD_TO_DISCARD: Plan = Plan {
-    strategy: BackpressureStrategy::RetryUntilDelivered,
     asked: Asked::Fixed(BackpressureAction::DiscardData),
-    allocation: AllocationStrategy::Static,
-    values: 1,
-    slots: None,
+    ..WAITING
 };
 
 // A publisher whose fixed action follows its strategy, which is to wait.
 const FOLLOWING: Plan = Plan {
-    strategy: BackpressureStrategy::RetryUntilDelivered,
     asked: Asked::Fixed(BackpressureAction::FollowBackpressureyStrategy),
-    allocation: AllocationStrategy::Static,
-    values: 1,
-    slots: None,
+    ..WAITING
 };
 
 // A publisher with room for two values.
-const WIDE: Plan = Plan {
-    strategy: BackpressureStrategy::DiscardData,
-    asked: Asked::Nobody,
-    allocation: AllocationStrategy::Static,
-    values: 2,
-    slots: None,
-};
+const WIDE: Plan = Plan { values: 2, ..PLAIN };
 
 // A publisher with three slots.
 const NARROW: Plan = Plan {
-    strategy: BackpressureStrategy::DiscardData,
-    asked: Asked::Nobody,
-    allocation: AllocationStrategy::Static,
-    values: 1,
     slots: Some(3),
+    ..PLAIN
 };
 
 const BLOCKED: [Step; 6] = [
-    Step::Subscribe(1, false),
-    Step::Publish(2, WAITING),
+    Step::Subscribe(1, None),
+    Step::Come(2, WAITING),
     Step::Follow(1),
     Step::Put(2, 5, Sent::Delivered(1)),
     Step::Put(2, 6, Sent::Blocked),
     Step::Refused(IntoLanesError::Blocked),
 ];
 
-#[test]
-fn a_send_that_waits(rt: HostRuntime) -> Result<(), Fail> {
-    go(&rt, rt.alloc(), &REFUSING, &BLOCKED)
-}
-
 // What is told after each port that came, was followed and left.
 const COMING: [Step; 19] = [
     Step::May,
-    Step::Publish(1, PLAIN),
+    Step::Come(1, PLAIN),
     Step::May,
-    Step::Subscribe(2, false),
+    Step::Subscribe(2, None),
     Step::Refused(IntoLanesError::ConnectionsNotUpToDate),
     Step::Update(1),
     Step::May,
-    Step::Publish(3, PLAIN),
+    Step::Come(3, PLAIN),
     Step::Refused(IntoLanesError::ConnectionsNotUpToDate),
     Step::Follow(2),
     Step::May,
@@ -133,78 +114,57 @@ const COMING: [Step; 19] = [
     Step::Update(1),
     Step::May,
 ];
-
-#[test]
-fn connections_that_are_not_up_to_date(rt: HostRuntime) -> Result<(), Fail> {
-    go(&rt, rt.alloc(), &OVERFLOWING, &COMING)
-}
 
 const GROWS: [Step; 10] = [
-    Step::Subscribe(1, false),
-    Step::Publish(2, GROWING),
+    Step::Subscribe(1, None),
+    Step::Come(2, GROWING),
     Step::Follow(1),
     Step::Refused(IntoLanesError::NotStatic),
     Step::Leave(2),
     Step::Follow(1),
     Step::May,
-    Step::Publish(3, DOUBLING),
+    Step::Come(3, DOUBLING),
     Step::Follow(1),
     Step::Refused(IntoLanesError::NotStatic),
 ];
 
-#[test]
-fn room_that_may_grow(rt: HostRuntime) -> Result<(), Fail> {
-    go(&rt, rt.alloc(), &REFUSING, &GROWS)
-}
-
 const ASKED: [Step; 8] = [
-    Step::Publish(1, ASKING),
+    Step::Come(1, ASKING),
     Step::Refused(IntoLanesError::HasHandlers),
     Step::Leave(1),
     Step::May,
-    Step::Subscribe(2, true),
+    Step::Watch(2),
     Step::Refused(IntoLanesError::HasHandlers),
     Step::Depart(2),
     Step::May,
 ];
 
-#[test]
-fn objects_that_decide(rt: HostRuntime) -> Result<(), Fail> {
-    go(&rt, rt.alloc(), &REFUSING, &ASKED)
-}
-
 const RETRIES: [Step; 13] = [
-    Step::Publish(1, WAITING),
+    Step::Come(1, WAITING),
     Step::Refused(IntoLanesError::Retrying),
     Step::Leave(1),
-    Step::Publish(2, TOLD_TO_WAIT),
+    Step::Come(2, TOLD_TO_WAIT),
     Step::Refused(IntoLanesError::Retrying),
     Step::Leave(2),
-    Step::Publish(3, FOLLOWING),
+    Step::Come(3, FOLLOWING),
     Step::Refused(IntoLanesError::Retrying),
     Step::Leave(3),
-    Step::Publish(4, TOLD_TO_DISCARD),
+    Step::Come(4, TOLD_TO_DISCARD),
     Step::May,
-    Step::Publish(5, PLAIN),
+    Step::Come(5, PLAIN),
     Step::May,
 ];
 
 // Where the oldest message is dropped nobody waits.
 const OVERFLOWS: [Step; 3] = [
-    Step::Publish(1, WAITING),
-    Step::Publish(2, TOLD_TO_WAIT),
+    Step::Come(1, WAITING),
+    Step::Come(2, TOLD_TO_WAIT),
     Step::May,
 ];
 
-#[test]
-fn sends_that_would_wait(rt: HostRuntime) -> Result<(), Fail> {
-    go(&rt, rt.alloc(), &REFUSING, &RETRIES)?;
-    go(&rt, rt.alloc(), &OVERFLOWING, &OVERFLOWS)
-}
-
 const OUT: [Step; 14] = [
-    Step::Subscribe(1, false),
-    Step::Publish(2, PLAIN),
+    Step::Subscribe(1, None),
+    Step::Come(2, PLAIN),
     Step::Follow(1),
     Step::Lend(2, 1),
     Step::Refused(IntoLanesError::Lingering),
@@ -213,7 +173,7 @@ const OUT: [Step; 14] = [
     Step::Put(2, 5, Sent::Delivered(1)),
     Step::Put(2, 6, Sent::Delivered(1)),
     Step::May,
-    Step::Take(1, 5),
+    Step::Hold(1, 5),
     Step::Refused(IntoLanesError::Lingering),
     Step::Release(1),
     Step::May,
@@ -221,15 +181,15 @@ const OUT: [Step; 14] = [
 
 // The publisher left, and its messages can still be read.
 const EXPIRES: [Step; 12] = [
-    Step::Subscribe(1, false),
-    Step::Publish(2, PLAIN),
+    Step::Subscribe(1, None),
+    Step::Come(2, PLAIN),
     Step::Follow(1),
     Step::Put(2, 5, Sent::Delivered(1)),
     Step::Leave(2),
     Step::Refused(IntoLanesError::ConnectionsNotUpToDate),
     Step::Follow(1),
     Step::Refused(IntoLanesError::Lingering),
-    Step::Take(1, 5),
+    Step::Hold(1, 5),
     Step::Refused(IntoLanesError::Lingering),
     Step::Release(1),
     Step::Refused(IntoLanesError::Lingering),
@@ -237,10 +197,10 @@ const EXPIRES: [Step; 12] = [
 
 // The subscriber left, and still holds a sample.
 const HOLDS: [Step; 11] = [
-    Step::Publish(1, NARROW),
-    Step::Subscribe(2, false),
+    Step::Come(1, NARROW),
+    Step::Subscribe(2, None),
     Step::Put(1, 7, Sent::Delivered(1)),
-    Step::Take(2, 7),
+    Step::Hold(2, 7),
     Step::Depart(2),
     Step::Put(1, 8, Sent::Delivered(0)),
     Step::Put(1, 9, Sent::Delivered(0)),
@@ -250,17 +210,10 @@ const HOLDS: [Step; 11] = [
     Step::May,
 ];
 
-#[test]
-fn what_lingers(rt: HostRuntime) -> Result<(), Fail> {
-    go(&rt, rt.alloc(), &OVERFLOWING, &OUT)?;
-    go(&rt, rt.alloc(), &OVERFLOWING, &EXPIRES)?;
-    go(&rt, rt.alloc(), &REFUSING, &HOLDS)
-}
-
 const SLICED: [Step; 1] = [Step::Refused(IntoLanesError::HasSlices)];
 
 const WIDENS: [Step; 4] = [
-    Step::Publish(1, WIDE),
+    Step::Come(1, WIDE),
     Step::Refused(IntoLanesError::HasSlices),
     Step::Leave(1),
     Step::May,
@@ -268,31 +221,98 @@ const WIDENS: [Step; 4] = [
 
 // A message without a value, which waits, and which is kept.
 const EMPTY: [Step; 6] = [
-    Step::Subscribe(1, false),
-    Step::Publish(2, PLAIN),
+    Step::Subscribe(1, None),
+    Step::Come(2, PLAIN),
     Step::Follow(1),
     Step::Lend(2, 0),
-    Step::Send(2),
+    Step::Send(2, Sent::Delivered(1)),
     Step::Refused(IntoLanesError::HasSlices),
 ];
 
-#[test]
-fn what_is_not_one_value(rt: HostRuntime) -> Result<(), Fail> {
-    go(&rt, rt.alloc(), &SLICES, &SLICED)?;
-    go(&rt, rt.alloc(), &REFUSING, &WIDENS)?;
-    go(&rt, rt.alloc(), &REFUSING, &EMPTY)?;
-    go(&rt, rt.alloc(), &OVERFLOWING, &EMPTY)
-}
+const CASES: [Case; 13] = [
+    Case {
+        name: "a send that waits",
+        service: &REFUSING,
+        steps: &BLOCKED,
+        then: Then::Rests,
+    },
+    Case {
+        name: "connections that are not up to date",
+        service: &OVERFLOWING,
+        steps: &COMING,
+        then: Then::Rests,
+    },
+    Case {
+        name: "room that may grow",
+        service: &REFUSING,
+        steps: &GROWS,
+        then: Then::Rests,
+    },
+    Case {
+        name: "objects that decide",
+        service: &REFUSING,
+        steps: &ASKED,
+        then: Then::Rests,
+    },
+    Case {
+        name: "sends that would wait",
+        service: &REFUSING,
+        steps: &RETRIES,
+        then: Then::Rests,
+    },
+    Case {
+        name: "sends that would not wait",
+        service: &OVERFLOWING,
+        steps: &OVERFLOWS,
+        then: Then::Rests,
+    },
+    Case {
+        name: "a loan and a sample that are out",
+        service: &OVERFLOWING,
+        steps: &OUT,
+        then: Then::Rests,
+    },
+    Case {
+        name: "a publisher that left, and can still be read",
+        service: &OVERFLOWING,
+        steps: &EXPIRES,
+        then: Then::Rests,
+    },
+    Case {
+        name: "a subscriber that left, and holds a sample",
+        service: &REFUSING,
+        steps: &HOLDS,
+        then: Then::Rests,
+    },
+    Case {
+        name: "a service of slices",
+        service: &SLICES,
+        steps: &SLICED,
+        then: Then::Rests,
+    },
+    Case {
+        name: "room for two values",
+        service: &REFUSING,
+        steps: &WIDENS,
+        then: Then::Rests,
+    },
+    Case {
+        name: "a message without a value, which waits",
+        service: &REFUSING,
+        steps: &EMPTY,
+        then: Then::Rests,
+    },
+    Case {
+        name: "a message without a value, which waits and is kept",
+        service: &OVERFLOWING,
+        steps: &EMPTY,
+        then: Then::Rests,
+    },
+];
 
-// The reason must display so.
-fn displays(
-    rt: &impl Abort,
-    alloc: Global,
-    reason: IntoLanesError,
-    text: &str,
-) -> Result<(), AllocError> {
-    assert!(rt; format!(in alloc; "{reason}")?.as_str() == text, "{text}");
-    Ok(())
+#[test]
+fn each_reason_is_told_where_it_applies(rt: HostRuntime) -> Result<(), AllocError> {
+    go_all(&rt, rt.alloc(), &CASES)
 }
 
 const TEXTS: [(IntoLanesError, &str); 8] = [
@@ -309,10 +329,19 @@ const TEXTS: [(IntoLanesError, &str); 8] = [
     (IntoLanesError::OutOfMemory, "IntoLanesError::OutOfMemory"),
 ];
 
-#[test]
-fn reasons_display_as_they_are_named(rt: HostRuntime) -> Result<(), Fail> {
+// Whether the reason displays so.
+fn is_shown(alloc: Global, reason: IntoLanesError, text: &str) -> Result<bool, AllocError> {
+    Ok(format!(in alloc; "{reason}")?.as_str() == text)
+}
+
+fn all_display(rt: &impl Abort, alloc: Global) -> Result<(), AllocError> {
     for (reason, text) in &TEXTS {
-        displays(&rt, rt.alloc(), *reason, text)?;
+        assert!(rt; is_shown(alloc, *reason, *text)?, "{text}");
     }
     Ok(())
+}
+
+#[test]
+fn reasons_display_as_they_are_named(rt: HostRuntime) -> Result<(), AllocError> {
+    all_display(&rt, rt.alloc())
 }

@@ -59,9 +59,17 @@ fn goes(rt: &impl Wait, threads: &mut DomainThreads<u64, u8>, turn: &Turn) -> Op
     })
 }
 
-/// The ports go so.
-pub(crate) fn go<R: Abort + Wait>(rt: &R, threads: &mut DomainThreads<u64, u8>, turns: &[Turn]) {
+/// Each turn must go so, in a case of this name.
+pub(crate) fn go_on<R: Abort + Wait>(
+    rt: &R,
+    threads: &mut DomainThreads<u64, u8>,
+    name: &str,
+    turns: &[Turn],
+) {
     for (place, turn) in turns.iter().enumerate() {
-        assert!(rt; goes(rt, threads, turn) == Some(true), "{place}");
+        assert!(rt;
+            goes(rt, threads, turn) == Some(true),
+            "{name}, turn {place}"
+        );
     }
 }

@@ -1,0 +1,179 @@
+//! Random schedules of lanes: each connection's order is held against a plain mailbox, and each read against what was sent.
+ghost use Rattle.std.specs.Prelude.{◌≡◌};
+
+use crate::known::{
+    Known, NOTHING, SLOTS, are_mailboxes, begun, is_answered, kept, last_at, receiving, sending,
+};
+use crate::schedules::sizes;
+use iox_lanes_machine::{Found, LaneSizes, Lanes};
+use iox_lanes_parties::{Call, Move, Party};
+use iox_queues_rings::RingKind;
+use iox_queues_steps::Stepped;
+use std::alloc::{AllocError, Global};
+use std::test::Fail;
+
+// Two publishers, and three subscribers at each connection of which two messages may wait.
+fn crowd(kind: RingKind) -> LaneSizes
+    ensures { result.buffer ≡ 2 }
+{
+    let mut crowd = sizes(kind, 2, SLOTS / 2);
+    crowd.buffer = 2;
+    crowd.publishers = 2;
+    crowd.subscribers = 3;
+    crowd.history = 1;
+    crowd.most_loans = 2;
+    crowd
+}
+
+// What single ports are found to have: one message may wait at a connection, a publisher has fewer slots and loans, and a subscriber receives in another order.
+const FINDINGS: [Found; 3] = [
+    Found::Buffer {
+        publisher: 1,
+        place: 2,
+        messages: 1,
+    },
+    Found::Slots {
+        publisher: 0,
+        slots: 5,
+        most_loans: 1,
+    },
+    Found::Swapped {
+        subscriber: 2,
+        one: 0,
+        other: 1,
+    },
+];
+
+// A number below another, by chance.
+fn chance(known: &mut Known, below: u64) -> u64 {
+    known.chance = known
+        .chance
+        .wrapping_mul(6_364_136_223_846_793_005)
+        .wrapping_add(1_442_695_040_888_963_407);
+    (known.chance >> 33).checked_rem(below).unwrap_or(0)
+}
+
+// A party by chance, and not the one that rests for a while.
+fn party(known: &mut Known) -> Party {
+    if chance(known, 300) == 0 {
+        known.rests = chance(known, 5);
+    }
+    let drawn = chance(known, 5);
+    match (drawn, drawn == known.rests) {
+        (0, false) | (1, true) => Party::Publisher(0),
+        (1, false) | (0, true) => Party::Publisher(1),
+        (2, false) | (4, true) => Party::Subscriber(0),
+        (3, false) | (2, true) => Party::Subscriber(1),
+        _ => Party::Subscriber(2),
+    }
+}
+
+// A call of a party, by chance, mostly on the slot that it got last.
+fn asked(alloc: Global, known: &mut Known, party: Party, value: u64) -> Result<Call, AllocError> {
+    let kind = chance(known, 16);
+    let slot = if chance(known, 4) == 0 {
+        chance(known, SLOTS)
+    } else {
+        kept(&known.last, last_at(party))
+    };
+    match party {
+        Party::Publisher(_) => sending(alloc, kind, slot, value),
+        Party::Subscriber(_) => Ok(receiving(kind, slot)),
+    }
+}
+
+// A party begins a call by chance, if it fits.
+fn begins(
+    alloc: Global,
+    known: &mut Known,
+    lanes: &mut Lanes,
+    party: Party,
+) -> Result<(), AllocError> {
+    let step = Move::Begin(asked(alloc, known, party, lanes.moments())?);
+    if lanes.step(party, &step) == Stepped::Went {
+        begun(known, party, &step);
+    }
+    Ok(())
+}
+
+// One entry by chance; whether what it gave is right.
+fn goes(alloc: Global, known: &mut Known, lanes: &mut Lanes) -> Result<bool, AllocError> {
+    let party = party(known);
+    match lanes.step(party, &Move::GoOn) {
+        Stepped::Finished => Ok(is_answered(known, lanes)),
+        Stepped::Went => Ok(true),
+        Stepped::Skipped => {
+            begins(alloc, known, lanes, party)?;
+            Ok(true)
+        }
+        Stepped::NoMemory => Err(AllocError),
+    }
+}
+
+// Whether something was done at each connection.
+fn are_used(lanes: &Lanes) -> bool {
+    for connection in 0..lanes.links().len() {
+        if lanes.order(connection as u64).is_empty() {
+            return false;
+        }
+    }
+    true
+}
+
+// Whether all is found.
+fn finds(lanes: &mut Lanes, findings: &[Found]) -> Result<bool, AllocError> {
+    for found in findings {
+        if !lanes.find(*found)? {
+            return Ok(false);
+        }
+    }
+    Ok(true)
+}
+
+// Whether each entry of so many goes right, a thousandth of them reads and more.
+fn all_go(
+    alloc: Global,
+    known: &mut Known,
+    lanes: &mut Lanes,
+    entries: u64,
+) -> Result<bool, AllocError> {
+    for _ in 0..entries {
+        if !goes(alloc, known, lanes)? {
+            return Ok(false);
+        }
+    }
+    Ok(known.reads > entries / 1000)
+}
+
+// Whether lanes of this kind go right for so many entries.
+fn go(alloc: Global, kind: RingKind, findings: &[Found], entries: u64) -> Result<bool, AllocError> {
+    let mut known = NOTHING;
+    let mut lanes = Lanes::new(alloc, crowd(kind))?;
+    Ok(
+        finds(&mut lanes, findings)?
+            && all_go(alloc, &mut known, &mut lanes, entries)?
+            && are_used(&lanes)
+            && are_mailboxes(alloc, &lanes)?,
+    )
+}
+
+const ENTRIES: u64 = 1_000_000;
+
+const FEWER: u64 = 100_000;
+
+// Whether lanes of this kind go right without findings and with them.
+fn both_go(alloc: Global, kind: RingKind) -> Result<bool, AllocError> {
+    Ok(go(alloc, kind, &[], ENTRIES)? && go(alloc, kind, &FINDINGS, FEWER)?)
+}
+
+#[test]
+fn random_schedules_go_right_where_the_oldest_are_dropped(rt: HostRuntime) -> Result<(), Fail> {
+    assert!(rt; both_go(rt.alloc(), RingKind::Overflowing)?);
+    Ok(())
+}
+
+#[test]
+fn random_schedules_go_right_where_the_newest_are_refused(rt: HostRuntime) -> Result<(), Fail> {
+    assert!(rt; both_go(rt.alloc(), RingKind::Refusing)?);
+    Ok(())
+}
