@@ -1,0 +1,3 @@
+-- The definitions that contracts about the messages sent on lanes cite.
+pub mod Messages
+pub mod WholeMessages
