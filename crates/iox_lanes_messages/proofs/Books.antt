@@ -102,7 +102,7 @@ put_back book at own place slot is h = elim (eqb_tells own slot) [
       sym (refers_other book.first (length book.uses) book.referred at own place slot true is.above is.below (λ both. other.1 (sym both.1)))
       ∙ sym (ap (λ (n : ℕ). refers book.first n (put_at book.referred (at * length book.uses + (own - book.first)) true) place slot) (put_at_length book.uses (own - book.first) (successor (get_or book.uses (own - book.first) 0))))
       ∙ h
-  )
+      )
 ]
 
 -- a slot with a use behind a change had one before, or the change gave it

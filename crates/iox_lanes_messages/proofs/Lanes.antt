@@ -81,6 +81,10 @@ own_there m who lane slot found w own =
     let is : IsPublisher m.table.sizes lane = all_at (IsPublisher m.table.sizes) m.publishers who lane found w.publishers in
     omega (arith, own.1, is.slots)
 
+-- a loan is one of the service
+pub loan_there : (m : World) (place loan : ℕ) (lane : PublisherLaneState) → slice_get m.publishers place ≡ Some lane → is_out (loan_of loan lane.port.book) ≡ true → IsWithin m → loan < m.table.sizes.slots
+loan_there m place loan lane found out w = own_there m place lane loan found w (entry_own lane.port.book.first loan lane.port.book.loans mark.No (λ none. cc (sym out ∙ ap is_out none)))
+
 -- of a slot nothing changed: neither a word, nor what it was sent with
 pub record IsUntouched (t u : TableWords) (sent after : ℕ → List ℕ) (slot : ℕ) : Type 0 where
   pub words : (word : SlotWord) → IsWord t.sizes (Slot slot word) → held_by u (Slot slot word) ≡ held_by t (Slot slot word)

@@ -5,3 +5,4 @@ pub mod Words
 pub mod Lanes
 pub mod Sent
 pub mod Whole
+pub mod Records

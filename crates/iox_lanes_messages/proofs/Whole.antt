@@ -78,9 +78,11 @@ through m sent (entry ∷ entries) messages n (inr h) few k all =
     let next = happens_moments m entry.party entry.step h.0 in
     let rest = grows (happens m entry.party entry.step) entries (h.1).0 n (h.1).2 few in
     let bound : m.moments < 2 ^ 63 = few_before m.moments n.moments (omega (arith, next, rest)) few in
-    let end = through (happens m entry.party entry.step) (λ slot. last_in (sent slot) begun slot) entries (h.1).0 n (h.1).2 few (happens_keeps m entry.party entry.step h.0 k) (step_sent m sent entry.party entry.step h.0 k (omega (arith, bound)) all) in
-    (end.0, λ place lane found. same_sent n lane (λ slot. last_in (last_in (sent slot) begun slot) (h.1).0 slot) (λ slot. last_in (sent slot) messages slot)
-    (λ slot. ap (λ (ms : List MessageState). last_in (sent slot) ms slot) (h.1).1 ∙ last_append (sent slot) begun (h.1).0 slot) (end.1 place lane found))
+    let end = through (happens m entry.party entry.step) (λ slot. last_in (sent slot) begun slot) entries (h.1).0 n (h.1).2 few (happens_keeps m entry.party entry.step h.0 k) (step_sent m sent entry.party entry.step h.0 k (omega (arith, bound)) all) in (
+      end.0,
+      λ place lane found. same_sent n lane (λ slot. last_in (last_in (sent slot) begun slot) (h.1).0 slot) (λ slot. last_in (sent slot) messages slot)
+          (λ slot. ap (λ (ms : List MessageState). last_in (sent slot) ms slot) (h.1).1 ∙ last_append (sent slot) begun (h.1).0 slot) (end.1 place lane found),
+    )
   where
     same_sent : (n : World) (lane : PublisherLaneState) (one other : ℕ → List ℕ) → ((slot : ℕ) → other slot ≡ one slot) → LaneSent n.table one lane → LaneSent n.table other lane
     same_sent n lane one other same h = record {
