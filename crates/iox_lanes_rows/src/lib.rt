@@ -1,7 +1,7 @@
 //! What no contract of lanes can say, tested one word at a time.
 //!
 //! It has no items of its own, only tests: `schedules` holds schedules known beforehand with their answers, `findings` what lanes find before their first step,
-//! `random` schedules by chance, `every` all schedules of small worlds to some depth, beside what is `known` of their messages, and `calls` drives whole calls.
+//! `random` schedules by chance, `every` all schedules of small worlds to some depth, beside what is `known` of their messages, `messages` the messages that lanes keep, and `calls` drives whole calls.
 #![tactic(auto)]
 
 #[cfg(test)]
@@ -12,6 +12,8 @@ mod every;
 mod findings;
 #[cfg(test)]
 mod known;
+#[cfg(test)]
+mod messages;
 #[cfg(test)]
 mod random;
 #[cfg(test)]
