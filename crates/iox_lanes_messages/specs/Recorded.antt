@@ -26,14 +26,14 @@ recorded_after r party step = record { lanes = happens r.lanes party step; messa
 abbrev pub RecordsAt : RecordState → Party → Move → Type 0
 RecordsAt r party step = Records r.lanes party step ⊎ (0 < length (begun_messages r.lanes party step))
 
--- what a step answers, and what it leaves: the lanes make their step, and the message whose send begins stands behind the others; memory is wanting only where something is recorded
+-- what a step answers, and what it leaves: the lanes make their step, and the message whose send begins stands behind the others; an allocation fails only where something is recorded
 abbrev pub RecordsTo : RecordState → Party → Move → Stepped → RecordState → Type 0
 RecordsTo r party step stepped.Went n = StepsTo r.lanes party step stepped.Went n.lanes × (n.messages ≡ r.messages ++ begun_messages r.lanes party step)
 RecordsTo r party step stepped.Finished n = StepsTo r.lanes party step stepped.Finished n.lanes × (n.messages ≡ r.messages ++ begun_messages r.lanes party step)
 RecordsTo r party step stepped.Skipped n = (fits r.lanes party step ≡ false) × (n ≡ r)
 RecordsTo r party step stepped.NoMemory n = (fits r.lanes party step ≡ true) × RecordsAt r party step × (n ≡ r)
 
--- a list of steps, of which `made` were made; it may stop where a step finds no memory for what is recorded
+-- a list of steps, of which `made` were made; it may stop where an allocation fails for what a step records
 abbrev pub RecordsRun : RecordState → List Entry → ℕ → RecordState → Type 0
 RecordsRun r [] made n = (made ≡ 0) × (n ≡ r)
 RecordsRun r (entry ∷ entries) made n =
