@@ -4,3 +4,4 @@ mod Following
 mod PortsLeft
 mod Numbers
 mod JoinedLanes
+mod Found

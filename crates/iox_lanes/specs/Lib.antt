@@ -1,4 +1,5 @@
 pub mod Lying
+pub mod Finding
 pub mod Holding
 pub mod Opening
 pub mod Joined

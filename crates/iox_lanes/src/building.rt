@@ -1,8 +1,11 @@
 //! Lanes find what a domain has.
 ghost use Rattle.std.specs.Prelude.{◌≡◌, ◌+◌, ◌<◌, IfOk};
 ghost use Rattle.iox_lanes.specs.Holding.{numbers_of};
+ghost use Rattle.iox_lanes_machine.specs.Resting.{AllBetween};
+ghost use Rattle.iox_lanes_machine.specs.WholeReads.{CameTo};
 
 use crate::domain_lanes::Opened;
+use crate::finding::NewLanes;
 use crate::listed::{publishers_listed, subscribers_listed};
 use iox_domain::Domain;
 use iox_domain_publisher::{PublisherPort, Stage};
@@ -19,12 +22,14 @@ pub(crate) fn build<T: Words, U: Words>(
     alloc: Global,
     domain: &Domain<T, U>,
 ) -> Result<Opened<T>, AllocError>
+    ensures came { IfOk result (λ opened. CameTo opened.lanes) }
+    ensures between { IfOk result (λ opened. AllBetween opened.lanes) }
     ensures publishers { IfOk result (λ opened. opened.publishers.items ≡ numbers_of (λ entry. entry.publisher) domain.now.ports.publisher_list.places) }
     ensures subscribers { IfOk result (λ opened. opened.subscribers.items ≡ numbers_of (λ entry. entry.subscriber) domain.now.ports.subscriber_list.places) }
 {
     let publishers = publishers_listed(alloc, &domain.ports.publisher_list)?;
     let subscribers = subscribers_listed(alloc, &domain.ports.subscriber_list)?;
-    let mut lanes = Lanes::new(
+    let mut lanes = NewLanes::new(
         alloc,
         sizes_of(
             domain,
@@ -45,7 +50,7 @@ pub(crate) fn build<T: Words, U: Words>(
     let mut one = Vec::new(alloc);
     one.push(domain.blank)?;
     Ok(Opened {
-        lanes,
+        lanes: lanes.into_lanes(),
         publishers,
         subscribers,
         connections,
@@ -111,7 +116,7 @@ fn slots_of<T: Words, U: Words>(port: &PublisherPort<T, U>) -> u64 {
 }
 
 fn find_publishers<T: Words, U: Words>(
-    lanes: &mut Lanes,
+    lanes: &mut NewLanes,
     domain: &Domain<T, U>,
     publishers: &[u64],
     subscribers: &[u64],
@@ -120,7 +125,7 @@ fn find_publishers<T: Words, U: Words>(
     for place in 0..publishers.len() {
         if let Some(port) = domain.ports.publishers.get(publishers[place]) {
             find_publisher(lanes, place, port)?;
-            let first = first_slot(lanes, place);
+            let first = first_slot(lanes.lanes(), place);
             find_history(lanes, place, first, port)?;
             find_connections(lanes, domain, place, first, port, subscribers, connections)?;
         }
@@ -130,7 +135,7 @@ fn find_publishers<T: Words, U: Words>(
 
 // A publisher has so many slots and loans, and its headers say its node and number.
 fn find_publisher<T: Words, U: Words>(
-    lanes: &mut Lanes,
+    lanes: &mut NewLanes,
     place: usize,
     port: &PublisherPort<T, U>,
 ) -> Result<(), AllocError> {
@@ -143,8 +148,7 @@ fn find_publisher<T: Words, U: Words>(
         publisher: place,
         node_id: port.owner.node_id,
         publisher_id: port.number,
-    })?;
-    Ok(())
+    })
 }
 
 // The number of a publisher's first slot in the lanes.
@@ -156,7 +160,7 @@ fn first_slot(lanes: &Lanes, place: usize) -> u64 {
 }
 
 fn find_history<T: Words, U: Words>(
-    lanes: &mut Lanes,
+    lanes: &mut NewLanes,
     place: usize,
     first: u64,
     port: &PublisherPort<T, U>,
@@ -173,7 +177,7 @@ fn find_history<T: Words, U: Words>(
 }
 
 fn find_connections<T: Words, U: Words>(
-    lanes: &mut Lanes,
+    lanes: &mut NewLanes,
     domain: &Domain<T, U>,
     place: usize,
     first: u64,
@@ -214,7 +218,7 @@ fn limit_at<T: Words, U: Words>(port: &PublisherPort<T, U>, index: usize) -> usi
 }
 
 fn find_waiting<T: Words, U: Words>(
-    lanes: &mut Lanes,
+    lanes: &mut NewLanes,
     place: usize,
     first: u64,
     port: &PublisherPort<T, U>,
@@ -258,7 +262,7 @@ fn waiting_slot<T: Words, U: Words>(
 
 // The words of the message in a slot.
 fn find_message<T: Words, U: Words>(
-    lanes: &mut Lanes,
+    lanes: &mut NewLanes,
     first: u64,
     port: &PublisherPort<T, U>,
     slot: usize,
@@ -276,13 +280,12 @@ fn find_message<T: Words, U: Words>(
     }
 }
 
-fn find_word(lanes: &mut Lanes, slot: u64, word: SlotWord, value: u64) -> Result<(), AllocError> {
-    lanes.find(Found::Held { slot, word, value })?;
-    Ok(())
+fn find_word(lanes: &mut NewLanes, slot: u64, word: SlotWord, value: u64) -> Result<(), AllocError> {
+    lanes.find(Found::Held { slot, word, value })
 }
 
 fn find_user_header<U: Words>(
-    lanes: &mut Lanes,
+    lanes: &mut NewLanes,
     slot: u64,
     user_header: &U,
 ) -> Result<(), AllocError> {
@@ -297,7 +300,7 @@ fn find_user_header<U: Words>(
     Ok(())
 }
 
-fn find_value<T: Words>(lanes: &mut Lanes, slot: u64, value: &T) -> Result<(), AllocError> {
+fn find_value<T: Words>(lanes: &mut NewLanes, slot: u64, value: &T) -> Result<(), AllocError> {
     for word in 0..T::WORDS {
         find_word(
             lanes,
@@ -311,7 +314,7 @@ fn find_value<T: Words>(lanes: &mut Lanes, slot: u64, value: &T) -> Result<(), A
 
 // Each subscriber goes over its connections in the order of its keys.
 fn find_orders<T: Words, U: Words>(
-    lanes: &mut Lanes,
+    lanes: &mut NewLanes,
     domain: &Domain<T, U>,
     publishers: &[u64],
     subscribers: &[u64],
@@ -325,7 +328,7 @@ fn find_orders<T: Words, U: Words>(
 }
 
 fn find_order(
-    lanes: &mut Lanes,
+    lanes: &mut NewLanes,
     place: usize,
     port: &SubscriberPort,
     publishers: &[u64],
@@ -333,7 +336,7 @@ fn find_order(
     let mut to = 0u64;
     for key in 0..port.connections.reached() {
         if let Some(attached) = port.attached(key) {
-            let from = route_from(lanes, place, publishers, attached.publisher);
+            let from = route_from(lanes.lanes(), place, publishers, attached.publisher);
             lanes.find(Found::Swapped {
                 subscriber: place,
                 one: to,

@@ -2,7 +2,8 @@
 //!
 //! - [`domain_lanes`]: lanes with the domain that they came from.
 //! - `listed`: the numbers of the ports, by their places.
-//! - `building`: lanes find what the domain has.
+//! - `finding`: lanes before their first step.
+//! - `building`: they find what the domain has.
 //! - `lying`: whether a message of the domain lies in a slot of the lanes.
 //! - `sending`, `linking`, `receiving`: whether publishers, connections and subscribers of the lanes are those of the domain.
 //! - `holding`: whether lanes hold what the domain has.
@@ -26,6 +27,7 @@
 
 mod building;
 pub mod domain_lanes;
+mod finding;
 mod holding;
 pub mod into_domain_error;
 mod joining;

@@ -1,0 +1,16 @@
+-- Lanes to which nothing happened but that something was found.
+use Rattle.std.specs.Prelude.{ℕ, ◌+◌, ◌<◌, ◌^◌, List}
+use Rattle.iox_lanes_machine.specs.Findings.{AreFound}
+use Rattle.iox_lanes_machine.specs.Made.{start}
+use Rattle.iox_lanes_machine.specs.World.{World}
+use Rattle.iox_lanes_machine.specs.declared.found.Found.{Found}
+use Rattle.iox_lanes_machine.specs.declared.sizes.LaneSizes.{LaneSizes}
+
+-- lanes that were made, and what they found
+pub record WasFound (m : World) : Type 0 where
+  pub sizes : LaneSizes
+  pub some : 0 < sizes.buffer
+  pub ports : sizes.subscribers < 2 ^ 61
+  pub small : sizes.buffer + sizes.most_borrowed + 1 < 2 ^ 62
+  pub found : List Found
+  pub finds : AreFound (start sizes) found m

@@ -1,0 +1,70 @@
+//! Lanes before their first step, to which nothing happened but that something was found.
+ghost use Rattle.std.specs.Prelude.{◌≡◌, ◌<◌};
+
+use iox_lanes_machine::{Found, LaneSizes, Lanes};
+use std::alloc::{AllocError, Global};
+use std::marker::Model;
+
+/// Such lanes.
+#[derive(Drop)]
+pub(crate) struct NewLanes {
+    lanes: Lanes,
+}
+
+impl Model for NewLanes {
+    ghost use Rattle.iox_lanes_machine.specs.World.{World};
+    ghost use Rattle.iox_lanes.specs.Finding.{WasFound};
+
+    ghost Value = { World };
+
+    ghost view = { λ n. n.lanes };
+
+    ghost invariant = { λ n. WasFound n.lanes };
+}
+
+impl NewLanes {
+    ghost use Rattle.iox_lanes_machine.specs.Resting.{AllBetween};
+    ghost use Rattle.iox_lanes_machine.specs.WholeReads.{CameTo};
+
+    /// Lanes of these sizes. Fails only where an allocation fails; no memory has room for buffers, borrowed samples or subscribers of 2^61 or more.
+    #[tactic(auto, using(crate::proofs::Found::was_made))]
+    pub fn new(alloc: Global, sizes: LaneSizes) -> Result<NewLanes, AllocError>
+        requires { 0 < sizes.buffer }
+    {
+        if sizes.buffer >= 1 << 61 {
+            return Err(AllocError);
+        }
+        if sizes.most_borrowed >= 1 << 61 {
+            return Err(AllocError);
+        }
+        if sizes.subscribers >= 1 << 61 {
+            return Err(AllocError);
+        }
+        let lanes = Lanes::new(alloc, sizes)?;
+        Ok(NewLanes { lanes })
+    }
+
+    /// This is found, if it may be.
+    #[tactic(auto, using(crate::proofs::Found::found_on))]
+    pub fn find(&mut self, found: Found) -> Result<(), AllocError> {
+        let _ = self.lanes.find(found)?;
+        Ok(())
+    }
+
+    /// The lanes so far.
+    pub fn lanes(&self) -> &Lanes
+        ensures { result.now ≡ self.now }
+    {
+        &self.lanes
+    }
+
+    /// The lanes, which came from where they were made; nobody is inside a call.
+    #[tactic(auto, using(crate::proofs::Found::came))]
+    pub fn into_lanes(self) -> Lanes
+        ensures came { CameTo result }
+        ensures between { AllBetween result }
+    {
+        let NewLanes { lanes } = self;
+        lanes
+    }
+}
