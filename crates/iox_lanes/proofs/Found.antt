@@ -1,5 +1,5 @@
 -- What is found is found of lanes as they were made.
-use Rattle.std.proofs.Common.{ℕ, Bool, ◌≡◌, ◌+◌, ◌<◌, ◌^◌, true, false, List, [], ◌∷◌, ◌++◌, get_or, length, slice_get, refl, sym, ◌∙◌, ap, subst, Some, arith}
+use Rattle.std.proofs.Common.{ℕ, Bool, ◌≡◌, ◌<◌, ◌^◌, true, false, List, [], ◌∷◌, ◌++◌, get_or, slice_get, refl, sym, ◌∙◌, ap, subst, Some, arith}
 use Rattle.std.specs.List.{All}
 use Rattle.std.proofs.lemmas.Option.{slice_get-get_or}
 use Rattle.iox_lanes_machine.specs.LanesCalls.Publishing.{publisher_is_idle}

@@ -1,11 +1,11 @@
 -- Messages that lie in slots.
-use Rattle.std.proofs.Common.{rules, arith, ℕ, ◌≡◌, ◌+◌, ◌<◌, ◌≤◌, Bool, true, false, nat_lt, List, length, Option, None, Some, option_map, slice_get, map, refl, ap, sym, subst, ◌∙◌}
+use Rattle.std.proofs.Common.{arith, ℕ, ◌≡◌, ◌+◌, ◌<◌, ◌≤◌, Bool, true, false, nat_lt, List, length, Option, None, Some, option_map, slice_get, map, refl, ap, sym, subst, ◌∙◌}
 use Rattle.std.proofs.lemmas.Option.{slice_get-map, slice_get_past}
 use Rattle.iox_domain.specs.DomainPorts.DomainSender.Messages.{Message}
 use Rattle.iox_domain.specs.DomainPublisher.declared.publisher_port.PublisherPort.{PublisherPort}
 use Rattle.iox_lanes_machine.specs.LanesWords.Table.{TableWords}
 use Rattle.iox_lanes.specs.Holding.{IsNamedIf}
-use Rattle.iox_lanes.specs.Lying.{WordsLie, Lies, IsLaidAt, AreLaid}
+use Rattle.iox_lanes.specs.Lying.{WordsLie, IsLaidAt}
 
 -- the words of the same elements, user header and values lie there
 pub lies_same : {T U : Type 0} (payload_words : T → List ℕ) (header_words : U → List ℕ) (table : TableWords) (slot node number : ℕ) {elements other : ℕ} {user_header other_header : U} {values others : List T}

@@ -1,5 +1,5 @@
 -- The numbers of the ports that are listed.
-use Rattle.std.proofs.Common.{rules, arith, ℕ, zero, suc, ◌≡◌, ◌+◌, ◌-◌, ◌<◌, ◌≤◌, ◌++◌, ◌∷◌, [], List, length, take, get_or, replicate, Option, None, Some, refl, ap, sym, ◌∙◌}
+use Rattle.std.proofs.Common.{arith, ℕ, zero, suc, ◌≡◌, ◌+◌, ◌-◌, ◌<◌, ◌≤◌, ◌++◌, ◌∷◌, [], List, length, take, get_or, replicate, Option, None, Some, refl, ap, sym, ◌∙◌}
 use Rattle.iox_domain.specs.DomainPorts.IndexBase.Places.{padded}
 use Rattle.iox_domain.specs.DomainPorts.IndexBase.declared.container.Member.{Member}
 use Rattle.iox_lanes.specs.Holding.{numbers_of}

@@ -1,5 +1,5 @@
 -- Lanes to which nothing happened but that something was found.
-use Rattle.std.specs.Prelude.{ℕ, ◌+◌, ◌<◌, ◌^◌, List}
+use Rattle.std.specs.Prelude.{◌+◌, ◌<◌, ◌^◌, List}
 use Rattle.iox_lanes_machine.specs.Findings.{AreFound}
 use Rattle.iox_lanes_machine.specs.Made.{start}
 use Rattle.iox_lanes_machine.specs.World.{World}

@@ -280,7 +280,12 @@ fn find_message<T: Words, U: Words>(
     }
 }
 
-fn find_word(lanes: &mut NewLanes, slot: u64, word: SlotWord, value: u64) -> Result<(), AllocError> {
+fn find_word(
+    lanes: &mut NewLanes,
+    slot: u64,
+    word: SlotWord,
+    value: u64,
+) -> Result<(), AllocError> {
     lanes.find(Found::Held { slot, word, value })
 }
 

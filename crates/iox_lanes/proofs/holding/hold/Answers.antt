@@ -1,4 +1,3 @@
-use Rattle.iox_lanes.specs.Holding.{LanesHold}
 use Rattle.iox_lanes.proofs.holding.hold.Goals as goal
 
 pub returns : goal.returns

@@ -1,4 +1,4 @@
-use Rattle.std.proofs.Common.{arith, length}
+use Rattle.std.proofs.Common.{arith}
 use Rattle.iox_lanes.specs.Holding.{LinkHolds}
 use borrow.Author.Count.{below_more}
 use Rattle.iox_lanes.proofs.holding.links_of_hold.Goals as goal

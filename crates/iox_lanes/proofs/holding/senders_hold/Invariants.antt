@@ -1,4 +1,4 @@
-use Rattle.std.proofs.Common.{◌<◌, ℕ, length}
+use Rattle.std.proofs.Common.{◌<◌, ℕ}
 use Rattle.iox_lanes.specs.Holding.{SenderHolds}
 use Rattle.iox_lanes.proofs.holding.senders_hold.Given as goal
 

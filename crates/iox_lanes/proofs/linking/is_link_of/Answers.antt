@@ -1,5 +1,4 @@
 use Rattle.std.proofs.Common.{sym, ◌∙◌}
-use Rattle.iox_lanes.specs.Holding.{IsLinkOf}
 use Rattle.iox_lanes.proofs.linking.is_link_of.Goals as goal
 
 pub returns : goal.returns

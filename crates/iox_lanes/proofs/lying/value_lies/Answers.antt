@@ -1,4 +1,4 @@
-use Rattle.std.proofs.Common.{◌≡◌, ◌<◌, ℕ, slice_index, arith, ◌∙◌}
+use Rattle.std.proofs.Common.{◌≡◌, slice_index, arith, ◌∙◌}
 use Rattle.iox_lanes_machine.specs.LanesWords.Table.{held_by}
 use Rattle.iox_lanes_machine.specs.LanesWords.declared.word.SharedWord.TheVariants.{Slot}
 use Rattle.iox_lanes_machine.specs.LanesWords.declared.word.SlotWord.TheVariants.{Payload}

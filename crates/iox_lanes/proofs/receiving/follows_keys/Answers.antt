@@ -1,4 +1,4 @@
-use Rattle.std.proofs.Common.{◌≡◌, ◌<◌, ℕ, arith, get_or, take, count_by, is_some, slice_get, None, sym, subst, ◌∙◌}
+use Rattle.std.proofs.Common.{arith, get_or, take, count_by, is_some, slice_get, None, subst}
 use Rattle.iox_lanes.specs.Holding.{IsRouteIf}
 use Rattle.iox_lanes.proofs.Following.{follows_next, follows_all}
 use borrow.Author.Count.{below_more}

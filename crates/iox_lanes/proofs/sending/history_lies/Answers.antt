@@ -1,5 +1,5 @@
-use Rattle.std.proofs.Common.{arith, slice_get, sym}
-use Rattle.iox_lanes.specs.Lying.{IsLaidAt, AreLaid}
+use Rattle.std.proofs.Common.{arith, slice_get}
+use Rattle.iox_lanes.specs.Lying.{IsLaidAt}
 use Rattle.iox_lanes.proofs.Laying.{laid_all}
 use borrow.Author.Count.{below_more}
 use Rattle.iox_lanes.proofs.sending.history_lies.Goals as goal

@@ -1,6 +1,6 @@
-use Rattle.std.proofs.Common.{ℕ, List, sym, subst, slice_get, ◌∙◌}
+use Rattle.std.proofs.Common.{ℕ, sym, subst, slice_get, ◌∙◌}
 use Rattle.iox_lanes.specs.Lying.{AreLaid}
-use Rattle.iox_lanes.specs.Holding.{IsNamedIf, IsLaneOf}
+use Rattle.iox_lanes.specs.Holding.{IsNamedIf}
 use Rattle.iox_lanes.proofs.sending.is_lane_of.Goals as goal
 
 pub returns : goal.returns
