@@ -1,0 +1,4 @@
+pub mod Homes
+pub mod Making
+pub mod Ports
+pub mod Steps
