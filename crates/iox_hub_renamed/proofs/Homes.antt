@@ -39,7 +39,7 @@ use Rattle.iox_hub_renamed.specs.RenamingLaws.{HaveNumbers}
 use Rattle.iox_hub_renamed.specs.Renaming.{renamed_id, renamed_domain, renamed_presence, renamed_services, renamed_hub}
 
 -- a number finds under the other numbers what it finds here
-keys_at : {X : Type 0} (by : Renaming) → AreInOrder by.services → (number : ℕ) (entries : List (ℕ × X)) → HaveNumbers by entries → AllByRecursion (λ entry. is_at (nat_cmp (by.services number)) (by.services entry.0) ≡ is_at (nat_cmp number) entry.0) entries
+pub keys_at : {X : Type 0} (by : Renaming) → AreInOrder by.services → (number : ℕ) (entries : List (ℕ × X)) → HaveNumbers by entries → AllByRecursion (λ entry. is_at (nat_cmp (by.services number)) (by.services entry.0) ≡ is_at (nat_cmp number) entry.0) entries
 keys_at {X} by order number entries all =
     weaker (λ (entry : ℕ × X). 0 < by.services entry.0) (λ (entry : ℕ × X). is_at (nat_cmp (by.services number)) (by.services entry.0) ≡ is_at (nat_cmp number) entry.0) (λ entry live. at_as by.services order number entry.0 live) entries all
 

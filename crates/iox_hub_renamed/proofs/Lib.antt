@@ -2,3 +2,5 @@ pub mod Homes
 pub mod Making
 pub mod Ports
 pub mod Steps
+pub mod Services
+pub mod Commands

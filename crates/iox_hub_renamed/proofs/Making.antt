@@ -26,7 +26,7 @@ map_join : {A C : Type 0} (step : A → C) (one other : List A) → map step (on
 map_join step [] other = refl
 map_join step (value ∷ one) other = ap (λ rest. step value ∷ rest) (map_join step one other)
 
-map_long : {A C : Type 0} (step : A → C) (one : List A) → length (map step one) ≡ length one
+pub map_long : {A C : Type 0} (step : A → C) (one : List A) → length (map step one) ≡ length one
 map_long step [] = refl
 map_long step (value ∷ one) = ap suc (map_long step one)
 
@@ -34,11 +34,11 @@ module _ {V : Type 0} (step : V → V) where
   pub under_as : (table : NumberTable V) (number : ℕ) → value_at (mapped step table) number ≡ option_map step (value_at table number)
   under_as table number = each_found step (nat_eq number) table.entries
 
-  inserted_as : (table : NumberTable V) (value : V) → inserted (mapped step table) (step value) ≡ mapped step (inserted table value)
+  pub inserted_as : (table : NumberTable V) (value : V) → inserted (mapped step table) (step value) ≡ mapped step (inserted table value)
   inserted_as table value =
       ap (λ entries. record (inserted (mapped step table) (step value)) { entries = entries }) (sym (map_join (λ (entry : ℕ × V). (entry.0, step entry.1)) table.entries ((table.next, value) ∷ [])))
 
-  removed_as : (table : NumberTable V) (number : ℕ) → removed (mapped step table) number ≡ mapped step (removed table number)
+  pub removed_as : (table : NumberTable V) (number : ℕ) → removed (mapped step table) number ≡ mapped step (removed table number)
   removed_as table number = ap (λ entries. record (mapped step table) { entries = entries }) (each_gone step (nat_eq number) table.entries)
 
   pub full_as : (table : NumberTable V) → IsFull table → IsFull (mapped step table)

@@ -84,7 +84,7 @@ replied does other goes (Ok reply) done = goes reply done
 replied does other goes (Err lacking) never = never
 
 -- a command of ports isn't of services
-apart : {T : Type 0} (asked : Command T) → IsOfPorts asked → OfServices asked → ⊥
+pub apart : {T : Type 0} (asked : Command T) → IsOfPorts asked → OfServices asked → ⊥
 apart command.Node never of = never
 apart (command.Create node name options attributes steps) never of = never
 apart (command.Open node name options requirements steps) never of = never
