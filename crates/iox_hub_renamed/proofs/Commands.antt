@@ -62,13 +62,13 @@ module _ {T U B D : Type 0} where
   aside_on : (by : Renaming) (one mid other : Hub T U B D) → Aside by one mid → Aside by mid other → Aside by one other
   aside_on by one mid other (table, factories, counts, live) (next_table, next_factories, next_counts, next_live) = (next_table ∙ table, next_factories ∙ factories, next_counts ∙ counts, λ lives. next_live (live lives))
 
-  still_by : (by : Renaming) (end last next count : ℕ) (one other : Hub T U B D) → Aside by one other → HubGoesBy by end last next count one → HubGoesBy by end last next count other
-  still_by by end last next count one other (table, factories, counts, live) goes = record {
-    table = subst (λ (it : Contents). GoBy by.services end next it) (sym table) goes.table;
+  still_by : (by : Renaming) (end fewer next last without count : ℕ) (one other : Hub T U B D) → Aside by one other → HubGoesBy by end fewer next last without count one → HubGoesBy by end fewer next last without count other
+  still_by by end fewer next last without count one other (table, factories, counts, live) goes = record {
+    table = subst (λ (it : Contents). GoBy by.services end fewer next it) (sym table) goes.table;
     domains = live goes.domains;
     counts = subst (λ (it : List (ℕ × ℕ)). HaveNumbers by it) (sym counts) goes.counts;
     ahead = subst (λ so_many. (owner : ℕ) → so_many < owner → owner ≤ last → by.owners owner ≡ count + (owner - so_many)) (sym factories) goes.ahead;
-    earlier = subst (λ so_many. count ≤ so_many) (sym factories) goes.earlier;
+    earlier = subst (λ so_many. so_many ≡ count + without) (sym factories) goes.earlier;
     few = goes.few;
   }
 
@@ -108,15 +108,15 @@ module _ {T U B D : Type 0} (payload user_header : Detail) (types : MessageTypeD
   leaves_factories (command.Leave number) old new answer of step = told _ _ answer (λ reply does. does.1) step
   leaves_factories (command.Has subscriber) old new answer of step = told _ _ answer (λ reply does. ap (λ (hub : NumberedHub T U B D). hub.factories) does.1) step
 
-  module _ (by : Renaming) (order : AreInOrder by.services) (own_order : AreInOrder by.owners) (end last next count : ℕ) (blind : LooksAtNoService B D degrades decides reader_degrades) where
+  module _ (by : Renaming) (order : AreInOrder by.services) (own_order : AreInOrder by.owners) (end fewer next last without count : ℕ) (blind : LooksAtNoService B D degrades decides reader_degrades) where
     abbrev whole : ℕ → ℕ → NumberedHub T U B D → NumberedHub T U B D
     whole later counted numbered = renamed_numbered by later counted numbered
 
     -- it leads to a hub whose lives and counted factories have other numbers, too
     abbrev Leads : NumberedHub T U B D → (ℕ → ℕ → Type 0) → Type 0
-    Leads new does = (later counted : ℕ) × does later counted × GoesBy by end last later counted new
+    Leads new does = (later counted : ℕ) × does later counted × GoesBy by end fewer later last without counted new
 
-    of_ports : (asked : Command T) (old new : NumberedHub T U B D) (answer : Result (Reply T) AllocError) → IsOfPorts asked → GoesBy by end last next count old → each asked old answer new → Leads new (λ later counted. each asked (whole next count old) answer (whole later counted new))
+    of_ports : (asked : Command T) (old new : NumberedHub T U B D) (answer : Result (Reply T) AllocError) → IsOfPorts asked → GoesBy by end fewer next last without count old → each asked old answer new → Leads new (λ later counted. each asked (whole next count old) answer (whole later counted new))
     of_ports asked old new answer of (goes, all) does =
         let aside =
         step_keeps (Aside by) (aside_same by) (aside_on by) (λ id step hub. (refl, refl, refl, λ live. still_live by order id step hub.services live)) payload user_header types is_default is_default_header fixed degrades decides fixed_reader reader_degrades asked old new answer
@@ -126,41 +126,41 @@ module _ {T U B D : Type 0} (payload user_header : Detail) (types : MessageTypeD
           count,
           goes_as by order next count fixed degrades decides fixed_reader reader_degrades blind payload user_header types is_default is_default_header asked old new answer goes.domains of does,
           (
-            still_by by end last next count old.hub new.hub aside goes,
+            still_by by end fewer next last without count old.hub new.hub aside goes,
             subst (λ (factories : Factories). AllByRecursion (λ entry. HasNumbers by entry.1) factories.made.entries) (sym (leaves_factories asked old new answer of does)) all,
           ),
         )
 
-    node_made : (old new : NumberedHub T U B D) (answer : Reply T) → GoesBy by end last next count old → NodeMakes old answer new → Leads new (λ later counted. NodeMakes (whole next count old) answer (whole later counted new))
+    node_made : (old new : NumberedHub T U B D) (answer : Reply T) → GoesBy by end fewer next last without count old → NodeMakes old answer new → Leads new (λ later counted. NodeMakes (whole next count old) answer (whole later counted new))
     node_made old new answer (goes, all) (is, same) =
         (
           next,
           count,
           (is, ap (whole next count) same),
-          subst (λ (it : NumberedHub T U B D). GoesBy by end last next count it) (sym same) (record { table = goes.table; domains = goes.domains; counts = goes.counts; ahead = goes.ahead; earlier = goes.earlier; few = goes.few }, all),
+          subst (λ (it : NumberedHub T U B D). GoesBy by end fewer next last without count it) (sym same) (record { table = goes.table; domains = goes.domains; counts = goes.counts; ahead = goes.ahead; earlier = goes.earlier; few = goes.few }, all),
         )
 
-    pub any : (asked : Command T) (old new : NumberedHub T U B D) (answer : Result (Reply T) AllocError) → IsTable old.hub.table → GoesBy by end last next count old → new.hub.table.next ≤ end → new.hub.factories ≤ last → each asked old answer new
+    pub any : (asked : Command T) (old new : NumberedHub T U B D) (answer : Result (Reply T) AllocError) → IsTable old.hub.table → GoesBy by end fewer next last without count old → new.hub.table.next ≤ end → new.hub.factories ≤ last → each asked old answer new
         → Leads new (λ later counted. each asked (whole next count old) answer (whole later counted new))
     any command.Node old new (Ok reply) table goes within few step = node_made old new reply goes step
     any command.Node old new (Err lacking) table goes within few step = absurd step
     any (command.Create node name named attributes steps) old new (Ok reply) table (goes, all) within few (made, does, same, is) =
         let ((later, counted, done, go_on), all_after) =
-        creates_numbered by order own_order end last payload user_header next count old.hub new.hub table goes within few (is_node node old.hub.nodes) types (record { node = node; name = name; options = named }) attributes steps made old.factories.made new.factories.made all does in
+        creates_numbered by order own_order end fewer last without payload user_header next count old.hub new.hub table goes within few (is_node node old.hub.nodes) types (record { node = node; name = name; options = named }) attributes steps made old.factories.made new.factories.made all does in
         (later, counted, (made, done, ap (own by) same, is), (go_on, all_after))
     any (command.Create node name named attributes steps) old new (Err lacking) table goes within few step = absurd step
     any (command.Open node name named requirements steps) old new (Ok reply) table (goes, all) within few (made, does, same, is) =
         let ((later, counted, done, go_on), all_after) =
-        opens_numbered by order own_order end last payload user_header next count old.hub new.hub table goes within few (is_node node old.hub.nodes) types (record { node = node; name = name; options = named }) requirements steps made old.factories.made new.factories.made all does in
+        opens_numbered by order own_order end fewer last without payload user_header next count old.hub new.hub table goes within few (is_node node old.hub.nodes) types (record { node = node; name = name; options = named }) requirements steps made old.factories.made new.factories.made all does in
         (later, counted, (made, done, ap (own by) same, is), (go_on, all_after))
     any (command.Open node name named requirements steps) old new (Err lacking) table goes within few step = absurd step
     any (command.OpenOrCreate node name named requirements steps) old new (Ok reply) table (goes, all) within few (made, does, same, is) =
         let ((later, counted, done, go_on), all_after) =
-        either_numbered by order own_order end last payload user_header next count old.hub new.hub table goes within few (is_node node old.hub.nodes) types (record { node = node; name = name; options = named }) requirements steps made old.factories.made new.factories.made all does in
+        either_numbered by order own_order end fewer last without payload user_header next count old.hub new.hub table goes within few (is_node node old.hub.nodes) types (record { node = node; name = name; options = named }) requirements steps made old.factories.made new.factories.made all does in
         (later, counted, (made, done, ap (own by) same, is), (go_on, all_after))
     any (command.OpenOrCreate node name named requirements steps) old new (Err lacking) table goes within few step = absurd step
     any (command.Foreign pattern name steps) old new (Ok reply) table (goes, all) within few (acted, does, same, is) =
-        let (later, counted, done, go_on) = acts_named by order own_order end last next count old.hub new.hub goes within pattern name types steps acted does in (
+        let (later, counted, done, go_on) = acts_named by order own_order end fewer last without next count old.hub new.hub goes within pattern name types steps acted does in (
           later,
           counted,
           (acted, done, ap (whole later counted) same, is),
@@ -168,7 +168,7 @@ module _ {T U B D : Type 0} (payload user_header : Detail) (types : MessageTypeD
         )
     any (command.Foreign pattern name steps) old new (Err lacking) table goes within few step = absurd step
     any (command.Close factory) old new (Ok reply) table (goes, all) within few (closed, does, same, is) =
-        let ((later, counted, done, go_on), all_after) = closes_numbered by order own_order end last next count old.hub new.hub goes within factory closed old.factories.made new.factories.made all does in
+        let ((later, counted, done, go_on), all_after) = closes_numbered by order own_order end fewer last without next count old.hub new.hub goes within factory closed old.factories.made new.factories.made all does in
         (later, counted, (closed, done, ap (own by) same, is), (go_on, all_after))
     any (command.Close factory) old new (Err lacking) table goes within few step = absurd step
     any (command.Publisher factory options) old new answer table goes within few step = of_ports (command.Publisher factory options) old new answer tt goes step
@@ -190,4 +190,4 @@ module _ {T U B D : Type 0} (payload user_header : Detail) (types : MessageTypeD
     any (command.Has subscriber) old new answer table goes within few step = of_ports (command.Has subscriber) old new answer tt goes step
 
   pub each_goes_by_other_numbers : LooksAtNoService B D degrades decides reader_degrades → EachGoesByOtherNumbers each
-  each_goes_by_other_numbers blind by end last next count asked old new answer order own_order reached_old goes within few step = any by order own_order end last next count blind asked old new answer (reached old.hub.table reached_old) goes within few step
+  each_goes_by_other_numbers blind by end fewer next last without count asked old new answer order own_order reached_old goes within few step = any by order own_order end fewer next last without count blind asked old new answer (reached old.hub.table reached_old) goes within few step

@@ -90,8 +90,8 @@ use Rattle.iox_hub_renamed.proofs.Making.{opened_as, under_as, inserted_as, remo
 pub one_more_is : (number last : ℕ) → last < 2 ^ 64 - 1 → one_more number ≤ last → one_more number ≡ number + 1
 one_more_is number last few within = omega (arith, few, within)
 
-one_more_low : (count number last : ℕ) → last < 2 ^ 64 - 1 → one_more number ≤ last → count ≤ number → one_more count ≡ count + 1
-one_more_low count number last few within earlier = omega (arith, few, within, earlier)
+one_more_low : (count without number last : ℕ) → last < 2 ^ 64 - 1 → one_more number ≤ last → number ≡ count + without → one_more count ≡ count + 1
+one_more_low count without number last few within earlier = omega (arith, few, within, earlier)
 
 low_same : (old new : ℕ) → new ≡ old → old ≤ new
 low_same old new same = omega (arith, same)
@@ -196,16 +196,16 @@ came_as : {E F : Type 0} (by : Renaming) (storage node : ℕ) (error : F → E) 
 came_as by storage node error (Ok service) = refl
 came_as by storage node error (Err failure) = refl
 
-module _ (by : Renaming) (order : AreInOrder by.services) (end : ℕ) where
+module _ (by : Renaming) (order : AreInOrder by.services) (end fewer : ℕ) where
   -- what is negotiated in a table is negotiated there
   abbrev AsNegotiated : {E : Type 0} → (Steps → Result Membership E → Steps → Type 0) → Type 0
-  AsNegotiated {E} negotiates = (next : ℕ) (before after : Steps) (came : Result Membership E) → GoBy by.services end next before.table → after.table.next ≤ end → negotiates before came after
-      → LeadsOn by.services end after.table (λ later. negotiates (renamed_steps by.services next before) (renamed_came by.services came) (renamed_steps by.services later after))
+  AsNegotiated {E} negotiates = (next : ℕ) (before after : Steps) (came : Result Membership E) → GoBy by.services end fewer next before.table → after.table.next ≤ end → negotiates before came after
+      → LeadsOn by.services end fewer after.table (λ later. negotiates (renamed_steps by.services next before) (renamed_came by.services came) (renamed_steps by.services later after))
 
   negotiates_as : {E F : Type 0} (node : ℕ) (error : F → E) (rounds : List Access → Result Opened F → Type 0) → ((made : List Access) (answer : Result Opened F) → rounds made answer → rounds (map (renamed_access by.services) made) (renamed_answer by.services answer))
       → AsNegotiated (λ before came after. Negotiates SteppedSight before.table.id node error rounds before came after)
   negotiates_as node error rounds each next before after came goes within negotiates =
-      let (later, done, go_on) = does_as by.services end next _ _ before after order goes within (λ made told. each made negotiates.answer told) negotiates.done in
+      let (later, done, go_on) = does_as by.services end fewer next _ _ before after order goes within (λ made told. each made negotiates.answer told) negotiates.done in
       (later, record { answer = renamed_answer by.services negotiates.answer; done = done; told = ap (renamed_came by.services) negotiates.told ∙ came_as by before.table.id node error negotiates.answer }, go_on)
 
   creates_as : {E : Type 0} (node : ℕ) (hash : ServiceHash) (agreed : Agreement) (limits is_too_long : Type 0) (error : CreateFailure → E)
@@ -227,7 +227,7 @@ module _ (by : Renaming) (order : AreInOrder by.services) (end : ℕ) where
       does.negotiated in
       (later, record { refusal = does.refusal; refused = does.refused; negotiated = negotiated }, go_on)
 
-module _ {T U B D : Type 0} (by : Renaming) (order : AreInOrder by.services) (own_order : AreInOrder by.owners) (end last : ℕ) where
+module _ {T U B D : Type 0} (by : Renaming) (order : AreInOrder by.services) (own_order : AreInOrder by.owners) (end fewer last without : ℕ) where
   abbrev there : ℕ → ℕ → Hub T U B D → Hub T U B D
   there next count hub = renamed_hub by next count hub
 
@@ -236,7 +236,7 @@ module _ {T U B D : Type 0} (by : Renaming) (order : AreInOrder by.services) (ow
 
   -- it leads to a hub whose lives and counted factories have other numbers, too
   abbrev OnHub : Hub T U B D → (ℕ → ℕ → Type 0) → Type 0
-  OnHub new does = (later counted : ℕ) × does later counted × HubGoesBy by end last later counted new
+  OnHub new does = (later counted : ℕ) × does later counted × HubGoesBy by end fewer later last without counted new
 
   -- ---- a service opens
 
@@ -275,11 +275,11 @@ module _ {T U B D : Type 0} (by : Renaming) (order : AreInOrder by.services) (ow
 
   -- ---- a factory is made
 
-  enters : (payload user_header : Detail) (member : Membership) (next count : ℕ) (old new : Hub T U B D) (entered : Result Made Bool) → HubGoesBy by end last next count old → 0 < by.services member.service.number → new.table.next ≤ end → new.factories ≤ last
+  enters : (payload user_header : Detail) (member : Membership) (next count : ℕ) (old new : Hub T U B D) (entered : Result Made Bool) → HubGoesBy by end fewer next last without count old → 0 < by.services member.service.number → new.table.next ≤ end → new.factories ≤ last
       → Enters payload user_header member old entered new → OnHub new (λ later counted. Enters payload user_header (renamed_member by.services member) (there next count old) (opening_as by order entered) (there later counted new)) × Numbered by order entered
   enters payload user_header member next count old new (Err was_new) goes live within few (is, ((closed, does), same)) =
       let number = member.service.number in
-      let (later, done, go_on) = does_alone_as by.services end next _ _ old.table new.table order goes.table within (λ made told. closes by.services member.service.description.service_hash number member.node made closed told) does in
+      let (later, done, go_on) = does_alone_as by.services end fewer next _ _ old.table new.table order goes.table within (λ made told. closes by.services member.service.description.service_hash number member.node made closed told) does in
       (
         (
           later,
@@ -290,7 +290,7 @@ module _ {T U B D : Type 0} (by : Renaming) (order : AreInOrder by.services) (ow
             domains = subst (λ (hub : Hub T U B D). HaveNumbers by hub.services.domains) (sym same) goes.domains;
             counts = subst (λ (hub : Hub T U B D). HaveNumbers by hub.factory_counts) (sym same) goes.counts;
             ahead = subst (λ factories. (owner : ℕ) → factories < owner → owner ≤ last → by.owners owner ≡ count + (owner - factories)) (sym (ap (λ (hub : Hub T U B D). hub.factories) same)) goes.ahead;
-            earlier = subst (λ factories. count ≤ factories) (sym (ap (λ (hub : Hub T U B D). hub.factories) same)) goes.earlier;
+            earlier = subst (λ factories. factories ≡ count + without) (sym (ap (λ (hub : Hub T U B D). hub.factories) same)) goes.earlier;
             few = goes.few;
           },
         ),
@@ -301,7 +301,7 @@ module _ {T U B D : Type 0} (by : Renaming) (order : AreInOrder by.services) (ow
       let factories : new.factories ≡ one_more old.factories = ap (λ (hub : Hub T U B D). hub.factories) same in
       let low : one_more old.factories ≤ last = subst (λ factories. factories ≤ last) factories few in
       let more : one_more old.factories ≡ old.factories + 1 = one_more_is old.factories last goes.few low in
-      let more_there : one_more count ≡ count + 1 = one_more_low count old.factories last goes.few low goes.earlier in
+      let more_there : one_more count ≡ count + 1 = one_more_low count without old.factories last goes.few low goes.earlier in
       let own : by.owners (one_more old.factories) ≡ one_more count = let is = goes.ahead (one_more old.factories) (omega (arith, more)) low in omega (arith, is, more, more_there) in
       let (opens_there, domains) = service_opens payload user_header old.expired_connection_buffer number member.service.description.settings old.services new.services goes.domains live opens_service in
       (
@@ -315,7 +315,7 @@ module _ {T U B D : Type 0} (by : Renaming) (order : AreInOrder by.services) (ow
             ∙ ap (λ counts. record (there next count old) { factories = one_more count; factory_counts = counts; services = services_there new.services }) (sym (with_factory_as by order number old.factory_counts live goes.counts)),
           ),
           record {
-            table = subst (λ table. GoBy by.services end next table) (sym (ap (λ (hub : Hub T U B D). hub.table) same)) goes.table;
+            table = subst (λ table. GoBy by.services end fewer next table) (sym (ap (λ (hub : Hub T U B D). hub.table) same)) goes.table;
             domains = domains;
             counts = subst (λ counts. HaveNumbers by counts) (sym (ap (λ (hub : Hub T U B D). hub.factory_counts) same)) (come_live by order number (one_more (factories_of number old.factory_counts)) old.factory_counts live goes.counts);
             ahead = λ owner above below. let is = goes.ahead owner (omega (arith, above, factories, more)) below in omega (arith, is, above, factories, more, more_there);
@@ -332,11 +332,11 @@ module _ {T U B D : Type 0} (by : Renaming) (order : AreInOrder by.services) (ow
   rises_settled payload user_header lacking (Ok member) old new result (Err was_new, (is, ((closed, does), same)), told) = past_rises old.table new.table (went-past does.made old.table new.table does.went)
   rises_settled payload user_header lacking (Ok member) old new result (Ok made, (is_made, opens_service, same), told) = low_same old.table.next new.table.next (ap (λ (hub : Hub T U B D). hub.table.next) same)
 
-  settles : {E : Type 0} (payload user_header : Detail) (lacking : Bool → E) (answer : Result Membership E) (next count : ℕ) (old new : Hub T U B D) (result : Result Made E) → HubGoesBy by end last next count old
+  settles : {E : Type 0} (payload user_header : Detail) (lacking : Bool → E) (answer : Result Membership E) (next count : ℕ) (old new : Hub T U B D) (result : Result Made E) → HubGoesBy by end fewer next last without count old
       → ((member : Membership) → answer ≡ Ok member → 0 < by.services member.service.number) → new.table.next ≤ end → new.factories ≤ last → Settles payload user_header lacking answer old result new
       → OnHub new (λ later counted. Settles payload user_header lacking (renamed_came by.services answer) (there next count old) (opening_as by order result) (there later counted new)) × Numbered by order result
   settles payload user_header lacking (Err error) next count old new result goes live within few (is, same) =
-      ((next, count, (ap (opening_as by order) is, ap (there next count) same), subst (λ (hub : Hub T U B D). HubGoesBy by end last next count hub) (sym same) goes), subst (λ told. Numbered by order told) (sym is) tt)
+      ((next, count, (ap (opening_as by order) is, ap (there next count) same), subst (λ (hub : Hub T U B D). HubGoesBy by end fewer next last without count hub) (sym same) goes), subst (λ told. Numbered by order told) (sym is) tt)
   settles payload user_header lacking (Ok member) next count old new result goes live within few (entered, does, is) =
       let ((later, counted, done, go_on), numbered) = enters payload user_header member next count old new entered goes (live member refl) within few does in
       (
@@ -344,19 +344,19 @@ module _ {T U B D : Type 0} (by : Renaming) (order : AreInOrder by.services) (ow
         subst (λ told. Numbered by order told) (sym is) (numbered_told by order lacking entered numbered),
       )
 
-  opens_in_hub : {E : Type 0} (payload user_header : Detail) (lacking : Bool → E) (hash : ServiceHash) (negotiates : Steps → Result Membership E → Steps → Type 0) → IsNegotiation hash negotiates → AsNegotiated by order end negotiates
-      → (lists : List (List ForeignStep)) (next count : ℕ) (old new : Hub T U B D) (result : Result Made E) → IsTable old.table → HubGoesBy by end last next count old → new.table.next ≤ end → new.factories ≤ last → OpensInHub payload user_header lacking negotiates lists old result new
+  opens_in_hub : {E : Type 0} (payload user_header : Detail) (lacking : Bool → E) (hash : ServiceHash) (negotiates : Steps → Result Membership E → Steps → Type 0) → IsNegotiation hash negotiates → AsNegotiated by order end fewer negotiates
+      → (lists : List (List ForeignStep)) (next count : ℕ) (old new : Hub T U B D) (result : Result Made E) → IsTable old.table → HubGoesBy by end fewer next last without count old → new.table.next ≤ end → new.factories ≤ last → OpensInHub payload user_header lacking negotiates lists old result new
       → OnHub new (λ later counted. OpensInHub payload user_header lacking negotiates lists (there next count old) (opening_as by order result) (there later counted new)) × Numbered by order result
   opens_in_hub payload user_header lacking hash negotiates is negotiated lists next count old new result table goes within few opens =
       let before : Steps = record { table = old.table; lists = lists } in
       let between : Hub T U B D = record old { table = opens.mid.table } in
       let mid_low = low_on opens.mid.table.next new.table.next end (rises_settled payload user_header lacking opens.answer between new result opens.settled) within in
       let (middle, done, go_mid) = negotiated next before opens.mid opens.answer goes.table mid_low opens.negotiated in
-      let goes_mid : HubGoesBy by end last middle count between = record { table = go_mid; domains = goes.domains; counts = goes.counts; ahead = goes.ahead; earlier = goes.earlier; few = goes.few } in
+      let goes_mid : HubGoesBy by end fewer middle last without count between = record { table = go_mid; domains = goes.domains; counts = goes.counts; ahead = goes.ahead; earlier = goes.earlier; few = goes.few } in
       let live : (member : Membership) → opens.answer ≡ Ok member → 0 < by.services member.service.number =
       (λ member came.
           let (bytes, stands, of) = is.stands before opens.mid member table (subst (λ answer. negotiates before answer opens.mid) came opens.negotiated) in
-          live_at by.services order end middle opens.mid.table go_mid hash (Described member.service.number bytes) stands) in
+          live_at by.services order end fewer middle opens.mid.table go_mid hash (Described member.service.number bytes) stands) in
       let ((later, counted, settled, go_on), numbered) = settles payload user_header lacking opens.answer middle count between new result goes_mid live within few opens.settled in
       (
         (later, counted, record { answer = renamed_came by.services opens.answer; mid = renamed_steps by.services middle opens.mid; negotiated = done; settled = settled }, go_on),
@@ -365,12 +365,12 @@ module _ {T U B D : Type 0} (by : Renaming) (order : AreInOrder by.services) (ow
 
   -- ---- factories get numbers
 
-  module _ (payload user_header : Detail) (next count : ℕ) (old new : Hub T U B D) (table_is : IsTable old.table) (goes : HubGoesBy by end last next count old) (within : new.table.next ≤ end) (few : new.factories ≤ last) where
+  module _ (payload user_header : Detail) (next count : ℕ) (old new : Hub T U B D) (table_is : IsTable old.table) (goes : HubGoesBy by end fewer next last without count old) (within : new.table.next ≤ end) (few : new.factories ≤ last) where
     -- the factory gets the same number there, and all factories have other numbers
     abbrev Goes : (ℕ → ℕ → Type 0) → FactoryTable → Type 0
     Goes does after = OnHub new does × AllNumbered by order after
 
-    gets : {E : Type 0} (pattern : MessagingPattern) (refusal : E → Refusal) (lacking : Bool → E) (hash : ServiceHash) (negotiates : Steps → Result Membership E → Steps → Type 0) → IsNegotiation hash negotiates → AsNegotiated by order end negotiates
+    gets : {E : Type 0} (pattern : MessagingPattern) (refusal : E → Refusal) (lacking : Bool → E) (hash : ServiceHash) (negotiates : Steps → Result Membership E → Steps → Type 0) → IsNegotiation hash negotiates → AsNegotiated by order end fewer negotiates
         → (lists : List (List ForeignStep)) (answer : Result ℕ Refusal) (table after : FactoryTable) → AllNumbered by order table → GetsNumber pattern refusal (OpensInHub payload user_header lacking negotiates lists) table old answer after new
         → Goes (λ later counted. GetsNumber pattern refusal (OpensInHub payload user_header lacking negotiates lists) (table_there by order table) (there next count old) answer (table_there by order after) (there later counted new)) after
     gets pattern refusal lacking hash negotiates is negotiated lists answer table after all (result, opens, numbers) =
@@ -382,32 +382,32 @@ module _ {T U B D : Type 0} (by : Renaming) (order : AreInOrder by.services) (ow
         → CreatesAs named payload user_header types node name attributes lists table old answer after new
         → Goes (λ later counted. CreatesAs named payload user_header types node name attributes lists (table_there by order table) (there next count old) answer (table_there by order after) (there later counted new)) after
     creates (options.PublishSubscribe named) types node name attributes lists answer table after all does =
-        gets _ _ _ _ _ (creating node (agreed_of name (options.PublishSubscribe named) types attributes) _ _ _) (creates_as by order end node _ (agreed_of name (options.PublishSubscribe named) types attributes) _ _ _) lists answer table after all does
+        gets _ _ _ _ _ (creating node (agreed_of name (options.PublishSubscribe named) types attributes) _ _ _) (creates_as by order end fewer node _ (agreed_of name (options.PublishSubscribe named) types attributes) _ _ _) lists answer table after all does
     creates (options.Event named) types node name attributes lists answer table after all does =
-        gets _ _ _ _ _ (creating node (agreed_of name (options.Event named) types attributes) _ _ _) (creates_as by order end node _ (agreed_of name (options.Event named) types attributes) _ _ _) lists answer table after all does
+        gets _ _ _ _ _ (creating node (agreed_of name (options.Event named) types attributes) _ _ _) (creates_as by order end fewer node _ (agreed_of name (options.Event named) types attributes) _ _ _) lists answer table after all does
     creates (options.RequestResponse named) types node name attributes lists answer table after all does =
-        gets _ _ _ _ _ (creating node (agreed_of name (options.RequestResponse named) types attributes) _ _ _) (creates_as by order end node _ (agreed_of name (options.RequestResponse named) types attributes) _ _ _) lists answer table after all does
+        gets _ _ _ _ _ (creating node (agreed_of name (options.RequestResponse named) types attributes) _ _ _) (creates_as by order end fewer node _ (agreed_of name (options.RequestResponse named) types attributes) _ _ _) lists answer table after all does
 
     opens_named : (named : ServiceOptions) (types : MessageTypeDetails) (node : ℕ) (name : List ℕ) (attributes : Required) (lists : List (List ForeignStep)) (answer : Result ℕ Refusal) (table after : FactoryTable) → AllNumbered by order table
         → OpensAs named payload user_header types node name attributes lists table old answer after new
         → Goes (λ later counted. OpensAs named payload user_header types node name attributes lists (table_there by order table) (there next count old) answer (table_there by order after) (there later counted new)) after
-    opens_named (options.PublishSubscribe named) types node name attributes lists answer table after all does = gets _ _ _ _ _ (opening node (hash_of name (options.PublishSubscribe named)) _ _) (opens_as by order end node (hash_of name (options.PublishSubscribe named)) _ _) lists answer table after all does
-    opens_named (options.Event named) types node name attributes lists answer table after all does = gets _ _ _ _ _ (opening node (hash_of name (options.Event named)) _ _) (opens_as by order end node (hash_of name (options.Event named)) _ _) lists answer table after all does
-    opens_named (options.RequestResponse named) types node name attributes lists answer table after all does = gets _ _ _ _ _ (opening node (hash_of name (options.RequestResponse named)) _ _) (opens_as by order end node (hash_of name (options.RequestResponse named)) _ _) lists answer table after all does
+    opens_named (options.PublishSubscribe named) types node name attributes lists answer table after all does = gets _ _ _ _ _ (opening node (hash_of name (options.PublishSubscribe named)) _ _) (opens_as by order end fewer node (hash_of name (options.PublishSubscribe named)) _ _) lists answer table after all does
+    opens_named (options.Event named) types node name attributes lists answer table after all does = gets _ _ _ _ _ (opening node (hash_of name (options.Event named)) _ _) (opens_as by order end fewer node (hash_of name (options.Event named)) _ _) lists answer table after all does
+    opens_named (options.RequestResponse named) types node name attributes lists answer table after all does = gets _ _ _ _ _ (opening node (hash_of name (options.RequestResponse named)) _ _) (opens_as by order end fewer node (hash_of name (options.RequestResponse named)) _ _) lists answer table after all does
 
     either_named : (named : ServiceOptions) (types : MessageTypeDetails) (node : ℕ) (name : List ℕ) (attributes : Required) (lists : List (List ForeignStep)) (answer : Result ℕ Refusal) (table after : FactoryTable) → AllNumbered by order table
         → EitherAs named payload user_header types node name attributes lists table old answer after new
         → Goes (λ later counted. EitherAs named payload user_header types node name attributes lists (table_there by order table) (there next count old) answer (table_there by order after) (there later counted new)) after
     either_named (options.PublishSubscribe named) types node name attributes lists answer table after all does =
-        gets _ _ _ _ _ (either node _ (required_agreement name (options.PublishSubscribe named) types attributes) _ _ _) (either_as by order end node _ _ (required_agreement name (options.PublishSubscribe named) types attributes) _ _ _) lists answer table after all does
+        gets _ _ _ _ _ (either node _ (required_agreement name (options.PublishSubscribe named) types attributes) _ _ _) (either_as by order end fewer node _ _ (required_agreement name (options.PublishSubscribe named) types attributes) _ _ _) lists answer table after all does
     either_named (options.Event named) types node name attributes lists answer table after all does =
-        gets _ _ _ _ _ (either node _ (required_agreement name (options.Event named) types attributes) _ _ _) (either_as by order end node _ _ (required_agreement name (options.Event named) types attributes) _ _ _) lists answer table after all does
+        gets _ _ _ _ _ (either node _ (required_agreement name (options.Event named) types attributes) _ _ _) (either_as by order end fewer node _ _ (required_agreement name (options.Event named) types attributes) _ _ _) lists answer table after all does
     either_named (options.RequestResponse named) types node name attributes lists answer table after all does =
-        gets _ _ _ _ _ (either node _ (required_agreement name (options.RequestResponse named) types attributes) _ _ _) (either_as by order end node _ _ (required_agreement name (options.RequestResponse named) types attributes) _ _ _) lists answer table after all does
+        gets _ _ _ _ _ (either node _ (required_agreement name (options.RequestResponse named) types attributes) _ _ _) (either_as by order end fewer node _ _ (required_agreement name (options.RequestResponse named) types attributes) _ _ _) lists answer table after all does
 
     -- nothing happens
     stays : {does : ℕ → ℕ → Type 0} (table after : FactoryTable) → AllNumbered by order table → new ≡ old → after ≡ table → does next count → Goes does after
-    stays table after all same unchanged done = ((next, count, done, subst (λ (hub : Hub T U B D). HubGoesBy by end last next count hub) (sym same) goes), subst (λ it. AllNumbered by order it) (sym unchanged) all)
+    stays table after all same unchanged done = ((next, count, done, subst (λ (hub : Hub T U B D). HubGoesBy by end fewer next last without count hub) (sym same) goes), subst (λ it. AllNumbered by order it) (sym unchanged) all)
 
     skipped : {A : Type 0} (answer : Option A) (table after : FactoryTable) → AllNumbered by order table → IsSkipped table old answer after new
         → Goes (λ later counted. IsSkipped (table_there by order table) (there next count old) answer (table_there by order after) (there later counted new)) after
@@ -486,7 +486,7 @@ module _ {T U B D : Type 0} (by : Renaming) (order : AreInOrder by.services) (ow
   less_one_as number next count hub domains counts live =
       ap (λ many. less_if (nat_le many 1) (by.services number) (there next count hub)) (counted_as by order number hub.factory_counts counts) ∙ less_as (is_last number hub.factory_counts) number next count hub domains counts live
 
-  less_goes : (only : Bool) (number next count : ℕ) (hub : Hub T U B D) → 0 < by.services number → HubGoesBy by end last next count hub → HubGoesBy by end last next count (less_if only number hub)
+  less_goes : (only : Bool) (number next count : ℕ) (hub : Hub T U B D) → 0 < by.services number → HubGoesBy by end fewer next last without count hub → HubGoesBy by end fewer next last without count (less_if only number hub)
   less_goes true number next count hub live goes = record {
     table = goes.table;
     domains = gone_live by order number hub.services.domains goes.domains;
@@ -504,25 +504,25 @@ module _ {T U B D : Type 0} (by : Renaming) (order : AreInOrder by.services) (ow
     few = goes.few;
   }
 
-  module _ (next count : ℕ) (old new : Hub T U B D) (goes : HubGoesBy by end last next count old) (within : new.table.next ≤ end) where
+  module _ (next count : ℕ) (old new : Hub T U B D) (goes : HubGoesBy by end fewer next last without count old) (within : new.table.next ≤ end) where
     abbrev Ends : (ℕ → ℕ → Type 0) → FactoryTable → Type 0
     Ends does after = OnHub new does × AllNumbered by order after
 
     kept_so : {does : ℕ → ℕ → Type 0} (table after : FactoryTable) → AllNumbered by order table → new ≡ old → after ≡ table → does next count → Ends does after
-    kept_so table after all same unchanged done = ((next, count, done, subst (λ (hub : Hub T U B D). HubGoesBy by end last next count hub) (sym same) goes), subst (λ it. AllNumbered by order it) (sym unchanged) all)
+    kept_so table after all same unchanged done = ((next, count, done, subst (λ (hub : Hub T U B D). HubGoesBy by end fewer next last without count hub) (sym same) goes), subst (λ it. AllNumbered by order it) (sym unchanged) all)
 
     leaves : (member : Membership) (closed : Result (Unit {0}) CloseError) → 0 < by.services member.service.number → Leaves member old closed new
         → OnHub new (λ later counted. Leaves (renamed_member by.services member) (there next count old) closed (there later counted new))
     leaves member closed live (does, same) =
         let number = member.service.number in
-        let (later, done, go_on) = does_alone_as by.services end next _ _ old.table new.table order goes.table within (λ made told. closes by.services member.service.description.service_hash number member.node made closed told) does in
+        let (later, done, go_on) = does_alone_as by.services end fewer next _ _ old.table new.table order goes.table within (λ made told. closes by.services member.service.description.service_hash number member.node made closed told) does in
         let between : Hub T U B D = record old { table = new.table } in
-        let goes_between : HubGoesBy by end last later count between = record { table = go_on; domains = goes.domains; counts = goes.counts; ahead = goes.ahead; earlier = goes.earlier; few = goes.few } in
+        let goes_between : HubGoesBy by end fewer later last without count between = record { table = go_on; domains = goes.domains; counts = goes.counts; ahead = goes.ahead; earlier = goes.earlier; few = goes.few } in
         (
           later,
           count,
           (done, ap (there later count) same ∙ sym (less_one_as number later count between goes.domains goes.counts live)),
-          subst (λ (hub : Hub T U B D). HubGoesBy by end last later count hub) (sym same) (less_goes (is_last number old.factory_counts) number later count between live goes_between),
+          subst (λ (hub : Hub T U B D). HubGoesBy by end fewer later last without count hub) (sym same) (less_goes (is_last number old.factory_counts) number later count between live goes_between),
         )
 
     unless : (used : Bool) (number : ℕ) (member : Membership) (answer : Option (Result (Unit {0}) CloseError)) (table after : FactoryTable) → AllNumbered by order table → 0 < by.services member.service.number → ClosesUnless used number member table old answer after new
@@ -584,14 +584,14 @@ module _ {T U B D : Type 0} (by : Renaming) (order : AreInOrder by.services) (ow
 
     acts_on : (hash : ServiceHash) (steps : List ForeignStep) (result : Result (Unit {0}) HubError) → ActsOn hash steps old result new → OnHub new (λ later counted. ActsOn hash steps (there next count old) result (there later counted new))
     acts_on hash steps result ((happened, acts, is), same) =
-        let (later, done, go_on) = acts_all_as by.services order end hash steps next old.table new.table happened goes.table within acts in
+        let (later, done, go_on) = acts_all_as by.services order end fewer hash steps next old.table new.table happened goes.table within acts in
         let between : Hub T U B D = record old { table = new.table } in
-        let goes_between : HubGoesBy by end last later count between = record { table = go_on; domains = goes.domains; counts = goes.counts; ahead = goes.ahead; earlier = goes.earlier; few = goes.few } in
-        (later, count, ((happened, done, is), ap (there later count) same), subst (λ (hub : Hub T U B D). HubGoesBy by end last later count hub) (sym same) goes_between)
+        let goes_between : HubGoesBy by end fewer later last without count between = record { table = go_on; domains = goes.domains; counts = goes.counts; ahead = goes.ahead; earlier = goes.earlier; few = goes.few } in
+        (later, count, ((happened, done, is), ap (there later count) same), subst (λ (hub : Hub T U B D). HubGoesBy by end fewer later last without count hub) (sym same) goes_between)
 
     pub acts_named : (pattern : MessagingPattern) (name : List ℕ) (types : MessageTypeDetails) (steps : List Named) (result : Result (Unit {0}) HubError) → ActsNamed pattern name types steps old result new
         → OnHub new (λ later counted. ActsNamed pattern name types steps (there next count old) result (there later counted new))
     acts_named pattern name types steps result (inl acts) =
         let (later, counted, done, go_on) = acts_on (service_hash_of pattern name) _ result acts in
         (later, counted, inl done, go_on)
-    acts_named pattern name types steps result (inr (some, is, same)) = (next, count, inr (some, is, ap (there next count) same), subst (λ (hub : Hub T U B D). HubGoesBy by end last next count hub) (sym same) goes)
+    acts_named pattern name types steps result (inr (some, is, same)) = (next, count, inr (some, is, ap (there next count) same), subst (λ (hub : Hub T U B D). HubGoesBy by end fewer next last without count hub) (sym same) goes)

@@ -34,13 +34,13 @@ HaveNumbers by entries = AllByRecursion (λ entry. 0 < by.services entry.0) entr
 
 -- A hub whose lives and counted factories have other numbers: those of its table, of its domains and of what is counted for a life. The lives
 -- that begin from here on, and the factories that are counted, up to a last one, go by the numbers that follow one another from those that come
--- next there, which are no later ones; and none runs out.
-pub record HubGoesBy {T U B D : Type 0} (by : Renaming) (end last next count : ℕ) (hub : Hub T U B D) : Type 0 where
-  pub table : GoBy by.services end next hub.table
+-- next there, where so many fewer lives began, and so many factories weren't counted; and none runs out.
+pub record HubGoesBy {T U B D : Type 0} (by : Renaming) (end fewer next last without count : ℕ) (hub : Hub T U B D) : Type 0 where
+  pub table : GoBy by.services end fewer next hub.table
   pub domains : HaveNumbers by hub.services.domains
   pub counts : HaveNumbers by hub.factory_counts
   pub ahead : (number : ℕ) → hub.factories < number → number ≤ last → by.owners number ≡ count + (number - hub.factories)
-  pub earlier : count ≤ hub.factories
+  pub earlier : hub.factories ≡ count + without
   pub few : last < 2 ^ 64 - 1
 
 -- the life of a factory has another number, and so has the factory
@@ -48,8 +48,8 @@ abbrev pub HasNumbers : Renaming → MadeFactory → Type 0
 HasNumbers by factory = (0 < by.services (parts_of factory).0.service.number) × (0 < by.owners (parts_of factory).1)
 
 -- so it is with a hub, and with each factory that a command can name
-abbrev pub GoesBy : {T U B D : Type 0} → Renaming → ℕ → ℕ → ℕ → ℕ → NumberedHub T U B D → Type 0
-GoesBy by end last next count numbered = HubGoesBy by end last next count numbered.hub × AllByRecursion (λ entry. HasNumbers by entry.1) numbered.factories.made.entries
+abbrev pub GoesBy : {T U B D : Type 0} → Renaming → ℕ → ℕ → ℕ → ℕ → ℕ → ℕ → NumberedHub T U B D → Type 0
+GoesBy by end fewer next last without count numbered = HubGoesBy by end fewer next last without count numbered.hub × AllByRecursion (λ entry. HasNumbers by entry.1) numbered.factories.made.entries
 
 -- a command that makes a port, or names one, a loan or a sample
 abbrev pub IsOfPorts : {T : Type 0} → Command T → Type 0
@@ -73,9 +73,9 @@ module _ {T U B D : Type 0} (step : Command T → NumberedHub T U B D → Result
   -- same way, and the hub is what it is, but for the numbers, which all have others again. So it is as long as no more lives begin than have
   -- numbers, and no more factories are counted.
   abbrev pub EachGoesByOtherNumbers : Type 0
-  EachGoesByOtherNumbers = (by : Renaming) (end last next count : ℕ) (asked : Command T) (old new : NumberedHub T U B D) (answer : Result (Reply T) AllocError)
-      → AreInOrder by.services → AreInOrder by.owners → IsReached old.hub.table → GoesBy by end last next count old → new.hub.table.next ≤ end → new.hub.factories ≤ last → step asked old answer new
-      → (later counted : ℕ) × step asked (renamed_numbered by next count old) answer (renamed_numbered by later counted new) × GoesBy by end last later counted new
+  EachGoesByOtherNumbers = (by : Renaming) (end fewer next last without count : ℕ) (asked : Command T) (old new : NumberedHub T U B D) (answer : Result (Reply T) AllocError)
+      → AreInOrder by.services → AreInOrder by.owners → IsReached old.hub.table → GoesBy by end fewer next last without count old → new.hub.table.next ≤ end → new.hub.factories ≤ last → step asked old answer new
+      → (later counted : ℕ) × step asked (renamed_numbered by next count old) answer (renamed_numbered by later counted new) × GoesBy by end fewer later last without counted new
 
   -- So it is with commands of ports, one after the other.
   abbrev pub RunGoesByAnyNumber : Type 0

@@ -111,7 +111,7 @@ module _ (lives : ℕ → ℕ) (order : AreInOrder lives) where
       weaker (λ (segment : (List ℕ × ℕ) × Segment). 0 < lives segment.0.1) (λ (segment : (List ℕ × ℕ) × Segment). place_cmp (digest, lives number) (renamed_place lives segment.0) ≡ place_cmp (digest, number) segment.0)
       (λ segment live. ap (λ second. ordering_then (slice_cmp nat_cmp digest segment.0.0) second) (cmp_as lives order number segment.0.1 here live)) segments all
 
-  module _ (end next : ℕ) (table : Contents) (go : GoBy lives end next table) where
+  module _ (end fewer next : ℕ) (table : Contents) (go : GoBy lives end fewer next table) where
     abbrev there : Contents
     there = renamed_table lives next table
 
@@ -186,32 +186,32 @@ module _ (lives : ℕ → ℕ) (order : AreInOrder lives) where
 
     -- ---- the lives go by their numbers after it, too
 
-    pub go_entries : (entries : List (List ℕ × Entry)) → AllByRecursion (λ entry. 0 < lives (number_of entry.1)) entries → GoBy lives end next (record table { entries = entries })
+    pub go_entries : (entries : List (List ℕ × Entry)) → AllByRecursion (λ entry. 0 < lives (number_of entry.1)) entries → GoBy lives end fewer next (record table { entries = entries })
     go_entries entries all = record { entries = all; segments = go.segments; ahead = go.ahead; positive = go.positive; earlier = go.earlier; few = go.few }
 
-    pub go_segments : (segments : List ((List ℕ × ℕ) × Segment)) → AllByRecursion (λ segment. 0 < lives segment.0.1) segments → GoBy lives end next (record table { segments = segments })
+    pub go_segments : (segments : List ((List ℕ × ℕ) × Segment)) → AllByRecursion (λ segment. 0 < lives segment.0.1) segments → GoBy lives end fewer next (record table { segments = segments })
     go_segments segments all = record { entries = go.entries; segments = all; ahead = go.ahead; positive = go.positive; earlier = go.earlier; few = go.few }
 
-    pub go_put : (hash : ServiceHash) (entry : Entry) → 0 < lives (number_of entry) → GoBy lives end next (with_entry hash entry table)
+    pub go_put : (hash : ServiceHash) (entry : Entry) → 0 < lives (number_of entry) → GoBy lives end fewer next (with_entry hash entry table)
     go_put hash entry live = go_entries _ (set-all (λ e. 0 < lives (number_of e.1)) (is_at (digest_cmp hash.digest)) entry (λ x is. live) table.entries go.entries)
 
-    pub go_gone : (hash : ServiceHash) → GoBy lives end next (without_entry hash table)
+    pub go_gone : (hash : ServiceHash) → GoBy lives end fewer next (without_entry hash table)
     go_gone hash = go_entries _ (remove-all (λ e. 0 < lives (number_of e.1)) (is_at (digest_cmp hash.digest)) table.entries go.entries)
 
-    pub go_segment_come : (hash : ServiceHash) (number : ℕ) (segment : Segment) → 0 < lives number → GoBy lives end next (with_new_segment hash number segment table)
+    pub go_segment_come : (hash : ServiceHash) (number : ℕ) (segment : Segment) → 0 < lives number → GoBy lives end fewer next (with_new_segment hash number segment table)
     go_segment_come hash number segment here = go_segments _ (insert-all (λ (e : (List ℕ × ℕ) × Segment). 0 < lives e.0.1) place_cmp (hash.digest, number) segment place-exact table.segments go.segments here)
 
-    pub go_segment_put : (hash : ServiceHash) (number : ℕ) (segment : Segment) → GoBy lives end next (with_segment hash number segment table)
+    pub go_segment_put : (hash : ServiceHash) (number : ℕ) (segment : Segment) → GoBy lives end fewer next (with_segment hash number segment table)
     go_segment_put hash number segment =
         go_segments _ (set-found (λ (e : (List ℕ × ℕ) × Segment). 0 < lives e.0.1) (is_at (place_cmp (hash.digest, number))) segment table.segments (λ x v found live. live) go.segments)
 
-    pub go_segment_gone : (hash : ServiceHash) (number : ℕ) → GoBy lives end next (without_segment hash number table)
+    pub go_segment_gone : (hash : ServiceHash) (number : ℕ) → GoBy lives end fewer next (without_segment hash number table)
     go_segment_gone hash number = go_segments _ (remove-all (λ (e : (List ℕ × ℕ) × Segment). 0 < lives e.0.1) (is_at (place_cmp (hash.digest, number))) table.segments go.segments)
 
     pub next_is : table.next < end → lives table.next ≡ next
     next_is below = let is = go.ahead table.next (omega arith) below in omega (arith, is)
 
-    pub go_lock : (hash : ServiceHash) (node : Node) → table.next < end → GoBy lives end (next + 1) (with_lock hash node table)
+    pub go_lock : (hash : ServiceHash) (node : Node) → table.next < end → GoBy lives end fewer (next + 1) (with_lock hash node table)
     go_lock hash node below = record {
       entries = insert-all (λ e. 0 < lives (number_of e.1)) digest_cmp hash.digest (Locked node table.next) digest-exact table.entries go.entries (subst (λ n. 0 < n) (sym (next_is below)) go.positive);
       segments = go.segments;
@@ -233,11 +233,11 @@ module _ (lives : ℕ → ℕ) (order : AreInOrder lives) where
     -- ---- each access
 
     abbrev On : Contents → (ℕ → Type 0) → Type 0
-    On new does = LeadsOn lives end new does
+    On new does = LeadsOn lives end fewer new does
 
     -- nothing changes
     pub still : (new : Contents) (does : ℕ → Type 0) → new ≡ table → does next → On new does
-    still new does same is = (next, is, subst (λ t. GoBy lives end next t) (sym same) go)
+    still new does same is = (next, is, subst (λ t. GoBy lives end fewer next t) (sym same) go)
 
     looks_as : (found : Option Entry) (answer : LookAnswer) → Looks found answer → Looks (option_map (renamed_entry lives) found) (renamed_look lives answer)
     looks_as None answer is = ap (renamed_look lives) is
@@ -253,7 +253,7 @@ module _ (lives : ℕ → ℕ) (order : AreInOrder lives) where
         let below : table.next < end = omega (arith, later, within) in (
           next + 1,
           inl (ap (renamed_lock lives) is ∙ ap (λ n. Taken n) (next_is below), ap (renamed_table lives (next + 1)) same ∙ sym (lock_come hash node (next_is below))),
-          subst (λ t. GoBy lives end (next + 1) t) (sym same) (go_lock hash node below),
+          subst (λ t. GoBy lives end fewer (next + 1) t) (sym same) (go_lock hash node below),
         )
     locks_free hash node answer new within false full (inr (is, same)) = still new _ same (inr (ap (renamed_lock lives) is, ap (renamed_table lives next) same))
 
@@ -270,7 +270,7 @@ module _ (lives : ℕ → ℕ) (order : AreInOrder lives) where
     makes true hash number node max_nodes answer new live (inl (is, same)) = (
       next,
       inl (is, ap (renamed_table lives next) same ∙ sym (segment_come hash number (Open (first_node node max_nodes)) (live refl))),
-      subst (λ t. GoBy lives end next t) (sym same) (go_segment_come hash number (Open (first_node node max_nodes)) (live refl)),
+      subst (λ t. GoBy lives end fewer next t) (sym same) (go_segment_come hash number (Open (first_node node max_nodes)) (live refl)),
     )
     makes true hash number node max_nodes answer new live (inr (is, same)) = still new _ same (inr (is, ap (renamed_table lives next) same))
     makes false hash number node max_nodes answer new live (is, same) = still new _ same (is, ap (renamed_table lives next) same)
@@ -280,19 +280,19 @@ module _ (lives : ℕ → ℕ) (order : AreInOrder lives) where
     publishes true hash number bytes answer new live (inl (is, same)) = (
       next,
       inl (is, ap (renamed_table lives next) same ∙ sym (entry_put hash (Described number bytes))),
-      subst (λ t. GoBy lives end next t) (sym same) (go_put hash (Described number bytes) (live refl)),
+      subst (λ t. GoBy lives end fewer next t) (sym same) (go_put hash (Described number bytes) (live refl)),
     )
     publishes true hash number bytes answer new live (inr (is, same)) = still new _ same (inr (is, ap (renamed_table lives next) same))
     publishes false hash number bytes answer new live (is, same) = still new _ same (is, ap (renamed_table lives next) same)
 
     unlocks : (may : Bool) (hash : ServiceHash) (new : Contents) → Unlocks may hash table new → On new (λ later. Unlocks may hash there (renamed_table lives later new))
-    unlocks true hash new same = (next, ap (renamed_table lives next) same ∙ sym (entry_gone hash), subst (λ t. GoBy lives end next t) (sym same) (go_gone hash))
+    unlocks true hash new same = (next, ap (renamed_table lives next) same ∙ sym (entry_gone hash), subst (λ t. GoBy lives end fewer next t) (sym same) (go_gone hash))
     unlocks false hash new same = still new _ same (ap (renamed_table lives next) same)
 
     opens_published : (segment : Option Segment) (hash : ServiceHash) (number node : ℕ) (answer : OpenSegmentAnswer) (new : Contents) → OpensPublished segment hash number node table answer new
         → On new (λ later. OpensPublished segment hash (lives number) node there answer (renamed_table lives later new))
     opens_published (Some segment) hash number node answer new (after, opens, same) =
-        (next, (after, opens, ap (renamed_table lives next) same ∙ sym (segment_put hash number after)), subst (λ t. GoBy lives end next t) (sym same) (go_segment_put hash number after))
+        (next, (after, opens, ap (renamed_table lives next) same ∙ sym (segment_put hash number after)), subst (λ t. GoBy lives end fewer next t) (sym same) (go_segment_put hash number after))
     opens_published None hash number node answer new (is, same) = still new _ same (is, ap (renamed_table lives next) same)
 
     opens_at : (published : Bool) (segment : Option Segment) (hash : ServiceHash) (number node : ℕ) (answer : OpenSegmentAnswer) (new : Contents) → OpensAt published segment hash number node table answer new
@@ -303,7 +303,7 @@ module _ (lives : ℕ → ℕ) (order : AreInOrder lives) where
     leaves_published : (segment : Option Segment) (hash : ServiceHash) (number node : ℕ) (answer : LeaveAnswer) (new : Contents) → LeavesPublished segment hash number node table answer new
         → On new (λ later. LeavesPublished segment hash (lives number) node there answer (renamed_table lives later new))
     leaves_published (Some segment) hash number node answer new (is, same) =
-        (next, (is, ap (renamed_table lives next) same ∙ sym (segment_put hash number _)), subst (λ t. GoBy lives end next t) (sym same) (go_segment_put hash number _))
+        (next, (is, ap (renamed_table lives next) same ∙ sym (segment_put hash number _)), subst (λ t. GoBy lives end fewer next t) (sym same) (go_segment_put hash number _))
     leaves_published None hash number node answer new (is, same) = still new _ same (is, ap (renamed_table lives next) same)
 
     leaves_at : (published : Bool) (segment : Option Segment) (hash : ServiceHash) (number node : ℕ) (answer : LeaveAnswer) (new : Contents) → LeavesAt published segment hash number node table answer new
@@ -311,9 +311,9 @@ module _ (lives : ℕ → ℕ) (order : AreInOrder lives) where
     leaves_at true segment hash number node answer new leaves = leaves_published segment hash number node answer new leaves
     leaves_at false segment hash number node answer new (is, same) = still new _ same (is, ap (renamed_table lives next) same)
 
-    removes : (may : Bool) (without other : Contents) (answer : RemoveAnswer) (new : Contents) → other ≡ renamed_table lives next without → GoBy lives end next without → Removes may without table answer new
+    removes : (may : Bool) (without other : Contents) (answer : RemoveAnswer) (new : Contents) → other ≡ renamed_table lives next without → GoBy lives end fewer next without → Removes may without table answer new
         → On new (λ later. Removes may other there answer (renamed_table lives later new))
-    removes true without other answer new alike gone (is, same) = (next, (is, ap (renamed_table lives next) same ∙ sym alike), subst (λ t. GoBy lives end next t) (sym same) gone)
+    removes true without other answer new alike gone (is, same) = (next, (is, ap (renamed_table lives next) same ∙ sym alike), subst (λ t. GoBy lives end fewer next t) (sym same) gone)
     removes false without other answer new alike gone (is, same) = still new _ same (is, ap (renamed_table lives next) same)
 
     -- a test that is the same there
