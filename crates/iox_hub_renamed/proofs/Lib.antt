@@ -4,3 +4,4 @@ pub mod Ports
 pub mod Steps
 pub mod Services
 pub mod Commands
+pub mod Runs

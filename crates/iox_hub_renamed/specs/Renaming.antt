@@ -28,13 +28,15 @@ renamed_id by id = record id { service = by.services id.service }
 abbrev pub renamed_port : Renaming → PortId → PortId
 renamed_port by port = record port { domain = renamed_id by port.domain }
 
--- a publisher, a loan and a sample that go by a number, of the domain of a life under its other number
+-- a publisher that goes by a number, of the domain of a life under its other number
 abbrev pub renamed_made_publisher : Renaming → MadePublisher → MadePublisher
 renamed_made_publisher by made = record made { port = renamed_port by made.port }
 
+-- a loan that goes by a number, of the domain of a life under its other number
 abbrev pub renamed_made_loan : Renaming → MadeLoan → MadeLoan
 renamed_made_loan by made = record made { port = renamed_port by made.port }
 
+-- a sample that goes by a number, of the domain of a life under its other number
 abbrev pub renamed_made_sample : Renaming → MadeSample → MadeSample
 renamed_made_sample by made = record made { port = renamed_port by made.port }
 
@@ -51,7 +53,7 @@ renamed_made by made = record {
   samples = mapped (renamed_made_sample by) made.samples;
 }
 
--- a factory of a service, whose life and which goes by its other number
+-- a factory of a service, under its other number, of a life under its other number
 abbrev pub renamed_factory : Renaming → MadeFactory → MadeFactory
 renamed_factory by (made.PublishSubscribe factory) =
     made.PublishSubscribe (record factory { service = record factory.service { membership = renamed_member by.services factory.service.membership }; owner = by.owners factory.owner })
