@@ -1,5 +1,5 @@
 -- Any command in a hub whose lives and counted factories go by other numbers.
-use Rattle.std.proofs.Common.{◌≡◌, ◌∙◌, ◌<◌, ◌≤◌, ◌-◌, ◌+◌, ℕ, Bool, true, false, List, [], ◌∷◌, Option, Some, None, Result, Ok, Err, refl, sym, ap, subst}
+use Rattle.std.proofs.Common.{◌≡◌, ◌∙◌, ◌<◌, ◌≤◌, ◌-◌, ◌+◌, ℕ, List, Option, Some, None, Result, Ok, Err, refl, sym, ap, subst}
 use Rattle.std.specs.List.{AllByRecursion}
 use Rattle.std.specs.declared.alloc.AllocError.{AllocError}
 use Rattle.iox_domain_renamed.specs.Renaming.{Renaming}
@@ -8,7 +8,6 @@ use Rattle.iox_hub_commands.specs.Command.declared.command.Command.TheVariants a
 use Rattle.iox_hub_commands.specs.Command.declared.reply.Reply.{Reply}
 use Rattle.iox_hub_commands.specs.DescribeBase.Detail.{Detail}
 use Rattle.iox_hub_commands.specs.DescribeBase.declared.message_type.MessageTypeDetails.{MessageTypeDetails}
-use Rattle.iox_hub_commands.specs.DomainHome.declared.domain_id.DomainId.{DomainId}
 use Rattle.iox_hub_commands.specs.DomainValues.declared.backpressure.BackpressureAction.{BackpressureAction}
 use Rattle.iox_hub_commands.specs.DomainValues.declared.backpressure.BackpressureDecision.{BackpressureDecision}
 use Rattle.iox_hub_commands.specs.DomainValues.declared.backpressure.BackpressureInfo.{BackpressureInfo}
@@ -16,13 +15,8 @@ use Rattle.iox_hub_commands.specs.DomainValues.declared.backpressure_strategy.Ba
 use Rattle.iox_hub_commands.specs.DomainValues.declared.degradation.DegradationAction.{DegradationAction}
 use Rattle.iox_hub_commands.specs.DomainValues.declared.degradation.DegradationCause.{DegradationCause}
 use Rattle.iox_hub_commands.specs.DomainValues.declared.degradation.DegradationInfo.{DegradationInfo}
-use Rattle.iox_hub_factories.specs.Domain.declared.domain.Domain.{Domain}
-use Rattle.iox_hub_factories.specs.HubBase.AsHome.{with_services}
 use Rattle.iox_hub_factories.specs.HubBase.Hubs.{is_node}
 use Rattle.iox_hub_factories.specs.HubBase.declared.hub.Hub.{Hub}
-use Rattle.iox_hub_factories.specs.HubServices.AsHome.{stepped}
-use Rattle.iox_hub_factories.specs.Tables.{FactoryTable, publish_subscribe_in}
-use Rattle.iox_hub_factories.specs.Numbered.NumberTable.{value_at}
 use Rattle.iox_hub_factories.specs.declared.factories.Factories.{Factories}
 use Rattle.iox_hub_factories.specs.HubBase.Opening.{Made as Opened}
 use Rattle.iox_hub_commands.specs.Command.declared.port.PublisherOptions.{PublisherOptions}
@@ -34,7 +28,7 @@ use Rattle.iox_negotiate_laws.proofs.Tables.{IsTable, reached}
 use Rattle.iox_negotiate_laws.specs.NegotiateTable.Contents.{Contents}
 use Rattle.iox_negotiate_renamed.specs.Renaming.{AreInOrder, GoBy}
 use Rattle.iox_hub_locality.proofs.Keeping.{step_keeps}
-use Rattle.iox_hub_renamed.specs.Renaming.{renamed_made, renamed_hub, renamed_numbered}
+use Rattle.iox_hub_renamed.specs.Renaming.{renamed_numbered}
 use Rattle.iox_hub_renamed.specs.RenamingLaws.{LooksAtNoService, HaveNumbers, HubGoesBy, HasNumbers, GoesBy, IsOfPorts, EachGoesByOtherNumbers}
 use Rattle.iox_hub_renamed.proofs.Homes.{still_live}
 use Rattle.iox_hub_renamed.proofs.Making.{own}

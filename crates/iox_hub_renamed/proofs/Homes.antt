@@ -1,20 +1,17 @@
 -- The domains of a hub whose lives go by other numbers, and calls of their ports.
-use Rattle.std.proofs.Common.{◌≡◌, ◌∙◌, ◌==◌, ◌<◌, ℕ, Bool, true, false, cond, List, [], ◌∷◌, Option, None, Some, option_map, Result, Ok, Err, nat_eq, refl, sym, ap, subst, ◌&&◌, not}
+use Rattle.std.proofs.Common.{◌≡◌, ◌∙◌, ◌==◌, ◌<◌, ℕ, Bool, true, false, cond, List, Option, None, Some, option_map, Result, Ok, Err, refl, sym, ap, subst}
 use Rattle.std.specs.BTreeMap.{is_at}
 use Rattle.std.specs.List.{AllByRecursion}
 use Rattle.std.specs.Map.{set_value}
 use Rattle.std.specs.Ordering.{nat_cmp}
-use Rattle.std.specs.Prelude.{is_some}
-use Rattle.iox_domain_renamed.specs.Renaming.{Renaming, renamed_ports, renamed_publisher, renamed_call, renamed_failure, renamed_mailbox}
+use Rattle.iox_domain_renamed.specs.Renaming.{Renaming, renamed_ports, renamed_call, renamed_failure, renamed_mailbox}
 use Rattle.iox_domain_renamed.specs.RenamingLaws.{DegradesWhateverService, DecidesWhateverService, TestsAlike}
-use Rattle.iox_domain_renamed.proofs.AmongPublishers.{found_as}
 use Rattle.iox_domain_renamed.proofs.Calls.{happens_as}
 use Rattle.iox_hub_commands.specs.Delivery.Publishing.{changed_at}
 use Rattle.iox_hub_commands.specs.DomainHome.Homes.{AtDomain, LeavesDomain, MakesAt}
 use Rattle.iox_hub_commands.specs.DomainHome.declared.domain_id.DomainId.{DomainId}
 use Rattle.iox_hub_commands.specs.DomainLaws.Calls.{PortCall, Happens}
 use Rattle.iox_hub_commands.specs.DomainPorts.declared.service_ports.ServicePorts.{ServicePorts}
-use Rattle.iox_hub_commands.specs.DomainPublisher.declared.publisher_port.PublisherPort.{PublisherPort}
 use Rattle.iox_hub_commands.specs.DomainValues.declared.backpressure.BackpressureDecision.{BackpressureDecision}
 use Rattle.iox_hub_commands.specs.DomainValues.declared.backpressure.BackpressureInfo.{BackpressureInfo}
 use Rattle.iox_hub_commands.specs.DomainValues.declared.degradation.DegradationAction.{DegradationAction}
@@ -24,9 +21,9 @@ use Rattle.iox_hub_commands.specs.DomainValues.declared.degradation.DegradationI
 use Rattle.iox_hub_factories.specs.Domain.Domains.{with_ports}
 use Rattle.iox_hub_factories.specs.Domain.Handling.{kept_degrades, kept_decides}
 use Rattle.iox_hub_factories.specs.Domain.declared.domain.Domain.{Domain}
-use Rattle.iox_hub_factories.specs.HubBase.AsHome.{hub_ports, with_hub_ports, with_hub_publisher, with_hub_subscriber, without_hub_publisher, without_hub_subscriber, with_services}
+use Rattle.iox_hub_factories.specs.HubBase.AsHome.{hub_ports, with_hub_ports, with_services}
 use Rattle.iox_hub_factories.specs.HubBase.declared.hub.Hub.{Hub}
-use Rattle.iox_hub_factories.specs.HubServices.AsHome.{domain_at, stepped_if, stepped, publisher_kept, subscriber_kept, publisher_forgotten, subscriber_forgotten, publisher_handlers_in, subscriber_handler_in}
+use Rattle.iox_hub_factories.specs.HubServices.AsHome.{domain_at, stepped_if, stepped, publisher_handlers_in, subscriber_handler_in}
 use Rattle.iox_hub_factories.specs.HubServices.Open.{OpenServices, presence_of, domain_of, here_if}
 use Rattle.iox_hub_factories.specs.HubServices.declared.presence.Presence.{Presence}
 use Rattle.iox_hub_factories.specs.HubServices.declared.presence.Presence.TheVariants.{Here, Out}

@@ -1,5 +1,5 @@
 -- What goes by numbers in a hub whose lives go by other numbers.
-use Rattle.std.proofs.Common.{◌≡◌, ◌∙◌, ◌+◌, ◌≤◌, ℕ, Bool, true, false, List, [], ◌∷◌, ◌++◌, map, length, Option, None, Some, option_map, Result, Ok, Err, nat_eq, refl, sym, ap, subst, suc, if◌then◌else◌}
+use Rattle.std.proofs.Common.{◌≡◌, ◌∙◌, ◌≤◌, ℕ, Bool, true, false, List, [], ◌∷◌, ◌++◌, map, length, Option, None, Some, option_map, Result, Ok, Err, nat_eq, refl, sym, ap, subst, suc, if◌then◌else◌}
 use Rattle.iox_domain_renamed.specs.Renaming.{Renaming}
 use Rattle.iox_domain_renamed.proofs.Lists.{each_found, each_gone}
 use Rattle.iox_hub_commands.specs.Delivery.declared.port_id.PortId.{PortId}

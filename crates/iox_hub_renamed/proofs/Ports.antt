@@ -1,10 +1,10 @@
 -- Calls of ports by their numbers, in a hub whose lives go by other numbers.
-use Rattle.std.proofs.Common.{◌≡◌, ◌∙◌, ◌+◌, ◌==◌, ◌&&◌, ℕ, Bool, true, false, not, cond, List, [], ◌∷◌, Option, None, Some, option_map, Result, Ok, Err, IfOk, refl, sym, ap, subst, length, if◌then◌else◌}
+use Rattle.std.proofs.Common.{◌≡◌, ◌∙◌, ◌+◌, ◌&&◌, ℕ, Bool, true, false, not, List, [], ◌∷◌, Option, None, Some, option_map, Result, Ok, Err, IfOk, refl, sym, ap, subst, length, if◌then◌else◌}
 use Rattle.std.specs.BTreeMap.{is_at}
 use Rattle.std.specs.Ordering.{nat_cmp}
 use Rattle.std.specs.Prelude.{is_some, replicate}
-use Rattle.iox_domain_renamed.specs.Renaming.{Renaming, renamed_ports, renamed_publisher, renamed_subscriber, renamed_failure, renamed_mailbox}
-use Rattle.iox_domain_renamed.specs.RenamingLaws.{DegradesWhateverService, DecidesWhateverService, ReadsAlike}
+use Rattle.iox_domain_renamed.specs.Renaming.{Renaming, renamed_ports, renamed_publisher, renamed_subscriber, renamed_failure}
+use Rattle.iox_domain_renamed.specs.RenamingLaws.{DegradesWhateverService, DecidesWhateverService}
 use Rattle.iox_domain_renamed.proofs.AmongPublishers.{found_as, changed_as as among_changed}
 use Rattle.iox_domain_renamed.proofs.Calls.{happens_as, reads_alike}
 use Rattle.iox_domain_renamed.proofs.Lists.{each_found}
@@ -26,7 +26,7 @@ use Rattle.iox_hub_commands.specs.DomainPorts.declared.service_ports.ServicePort
 use Rattle.iox_hub_commands.specs.DomainPublisher.Writing.{changed_if}
 use Rattle.iox_hub_commands.specs.DomainPublisher.declared.meeting.Sent.{Sent}
 use Rattle.iox_hub_commands.specs.DomainPublisher.declared.publisher_port.PublisherPort.{PublisherPort}
-use Rattle.iox_hub_commands.specs.DomainSender.Messages.{Loan, Message, write_value, write_all}
+use Rattle.iox_hub_commands.specs.DomainSender.Messages.{Loan, write_value, write_all}
 use Rattle.iox_hub_commands.specs.DomainSender.Sending.{has_place, has_length}
 use Rattle.iox_hub_commands.specs.DomainSubscriber.Publishers as among
 use Rattle.iox_hub_commands.specs.DomainSubscriber.declared.attached.Taken.{Taken}

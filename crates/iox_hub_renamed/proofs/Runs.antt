@@ -1,12 +1,11 @@
 -- A whole run of a service alone, where numbers of lives and of counted factories are passed over, and where none is.
-use Rattle.std.proofs.Common.{◌≡◌, ◌∙◌, ◌+◌, ◌-◌, ◌^◌, ◌≤◌, ◌<◌, ◌⊎◌, ℕ, Bool, true, false, List, [], ◌∷◌, map, Option, None, Result, Ok, Err, refl, sym, ap, subst, inl, inr, arith}
+use Rattle.std.proofs.Common.{◌≡◌, ◌∙◌, ◌+◌, ◌-◌, ◌^◌, ◌≤◌, ◌<◌, ◌⊎◌, ℕ, Bool, true, false, List, [], ◌∷◌, map, Option, Result, Ok, refl, sym, ap, subst, inl, inr, arith}
 use Rattle.std.specs.List.{AllByRecursion}
 use Rattle.std.specs.declared.alloc.AllocError.{AllocError}
 use Rattle.iox_domain_renamed.specs.Renaming.{Renaming}
 use Rattle.iox_hub_commands.specs.Command.declared.command.Command.{Command}
 use Rattle.iox_hub_commands.specs.Command.declared.reply.Reply.{Reply}
 use Rattle.iox_hub_commands.specs.DescribeBase.Detail.{Detail}
-use Rattle.iox_hub_commands.specs.DescribeBase.declared.hash.ServiceHash.{ServiceHash}
 use Rattle.iox_hub_commands.specs.DescribeBase.declared.message_type.MessageTypeDetails.{MessageTypeDetails}
 use Rattle.iox_hub_commands.specs.DomainValues.declared.backpressure.BackpressureAction.{BackpressureAction}
 use Rattle.iox_hub_commands.specs.DomainValues.declared.backpressure.BackpressureDecision.{BackpressureDecision}
@@ -17,12 +16,10 @@ use Rattle.iox_hub_commands.specs.DomainValues.declared.degradation.DegradationC
 use Rattle.iox_hub_commands.specs.DomainValues.declared.degradation.DegradationInfo.{DegradationInfo}
 use Rattle.iox_hub_commands.specs.HubPorts.declared.made.Made.{Made}
 use Rattle.iox_hub_factories.specs.HubBase.Hubs.{one_more}
-use Rattle.iox_hub_factories.specs.HubBase.declared.hub.Hub.{Hub}
 use Rattle.iox_hub_factories.specs.HubBase.declared.hub.HubConfig.{HubConfig}
 use Rattle.iox_hub_factories.specs.HubServices.Open.{OpenServices}
 use Rattle.iox_hub_factories.specs.Numbered.NumberTable.{NumberTable}
 use Rattle.iox_hub_factories.specs.declared.factories.Factories.{Factories}
-use Rattle.iox_hub_factories.specs.declared.made.MadeFactory.{MadeFactory}
 use Rattle.iox_hub_commands.specs.DomainValues.Actions.{decision_of}
 use Rattle.iox_hub_run.specs.HubCommands.declared.handlers.FixedDegradation.{FixedDegradation}
 use Rattle.iox_hub_run.specs.HubCommands.declared.handlers.FixedHandlers.{FixedHandlers}
@@ -35,7 +32,7 @@ use Rattle.iox_negotiate_laws.specs.NegotiateTable.Contents.{Contents}
 use Rattle.iox_negotiate_laws.specs.NegotiateTable.declared.entry.Entry.{Entry}
 use Rattle.iox_negotiate_laws.specs.NegotiateTable.declared.segment.Segment.{Segment}
 use Rattle.iox_negotiate_laws.proofs.Tables.{IsTable, new-table, runs}
-use Rattle.iox_negotiate_renamed.specs.Renaming.{AreInOrder, GoBy, renamed_entry, renamed_place, renamed_table}
+use Rattle.iox_negotiate_renamed.specs.Renaming.{AreInOrder, renamed_entry, renamed_place, renamed_table}
 use Rattle.iox_negotiate_renamed.proofs.Acting.{past_rises}
 use Rattle.iox_negotiate_renamed.proofs.Numbers.{weaker}
 use Rattle.iox_hub_locality.proofs.Framed.{step_goes_on}
@@ -46,7 +43,7 @@ use Rattle.iox_hub_renumbered.specs.Renaming.{Renaming as Names, renamed, rename
 use Rattle.iox_hub_renumbered.proofs.Runs.{Below, SameBelow, counted, skipped, by_order, counted_below, counted_above, skipped_below, skipped_above, below_counted, below_skipped, same_counted, same_skipped, is_alone_with_counts}
 use Rattle.iox_hub_renamed.specs.Anew.{own_commands, HasNumbersLeft, EachServiceIsAlone}
 use Rattle.iox_hub_renamed.specs.Renaming.{mapped, renamed_factory, renamed_made, renamed_presence, renamed_services, renamed_hub, renamed_numbered, renamed_made_publisher, renamed_made_loan, renamed_made_sample, renamed_port}
-use Rattle.iox_hub_renamed.specs.RenamingLaws.{LooksAtNoService, HaveNumbers, HubGoesBy, HasNumbers, GoesBy}
+use Rattle.iox_hub_renamed.specs.RenamingLaws.{LooksAtNoService, HaveNumbers, HasNumbers, GoesBy}
 use Rattle.iox_hub_renamed.proofs.Commands.{any}
 
 -- ---- numbers
@@ -263,6 +260,22 @@ module _ {T U B D : Type 0} (payload user_header : Detail) (types : MessageTypeD
       abbrev whole : Renaming → ℕ → ℕ → NumberedHub T U B D → NumberedHub T U B D
       whole by next count numbered = renamed_numbered by next count numbered
 
+      -- one command, by numbers that are counted on
+      goes_one : (by : Renaming) → AreInOrder by.services → AreInOrder by.owners → (fewer next without count next_mid count_mid : ℕ) (asked : Command T) (one mid : NumberedHub T U B D) (answer : Result (Reply T) AllocError) → IsTable one.hub.table → Stands by fewer next without count one
+          → ((number : ℕ) → one.hub.table.next ≤ number → number < mid.hub.table.next → by.services number ≡ next + (number - one.hub.table.next))
+          → ((number : ℕ) → one.hub.factories < number → number ≤ mid.hub.factories → by.owners number ≡ count + (number - one.hub.factories)) → mid.hub.table.next < 2 ^ 64 - 1 → mid.hub.factories < 2 ^ 64 - 1
+          → mid.hub.table.next ≡ next_mid + fewer → mid.hub.factories ≡ count_mid + without → each asked one answer mid → each asked (whole by next count one) answer (whole by next_mid count_mid mid) × Stands by fewer next_mid without count_mid mid
+      goes_one by ordered ordered_own fewer next without count next_mid count_mid asked one mid answer table stands ahead ahead_own few few_own lives owners does =
+          let (later, so_many, done, goes_on) =
+          any payload user_header types is_default is_default_header fixed degrades decides fixed_reader reader_degrades by ordered ordered_own mid.hub.table.next fewer next mid.hub.factories without count blind asked one mid answer table
+          (as_goes by mid.hub.table.next fewer next mid.hub.factories without count one stands ahead ahead_own few few_own) (omega arith) (omega arith) does in
+          let stands_later = as_stands by mid.hub.table.next fewer later mid.hub.factories without so_many mid goes_on in
+          let is_next : later ≡ next_mid = let now = stands_later.lives in omega (arith, now, lives) in
+          let is_count : so_many ≡ count_mid = let now = stands_later.owners in omega (arith, now, owners) in (
+            subst (λ many. each asked (whole by next count one) answer (whole by next_mid many mid)) is_count (subst (λ first. each asked (whole by next count one) answer (whole by first so_many mid)) is_next done),
+            subst (λ many. Stands by fewer next_mid without many mid) is_count (subst (λ first. Stands by fewer first without so_many mid) is_next stands_later),
+          )
+
       -- There are numbers of lives and of factories, as before below those that come next, by which the run goes where none is passed over.
       abbrev GoesAnew : (ℕ → ℕ) → (ℕ → ℕ) → ℕ → ℕ → ℕ → ℕ → List (Bool × Command T) → NumberedHub T U B D → List (Reply T) → Type 0
       GoesAnew start start_own fewer next without count commands one replies =
@@ -301,19 +314,10 @@ module _ {T U B D : Type 0} (payload user_header : Detail) (types : MessageTypeD
             ordered,
             ordered_own,
             λ stands.
-                let goes_here : GoesBy by mid.hub.table.next fewer next mid.hub.factories without count one =
-                as_goes by mid.hub.table.next fewer next mid.hub.factories without count one stands (λ number low high. same number high ∙ counted_above start one.hub.table.next next number low)
+                let (there, stands_mid) =
+                goes_one by ordered ordered_own fewer next without count next_mid count_mid (renamed names asked) one mid (Ok (renamed_reply names reply)) table stands (λ number low high. same number high ∙ counted_above start one.hub.table.next next number low)
                 (λ number low high.
-                    let is = same_own number (omega (arith, high)) ∙ counted_above start_own (one.hub.factories + 1) (count + 1) number (omega (arith, low)) in omega (arith, is, low)) few_mid few_own in
-                let (later, so_many, done, goes_on) =
-                any payload user_header types is_default is_default_header fixed degrades decides fixed_reader reader_degrades by ordered ordered_own mid.hub.table.next fewer next mid.hub.factories without count blind (renamed names asked) one mid
-                (Ok (renamed_reply names reply)) table goes_here (omega arith) (omega arith) does in
-                let stands_later = as_stands by mid.hub.table.next fewer later mid.hub.factories without so_many mid goes_on in
-                let is_next : later ≡ next_mid = let now = stands_later.lives in omega (arith, now, lives_mid) in
-                let is_count : so_many ≡ count_mid = let now = stands_later.owners in omega (arith, now, owners_mid) in
-                let there = subst (λ many. each (renamed names asked) (whole by next count one) (Ok (renamed_reply names reply)) (whole by next_mid many mid)) is_count
-                (subst (λ first. each (renamed names asked) (whole by next count one) (Ok (renamed_reply names reply)) (whole by first so_many mid)) is_next done) in
-                let stands_mid = subst (λ many. Stands by fewer next_mid without many mid) is_count (subst (λ first. Stands by fewer first without so_many mid) is_next stands_later) in
+                    let is = same_own number (omega (arith, high)) ∙ counted_above start_own (one.hub.factories + 1) (count + 1) number (omega (arith, low)) in omega (arith, is, low)) few_mid few_own lives_mid owners_mid does in
                 let (last, ran) = goes stands_mid in
                 (last, (renamed_reply names reply, whole by next_mid count_mid mid, map (renamed_reply names) rest, there, ran, ap (map (renamed_reply names)) is)),
           )

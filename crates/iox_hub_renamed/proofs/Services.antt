@@ -1,17 +1,14 @@
 -- Commands of services in a hub whose lives and counted factories go by other numbers.
-use Rattle.std.proofs.Common.{◌≡◌, ◌∙◌, ◌+◌, ◌-◌, ◌^◌, ◌<◌, ◌≤◌, ◌++◌, ◌⊎◌, ℕ, nat_eq, nat_lt, Bool, true, false, cond, List, [], ◌∷◌, length, map, Option, None, Some, option_map, Result, Ok, Err, min, inl, inr, refl, sym, ap, subst, arith, if◌then◌else◌}
+use Rattle.std.proofs.Common.{◌≡◌, ◌∙◌, ◌+◌, ◌-◌, ◌^◌, ◌<◌, ◌≤◌, ◌++◌, ℕ, nat_eq, nat_lt, Bool, true, false, List, [], ◌∷◌, map, Option, None, Some, option_map, Result, Ok, Err, inl, inr, refl, sym, ap, subst, arith, if◌then◌else◌}
 use Rattle.std.proofs.lemmas.Map.Lookups.{exact_unsigned}
 use Rattle.std.specs.BTreeMap.{insert_entry, is_at}
 use Rattle.std.specs.List.{AllByRecursion}
-use Rattle.std.specs.Map.{lookup}
 use Rattle.std.specs.Option.{unwrap_or}
 use Rattle.std.specs.Ordering.{nat_cmp}
 use Rattle.std.specs.Prelude.{is_some, nat_le}
 use Rattle.std.specs.Result.{result_map_both}
 use Rattle.std.specs.declared.alloc.AllocError.{AllocError}
-use Rattle.std.specs.declared.cmp.Ordering.TheVariants.{Equal}
 use Rattle.iox_domain_renamed.specs.Renaming.{Renaming, renamed_ports}
-use Rattle.iox_domain_renamed.specs.RenamingLaws.{ReadsAlike}
 use Rattle.iox_domain_renamed.proofs.Calls.{reads_alike}
 use Rattle.iox_hub_commands.specs.Command.declared.refusal.HubError.{HubError}
 use Rattle.iox_hub_commands.specs.Command.declared.refusal.Refusal.{Refusal}
@@ -31,21 +28,19 @@ use Rattle.iox_hub_commands.specs.DescribeSettings.declared.static_config.Settin
 use Rattle.iox_hub_factories.specs.Asking.{hash_of, agreed_of, required_agreement}
 use Rattle.iox_hub_factories.specs.Closing.{Leaves, ClosesUnless, ClosesIfOf, ClosesNumbered}
 use Rattle.iox_hub_factories.specs.Creating.{CreatesAs, CreatesNumbered, create_lacking}
-use Rattle.iox_hub_factories.specs.Domain.Domains.{IsNewDomain}
 use Rattle.iox_hub_factories.specs.Domain.Kept.{kept_under, kept, forgotten}
-use Rattle.iox_hub_factories.specs.Domain.declared.domain.Domain.{Domain}
 use Rattle.iox_hub_factories.specs.Either.{EitherAs, EitherNumbered, either_lacking}
 use Rattle.iox_hub_factories.specs.Foreign.{ActsNamed}
 use Rattle.iox_hub_factories.specs.HubBase.Closing.{is_last, who_counts, lives_in, in_use, less_one}
 use Rattle.iox_hub_factories.specs.HubBase.Foreign.{ActsOn}
 use Rattle.iox_hub_factories.specs.HubBase.Hubs.{factories_of, with_factory, one_more}
-use Rattle.iox_hub_factories.specs.HubBase.Opening.{Made, IsClosedAgain, Enters, Settles, OpensInHub}
+use Rattle.iox_hub_factories.specs.HubBase.Opening.{Made, Enters, Settles, OpensInHub}
 use Rattle.iox_hub_factories.specs.HubBase.declared.hub.Hub.{Hub}
-use Rattle.iox_hub_factories.specs.HubServices.Open.{OpenServices, presence_of, opened}
-use Rattle.iox_hub_factories.specs.HubServices.Opening.{is_open, HasNew, Opens as ServiceOpens, without_service}
+use Rattle.iox_hub_factories.specs.HubServices.Open.{OpenServices, presence_of}
+use Rattle.iox_hub_factories.specs.HubServices.Opening.{is_open, Opens as ServiceOpens, without_service}
 use Rattle.iox_hub_factories.specs.HubServices.declared.presence.Presence.{Presence}
 use Rattle.iox_hub_factories.specs.HubServices.declared.presence.Presence.TheVariants.{Here, Out}
-use Rattle.iox_hub_factories.specs.Numbered.NumberTable.{NumberTable, value_at, inserted, removed}
+use Rattle.iox_hub_factories.specs.Numbered.NumberTable.{value_at}
 use Rattle.iox_hub_factories.specs.Numbering.{Prepares, Numbers, GetsNumber, IsSkipped, IsRefusedWith}
 use Rattle.iox_hub_factories.specs.Opening.{OpensAs, OpensNumbered, open_lacking}
 use Rattle.iox_hub_factories.specs.Tables.{FactoryTable, pattern_in, parts_of}
@@ -59,24 +54,21 @@ use Rattle.iox_negotiate_laws.specs.NegotiateErrors.declared.close.CloseError.{C
 use Rattle.iox_negotiate_laws.specs.NegotiateRounds.Access.{Access}
 use Rattle.iox_negotiate_laws.specs.NegotiateRounds.Creating.{CreatesIf}
 use Rattle.iox_negotiate_laws.specs.NegotiateRounds.Opening.{Opens, OpensOrCreates}
-use Rattle.iox_negotiate_laws.specs.NegotiateRounds.Runs.{Does}
 use Rattle.iox_negotiate_laws.specs.NegotiateRounds.declared.failure.CreateFailure.{CreateFailure}
 use Rattle.iox_negotiate_laws.specs.NegotiateRounds.declared.failure.OpenFailure.{OpenFailure}
 use Rattle.iox_negotiate_laws.specs.NegotiateRounds.declared.failure.OpenOrCreateFailure.{OpenOrCreateFailure}
 use Rattle.iox_negotiate_laws.specs.NegotiateRounds.declared.request.Opened.{Opened}
-use Rattle.iox_negotiate_laws.specs.NegotiateTable.Contents.{Contents, entry_at}
-use Rattle.iox_negotiate_laws.specs.NegotiateTable.Sights.{Sight}
 use Rattle.iox_negotiate_laws.specs.NegotiateTable.Stepped.{Steps, SteppedSight}
 use Rattle.iox_negotiate_laws.specs.NegotiateTable.declared.entry.Entry.TheVariants.{Described}
 use Rattle.iox_negotiate_laws.specs.NegotiateTable.declared.step.ForeignStep.{ForeignStep}
 use Rattle.iox_negotiate_laws.proofs.Agreements.{went-past}
 use Rattle.iox_negotiate_laws.proofs.Maps.{insert-all, remove-all, found-all}
 use Rattle.iox_negotiate_laws.proofs.Tables.{IsTable}
-use Rattle.iox_negotiate_renamed.specs.Renaming.{AreInOrder, GoBy, renamed_access, renamed_answer, renamed_came, renamed_member, renamed_steps, renamed_table}
+use Rattle.iox_negotiate_renamed.specs.Renaming.{AreInOrder, GoBy, renamed_access, renamed_answer, renamed_came, renamed_member, renamed_steps}
 use Rattle.iox_negotiate_renamed.specs.RenamingLaws.{LeadsOn}
 use Rattle.iox_negotiate_renamed.proofs.Acting.{acts_all_as, past_rises, low_on}
 use Rattle.iox_negotiate_renamed.proofs.Calling.{does_as, does_alone_as}
-use Rattle.iox_negotiate_renamed.proofs.Numbers.{same_life, cmp_as, at_as, moved_found, moved_gone, moved_come, weaker}
+use Rattle.iox_negotiate_renamed.proofs.Numbers.{same_life, cmp_as, moved_found, moved_gone, moved_come, weaker}
 use Rattle.iox_negotiate_renamed.proofs.Rounds.{creates_if, opens, opens_or_creates, closes}
 use Rattle.iox_negotiate_renamed.proofs.Tables.{live_at}
 use Rattle.iox_hub_locality.proofs.Negotiated.{IsNegotiation, creating, opening, either}

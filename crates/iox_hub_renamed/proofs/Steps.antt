@@ -1,9 +1,9 @@
 -- Commands of ports in a hub whose lives go by other numbers.
-use Rattle.std.proofs.Common.{◌≡◌, ◌∙◌, ◌<◌, ℕ, Bool, true, false, List, [], ◌∷◌, Option, None, Some, option_map, Result, Ok, Err, refl, sym, ap, subst, length, if◌then◌else◌}
+use Rattle.std.proofs.Common.{◌≡◌, ◌∙◌, ℕ, Bool, true, false, List, [], ◌∷◌, Option, None, Some, option_map, Result, Ok, Err, refl, sym, ap, subst, length, if◌then◌else◌}
 use Rattle.std.specs.List.{AllByRecursion}
 use Rattle.std.specs.Prelude.{is_some, unwrap_or}
 use Rattle.std.specs.declared.alloc.AllocError.{AllocError}
-use Rattle.iox_domain_renamed.specs.Renaming.{Renaming, renamed_ports, renamed_failure}
+use Rattle.iox_domain_renamed.specs.Renaming.{Renaming, renamed_ports}
 use Rattle.iox_domain_renamed.proofs.Calls.{happens_as}
 use Rattle.iox_hub_commands.specs.Command.declared.command.Command.{Command}
 use Rattle.iox_hub_commands.specs.Command.declared.command.Command.TheVariants as command
@@ -27,18 +27,16 @@ use Rattle.iox_hub_commands.specs.DomainValues.declared.degradation.DegradationA
 use Rattle.iox_hub_commands.specs.DomainValues.declared.degradation.DegradationCause.{DegradationCause}
 use Rattle.iox_hub_commands.specs.DomainValues.declared.degradation.DegradationCause.TheVariants.{FailedToEstablishConnection}
 use Rattle.iox_hub_commands.specs.DomainValues.declared.degradation.DegradationInfo.{DegradationInfo}
-use Rattle.iox_hub_commands.specs.DomainValues.declared.port_error.LoanError.{LoanError}
 use Rattle.iox_hub_commands.specs.DomainValues.declared.port_error.ReceiveError.{ReceiveError}
 use Rattle.iox_hub_commands.specs.Following.{UpdateStep, HasStep, LeaveStep}
 use Rattle.iox_hub_commands.specs.HubPorts.Calls.{AtPort, AtPortIf, Lends, LendsWritten, Puts, Follows, Retries, GivesUp, PublisherGoes, FollowsPublishers, Tells, Receives, SubscriberGoes, ready}
 use Rattle.iox_hub_commands.specs.HubPorts.Growing.{GrowsFirst}
 use Rattle.iox_hub_commands.specs.HubPorts.Loans.{loan_under, is_set, is_filled, set_in, filled_in, changed_under, SendsUnder}
 use Rattle.iox_hub_commands.specs.HubPorts.Making.{with_publisher, with_subscriber}
-use Rattle.iox_hub_commands.specs.HubPorts.Numbering.{removed_if, LendsNumbered, LendsWrittenNumbered, ReceivesNumbered}
+use Rattle.iox_hub_commands.specs.HubPorts.Numbering.{LendsNumbered, LendsWrittenNumbered, ReceivesNumbered}
 use Rattle.iox_hub_commands.specs.HubPorts.Reading.{values_under, is_held, ReleasesUnder}
 use Rattle.iox_hub_commands.specs.HubPorts.Tables.{IsFull, lender, port_under, without_publisher, without_subscriber, without_loan, without_sample}
 use Rattle.iox_hub_commands.specs.HubPorts.declared.made.Made.{Made}
-use Rattle.iox_hub_commands.specs.HubPorts.declared.made.MadeLoan.{MadeLoan}
 use Rattle.iox_hub_commands.specs.Lending.{LoanStep, LoanUninitStep, PutStep}
 use Rattle.iox_hub_commands.specs.Messages.{SetStep, FillStep, DropStep, SendStep, RetryStep, GiveUpStep, IsReadReply, SomeValues, ReadStep, ReleaseStep}
 use Rattle.iox_hub_commands.specs.Naming.{publisher_config, publisher_handlers, subscriber_config, subscriber_handler}
@@ -57,7 +55,7 @@ use Rattle.iox_hub_run.specs.Services.{domain_of_factory, owner_of_factory, Publ
 use Rattle.iox_hub_run.specs.Steps.{IsReplied, Step, publisher_may_degrade, publisher_may_decide, subscriber_may_degrade}
 use Rattle.iox_hub_run.specs.declared.numbered_hub.NumberedHub.{NumberedHub}
 use Rattle.iox_negotiate_renamed.specs.Renaming.{AreInOrder}
-use Rattle.iox_hub_renamed.specs.Renaming.{mapped, renamed_factory, renamed_id, renamed_port, renamed_made_loan, renamed_made_sample, renamed_made, renamed_hub, renamed_numbered}
+use Rattle.iox_hub_renamed.specs.Renaming.{mapped, renamed_factory, renamed_id, renamed_port, renamed_made_loan, renamed_made_sample, renamed_hub, renamed_numbered}
 use Rattle.iox_hub_renamed.specs.RenamingLaws.{LooksAtNoService, HaveNumbers, IsOfPorts, GoesByAnyNumber, RunGoesByAnyNumber}
 use Rattle.iox_hub_locality.proofs.Keeping.{OfServices, step_keeps}
 use Rattle.iox_hub_renamed.proofs.Homes.{makes_at, still_live}

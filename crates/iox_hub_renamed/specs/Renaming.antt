@@ -1,6 +1,5 @@
 -- A hub whose lives, and whose counted factories, go by other numbers.
-use Rattle.std.specs.Prelude.{ℕ, ◌≡◌, ◌+◌, ◌-◌, ◌*◌, ◌^◌, ◌<◌, ◌≤◌, List, map}
-use Rattle.std.specs.List.{AllByRecursion}
+use Rattle.std.specs.Prelude.{ℕ, map}
 use Rattle.iox_domain_renamed.specs.Renaming.{Renaming, renamed_ports}
 use Rattle.iox_hub_commands.specs.Delivery.declared.port_id.PortId.{PortId}
 use Rattle.iox_hub_commands.specs.DomainHome.declared.domain_id.DomainId.{DomainId}
@@ -14,11 +13,10 @@ use Rattle.iox_hub_factories.specs.HubServices.Open.{OpenServices}
 use Rattle.iox_hub_factories.specs.HubServices.declared.presence.Presence.{Presence}
 use Rattle.iox_hub_factories.specs.HubServices.declared.presence.Presence.TheVariants.{Here, Out}
 use Rattle.iox_hub_factories.specs.Numbered.NumberTable.{NumberTable}
-use Rattle.iox_hub_factories.specs.Tables.{FactoryTable, parts_of}
 use Rattle.iox_hub_factories.specs.declared.made.MadeFactory.{MadeFactory}
 use Rattle.iox_hub_factories.specs.declared.made.MadeFactory.TheVariants as made
 use Rattle.iox_hub_run.specs.declared.numbered_hub.NumberedHub.{NumberedHub}
-use Rattle.iox_negotiate_renamed.specs.Renaming.{GoBy, renamed_member, renamed_table}
+use Rattle.iox_negotiate_renamed.specs.Renaming.{renamed_member, renamed_table}
 
 -- the domain of a life under its other number
 abbrev pub renamed_id : Renaming → DomainId → DomainId
