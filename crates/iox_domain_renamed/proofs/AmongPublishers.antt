@@ -1,19 +1,17 @@
 -- What is seen of the publishers of a service under other names, and what changes among them.
-use Rattle.std.proofs.Common.{◌≡◌, ◌∙◌, ◌==◌, ℕ, zero, suc, ◌+◌, Bool, true, false, cond, List, [], ◌∷◌, length, map, Option, None, Some, option_map, Result, Ok, Err, refl, sym, ap, subst, get_or, min, ◌&&◌, ◌||◌}
-use Rattle.std.specs.Prelude.{nat_lt, nat_le}
+use Rattle.std.proofs.Common.{◌≡◌, ◌∙◌, ℕ, cond, List, map, Option, None, Some, option_map, Result, Ok, Err, refl, sym, ap, subst, get_or}
 use Rattle.std.specs.BTreeMap.{is_at}
 use Rattle.std.specs.Ordering.{nat_cmp}
 use Rattle.std.specs.declared.alloc.AllocError.{AllocError}
-use Rattle.iox_domain_laws.specs.DomainPublisher.Ports.{connection_of, connection_to, Attaches, detached_at}
+use Rattle.iox_domain_laws.specs.DomainPublisher.Ports.{detached_at}
 use Rattle.iox_domain_laws.specs.DomainPublisher.declared.publisher_port.PublisherPort.{PublisherPort}
 use Rattle.iox_domain_laws.specs.DomainSender.Messages.{Message}
-use Rattle.iox_domain_laws.specs.DomainSlots.Uses.{Connection, nobody}
+use Rattle.iox_domain_laws.specs.DomainSlots.Uses.{Connection}
 use Rattle.iox_domain_laws.specs.DomainSubscriber.Following.{lacks_connection}
 use Rattle.iox_domain_laws.specs.DomainSubscriber.Publishers as ports
 use Rattle.iox_domain_laws.specs.DomainSubscriber.Reading.{taken_at, given_back_at}
 use Rattle.iox_domain_laws.specs.DomainSubscriber.Subscribing.{connection_by, most_by, ended_ports, taken_of, taken_ports}
 use Rattle.iox_domain_laws.specs.DomainSubscriber.declared.attached.Attached.{Attached}
-use Rattle.iox_domain_laws.specs.DomainSubscriber.declared.attached.Taken.{Taken}
 use Rattle.iox_domain_renamed.specs.Renaming.{Renaming, renamed_publisher, renamed_publishers}
 use Rattle.iox_domain_renamed.proofs.Lists.{pick, each_found, each_set, each_gone, each_come}
 use Rattle.iox_domain_renamed.proofs.Publishers.{attaches, left_as, given_back_as}

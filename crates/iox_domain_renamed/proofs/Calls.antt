@@ -9,7 +9,6 @@ use Rattle.std.specs.Prelude.{sum_by}
 use Rattle.std.specs.declared.alloc.AllocError.{AllocError}
 use Rattle.iox_domain_laws.specs.Calls.{PortCall, PublisherComes, SubscriberComes, Lends, Writes, GivesLoanUp, PublisherUpdates, Sends, Retries, GivesSendUp, PublisherLeaves, SubscriberUpdates, AsksForSamples, Receives, Releases, SubscriberLeaves, Happens}
 use Rattle.iox_domain_laws.specs.Order.{Happen}
-use Rattle.iox_domain_laws.specs.DescribeBase.declared.header.Header.{Header}
 use Rattle.iox_domain_laws.specs.DomainPorts.Lending as lending
 use Rattle.iox_domain_laws.specs.DomainPorts.Living.{living, living_subscribers}
 use Rattle.iox_domain_laws.specs.DomainPorts.Making as making
@@ -24,7 +23,6 @@ use Rattle.iox_domain_laws.specs.DomainPorts.declared.service_ports.ServicePorts
 use Rattle.iox_domain_laws.specs.DomainPublisher.Leaving.{departed}
 use Rattle.iox_domain_laws.specs.DomainPublisher.Writing.{changed_if, given_up}
 use Rattle.iox_domain_laws.specs.DomainPublisher.declared.publisher_port.PublisherPort.{PublisherPort}
-use Rattle.iox_domain_laws.specs.DomainSender.Messages.{Loan, Message}
 use Rattle.iox_domain_laws.specs.DomainSubscriber.Arriving.{new_subscriber}
 use Rattle.iox_domain_laws.specs.DomainSubscriber.Living.{living_publishers, living_of_publisher, living_of_subscriber, counted}
 use Rattle.iox_domain_laws.specs.DomainSubscriber.Publishers as among
@@ -41,8 +39,8 @@ use Rattle.iox_domain_laws.specs.DomainValues.declared.degradation.DegradationAc
 use Rattle.iox_domain_laws.specs.DomainValues.declared.degradation.DegradationInfo.{DegradationInfo}
 use Rattle.iox_domain_laws.specs.DomainValues.declared.port_owner.PortOwner.{PortOwner}
 use Rattle.iox_domain_renamed.specs.Renaming.{Renaming, renamed_owner, renamed_publisher, renamed_subscriber, renamed_publishers, renamed_subscribers, renamed_ports, renamed_call, renamed_config, renamed_failure, renamed_mailbox}
-use Rattle.iox_domain_renamed.specs.RenamingLaws.{DegradesWhateverService, DecidesWhateverService, TestsAlike, AllTestAlike, renamed_calls, CallsGoByAnyName, ReadsAlike}
-use Rattle.iox_domain_renamed.proofs.AmongPublishers.{found_as, connection_as, set_as, added_as, settled_as, changed_as, changed_other, released_as}
+use Rattle.iox_domain_renamed.specs.RenamingLaws.{TestsAlike, AllTestAlike, renamed_calls, CallsGoByAnyName, ReadsAlike}
+use Rattle.iox_domain_renamed.proofs.AmongPublishers.{found_as, connection_as, set_as, added_as, settled_as, changed_as, released_as}
 use Rattle.iox_domain_renamed.proofs.Lists.{each, pick, each_found, each_set, each_gone, each_come}
 use Rattle.iox_domain_renamed.proofs.Publishers as publisher
 use Rattle.iox_domain_renamed.proofs.Subscribers as subscriber

@@ -1,6 +1,6 @@
 -- What a publisher does under another name of its service and of its owner.
-use Rattle.std.proofs.Common.{◌≡◌, ◌∙◌, ◌⊎◌, ℕ, zero, suc, ◌+◌, ◌-◌, Bool, true, false, cond, List, [], ◌∷◌, length, Option, None, Some, Result, Ok, Err, is_ok, is_some, refl, sym, ap, subst, inl, inr, get_or, min, set}
-use Rattle.std.specs.Prelude.{slice_get, nat_le, nat_lt}
+use Rattle.std.proofs.Common.{◌≡◌, ◌∙◌, ℕ, zero, suc, ◌+◌, ◌-◌, Bool, true, false, cond, List, [], ◌∷◌, length, Option, None, Some, Result, Ok, Err, is_ok, refl, sym, ap, subst, inl, inr, get_or, set}
+use Rattle.std.specs.Prelude.{slice_get, nat_lt}
 use Rattle.std.specs.declared.alloc.AllocError.{AllocError}
 use Rattle.iox_domain_laws.specs.DomainPorts.Lending as lending
 use Rattle.iox_domain_laws.specs.DomainPorts.Publishing as publishing
@@ -12,7 +12,7 @@ use Rattle.iox_domain_laws.specs.DomainPublisher.Ports.{connection_of, is_live, 
 use Rattle.iox_domain_laws.specs.DomainPublisher.Sending as sending
 use Rattle.iox_domain_laws.specs.DomainPublisher.Ties.{tie_put}
 use Rattle.iox_domain_laws.specs.DomainPublisher.Updating as updating
-use Rattle.iox_domain_laws.specs.DomainPublisher.Writing.{place_of, changed_there, changed_if, given_up_at, given_up}
+use Rattle.iox_domain_laws.specs.DomainPublisher.Writing.{place_of, changed_if, given_up_at, given_up}
 use Rattle.iox_domain_laws.specs.DomainPublisher.declared.meeting.Meeting.{Meeting}
 use Rattle.iox_domain_laws.specs.DomainPublisher.declared.meeting.Meeting.TheVariants as meeting
 use Rattle.iox_domain_laws.specs.DomainPublisher.declared.meeting.Sent.{Sent}

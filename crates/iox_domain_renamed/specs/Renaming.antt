@@ -1,5 +1,5 @@
 -- The ports of a service under other names: the service has another number, and so have those whose ports they are.
-use Rattle.std.specs.Prelude.{ℕ, Bool, List, map}
+use Rattle.std.specs.Prelude.{ℕ, List, map}
 use Rattle.iox_domain_laws.specs.Calls.{PortCall, PublisherComes, SubscriberComes}
 use Rattle.iox_domain_laws.specs.DomainPorts.declared.making.PublisherConfig.{PublisherConfig}
 use Rattle.iox_domain_laws.specs.DomainPorts.declared.service_ports.ServicePorts.{ServicePorts}

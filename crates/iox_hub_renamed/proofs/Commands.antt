@@ -114,8 +114,7 @@ module _ {T U B D : Type 0} (payload user_header : Detail) (types : MessageTypeD
     of_ports asked old new answer of (goes, all) does =
         let aside =
         step_keeps (Aside by) (aside_same by) (aside_on by) (λ id step hub. (refl, refl, refl, λ live. still_live by order id step hub.services live)) payload user_header types is_default is_default_header fixed degrades decides fixed_reader reader_degrades asked old new answer
-        (λ services. absurd (apart asked of services)) does in
-        (
+        (λ services. absurd (apart asked of services)) does in (
           next,
           count,
           goes_as by order next count fixed degrades decides fixed_reader reader_degrades blind payload user_header types is_default is_default_header asked old new answer goes.domains of does,
@@ -126,13 +125,12 @@ module _ {T U B D : Type 0} (payload user_header : Detail) (types : MessageTypeD
         )
 
     node_made : (old new : NumberedHub T U B D) (answer : Reply T) → GoesBy by end fewer next last without count old → NodeMakes old answer new → Leads new (λ later counted. NodeMakes (whole next count old) answer (whole later counted new))
-    node_made old new answer (goes, all) (is, same) =
-        (
-          next,
-          count,
-          (is, ap (whole next count) same),
-          subst (λ (it : NumberedHub T U B D). GoesBy by end fewer next last without count it) (sym same) (record { table = goes.table; domains = goes.domains; counts = goes.counts; ahead = goes.ahead; earlier = goes.earlier; few = goes.few }, all),
-        )
+    node_made old new answer (goes, all) (is, same) = (
+      next,
+      count,
+      (is, ap (whole next count) same),
+      subst (λ (it : NumberedHub T U B D). GoesBy by end fewer next last without count it) (sym same) (record { table = goes.table; domains = goes.domains; counts = goes.counts; ahead = goes.ahead; earlier = goes.earlier; few = goes.few }, all),
+    )
 
     pub any : (asked : Command T) (old new : NumberedHub T U B D) (answer : Result (Reply T) AllocError) → IsTable old.hub.table → GoesBy by end fewer next last without count old → new.hub.table.next ≤ end → new.hub.factories ≤ last → each asked old answer new
         → Leads new (λ later counted. each asked (whole next count old) answer (whole later counted new))

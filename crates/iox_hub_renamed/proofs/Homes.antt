@@ -152,7 +152,7 @@ module _ {T U B D : Type 0} (by : Renaming) (order : AreInOrder by.services) whe
           renamed_ports by after,
           goes ports after does,
           ap there same ∙ sym (moves_as id forget forget mid (still_live id (with_ports after) old.services live) spares)
-          ∙ ap (λ (hub : Hub T U B D). with_services hub (stepped (renamed_id by id) forget hub.services)) (sym (put_as id after old live)),
+              ∙ ap (λ (hub : Hub T U B D). with_services hub (stepped (renamed_id by id) forget hub.services)) (sym (put_as id after old live)),
         )
 
     pub leaves_domain : (id : DomainId) (forget : Domain T U B D → Domain T U B D) → ((domain : Domain T U B D) → forget (here domain) ≡ here (forget domain)) → (step other : ServicePorts T U → Bool → ServicePorts T U → Type 0) (old new : Hub T U B D) (answer : Bool)
@@ -176,7 +176,7 @@ module _ {T U B D : Type 0} (by : Renaming) (order : AreInOrder by.services) whe
           renamed_ports by after,
           goes ports after number does,
           ap there same ∙ sym (moves_as id (keep number) (keep number) mid (still_live id (with_ports after) old.services live) (spares number))
-          ∙ ap (λ (hub : Hub T U B D). with_services hub (stepped (renamed_id by id) (keep number) hub.services)) (sym (put_as id after old live)),
+              ∙ ap (λ (hub : Hub T U B D). with_services hub (stepped (renamed_id by id) (keep number) hub.services)) (sym (put_as id after old live)),
         )
 
     pub makes_at : {E : Type 0} (id : DomainId) (keep : ℕ → Domain T U B D → Domain T U B D) → ((number : ℕ) (domain : Domain T U B D) → keep number (here domain) ≡ here (keep number domain)) → (step other : ServicePorts T U → ℕ → ServicePorts T U → Type 0) (refusal : ServicePorts T U → E)

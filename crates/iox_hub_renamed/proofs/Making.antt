@@ -54,13 +54,12 @@ module _ (by : Renaming) where
   own made = renamed_made by made
 
   pub roomier_as : (old new : Made) → IsRoomier old new → IsRoomier (own old) (own new)
-  roomier_as old new (publishers, subscribers, loans, samples) =
-      (
-        same_as (renamed_made_publisher by) old.publishers new.publishers publishers,
-        same_as (renamed_port by) old.subscribers new.subscribers subscribers,
-        same_as (renamed_made_loan by) old.loans new.loans loans,
-        same_as (renamed_made_sample by) old.samples new.samples samples,
-      )
+  roomier_as old new (publishers, subscribers, loans, samples) = (
+    same_as (renamed_made_publisher by) old.publishers new.publishers publishers,
+    same_as (renamed_port by) old.subscribers new.subscribers subscribers,
+    same_as (renamed_made_loan by) old.loans new.loans loans,
+    same_as (renamed_made_sample by) old.samples new.samples samples,
+  )
 
   pub port_under_as : (found : Option MadePublisher) → port_under (option_map (renamed_made_publisher by) found) ≡ option_map (renamed_port by) (port_under found)
   port_under_as None = refl

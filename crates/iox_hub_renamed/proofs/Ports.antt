@@ -273,8 +273,8 @@ module _ {T U B D : Type 0} (by : Renaming) (order : AreInOrder by.services) (ne
         let id = port.domain in
         at_domain by order next count id (steps.UpdatesBy (publisher_may_degrade degrades id port.number old) port.number) (steps.UpdatesBy (publisher_may_degrade degrades (renamed_port by port).domain port.number (there old)) port.number) old new answer live
         (λ ports after updates.
-            happens_as by (publisher_may_degrade degrades id port.number old) (publisher_may_degrade degrades (renamed_port by port).domain port.number (there old)) (publisher_degrading by order next count degrades blind id port.number old live)
-            AnySlots AnyDecision AnyDecision (λ info decision any. any) (call.PublisherUpdates port.number answer) ports after tt updates) does
+        happens_as by (publisher_may_degrade degrades id port.number old) (publisher_may_degrade degrades (renamed_port by port).domain port.number (there old)) (publisher_degrading by order next count degrades blind id port.number old live)
+        AnySlots AnyDecision AnyDecision (λ info decision any. any) (call.PublisherUpdates port.number answer) ports after tt updates) does
 
     module _ (decides : B → BackpressureInfo → BackpressureDecision → Type 0) (blind_sends : (handlers : B) → DecidesWhateverService (decides handlers)) where
       sends_at : (port : PortId) (slot : ℕ) (old new : Hub T U B D) (answer : Option (Result Sent SendError)) → Lives old → Sends hub_ports with_hub_ports (publisher_may_degrade degrades) (publisher_may_decide decides) slot port old answer new
@@ -285,9 +285,9 @@ module _ {T U B D : Type 0} (by : Renaming) (order : AreInOrder by.services) (ne
           at_domain by order next count id (steps.SendsBy (publisher_may_degrade degrades id port.number old) (publisher_may_decide decides id port.number old) port.number slot)
           (steps.SendsBy (publisher_may_degrade degrades other port.number (there old)) (publisher_may_decide decides other port.number (there old)) port.number slot) old new answer live
           (λ ports after sends.
-              happens_as by (publisher_may_degrade degrades id port.number old) (publisher_may_degrade degrades other port.number (there old)) (publisher_degrading by order next count degrades blind id port.number old live)
-              AnySlots (publisher_may_decide decides id port.number old) (publisher_may_decide decides other port.number (there old)) (publisher_deciding by order next count decides blind_sends id port.number old live)
-              (call.Sends port.number slot answer) ports after tt sends) does
+          happens_as by (publisher_may_degrade degrades id port.number old) (publisher_may_degrade degrades other port.number (there old)) (publisher_degrading by order next count degrades blind id port.number old live)
+          AnySlots (publisher_may_decide decides id port.number old) (publisher_may_decide decides other port.number (there old)) (publisher_deciding by order next count decides blind_sends id port.number old live)
+          (call.Sends port.number slot answer) ports after tt sends) does
 
       pub sends_under : (found : Option MadeLoan) (old new : Hub T U B D) (answer : Option (Result Sent SendError)) → Lives old → SendsUnder hub_ports with_hub_ports (publisher_may_degrade degrades) (publisher_may_decide decides) found old answer new
           → SendsUnder hub_ports with_hub_ports (publisher_may_degrade degrades) (publisher_may_decide decides) (option_map (renamed_made_loan by) found) (there old) answer (there new)
@@ -320,8 +320,8 @@ module _ {T U B D : Type 0} (by : Renaming) (order : AreInOrder by.services) (ne
       let other = (renamed_port by port).domain in
       at_domain by order next count id (steps.RetriesBy (publisher_may_decide decides id port.number old) port.number elapsed) (steps.RetriesBy (publisher_may_decide decides other port.number (there old)) port.number elapsed) old new answer live
       (λ ports after tries.
-          happens_as by AnyAction AnyAction (λ info action any. any) AnySlots (publisher_may_decide decides id port.number old) (publisher_may_decide decides other port.number (there old))
-          (publisher_deciding by order next count decides blind id port.number old live) (call.Retries port.number elapsed answer) ports after tt tries) does
+      happens_as by AnyAction AnyAction (λ info action any. any) AnySlots (publisher_may_decide decides id port.number old) (publisher_may_decide decides other port.number (there old))
+      (publisher_deciding by order next count decides blind id port.number old live) (call.Retries port.number elapsed answer) ports after tt tries) does
 
   module _ (degrades : D → DegradationCause → DegradationInfo → DegradationAction → Type 0) (blind : (handler : D) (cause : DegradationCause) → DegradesWhateverService (degrades handler cause)) where
     -- a call of a subscriber that asks who decides for it

@@ -41,7 +41,7 @@ use Rattle.iox_hub_alone.proofs.Telling.{each_run_can_be_told}
 use Rattle.iox_hub_renumbered.specs.Anew.{PassesLives, RunsAnew}
 use Rattle.iox_hub_renumbered.specs.Renaming.{Renaming as Names, renamed, renamed_reply}
 use Rattle.iox_hub_renumbered.proofs.Runs.{Below, SameBelow, counted, skipped, by_order, counted_below, counted_above, skipped_below, skipped_above, below_counted, below_skipped, same_counted, same_skipped, is_alone_with_counts}
-use Rattle.iox_hub_renamed.specs.Anew.{own_commands, HasNumbersLeft, EachServiceIsAlone}
+use Rattle.iox_hub_renamed.specs.Anew.{own_commands, HasNumbersLeft, EachServiceIsAlone, FixedStep}
 use Rattle.iox_hub_renamed.specs.Renaming.{mapped, renamed_factory, renamed_made, renamed_presence, renamed_services, renamed_hub, renamed_numbered, renamed_made_publisher, renamed_made_loan, renamed_made_sample, renamed_port}
 use Rattle.iox_hub_renamed.specs.RenamingLaws.{LooksAtNoService, HaveNumbers, HasNumbers, GoesBy}
 use Rattle.iox_hub_renamed.proofs.Commands.{any}
@@ -70,26 +70,26 @@ order_counted : (start : ℕ → ℕ) (next later count : ℕ) → Below start n
 order_counted start next later count (positive, below) order one other less low here there =
     by_order other next
     (λ small.
-        let before : one < next = omega (arith, less, small) in
-        let first = counted_below start next count one before in
-        let second = counted_below start next count other small in
-        less_by (counted start next count one) (counted start next count other) (start one) (start other) first second
-        (order one other less small (more_by (counted start next count one) (start one) first here) (more_by (counted start next count other) (start other) second there)))
+    let before : one < next = omega (arith, less, small) in
+    let first = counted_below start next count one before in
+    let second = counted_below start next count other small in
+    less_by (counted start next count one) (counted start next count other) (start one) (start other) first second
+    (order one other less small (more_by (counted start next count one) (start one) first here) (more_by (counted start next count other) (start other) second there)))
     (λ large.
-        let second = counted_above start next count other large in
-        by_order one next
-        (λ small. let first = counted_below start next count one small in let under = below one small in omega (arith, first, second, under))
-        (λ above. let first = counted_above start next count one above in omega (arith, first, second, less, above)))
+    let second = counted_above start next count other large in
+    by_order one next
+    (λ small. let first = counted_below start next count one small in let under = below one small in omega (arith, first, second, under))
+    (λ above. let first = counted_above start next count one above in omega (arith, first, second, less, above)))
 
 order_skipped : (start : ℕ → ℕ) (next later : ℕ) → InOrder start next → InOrder (skipped start next) later
 order_skipped start next later order one other less low here there =
     by_order other next
     (λ small.
-        let before : one < next = omega (arith, less, small) in
-        let first = skipped_below start next one before in
-        let second = skipped_below start next other small in
-        less_by (skipped start next one) (skipped start next other) (start one) (start other) first second
-        (order one other less small (more_by (skipped start next one) (start one) first here) (more_by (skipped start next other) (start other) second there)))
+    let before : one < next = omega (arith, less, small) in
+    let first = skipped_below start next one before in
+    let second = skipped_below start next other small in
+    less_by (skipped start next one) (skipped start next other) (start one) (start other) first second
+    (order one other less small (more_by (skipped start next one) (start one) first here) (more_by (skipped start next other) (start other) second there)))
     (λ large. let none = skipped_above start next other large in absurd (omega (arith, none, there)))
 
 ends_in_order : (start : ℕ → ℕ) (next : ℕ) → InOrder start next → AreInOrder (skipped start next)
@@ -134,18 +134,17 @@ module _ {T U B D : Type 0} where
   as_goes : (by : Renaming) (end fewer next last without count : ℕ) (one : NumberedHub T U B D) → Stands by fewer next without count one
       → ((number : ℕ) → one.hub.table.next ≤ number → number < end → by.services number ≡ next + (number - one.hub.table.next))
       → ((number : ℕ) → one.hub.factories < number → number ≤ last → by.owners number ≡ count + (number - one.hub.factories)) → end < 2 ^ 64 - 1 → last < 2 ^ 64 - 1 → GoesBy by end fewer next last without count one
-  as_goes by end fewer next last without count one stands ahead ahead_own few few_own =
-      (
-        record {
-          table = record { entries = stands.entries; segments = stands.segments; ahead = ahead; positive = stands.positive; earlier = stands.lives; few = few };
-          domains = stands.domains;
-          counts = stands.counts;
-          ahead = ahead_own;
-          earlier = stands.owners;
-          few = few_own;
-        },
-        stands.factories,
-      )
+  as_goes by end fewer next last without count one stands ahead ahead_own few few_own = (
+    record {
+      table = record { entries = stands.entries; segments = stands.segments; ahead = ahead; positive = stands.positive; earlier = stands.lives; few = few };
+      domains = stands.domains;
+      counts = stands.counts;
+      ahead = ahead_own;
+      earlier = stands.owners;
+      few = few_own;
+    },
+    stands.factories,
+  )
 
   as_stands : (by : Renaming) (end fewer next last without count : ℕ) (one : NumberedHub T U B D) → GoesBy by end fewer next last without count one → Stands by fewer next without count one
   as_stands by end fewer next last without count one (goes, all) = record {
@@ -247,8 +246,7 @@ module _ {T U B D : Type 0} (payload user_header : Detail) (types : MessageTypeD
     left [] one new replies (is, same) few = subst (λ (hub : NumberedHub T U B D). HasNumbersLeft hub) same few
     left ((true, asked) ∷ commands) one new replies (reply, mid, rest, does, go, is) few =
         let (few_mid, few_own) = left commands mid new rest go few in
-        let on = step_goes_on payload user_header types is_default is_default_header fixed degrades decides fixed_reader reader_degrades (renamed names asked) one mid (Ok (renamed_reply names reply)) does in
-        (
+        let on = step_goes_on payload user_header types is_default is_default_header fixed degrades decides fixed_reader reader_degrades (renamed names asked) one mid (Ok (renamed_reply names reply)) does in (
           few_before one.hub.table.next mid.hub.table.next (past_rises one.hub.table mid.hub.table on.past) few_mid,
           few_before one.hub.factories mid.hub.factories (owners_rise one.hub.factories mid.hub.factories on.owners few_own) few_own,
         )
@@ -317,7 +315,7 @@ module _ {T U B D : Type 0} (payload user_header : Detail) (types : MessageTypeD
                 let (there, stands_mid) =
                 goes_one by ordered ordered_own fewer next without count next_mid count_mid (renamed names asked) one mid (Ok (renamed_reply names reply)) table stands (λ number low high. same number high ∙ counted_above start one.hub.table.next next number low)
                 (λ number low high.
-                    let is = same_own number (omega (arith, high)) ∙ counted_above start_own (one.hub.factories + 1) (count + 1) number (omega (arith, low)) in omega (arith, is, low)) few_mid few_own lives_mid owners_mid does in
+                let is = same_own number (omega (arith, high)) ∙ counted_above start_own (one.hub.factories + 1) (count + 1) number (omega (arith, low)) in omega (arith, is, low)) few_mid few_own lives_mid owners_mid does in
                 let (last, ran) = goes stands_mid in
                 (last, (renamed_reply names reply, whole by next_mid count_mid mid, map (renamed_reply names) rest, there, ran, ap (map (renamed_reply names)) is)),
           )
@@ -358,9 +356,14 @@ module _ {T U B D : Type 0} (payload user_header : Detail) (types : MessageTypeD
       (mine, told, names, last, same, among, subst (λ hub. Runs each (own_commands names told) hub (map (renamed_reply names) (replies_told told replies)) last) (new_whole config alone is_alone by) ran)
 
 -- fixed actions look at nothing
-pub fixed_look_at_none : LooksAtNoService FixedHandlers FixedDegradation (λ handlers cause info action. action ≡ handlers.degradation) (λ handlers info decision. decision ≡ decision_of handlers.strategy handlers.backpressure) (λ handler cause info action. action ≡ handler.action)
+fixed_look_at_none : LooksAtNoService FixedHandlers FixedDegradation (λ handlers cause info action. action ≡ handlers.degradation) (λ handlers info decision. decision ≡ decision_of handlers.strategy handlers.backpressure) (λ handler cause info action. action ≡ handler.action)
 fixed_look_at_none = record {
   publishers = λ handlers cause info service action is. is;
   sends = λ handlers info service decision is. is;
   subscribers = λ handler cause info service action is. is;
 }
+
+pub each_service_is_alone_by_fixed_actions : {T U : Type 0} (payload user_header : Detail) (types : MessageTypeDetails) (is_default : T → Type 0) (is_default_header : U → Type 0) → EachServiceIsAlone (FixedStep payload user_header types is_default is_default_header)
+each_service_is_alone_by_fixed_actions payload user_header types is_default is_default_header =
+    each_service_is_alone payload user_header types is_default is_default_header (λ strategy backpressure degradation. record { strategy = strategy; backpressure = backpressure; degradation = degradation }) (λ handlers cause info action. action ≡ handlers.degradation)
+    (λ handlers info decision. decision ≡ decision_of handlers.strategy handlers.backpressure) (λ degradation. record { action = degradation }) (λ handler cause info action. action ≡ handler.action) fixed_look_at_none

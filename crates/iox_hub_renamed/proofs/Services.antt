@@ -158,11 +158,10 @@ module _ (by : Renaming) (order : AreInOrder by.services) where
   numbers_as : {E : Type 0} (pattern : MessagingPattern) (refusal : E → Refusal) (made : Result Made E) (old new : FactoryTable) (answer : Result ℕ Refusal) → AllNumbered old → Numbered made → Numbers pattern refusal made old answer new
       → Numbers pattern refusal (opening_as made) (table_there old) answer (table_there new) × AllNumbered new
   numbers_as pattern refusal (Err error) old new answer all live (is, same) = ((is, ap table_there same), subst AllNumbered (sym same) all)
-  numbers_as pattern refusal (Ok made) old new answer all live (factory, is_pattern, is_parts, goes, is, form) =
-      (
-        (renamed_factory by factory, pattern_as factory ∙ is_pattern, parts_as factory ∙ ap (opened_as by) is_parts, ap table_there goes ∙ sym (inserted_as (renamed_factory by) old factory), is, form),
-        subst AllNumbered (sym goes) (all_join old.entries ((old.next, factory) ∷ []) all (subst (λ parts. (0 < by.services parts.0.service.number) × (0 < by.owners parts.1)) (sym is_parts) live, tt)),
-      )
+  numbers_as pattern refusal (Ok made) old new answer all live (factory, is_pattern, is_parts, goes, is, form) = (
+    (renamed_factory by factory, pattern_as factory ∙ is_pattern, parts_as factory ∙ ap (opened_as by) is_parts, ap table_there goes ∙ sym (inserted_as (renamed_factory by) old factory), is, form),
+    subst AllNumbered (sym goes) (all_join old.entries ((old.next, factory) ∷ []) all (subst (λ parts. (0 < by.services parts.0.service.number) × (0 < by.owners parts.1)) (sym is_parts) live, tt)),
+  )
 
   prepares_as : (name : List ℕ) (types : MessageTypeDetails) (steps : List StepBefore) (old new : FactoryTable) (prepared : Result (List (List ForeignStep)) AllocError) → Prepares name types steps old prepared new → Prepares name types steps (table_there old) prepared (table_there new)
   prepares_as name types steps old new (Ok lists) ((entries, next), is, room) =
@@ -245,25 +244,24 @@ module _ {T U B D : Type 0} (by : Renaming) (order : AreInOrder by.services) (ow
       (inl (inl (open_as number old live ∙ is), ap services_there same), subst (λ (services : OpenServices T U B D). HaveNumbers by services.domains) (sym same) live)
   service_opens payload user_header buffer number settings old new live here (inl (inr unfit, same)) =
       (inl (inr unfit, ap services_there same), subst (λ (services : OpenServices T U B D). HaveNumbers by services.domains) (sym same) live)
-  service_opens payload user_header buffer number settings old new live here (inr (closed, fits, (domain, is_new, is))) =
+  service_opens payload user_header buffer number settings old new live here (inr (closed, fits, (domain, is_new, is))) = (
+    inr (
+      open_as number old live ∙ closed,
+      fits,
       (
-        inr (
-          open_as number old live ∙ closed,
-          fits,
-          (
-            renamed_domain by domain,
-            record {
-              id = ap (renamed_id by) is_new.id;
-              agreed = is_new.agreed;
-              ports = ap (renamed_ports by) is_new.ports;
-              publisher_handlers = is_new.publisher_handlers;
-              subscriber_handlers = is_new.subscriber_handlers;
-            },
-            ap services_there is ∙ ap (λ domains. record (services_there old) { domains = domains }) (sym (moved_come by.services (renamed_presence by) nat_cmp old.domains number (Here domain) (cmps_at by order number old.domains here live))),
-          ),
-        ),
-        subst (λ (services : OpenServices T U B D). HaveNumbers by services.domains) (sym is) (come_live by order number (Here domain) old.domains here live),
-      )
+        renamed_domain by domain,
+        record {
+          id = ap (renamed_id by) is_new.id;
+          agreed = is_new.agreed;
+          ports = ap (renamed_ports by) is_new.ports;
+          publisher_handlers = is_new.publisher_handlers;
+          subscriber_handlers = is_new.subscriber_handlers;
+        },
+        ap services_there is ∙ ap (λ domains. record (services_there old) { domains = domains }) (sym (moved_come by.services (renamed_presence by) nat_cmp old.domains number (Here domain) (cmps_at by order number old.domains here live))),
+      ),
+    ),
+    subst (λ (services : OpenServices T U B D). HaveNumbers by services.domains) (sym is) (come_live by order number (Here domain) old.domains here live),
+  )
 
   -- ---- a factory is made
 
@@ -271,8 +269,7 @@ module _ {T U B D : Type 0} (by : Renaming) (order : AreInOrder by.services) (ow
       → Enters payload user_header member old entered new → OnHub new (λ later counted. Enters payload user_header (renamed_member by.services member) (there next count old) (opening_as by order entered) (there later counted new)) × Numbered by order entered
   enters payload user_header member next count old new (Err was_new) goes live within few (is, ((closed, does), same)) =
       let number = member.service.number in
-      let (later, done, go_on) = does_alone_as by.services end fewer next _ _ old.table new.table order goes.table within (λ made told. closes by.services member.service.description.service_hash number member.node made closed told) does in
-      (
+      let (later, done, go_on) = does_alone_as by.services end fewer next _ _ old.table new.table order goes.table within (λ made told. closes by.services member.service.description.service_hash number member.node made closed told) does in (
         (
           later,
           count,
@@ -295,8 +292,7 @@ module _ {T U B D : Type 0} (by : Renaming) (order : AreInOrder by.services) (ow
       let more : one_more old.factories ≡ old.factories + 1 = one_more_is old.factories last goes.few low in
       let more_there : one_more count ≡ count + 1 = one_more_low count without old.factories last goes.few low goes.earlier in
       let own : by.owners (one_more old.factories) ≡ one_more count = let is = goes.ahead (one_more old.factories) (omega (arith, more)) low in omega (arith, is, more, more_there) in
-      let (opens_there, domains) = service_opens payload user_header old.expired_connection_buffer number member.service.description.settings old.services new.services goes.domains live opens_service in
-      (
+      let (opens_there, domains) = service_opens payload user_header old.expired_connection_buffer number member.service.description.settings old.services new.services goes.domains live opens_service in (
         (
           next,
           one_more count,
@@ -304,7 +300,7 @@ module _ {T U B D : Type 0} (by : Renaming) (order : AreInOrder by.services) (ow
             ap (opened_as by) is_made ∙ ap (λ owner. (renamed_member by.services member, owner)) own,
             opens_there,
             ap (there next (one_more count)) same
-            ∙ ap (λ counts. record (there next count old) { factories = one_more count; factory_counts = counts; services = services_there new.services }) (sym (with_factory_as by order number old.factory_counts live goes.counts)),
+                ∙ ap (λ counts. record (there next count old) { factories = one_more count; factory_counts = counts; services = services_there new.services }) (sym (with_factory_as by order number old.factory_counts live goes.counts)),
           ),
           record {
             table = subst (λ table. GoBy by.services end fewer next table) (sym (ap (λ (hub : Hub T U B D). hub.table) same)) goes.table;
@@ -330,8 +326,7 @@ module _ {T U B D : Type 0} (by : Renaming) (order : AreInOrder by.services) (ow
   settles payload user_header lacking (Err error) next count old new result goes live within few (is, same) =
       ((next, count, (ap (opening_as by order) is, ap (there next count) same), subst (λ (hub : Hub T U B D). HubGoesBy by end fewer next last without count hub) (sym same) goes), subst (λ told. Numbered by order told) (sym is) tt)
   settles payload user_header lacking (Ok member) next count old new result goes live within few (entered, does, is) =
-      let ((later, counted, done, go_on), numbered) = enters payload user_header member next count old new entered goes (live member refl) within few does in
-      (
+      let ((later, counted, done, go_on), numbered) = enters payload user_header member next count old new entered goes (live member refl) within few does in (
         (later, counted, (opening_as by order entered, done, ap (opening_as by order) is ∙ entered_told by order lacking entered), go_on),
         subst (λ told. Numbered by order told) (sym is) (numbered_told by order lacking entered numbered),
       )
@@ -347,10 +342,9 @@ module _ {T U B D : Type 0} (by : Renaming) (order : AreInOrder by.services) (ow
       let goes_mid : HubGoesBy by end fewer middle last without count between = record { table = go_mid; domains = goes.domains; counts = goes.counts; ahead = goes.ahead; earlier = goes.earlier; few = goes.few } in
       let live : (member : Membership) → opens.answer ≡ Ok member → 0 < by.services member.service.number =
       (λ member came.
-          let (bytes, stands, of) = is.stands before opens.mid member table (subst (λ answer. negotiates before answer opens.mid) came opens.negotiated) in
-          live_at by.services order end fewer middle opens.mid.table go_mid hash (Described member.service.number bytes) stands) in
-      let ((later, counted, settled, go_on), numbered) = settles payload user_header lacking opens.answer middle count between new result goes_mid live within few opens.settled in
-      (
+      let (bytes, stands, of) = is.stands before opens.mid member table (subst (λ answer. negotiates before answer opens.mid) came opens.negotiated) in
+      live_at by.services order end fewer middle opens.mid.table go_mid hash (Described member.service.number bytes) stands) in
+      let ((later, counted, settled, go_on), numbered) = settles payload user_header lacking opens.answer middle count between new result goes_mid live within few opens.settled in (
         (later, counted, record { answer = renamed_came by.services opens.answer; mid = renamed_steps by.services middle opens.mid; negotiated = done; settled = settled }, go_on),
         numbered,
       )
@@ -509,8 +503,7 @@ module _ {T U B D : Type 0} (by : Renaming) (order : AreInOrder by.services) (ow
         let number = member.service.number in
         let (later, done, go_on) = does_alone_as by.services end fewer next _ _ old.table new.table order goes.table within (λ made told. closes by.services member.service.description.service_hash number member.node made closed told) does in
         let between : Hub T U B D = record old { table = new.table } in
-        let goes_between : HubGoesBy by end fewer later last without count between = record { table = go_on; domains = goes.domains; counts = goes.counts; ahead = goes.ahead; earlier = goes.earlier; few = goes.few } in
-        (
+        let goes_between : HubGoesBy by end fewer later last without count between = record { table = go_on; domains = goes.domains; counts = goes.counts; ahead = goes.ahead; earlier = goes.earlier; few = goes.few } in (
           later,
           count,
           (done, ap (there later count) same ∙ sym (less_one_as number later count between goes.domains goes.counts live)),
@@ -537,8 +530,8 @@ module _ {T U B D : Type 0} (by : Renaming) (order : AreInOrder by.services) (ow
             later,
             counted,
             subst (λ (other : Made). ClosesUnless (in_use other.0.service.number other.1 (there next count old)) number other.0 (table_there by order table) (there next count old) answer (table_there by order after) (there later counted new)) (sym (parts_as by order made))
-            (subst (λ it. ClosesUnless it number (renamed_member by.services parts.0) (table_there by order table) (there next count old) answer (table_there by order after) (there later counted new))
-            (sym (in_use_as parts.0.service.number parts.1 next count old goes.domains goes.counts own)) done),
+                (subst (λ it. ClosesUnless it number (renamed_member by.services parts.0) (table_there by order table) (there next count old) answer (table_there by order after) (there later counted new))
+                (sym (in_use_as parts.0.service.number parts.1 next count old goes.domains goes.counts own)) done),
             go_on,
           ),
           all_after,

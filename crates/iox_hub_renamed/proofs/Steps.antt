@@ -134,13 +134,13 @@ module _ {T U B D : Type 0} (by : Renaming) (order : AreInOrder by.services) (ne
       let port = lender elements (value_at made.publishers publisher) in (
         lent,
         subst (λ found. GrowsFirst (IsFull (own by made).loans) (LendsNumbered hub_ports with_hub_ports elements found) (own by made) (there old) lent (own by after) (there new)) (sym (making.lender_as by made elements publisher))
-        (first (IsFull made.loans) (IsFull (own by made).loans) (making.full_as (renamed_made_loan by) made.loans) (LendsNumbered hub_ports with_hub_ports elements port) (LendsNumbered hub_ports with_hub_ports elements (option_map (renamed_port by) port))
-        (λ before later hub other reply lives (outcome, at, numbers). (
-          outcome,
-          ports.at_port by order next count (Lends hub_ports with_hub_ports elements) (ports.lends by order next count elements) port hub other outcome lives at,
-          making.numbers_loan by port outcome before later reply numbers,
-        ))
-        made after old new lent live goes),
+            (first (IsFull made.loans) (IsFull (own by made).loans) (making.full_as (renamed_made_loan by) made.loans) (LendsNumbered hub_ports with_hub_ports elements port) (LendsNumbered hub_ports with_hub_ports elements (option_map (renamed_port by) port))
+            (λ before later hub other reply lives (outcome, at, numbers). (
+              outcome,
+              ports.at_port by order next count (Lends hub_ports with_hub_ports elements) (ports.lends by order next count elements) port hub other outcome lives at,
+              making.numbers_loan by port outcome before later reply numbers,
+            ))
+            made after old new lent live goes),
         is,
       )
 
@@ -152,15 +152,15 @@ module _ {T U B D : Type 0} (by : Renaming) (order : AreInOrder by.services) (ne
         is_value,
         lent,
         subst (λ found. GrowsFirst (IsFull (own by made).loans) (LendsWrittenNumbered hub_ports with_hub_ports elements value found) (own by made) (there old) lent (own by after) (there new))
-        (sym (ap (λ found. ready hub_ports found (there old)) (making.lender_as by made elements publisher) ∙ ports.ready_port by order next count (lender elements (value_at made.publishers publisher)) old live))
-        (first (IsFull made.loans) (IsFull (own by made).loans) (making.full_as (renamed_made_loan by) made.loans) (LendsWrittenNumbered hub_ports with_hub_ports elements value port)
-        (LendsWrittenNumbered hub_ports with_hub_ports elements value (option_map (renamed_port by) port))
-        (λ before later hub other reply lives (outcome, at, numbers). (
-          outcome,
-          ports.at_port by order next count (LendsWritten hub_ports with_hub_ports elements value) (ports.lends_written by order next count elements value) port hub other outcome lives at,
-          making.numbers_loan by port outcome before later reply numbers,
-        ))
-        made after old new lent live goes),
+            (sym (ap (λ found. ready hub_ports found (there old)) (making.lender_as by made elements publisher) ∙ ports.ready_port by order next count (lender elements (value_at made.publishers publisher)) old live))
+            (first (IsFull made.loans) (IsFull (own by made).loans) (making.full_as (renamed_made_loan by) made.loans) (LendsWrittenNumbered hub_ports with_hub_ports elements value port)
+            (LendsWrittenNumbered hub_ports with_hub_ports elements value (option_map (renamed_port by) port))
+            (λ before later hub other reply lives (outcome, at, numbers). (
+              outcome,
+              ports.at_port by order next count (LendsWritten hub_ports with_hub_ports elements value) (ports.lends_written by order next count elements value) port hub other outcome lives at,
+              making.numbers_loan by port outcome before later reply numbers,
+            ))
+            made after old new lent live goes),
         is,
       )
 
@@ -181,34 +181,31 @@ module _ {T U B D : Type 0} (by : Renaming) (order : AreInOrder by.services) (ne
   chosen false one other one_there same new is = ap there is
 
   set : (number place : ℕ) (value : T) (made : Made) (old new : Hub T U B D) (answer : Reply T) → Lives old → SetStep hub_ports with_hub_ports number place value made old answer new → SetStep hub_ports with_hub_ports number place value (own by made) (there old) answer (there new)
-  set number place value made old new answer live (done, is_done, goes, is) =
-      (
-        done,
-        is_done ∙ sym (ap (is_set place) (loan_here made number old live)),
-        chosen done (changed_under hub_ports with_hub_ports (set_in place value) (value_at made.loans number) old) old (changed_under hub_ports with_hub_ports (set_in place value) (value_at (own by made).loans number) (there old))
+  set number place value made old new answer live (done, is_done, goes, is) = (
+    done,
+    is_done ∙ sym (ap (is_set place) (loan_here made number old live)),
+    chosen done (changed_under hub_ports with_hub_ports (set_in place value) (value_at made.loans number) old) old (changed_under hub_ports with_hub_ports (set_in place value) (value_at (own by made).loans number) (there old))
         (changed_here (set_in place value) (ports.set_as by place value) made number old live) new goes,
-        is,
-      )
+    is,
+  )
 
   fill : (number : ℕ) (values : List T) (made : Made) (old new : Hub T U B D) (answer : Reply T) → Lives old → FillStep hub_ports with_hub_ports number values made old answer new → FillStep hub_ports with_hub_ports number values (own by made) (there old) answer (there new)
-  fill number values made old new answer live (done, is_done, goes, is) =
-      (
-        done,
-        is_done ∙ sym (ap (λ found. is_filled hub_ports values found (there old)) (making.under_as (renamed_made_loan by) made.loans number) ∙ ports.filled_there by order next count values (value_at made.loans number) old live),
-        ap there goes ∙ sym (changed_here (filled_in values) (ports.filled_as by values) made number old live),
-        is,
-      )
+  fill number values made old new answer live (done, is_done, goes, is) = (
+    done,
+    is_done ∙ sym (ap (λ found. is_filled hub_ports values found (there old)) (making.under_as (renamed_made_loan by) made.loans number) ∙ ports.filled_there by order next count values (value_at made.loans number) old live),
+    ap there goes ∙ sym (changed_here (filled_in values) (ports.filled_as by values) made number old live),
+    is,
+  )
 
   drop : (number : ℕ) (made after : Made) (old new : Hub T U B D) (answer : Reply T) → Lives old → DropStep hub_ports with_hub_ports number made old answer after new → DropStep hub_ports with_hub_ports number (own by made) (there old) answer (own by after) (there new)
-  drop number made after old new answer live (done, is_done, goes, is_made, is) =
-      (
-        done,
-        is_done ∙ sym (ap is_some (loan_here made number old live)),
-        chosen done (changed_under hub_ports with_hub_ports gave_up_in (value_at made.loans number) old) old (changed_under hub_ports with_hub_ports gave_up_in (value_at (own by made).loans number) (there old))
+  drop number made after old new answer live (done, is_done, goes, is_made, is) = (
+    done,
+    is_done ∙ sym (ap is_some (loan_here made number old live)),
+    chosen done (changed_under hub_ports with_hub_ports gave_up_in (value_at made.loans number) old) old (changed_under hub_ports with_hub_ports gave_up_in (value_at (own by made).loans number) (there old))
         (changed_here gave_up_in (ports.given_up_as by) made number old live) new goes,
-        ap (own by) is_made ∙ sym (making.removed_if_as by done (without_loan number) (making.loan_gone by number) made),
-        is,
-      )
+    ap (own by) is_made ∙ sym (making.removed_if_as by done (without_loan number) (making.loan_gone by number) made),
+    is,
+  )
 
   -- ---- samples, and calls that ask nobody
 
@@ -221,22 +218,21 @@ module _ {T U B D : Type 0} (by : Renaming) (order : AreInOrder by.services) (ne
   read sample made old (Err lacking) live is = subst (λ found. SomeValues found) (sym (values_here made sample old live)) is
 
   release : (sample : ℕ) (made after : Made) (old new : Hub T U B D) (answer : Reply T) → Lives old → ReleaseStep hub_ports with_hub_ports sample made old answer after new → ReleaseStep hub_ports with_hub_ports sample (own by made) (there old) answer (own by after) (there new)
-  release sample made after old new answer live (done, is_done, goes, is_made, is) =
-      (
-        done,
-        is_done ∙ sym (ap (λ found. is_held hub_ports found (there old)) (making.under_as (renamed_made_sample by) made.samples sample) ∙ ports.held_there by order next count (value_at made.samples sample) old live),
-        subst (λ found. ReleasesUnder hub_ports with_hub_ports found (there old) done (there new)) (sym (making.under_as (renamed_made_sample by) made.samples sample))
+  release sample made after old new answer live (done, is_done, goes, is_made, is) = (
+    done,
+    is_done ∙ sym (ap (λ found. is_held hub_ports found (there old)) (making.under_as (renamed_made_sample by) made.samples sample) ∙ ports.held_there by order next count (value_at made.samples sample) old live),
+    subst (λ found. ReleasesUnder hub_ports with_hub_ports found (there old) done (there new)) (sym (making.under_as (renamed_made_sample by) made.samples sample))
         (ports.releases by order next count (value_at made.samples sample) done old new live goes),
-        ap (own by) is_made ∙ sym (making.removed_if_as by done (without_sample sample) (making.sample_gone by sample) made),
-        is,
-      )
+    ap (own by) is_made ∙ sym (making.removed_if_as by done (without_sample sample) (making.sample_gone by sample) made),
+    is,
+  )
 
   give_up : (publisher : ℕ) (made : Made) (old new : Hub T U B D) (answer : Reply T) → Lives old → GiveUpStep hub_ports with_hub_ports publisher made old answer new → GiveUpStep hub_ports with_hub_ports publisher (own by made) (there old) answer (there new)
   give_up publisher made old new answer live (outcome, at, is) =
       let port = port_under (value_at made.publishers publisher) in (
         outcome,
         subst (λ found. AtPort (GivesUp hub_ports with_hub_ports) found (there old) outcome (there new)) (sym (making.publisher_as by made publisher))
-        (ports.at_port by order next count (GivesUp hub_ports with_hub_ports) (ports.gives_up by order next count) port old new outcome live at),
+            (ports.at_port by order next count (GivesUp hub_ports with_hub_ports) (ports.gives_up by order next count) port old new outcome live at),
         is,
       )
 
@@ -246,7 +242,7 @@ module _ {T U B D : Type 0} (by : Renaming) (order : AreInOrder by.services) (ne
       let goes = PublisherGoes hub_ports with_hub_ports without_hub_publisher in (
         done,
         subst (λ found. AtPortIf goes found (there old) done (there new)) (sym (making.publisher_as by made number))
-        (ports.at_port_if by order next count goes (ports.publisher_goes by order next count) (port_under (value_at made.publishers number)) old new done live at),
+            (ports.at_port_if by order next count goes (ports.publisher_goes by order next count) (port_under (value_at made.publishers number)) old new done live at),
         ap (own by) is_made ∙ sym (making.removed_if_as by done (without_publisher number) (making.publisher_gone by number) made),
         is,
       )
@@ -254,7 +250,7 @@ module _ {T U B D : Type 0} (by : Renaming) (order : AreInOrder by.services) (ne
       let goes = SubscriberGoes hub_ports with_hub_ports without_hub_subscriber in (
         done,
         subst (λ found. AtPortIf goes found (there old) done (there new)) (sym (making.under_as (renamed_port by) made.subscribers number))
-        (ports.at_port_if by order next count goes (ports.subscriber_goes by order next count) (value_at made.subscribers number) old new done live at),
+            (ports.at_port_if by order next count goes (ports.subscriber_goes by order next count) (value_at made.subscribers number) old new done live at),
         ap (own by) is_made ∙ sym (making.removed_if_as by done (without_subscriber number) (making.subscriber_gone by number) made),
         is,
       )
@@ -268,14 +264,13 @@ module _ {T U B D : Type 0} (by : Renaming) (order : AreInOrder by.services) (ne
 
     send : (number : ℕ) (made after : Made) (old new : Hub T U B D) (answer : Reply T) → Lives old → SendStep hub_ports with_hub_ports (publisher_may_degrade degrades) (publisher_may_decide decides) number made old answer after new
         → SendStep hub_ports with_hub_ports (publisher_may_degrade degrades) (publisher_may_decide decides) number (own by made) (there old) answer (own by after) (there new)
-    send number made after old new answer live (sent, sends, is_made, is) =
-        (
-          sent,
-          subst (λ found. SendsUnder hub_ports with_hub_ports (publisher_may_degrade degrades) (publisher_may_decide decides) found (there old) sent (there new)) (sym (making.under_as (renamed_made_loan by) made.loans number))
+    send number made after old new answer live (sent, sends, is_made, is) = (
+      sent,
+      subst (λ found. SendsUnder hub_ports with_hub_ports (publisher_may_degrade degrades) (publisher_may_decide decides) found (there old) sent (there new)) (sym (making.under_as (renamed_made_loan by) made.loans number))
           (ports.sends_under by order next count degrades blind.publishers decides blind.sends (value_at made.loans number) old new sent live sends),
-          ap (own by) is_made ∙ sym (making.removed_if_as by (is_some sent) (without_loan number) (making.loan_gone by number) made),
-          is,
-        )
+      ap (own by) is_made ∙ sym (making.removed_if_as by (is_some sent) (without_loan number) (making.loan_gone by number) made),
+      is,
+    )
 
     put : (publisher : ℕ) (values : List T) (made : Made) (old new : Hub T U B D) (answer : Reply T) → Lives old → PutStep hub_ports with_hub_ports (publisher_may_degrade degrades) (publisher_may_decide decides) publisher values made old answer new
         → PutStep hub_ports with_hub_ports (publisher_may_degrade degrades) (publisher_may_decide decides) publisher values (own by made) (there old) answer (there new)
@@ -284,7 +279,7 @@ module _ {T U B D : Type 0} (by : Renaming) (order : AreInOrder by.services) (ne
         let port = lender (length values) (value_at made.publishers publisher) in (
           sent,
           subst (λ found. AtPort does found (there old) sent (there new)) (sym (ap (λ found. ready hub_ports found (there old)) (making.lender_as by made (length values) publisher) ∙ ports.ready_port by order next count port old live))
-          (ports.at_port by order next count does (ports.puts by order next count degrades blind.publishers decides blind.sends values) (ready hub_ports port old) old new sent live at),
+              (ports.at_port by order next count does (ports.puts by order next count degrades blind.publishers decides blind.sends values) (ready hub_ports port old) old new sent live at),
           is,
         )
 
@@ -294,7 +289,7 @@ module _ {T U B D : Type 0} (by : Renaming) (order : AreInOrder by.services) (ne
         let does = Retries hub_ports with_hub_ports (publisher_may_decide decides) elapsed in (
           sent,
           subst (λ found. AtPort does found (there old) sent (there new)) (sym (making.publisher_as by made publisher))
-          (ports.at_port by order next count does (ports.retries by order next count decides blind.sends elapsed) (port_under (value_at made.publishers publisher)) old new sent live at),
+              (ports.at_port by order next count does (ports.retries by order next count decides blind.sends elapsed) (port_under (value_at made.publishers publisher)) old new sent live at),
           is,
         )
 
@@ -305,13 +300,13 @@ module _ {T U B D : Type 0} (by : Renaming) (order : AreInOrder by.services) (ne
         let does = ReceivesNumbered hub_ports with_hub_ports (subscriber_may_degrade reader_degrades) in (
           received,
           subst (λ found. GrowsFirst (IsFull (own by made).samples) (does found) (own by made) (there old) received (own by after) (there new)) (sym (making.under_as (renamed_port by) made.subscribers subscriber))
-          (first (IsFull made.samples) (IsFull (own by made).samples) (making.full_as (renamed_made_sample by) made.samples) (does port) (does (option_map (renamed_port by) port))
-          (λ before later hub other reply lives (outcome, at, numbers). (
-            outcome,
-            ports.at_port by order next count (Receives hub_ports with_hub_ports (subscriber_may_degrade reader_degrades)) (ports.receives by order next count reader_degrades blind.subscribers) port hub other outcome lives at,
-            making.numbers_sample by port outcome before later reply numbers,
-          ))
-          made after old new received live goes),
+              (first (IsFull made.samples) (IsFull (own by made).samples) (making.full_as (renamed_made_sample by) made.samples) (does port) (does (option_map (renamed_port by) port))
+              (λ before later hub other reply lives (outcome, at, numbers). (
+                outcome,
+                ports.at_port by order next count (Receives hub_ports with_hub_ports (subscriber_may_degrade reader_degrades)) (ports.receives by order next count reader_degrades blind.subscribers) port hub other outcome lives at,
+                making.numbers_sample by port outcome before later reply numbers,
+              ))
+              made after old new received live goes),
           told_as (λ sample. values_under hub_ports (value_at after.samples sample) new) (λ sample. values_under hub_ports (value_at (own by after).samples sample) (there new)) (λ sample. values_here after sample new live_new) received answer is,
         )
 
@@ -321,14 +316,14 @@ module _ {T U B D : Type 0} (by : Renaming) (order : AreInOrder by.services) (ne
         let does = Follows hub_ports with_hub_ports (publisher_may_degrade degrades) in (
           outcome,
           subst (λ found. AtPort does found (there old) outcome (there new)) (sym (making.publisher_as by made number))
-          (ports.at_port by order next count does (ports.follows by order next count degrades blind.publishers) (port_under (value_at made.publishers number)) old new outcome live at),
+              (ports.at_port by order next count does (ports.follows by order next count degrades blind.publishers) (port_under (value_at made.publishers number)) old new outcome live at),
           is,
         )
     update (port_number.Subscriber number) made old new answer live (outcome, at, is) =
         let does = FollowsPublishers hub_ports with_hub_ports (subscriber_may_degrade reader_degrades) in (
           outcome,
           subst (λ found. AtPort does found (there old) outcome (there new)) (sym (making.under_as (renamed_port by) made.subscribers number))
-          (ports.at_port by order next count does (ports.follows_publishers by order next count reader_degrades blind.subscribers) (value_at made.subscribers number) old new outcome live at),
+              (ports.at_port by order next count does (ports.follows_publishers by order next count reader_degrades blind.subscribers) (value_at made.subscribers number) old new outcome live at),
           is,
         )
 
@@ -338,7 +333,7 @@ module _ {T U B D : Type 0} (by : Renaming) (order : AreInOrder by.services) (ne
         let does = Tells hub_ports with_hub_ports (subscriber_may_degrade reader_degrades) in (
           outcome,
           subst (λ found. AtPort does found (there old) outcome (there new)) (sym (making.under_as (renamed_port by) made.subscribers subscriber))
-          (ports.at_port by order next count does (ports.tells by order next count reader_degrades blind.subscribers) (value_at made.subscribers subscriber) old new outcome live at),
+              (ports.at_port by order next count does (ports.tells by order next count reader_degrades blind.subscribers) (value_at made.subscribers subscriber) old new outcome live at),
           is,
         )
 
@@ -361,13 +356,15 @@ module _ {T U B D : Type 0} (by : Renaming) (order : AreInOrder by.services) (ne
             (
               own by roomier,
               making.roomier_as by old.made roomier is_roomier,
-              (outcome,
-              makes_at by order next count id (λ number. publisher_kept number handlers) (λ number domain. refl) (steps.PublisherComes overrides may config user_header) (steps.PublisherComes overrides may config_there user_header) (steps.why_no_publisher config)
-              (steps.why_no_publisher config_there) (λ ports. refl) old.hub new.hub outcome live
-              (λ ports after number arrives.
-                  happens_as by may may (λ info action allowed. blind.publishers handlers FailedToEstablishConnection info (by.services info.service_id) action allowed)
-                  overrides AnyDecision AnyDecision (λ info decision any. any) (call.PublisherComes config user_header (Ok number)) ports after tt arrives) comes,
-              making.numbers_port by (with_publisher id true) (with_publisher (renamed_id by id) true) (making.publisher_numbered by id true) old.made.publishers.next outcome roomier new.made came numbers),
+              (
+                outcome,
+                makes_at by order next count id (λ number. publisher_kept number handlers) (λ number domain. refl) (steps.PublisherComes overrides may config user_header) (steps.PublisherComes overrides may config_there user_header) (steps.why_no_publisher config)
+                    (steps.why_no_publisher config_there) (λ ports. refl) old.hub new.hub outcome live
+                    (λ ports after number arrives.
+                    happens_as by may may (λ info action allowed. blind.publishers handlers FailedToEstablishConnection info (by.services info.service_id) action allowed)
+                    overrides AnyDecision AnyDecision (λ info decision any. any) (call.PublisherComes config user_header (Ok number)) ports after tt arrives) comes,
+                making.numbers_port by (with_publisher id true) (with_publisher (renamed_id by id) true) (making.publisher_numbered by id true) old.made.publishers.next outcome roomier new.made came numbers,
+              ),
             ),
             is,
           ),
@@ -388,13 +385,15 @@ module _ {T U B D : Type 0} (by : Renaming) (order : AreInOrder by.services) (ne
             (
               own by roomier,
               making.roomier_as by old.made roomier is_roomier,
-              (outcome,
-              makes_at by order next count id (λ number. subscriber_kept number handler) (λ number domain. refl) (steps.SubscriberComes may config) (steps.SubscriberComes may config_there) (steps.why_no_subscriber config) (steps.why_no_subscriber config_there) (λ ports. refl)
-              old.hub new.hub outcome live
-              (λ ports after number arrives.
-                  happens_as by may may (λ info action allowed. blind.subscribers handler FailedToEstablishConnection info (by.services info.service_id) action allowed)
-                  AnySlots AnyDecision AnyDecision (λ info decision any. any) (call.SubscriberComes config.owner config.buffer_size (Ok number)) ports after tt arrives) comes,
-              making.numbers_port by (with_subscriber id) (with_subscriber (renamed_id by id)) (making.subscriber_numbered by id) old.made.subscribers.next outcome roomier new.made came numbers),
+              (
+                outcome,
+                makes_at by order next count id (λ number. subscriber_kept number handler) (λ number domain. refl) (steps.SubscriberComes may config) (steps.SubscriberComes may config_there) (steps.why_no_subscriber config) (steps.why_no_subscriber config_there) (λ ports. refl)
+                    old.hub new.hub outcome live
+                    (λ ports after number arrives.
+                    happens_as by may may (λ info action allowed. blind.subscribers handler FailedToEstablishConnection info (by.services info.service_id) action allowed)
+                    AnySlots AnyDecision AnyDecision (λ info decision any. any) (call.SubscriberComes config.owner config.buffer_size (Ok number)) ports after tt arrives) comes,
+                making.numbers_port by (with_subscriber id) (with_subscriber (renamed_id by id)) (making.subscriber_numbered by id) old.made.subscribers.next outcome roomier new.made came numbers,
+              ),
             ),
             is,
           ),

@@ -1,6 +1,5 @@
 -- What nodes of others do to a table whose lives go by other numbers, and accesses with their steps before them.
-use Rattle.std.proofs.Common.{◌≡◌, ◌∙◌, ◌⊎◌, ◌<◌, ◌≤◌, ◌+◌, ◌-◌, ◌^◌, ℕ, Bool, true, false, cond, List, [], ◌∷◌, Option, None, Some, option_map, Result, Ok, Err, nat_eq, refl, sym, ap, subst, arith, ◌&&◌, not, map, drop}
-use Rattle.std.proofs.lemmas.Bool.{eqb-true}
+use Rattle.std.proofs.Common.{◌≡◌, ◌∙◌, ◌<◌, ◌≤◌, ◌+◌, ◌-◌, ◌^◌, ℕ, Bool, true, false, cond, List, [], ◌∷◌, Option, None, Some, option_map, Result, Ok, Err, nat_eq, refl, sym, ap, subst, arith, ◌&&◌, not, map}
 use Rattle.std.specs.Prelude.{is_some}
 use Rattle.std.specs.declared.alloc.AllocError.{AllocError}
 use Rattle.iox_negotiate_laws.specs.Describe.DescribeBase.declared.hash.ServiceHash.{ServiceHash}
@@ -12,7 +11,7 @@ use Rattle.iox_negotiate_laws.specs.NegotiateRounds.Access.{Access, Look, Lock, 
 use Rattle.iox_negotiate_laws.specs.NegotiateRounds.Runs.{Went}
 use Rattle.iox_negotiate_laws.specs.NegotiateRounds.declared.answer.LockAnswer.TheVariants as lock
 use Rattle.iox_negotiate_laws.specs.NegotiateRounds.declared.answer.LookAnswer.TheVariants as look
-use Rattle.iox_negotiate_laws.specs.NegotiateTable.Contents.{Contents, entry_at, segment_at, with_lock, with_entry, without_entry, with_new_segment, with_segment, without_segment}
+use Rattle.iox_negotiate_laws.specs.NegotiateTable.Contents.{Contents, entry_at, segment_at, with_lock, with_entry, without_entry, with_new_segment, without_segment}
 use Rattle.iox_negotiate_laws.specs.NegotiateTable.Foreign.{DoneOrLacking, Done, foreign_lock, published_number, with_service, PublishesForeign, RegistersAt, RegistersForeign, left_at, after_leaving, is_left_by, after_removal, Acts}
 use Rattle.iox_negotiate_laws.specs.NegotiateTable.Nodes.{first_foreign}
 use Rattle.iox_negotiate_laws.specs.NegotiateTable.Sights.{Sight}
@@ -24,7 +23,6 @@ use Rattle.iox_negotiate_laws.specs.NegotiateTable.declared.segment.Segment.{Seg
 use Rattle.iox_negotiate_laws.specs.NegotiateTable.declared.segment.Segment.TheVariants.{Open}
 use Rattle.iox_negotiate_laws.specs.NegotiateTable.declared.step.ForeignStep.{ForeignStep}
 use Rattle.iox_negotiate_laws.specs.NegotiateTable.declared.step.ForeignStep.TheVariants as step
-use Rattle.iox_negotiate_laws.specs.Lives.{number_of}
 use Rattle.iox_negotiate_laws.proofs.Agreements.{stepped-went-past, went-past}
 use Rattle.iox_negotiate_laws.proofs.Changes.{hash_of, changes, rises}
 use Rattle.iox_negotiate_laws.proofs.Stepping.{Past, acts-ran}

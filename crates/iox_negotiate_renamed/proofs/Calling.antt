@@ -1,12 +1,11 @@
 -- Whole calls under other numbers of lives.
-use Rattle.std.proofs.Common.{◌≡◌, ◌≤◌, ℕ, Option, Result}
+use Rattle.std.proofs.Common.{◌≤◌, ℕ}
 use Rattle.iox_negotiate_laws.specs.NegotiateRounds.Runs.{Does}
 use Rattle.iox_negotiate_laws.specs.NegotiateTable.Contents.{Contents}
 use Rattle.iox_negotiate_laws.specs.NegotiateTable.Sights.{Sight}
 use Rattle.iox_negotiate_laws.specs.NegotiateTable.Stepped.{Steps, SteppedSight}
 use Rattle.iox_negotiate_laws.specs.NegotiateRounds.Access.{Access}
 use Rattle.std.proofs.Common.{List, map}
-use Rattle.iox_negotiate_laws.proofs.Agreements.{stepped-went-past, went-past}
 use Rattle.iox_negotiate_laws.proofs.Changes.{hash_of, changes, rises}
 use Rattle.iox_negotiate_laws.specs.Histories as history
 use Rattle.iox_negotiate_renamed.specs.Renaming.{AreInOrder, GoBy, renamed_access, renamed_table, renamed_steps}

@@ -1,9 +1,9 @@
 -- Keys that go by other numbers, and what stands under them.
-use Rattle.std.proofs.Common.{◌≡◌, ◌∙◌, ◌⊎◌, ◌<◌, ◌≤◌, ◌==◌, ℕ, Bool, true, false, cond, List, [], ◌∷◌, map, Option, None, Some, option_map, nat_eq, refl, sym, ap, subst, inl, inr, arith}
+use Rattle.std.proofs.Common.{◌≡◌, ◌∙◌, ◌⊎◌, ◌<◌, ℕ, Bool, true, false, cond, List, [], ◌∷◌, map, Option, Some, option_map, nat_eq, refl, sym, ap, subst, inl, inr, arith}
 use Rattle.std.proofs.lemmas.Bool.{eqb-true, eq-eqb}
-use Rattle.std.proofs.lemmas.Cmp.{ranked, tied_itself}
+use Rattle.std.proofs.lemmas.Cmp.{ranked}
 use Rattle.std.specs.BTreeMap.{insert_entry, is_at}
-use Rattle.std.specs.Cmp.{nat_cmp_is, nat_cmp_total}
+use Rattle.std.specs.Cmp.{nat_cmp_is}
 use Rattle.std.specs.List.{AllByRecursion}
 use Rattle.std.specs.Map.{lookup, set_value, remove_entry}
 use Rattle.std.specs.Ordering.{nat_cmp, is_eq, match_ordering}

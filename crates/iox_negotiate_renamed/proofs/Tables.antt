@@ -1,10 +1,9 @@
 -- What an access finds and leaves in a table whose lives go by other numbers.
-use Rattle.std.proofs.Common.{◌≡◌, ◌∙◌, ◌⊎◌, ◌<◌, ◌≤◌, ◌+◌, ◌-◌, ◌*◌, ◌^◌, ℕ, Bool, true, false, cond, List, [], ◌∷◌, Option, None, Some, option_map, nat_eq, refl, sym, ap, subst, inl, inr, arith, ◌&&◌, not}
-use Rattle.std.proofs.lemmas.Bool.{eqb-true, eq-eqb}
+use Rattle.std.proofs.Common.{◌≡◌, ◌∙◌, ◌<◌, ◌≤◌, ◌+◌, ◌-◌, ◌^◌, ℕ, Bool, true, false, List, [], ◌∷◌, Option, None, Some, option_map, nat_eq, refl, sym, ap, subst, inl, inr, arith, ◌&&◌, not}
+use Rattle.std.proofs.lemmas.Bool.{eqb-true}
 use Rattle.std.specs.BTreeMap.{insert_entry, is_at}
 use Rattle.std.specs.Cmp.Lexicographic.{slice_cmp}
 use Rattle.std.specs.List.{AllByRecursion}
-use Rattle.std.specs.Map.{lookup}
 use Rattle.std.specs.Ordering.{nat_cmp, ordering_then, is_eq}
 use Rattle.std.specs.Prelude.{is_some, nat_lt}
 use Rattle.std.specs.declared.cmp.Ordering.{Ordering}
@@ -20,9 +19,9 @@ use Rattle.iox_negotiate_laws.specs.NegotiateRounds.declared.answer.MakeSegmentA
 use Rattle.iox_negotiate_laws.specs.NegotiateRounds.declared.answer.OpenSegmentAnswer.{OpenSegmentAnswer}
 use Rattle.iox_negotiate_laws.specs.NegotiateRounds.declared.answer.PublishAnswer.{PublishAnswer}
 use Rattle.iox_negotiate_laws.specs.NegotiateRounds.declared.answer.RemoveAnswer.{RemoveAnswer}
-use Rattle.iox_negotiate_laws.specs.NegotiateTable.Contents.{Contents, entry_at, segment_at, digest_cmp, place_cmp, with_new_entry, with_entry, without_entry, with_new_segment, with_segment, without_segment, with_lock, is_own_lock, is_lock_of, is_description_of, is_left, may_make, may_publish, may_unlock, is_published, may_remove_description, may_remove_segment}
+use Rattle.iox_negotiate_laws.specs.NegotiateTable.Contents.{Contents, entry_at, segment_at, digest_cmp, place_cmp, with_entry, without_entry, with_new_segment, with_segment, without_segment, with_lock, is_own_lock, is_lock_of, is_description_of, is_left, may_make, may_publish, may_unlock, is_published, may_remove_description, may_remove_segment}
 use Rattle.iox_negotiate_laws.specs.NegotiateTable.Nodes.{first_node}
-use Rattle.iox_negotiate_laws.specs.NegotiateTable.Sights.{Sight, Looks, LocksFree, LocksAt, Makes, Publishes, Unlocks, OpensPublished, OpensAt, LeavesPublished, LeavesAt, Removes, unopened}
+use Rattle.iox_negotiate_laws.specs.NegotiateTable.Sights.{Sight, Looks, LocksFree, LocksAt, Makes, Publishes, Unlocks, OpensPublished, OpensAt, LeavesPublished, LeavesAt, Removes}
 use Rattle.iox_negotiate_laws.specs.NegotiateTable.declared.entry.Entry.{Entry}
 use Rattle.iox_negotiate_laws.specs.NegotiateTable.declared.entry.Entry.TheVariants.{Locked, Described}
 use Rattle.iox_negotiate_laws.specs.NegotiateTable.declared.node.Node.{Node}
@@ -33,7 +32,7 @@ use Rattle.iox_negotiate_laws.proofs.Maps.{insert-all, remove-all, set-all, set-
 use Rattle.iox_negotiate_laws.proofs.Tables.{digest-exact, place-exact}
 use Rattle.iox_negotiate_renamed.specs.Renaming.{AreInOrder, GoBy, renamed_entry, renamed_place, renamed_table, renamed_look, renamed_lock, renamed_access}
 use Rattle.iox_negotiate_renamed.specs.RenamingLaws.{LeadsOn}
-use Rattle.iox_negotiate_renamed.proofs.Numbers.{moved, eq_as, eq_back, cmp_as, at_as, moved_found, moved_set, moved_gone, moved_come, weaker}
+use Rattle.iox_negotiate_renamed.proofs.Numbers.{moved, eq_back, cmp_as, at_as, moved_found, moved_set, moved_gone, moved_come, weaker}
 
 split_true : (one other : Bool) → (one && other) ≡ true → (one ≡ true) × (other ≡ true)
 split_true true other is = (refl, is)

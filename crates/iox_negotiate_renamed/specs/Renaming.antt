@@ -1,5 +1,5 @@
 -- A table of services whose lives go by other numbers.
-use Rattle.std.specs.Prelude.{ℕ, ◌≡◌, ◌+◌, ◌-◌, ◌*◌, ◌^◌, ◌<◌, ◌≤◌, List, map, Result, Ok, Err}
+use Rattle.std.specs.Prelude.{ℕ, ◌≡◌, ◌+◌, ◌-◌, ◌^◌, ◌<◌, ◌≤◌, List, map, Result, Ok, Err}
 use Rattle.std.specs.List.{AllByRecursion}
 use Rattle.iox_negotiate_laws.specs.Lives.{number_of}
 use Rattle.iox_negotiate_laws.specs.Negotiate.declared.factory.Membership.{Membership}
@@ -13,7 +13,6 @@ use Rattle.iox_negotiate_laws.specs.NegotiateTable.Contents.{Contents}
 use Rattle.iox_negotiate_laws.specs.NegotiateTable.Stepped.{Steps}
 use Rattle.iox_negotiate_laws.specs.NegotiateTable.declared.entry.Entry.{Entry}
 use Rattle.iox_negotiate_laws.specs.NegotiateTable.declared.entry.Entry.TheVariants.{Locked, Described}
-use Rattle.iox_negotiate_laws.specs.NegotiateTable.declared.segment.Segment.{Segment}
 
 -- Here and below `lives` tells by which other number each life goes, and 0 is the number of none.
 

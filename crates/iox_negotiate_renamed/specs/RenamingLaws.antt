@@ -1,5 +1,5 @@
 -- What happens to a table of services doesn't depend on the numbers of lives.
-use Rattle.std.specs.Prelude.{ℕ, ◌≡◌, ◌≤◌, List, Option, Result}
+use Rattle.std.specs.Prelude.{ℕ, ◌≤◌, List, Option, Result}
 use Rattle.std.specs.declared.alloc.AllocError.{AllocError}
 use Rattle.iox_negotiate_laws.specs.Describe.DescribeBase.declared.hash.ServiceHash.{ServiceHash}
 use Rattle.iox_negotiate_laws.specs.Describe.DescribeSettings.Agreement.{Agreement}
