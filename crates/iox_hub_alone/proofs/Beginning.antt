@@ -1,5 +1,5 @@
 -- A life of a name starts with nothing.
-use Rattle.std.proofs.Common.{zero, suc, ◌≡◌, ◌≢◌, ◌∙◌, ◌≤◌, ◌<◌, ◌⊎◌, ℕ, nat_eq, nat_lt, replicate, Bool, true, false, List, [], ◌∷◌, Option, None, Some, Result, Ok, Err, refl, sym, ap, subst, inl, inr, arith, if◌then◌else◌}
+use Rattle.std.proofs.Common.{zero, suc, ◌≡◌, ◌∙◌, ◌≤◌, ◌<◌, ◌⊎◌, ℕ, nat_eq, nat_lt, replicate, Bool, true, false, List, Option, None, Some, Result, Ok, Err, refl, sym, ap, subst, inl, inr, arith, if◌then◌else◌}
 use Rattle.std.proofs.lemmas.Bool.{eqb-true, eq-eqb}
 use Rattle.std.proofs.lemmas.Bool.Decides.{nat_tests}
 use Rattle.std.proofs.lemmas.Cmp.{tied_itself}
@@ -23,7 +23,6 @@ use Rattle.iox_hub_commands.specs.DescribeSettings.declared.static_config.Settin
 use Rattle.iox_hub_commands.specs.DomainHome.declared.domain_id.DomainId.{DomainId}
 use Rattle.iox_hub_commands.specs.DomainPorts.Living.{living}
 use Rattle.iox_hub_commands.specs.DomainSettings.Sizes.{sizes}
-use Rattle.iox_hub_commands.specs.DomainPorts.Ports.{no_ports}
 use Rattle.iox_hub_commands.specs.DomainPorts.declared.service_ports.ServicePorts.{ServicePorts}
 use Rattle.iox_hub_commands.specs.DomainValues.declared.backpressure.BackpressureAction.{BackpressureAction}
 use Rattle.iox_hub_commands.specs.DomainValues.declared.backpressure.BackpressureDecision.{BackpressureDecision}
@@ -36,29 +35,28 @@ use Rattle.iox_hub_factories.specs.Closing.{ClosesUnless, ClosesIfOf, ClosesNumb
 use Rattle.iox_hub_factories.specs.Domain.Domains.{IsNewDomain}
 use Rattle.iox_hub_factories.specs.Domain.declared.domain.Domain.{Domain}
 use Rattle.iox_hub_factories.specs.Foreign.{ActsNamed}
-use Rattle.iox_hub_factories.specs.HubBase.AsHome.{with_services}
 use Rattle.iox_hub_factories.specs.HubBase.Closing.{is_last, less_one}
 use Rattle.iox_hub_factories.specs.HubBase.Opening.{Made as Opened, Enters, Settles, OpensInHub}
 use Rattle.iox_hub_factories.specs.HubBase.declared.hub.Hub.{Hub}
 use Rattle.iox_hub_factories.specs.HubBase.declared.hub.HubConfig.{HubConfig}
-use Rattle.iox_hub_factories.specs.HubServices.AsHome.{domain_at, stepped_if, stepped}
+use Rattle.iox_hub_factories.specs.HubServices.AsHome.{domain_at, stepped_if}
 use Rattle.iox_hub_factories.specs.HubServices.Numbered.{one_value, others_beside}
 use Rattle.iox_hub_factories.specs.HubServices.Open.{OpenServices, presence_of}
 use Rattle.iox_hub_factories.specs.HubServices.Opening.{Opens as ServiceOpens}
 use Rattle.iox_hub_factories.specs.HubServices.declared.presence.Presence.{Presence}
 use Rattle.iox_hub_factories.specs.HubServices.declared.presence.Presence.TheVariants.{Here}
-use Rattle.iox_hub_factories.specs.Numbered.NumberTable.{NumberTable, value_at}
+use Rattle.iox_hub_factories.specs.Numbered.NumberTable.{NumberTable}
 use Rattle.iox_hub_factories.specs.Numbering.{GetsNumber}
-use Rattle.iox_hub_factories.specs.Tables.{FactoryTable, SameNumbers, parts_of}
+use Rattle.iox_hub_factories.specs.Tables.{FactoryTable, parts_of}
 use Rattle.iox_hub_factories.specs.declared.made.MadeFactory.{MadeFactory}
 use Rattle.iox_hub_run.specs.AgreementLaws.{service_of}
 use Rattle.iox_hub_run.specs.Numbers.{IsNew}
-use Rattle.iox_hub_run.specs.Runs.{Runs, IsRun}
+use Rattle.iox_hub_run.specs.Runs.{IsRun}
 use Rattle.iox_hub_run.specs.Steps.{IsReplied, Step}
 use Rattle.iox_hub_run.specs.declared.numbered_hub.NumberedHub.{NumberedHub}
 use Rattle.iox_hub_run.proofs.RunLemmas.{run_goes}
 use Rattle.iox_hub_run.proofs.StepChanges.{step_changes, numbers_go_on}
-use Rattle.iox_hub_independence.specs.Asking.{hash_asked, number_asked, service_at, publisher_service, loan_service, sample_service}
+use Rattle.iox_hub_independence.specs.Asking.{hash_asked, service_at, publisher_service, loan_service, sample_service}
 use Rattle.iox_hub_independence.specs.Left.{IsLeft}
 use Rattle.iox_hub_independence.proofs.Steps as beside
 use Rattle.iox_hub_locality.specs.Locality.{IsOpening}
@@ -66,12 +64,11 @@ use Rattle.iox_hub_locality.proofs.Framed.{step_goes_on}
 use Rattle.iox_hub_locality.proofs.Keeping.{OfServices, step_keeps}
 use Rattle.iox_hub_locality.proofs.Lives.{IsFrom, past_rises, past_follows}
 use Rattle.iox_hub_locality.proofs.Names.{insert_at}
-use Rattle.iox_hub_locality.proofs.Negotiated.{IsNegotiation}
 use Rattle.iox_hub_locality.proofs.Opened.{opening_goes}
 use Rattle.iox_negotiate_laws.specs.Lives.{number_of}
 use Rattle.iox_negotiate_laws.specs.Negotiate.declared.factory.Membership.{Membership}
 use Rattle.iox_negotiate_laws.specs.NegotiateErrors.declared.close.CloseError.{CloseError}
-use Rattle.iox_negotiate_laws.specs.NegotiateTable.Contents.{Contents, entry_at}
+use Rattle.iox_negotiate_laws.specs.NegotiateTable.Contents.{Contents}
 use Rattle.iox_negotiate_laws.specs.NegotiateTable.Stepped.{Steps}
 use Rattle.iox_negotiate_laws.specs.NegotiateTable.declared.entry.Entry.{Entry}
 use Rattle.iox_negotiate_laws.specs.NegotiateTable.declared.step.ForeignStep.{ForeignStep}
