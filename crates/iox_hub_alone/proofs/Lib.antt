@@ -5,3 +5,4 @@ pub mod Kept
 pub mod Runs
 pub mod Factories
 pub mod Telling
+pub mod Beginning

@@ -60,16 +60,16 @@ no_hash hash e = cc
 
 -- ---- numbers below another
 
-is_below : (n next : ℕ) → n < next → nat_lt n next ≡ true
+pub is_below : (n next : ℕ) → n < next → nat_lt n next ≡ true
 is_below n next below = grind (arith, nat_tests, below)
 
 isnt_below : (n next : ℕ) → next ≤ n → nat_lt n next ≡ false
 isnt_below n next above = grind (arith, nat_tests, above)
 
-so_below : (n next : ℕ) → nat_lt n next ≡ true → n < next
+pub so_below : (n next : ℕ) → nat_lt n next ≡ true → n < next
 so_below n next is = grind (arith, nat_tests, is)
 
-below_on : (n next later : ℕ) → n < next → next ≤ later → n < later
+pub below_on : (n next later : ℕ) → n < next → next ≤ later → n < later
 below_on n next later below more = omega (arith, below, more)
 
 -- ---- which lives are the service's, told further
@@ -146,7 +146,7 @@ number_at service next table k (Some value) is all n same = subst (λ m. m < nex
 entry_below : (under : ServiceHash) (table : Contents) → IsTable table → (entry : Entry) → entry_at under table ≡ Some entry → number_of entry < table.next
 entry_below under table is entry found = (found-all (λ e. number_of e.1 < table.next) (is_at (digest_cmp under.digest)) table.entries entry is.below found).2
 
-from_below : (under : ServiceHash) (old new : Contents) → IsTable old → old.next ≤ new.next → (n : ℕ) → IsFrom under old new n → n < new.next
+pub from_below : (under : ServiceHash) (old new : Contents) → IsTable old → old.next ≤ new.next → (n : ℕ) → IsFrom under old new n → n < new.next
 from_below under old new is more n (inl (entry, stood, same)) = below_on n old.next new.next (subst (λ m. m < old.next) same (entry_below under old is entry stood)) more
 from_below under old new is more n (inr (low, high)) = high
 
@@ -155,7 +155,7 @@ factory_as hash mine other next made same below told = (λ is. same (service_of 
 
 module _ {T U B D : Type 0} where
   -- what a command names is of a life that has begun
-  number_below : (next : ℕ) (hub : NumberedHub T U B D) → AllMine (λ n. nat_lt n next) hub → (asked : Command T) → FoundBelow next (number_asked asked hub)
+  pub number_below : (next : ℕ) (hub : NumberedHub T U B D) → AllMine (λ n. nat_lt n next) hub → (asked : Command T) → FoundBelow next (number_asked asked hub)
   number_below next hub all command.Node = λ n none. absurd (no_number n none)
   number_below next hub all (command.Create node name options attributes steps) = λ n none. absurd (no_number n none)
   number_below next hub all (command.Open node name options requirements steps) = λ n none. absurd (no_number n none)
@@ -241,15 +241,15 @@ lives_as : (mine other : ℕ → Bool) (is : Bool) (old new : Contents) → Same
 lives_as mine other is old new same begins n low high = same n high ∙ begins n low high
 
 -- a hash that isn't found
-abbrev away : Option ServiceHash → ServiceHash
+abbrev pub away : Option ServiceHash → ServiceHash
 away None = record { digest = [] }
 away (Some hash) = other_than hash
 
-away_apart : (found : Option ServiceHash) → found ≢ Some (away found)
+pub away_apart : (found : Option ServiceHash) → found ≢ Some (away found)
 away_apart None = no_hash (record { digest = [] })
 away_apart (Some hash) = λ same. other_apart hash (hash_is hash (other_than hash) same)
 
-wider : (next later : ℕ) → next ≤ later → (n : ℕ) → nat_lt n next ≡ true → nat_lt n later ≡ true
+pub wider : (next later : ℕ) → next ≤ later → (n : ℕ) → nat_lt n next ≡ true → nat_lt n later ≡ true
 wider next later more n below = is_below n later (below_on n next later (so_below n next below) more)
 
 of_same : (hash : ServiceHash) (found : Option ServiceHash) (under : ServiceHash) → HashFound hash found → found ≡ Some under → under ≡ hash

@@ -2,3 +2,4 @@
 pub mod Passing
 pub mod Alone
 pub mod Telling
+pub mod Beginning

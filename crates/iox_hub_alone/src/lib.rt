@@ -7,6 +7,7 @@
 #![tactic(auto)]
 
 ghost use Rattle.iox_hub_alone.specs.Alone.{IsAsIfAlone};
+ghost use Rattle.iox_hub_alone.specs.Beginning.{DomainsStartEmpty, LivesBeginAnew, NothingAhead};
 ghost use Rattle.iox_hub_alone.specs.Telling.{EachRunCanBeTold};
 ghost use Rattle.iox_hub_commands.specs.DescribeBase.Detail.{detail};
 ghost use Rattle.iox_hub_commands.specs.DescribeBase.declared.type_detail.TypeVariant.TheVariants.{FixedSize};
@@ -30,4 +31,20 @@ pub fn a_service_is_as_if_alone<
 >()
     ensures alone { IsAsIfAlone (Step (detail FixedSize T.name T.size T.alignment) (detail FixedSize U.name U.size U.alignment) (types_of T.name T.size T.alignment U.name U.size U.alignment) T.is_default U.is_default B.fixed (λ handlers. B.degrades handlers) (λ handlers. B.decides handlers) D.fixed (λ handler. D.degrades handler)) }
     ensures told { EachRunCanBeTold (Step (detail FixedSize T.name T.size T.alignment) (detail FixedSize U.name U.size U.alignment) (types_of T.name T.size T.alignment U.name U.size U.alignment) T.is_default U.is_default B.fixed (λ handlers. B.degrades handlers) (λ handlers. B.decides handlers) D.fixed (λ handler. D.degrades handler)) }
+{}
+
+/// A life of a service's name starts with nothing. In every run of a new hub, the hub has nothing of a life that didn't begin yet: no
+/// domain, and no factory, publisher, subscriber, loan or sample goes by a number; and numbers of lives are never given again, so what was
+/// made in an earlier life of a name names nothing in the later one. A domain that stands after a command, and didn't before, came by a
+/// command that creates or opens a service, and is empty: without ports, loans, samples, messages and history, of the sizes that are agreed
+/// on. It is the contract of a function that does nothing.
+pub fn a_life_starts_with_nothing<
+    T: Words + ZeroCopySend + Default,
+    U: Copy + ZeroCopySend + Default,
+    B: PublisherHandlers,
+    D: SubscriberHandler,
+>()
+    ensures ahead { NothingAhead (Step (detail FixedSize T.name T.size T.alignment) (detail FixedSize U.name U.size U.alignment) (types_of T.name T.size T.alignment U.name U.size U.alignment) T.is_default U.is_default B.fixed (λ handlers. B.degrades handlers) (λ handlers. B.decides handlers) D.fixed (λ handler. D.degrades handler)) }
+    ensures empty { DomainsStartEmpty (Step (detail FixedSize T.name T.size T.alignment) (detail FixedSize U.name U.size U.alignment) (types_of T.name T.size T.alignment U.name U.size U.alignment) T.is_default U.is_default B.fixed (λ handlers. B.degrades handlers) (λ handlers. B.decides handlers) D.fixed (λ handler. D.degrades handler)) }
+    ensures anew { LivesBeginAnew (Step (detail FixedSize T.name T.size T.alignment) (detail FixedSize U.name U.size U.alignment) (types_of T.name T.size T.alignment U.name U.size U.alignment) T.is_default U.is_default B.fixed (λ handlers. B.degrades handlers) (λ handlers. B.decides handlers) D.fixed (λ handler. D.degrades handler)) }
 {}

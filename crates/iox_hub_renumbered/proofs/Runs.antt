@@ -21,7 +21,8 @@ use Rattle.iox_hub_run.specs.Numbers.{IsNew}
 use Rattle.iox_hub_run.specs.Steps.{Step}
 use Rattle.iox_hub_run.specs.declared.numbered_hub.NumberedHub.{NumberedHub}
 use Rattle.iox_hub_run.proofs.StepChanges.{step_changes, numbers_go_on}
-use Rattle.iox_hub_alone.specs.Alone.{StepWithMemory, RunsAlone}
+use Rattle.iox_hub_commands.specs.DescribeBase.declared.hash.ServiceHash.{ServiceHash}
+use Rattle.iox_hub_alone.specs.Alone.{StepWithMemory, RunsAlone, RunsAmongOthers}
 use Rattle.iox_hub_alone.specs.Passing.{PassesIn, PassesOver}
 use Rattle.iox_hub_alone.proofs.Numbers.{passed_rises}
 use Rattle.iox_hub_alone.specs.Telling.{replies_told}
@@ -35,22 +36,22 @@ use Rattle.iox_hub_renumbered.proofs.Tables.{RenamedIn, NewBy, roomier_renamed}
 -- ---- one table
 
 -- The numbers below next go by numbers below count.
-abbrev Below : (ℕ → ℕ) → ℕ → ℕ → Type 0
+abbrev pub Below : (ℕ → ℕ) → ℕ → ℕ → Type 0
 Below by next count = (1 ≤ count) × ((n : ℕ) → n < next → by n < count)
 
 -- No number from next on goes by one below count, but by 0, by which nothing goes.
 abbrev Beyond : (ℕ → ℕ) → ℕ → ℕ → Type 0
 Beyond by next count = (n : ℕ) → next ≤ n → (by n ≡ 0) ⊎ (count ≤ by n)
 
-abbrev SameBelow : ℕ → (ℕ → ℕ) → (ℕ → ℕ) → Type 0
+abbrev pub SameBelow : ℕ → (ℕ → ℕ) → (ℕ → ℕ) → Type 0
 SameBelow next start by = (n : ℕ) → n < next → by n ≡ start n
 
 -- from next on the numbers go on from count
-abbrev counted : (ℕ → ℕ) → ℕ → ℕ → ℕ → ℕ
+abbrev pub counted : (ℕ → ℕ) → ℕ → ℕ → ℕ → ℕ
 counted start next count n = if nat_lt n next then start n else count + (n - next)
 
 -- from next on no number is given
-abbrev skipped : (ℕ → ℕ) → ℕ → ℕ → ℕ
+abbrev pub skipped : (ℕ → ℕ) → ℕ → ℕ → ℕ
 skipped start next n = if nat_lt n next then start n else 0
 
 is_below : (n next : ℕ) → n < next → nat_lt n next ≡ true
@@ -59,29 +60,29 @@ is_below n next below = grind (arith, nat_tests, below)
 isnt_below : (n next : ℕ) → next ≤ n → nat_lt n next ≡ false
 isnt_below n next above = grind (arith, nat_tests, above)
 
-by_order : {P : Type 0} (n next : ℕ) → (n < next → P) → (next ≤ n → P) → P
+pub by_order : {P : Type 0} (n next : ℕ) → (n < next → P) → (next ≤ n → P) → P
 by_order {P} n next below above = at (nat_lt n next) refl
   where
     at : (is : Bool) → nat_lt n next ≡ is → P
     at true is = below (grind (arith, nat_tests, is))
     at false is = above (grind (arith, nat_tests, is))
 
-counted_below : (start : ℕ → ℕ) (next count n : ℕ) → n < next → counted start next count n ≡ start n
+pub counted_below : (start : ℕ → ℕ) (next count n : ℕ) → n < next → counted start next count n ≡ start n
 counted_below start next count n below = ap (λ b. if b then start n else count + (n - next)) (is_below n next below)
 
-counted_above : (start : ℕ → ℕ) (next count n : ℕ) → next ≤ n → counted start next count n ≡ count + (n - next)
+pub counted_above : (start : ℕ → ℕ) (next count n : ℕ) → next ≤ n → counted start next count n ≡ count + (n - next)
 counted_above start next count n above = ap (λ b. if b then start n else count + (n - next)) (isnt_below n next above)
 
-skipped_below : (start : ℕ → ℕ) (next n : ℕ) → n < next → skipped start next n ≡ start n
+pub skipped_below : (start : ℕ → ℕ) (next n : ℕ) → n < next → skipped start next n ≡ start n
 skipped_below start next n below = ap (λ b. if b then start n else 0) (is_below n next below)
 
-skipped_above : (start : ℕ → ℕ) (next n : ℕ) → next ≤ n → skipped start next n ≡ 0
+pub skipped_above : (start : ℕ → ℕ) (next n : ℕ) → next ≤ n → skipped start next n ≡ 0
 skipped_above start next n above = ap (λ b. if b then start n else 0) (isnt_below n next above)
 
 less_as : (one other count : ℕ) → one ≡ other → other < count → one < count
 less_as one other count same less = omega (arith, same, less)
 
-below_counted : (start : ℕ → ℕ) (next later count : ℕ) → next ≤ later → Below start next count → Below (counted start next count) later (count + (later - next))
+pub below_counted : (start : ℕ → ℕ) (next later count : ℕ) → next ≤ later → Below start next count → Below (counted start next count) later (count + (later - next))
 below_counted start next later count more (positive, below) = (
   omega (arith, positive),
   λ n low. by_order n next
@@ -89,7 +90,7 @@ below_counted start next later count more (positive, below) = (
       (λ large. let value = counted_above start next count n large in omega (arith, value, large, low, more)),
 )
 
-below_skipped : (start : ℕ → ℕ) (next later count : ℕ) → Below start next count → Below (skipped start next) later count
+pub below_skipped : (start : ℕ → ℕ) (next later count : ℕ) → Below start next count → Below (skipped start next) later count
 below_skipped start next later count (positive, below) = (
   positive,
   λ n low. by_order n next
@@ -109,10 +110,10 @@ beyond_counted start by next later count more same beyond n low = by_order n lat
 beyond_skipped : (start by : ℕ → ℕ) (next later count : ℕ) → SameBelow later (skipped start next) by → Beyond by later count → Beyond by next count
 beyond_skipped start by next later count same beyond n low = by_order n later (λ small. inl (same n small ∙ skipped_above start next n low)) (λ large. beyond n large)
 
-same_counted : (start by : ℕ → ℕ) (next later count : ℕ) → next ≤ later → SameBelow later (counted start next count) by → SameBelow next start by
+pub same_counted : (start by : ℕ → ℕ) (next later count : ℕ) → next ≤ later → SameBelow later (counted start next count) by → SameBelow next start by
 same_counted start by next later count more same n low = same n (omega (arith, low, more)) ∙ counted_below start next count n low
 
-same_skipped : (start by : ℕ → ℕ) (next later : ℕ) → next ≤ later → SameBelow later (skipped start next) by → SameBelow next start by
+pub same_skipped : (start by : ℕ → ℕ) (next later : ℕ) → next ≤ later → SameBelow later (skipped start next) by → SameBelow next start by
 same_skipped start by next later more same n low = same n (omega (arith, low, more)) ∙ skipped_below start next n low
 
 -- the number that comes next is the next one
@@ -324,7 +325,7 @@ module _ {T U B D : Type 0} (payload user_header : Detail) (types : MessageTypeD
   abbrev Counts_on : Renaming → Counts → List (Bool × Command T) → NumberedHub T U B D → List (Reply T) → NumberedHub T U B D → Type 0
   Counts_on start counts commands one replies new =
       (by : Renaming) × AllSame one start by × AllBeyond by one counts
-      × ((other : NumberedHub T U B D) → Follows by one other counts → (later : NumberedHub T U B D) × RunsAnew each by commands (record other { hub = one.hub }) replies later)
+      × ((other : NumberedHub T U B D) → Follows by one other counts → (later : NumberedHub T U B D) × RunsAnew each by commands (record other { hub = one.hub }) replies later × (later.hub ≡ new.hub))
 
   counts_anew : (start : Renaming) (counts : Counts) (commands : List (Bool × Command T)) (one new : NumberedHub T U B D) (replies : List (Reply T)) → NumbersRise one → AllBelow start one counts → RunsAlone (StepWithMemory each) commands one replies new
       → Counts_on start counts commands one replies new
@@ -344,7 +345,7 @@ module _ {T U B D : Type 0} (payload user_header : Detail) (types : MessageTypeD
       loans = λ n low. inl (skipped_above start.loans one.made.loans.next n low);
       samples = λ n low. inl (skipped_above start.samples one.made.samples.next n low);
     },
-    λ other follows. (record other { hub = one.hub }, (none, refl)),
+    λ other follows. (record other { hub = one.hub }, (none, refl), sym (ap (λ numbered. numbered.hub) same)),
   )
   counts_anew start counts ((true, asked) ∷ commands) one new replies rises below (told, mid, rest, (step, wanted), go, is) =
       let later = later_on asked one mid told step rises in
@@ -368,8 +369,8 @@ module _ {T U B D : Type 0} (payload user_header : Detail) (types : MessageTypeD
         λ other follows.
             let (after, there, all) = step_anew by payload user_header types is_default is_default_header fixed degrades decides fixed_reader reader_degrades one mid other told follows.renamed_in rises follows.rises (all_news start by one mid other counts later below same beyond follows) asked (wanted told refl) step in
             let rises_after = rise (renamed by asked) (record other { hub = one.hub }) (record after { hub = mid.hub }) (renamed_reply by told) there follows.rises in
-            let (last, runs) = goes after (follows_on by one mid other after counts follows rises_after all) in
-            (last, (told, record after { hub = mid.hub }, rest, there, runs, is)),
+            let (last, runs, hub) = goes after (follows_on by one mid other after counts follows rises_after all) in
+            (last, (told, record after { hub = mid.hub }, rest, there, runs, is), hub),
       )
   counts_anew start counts ((false, asked) ∷ commands) one new replies rises below (mid, passes, go) =
       let later = passes_later one mid passes in
@@ -390,8 +391,8 @@ module _ {T U B D : Type 0} (payload user_header : Detail) (types : MessageTypeD
           samples = beyond_skipped start.samples by.samples one.made.samples.next mid.made.samples.next counts.samples same.samples beyond.samples;
         },
         λ other follows.
-            let (last, runs) = goes other (passes_follows by one mid other counts passes follows) in
-            (last, (record other { hub = mid.hub }, (passes.hub, refl), runs)),
+            let (last, runs, hub) = goes other (passes_follows by one mid other counts passes follows) in
+            (last, (record other { hub = mid.hub }, (passes.hub, refl), runs), hub),
       )
 
 -- ---- a new hub
@@ -451,16 +452,34 @@ module _ {T U B D : Type 0} (config : HubConfig) (alone : NumberedHub T U B D) (
 module _ {T U B D : Type 0} (payload user_header : Detail) (types : MessageTypeDetails) (is_default : T → Type 0) (is_default_header : U → Type 0)
     (fixed : BackpressureStrategy → Option BackpressureAction → DegradationAction → B) (degrades : B → DegradationCause → DegradationInfo → DegradationAction → Type 0) (decides : B → BackpressureInfo → BackpressureDecision → Type 0)
     (fixed_reader : DegradationAction → D) (reader_degrades : D → DegradationCause → DegradationInfo → DegradationAction → Type 0) where
+  -- and in the end the hub has the same nodes, services and domains
+  pub are_counted_with_hub : (config : HubConfig) (commands : List (Bool × Command T)) (alone after : NumberedHub T U B D) (replies : List (Reply T)) → IsNew config alone
+      → RunsAlone (StepWithMemory (Step {T = T} {U = U} payload user_header types is_default is_default_header fixed degrades decides fixed_reader reader_degrades)) commands alone replies after
+      → (by : Renaming) × (later : NumberedHub T U B D) × RunsAnew (Step {T = T} {U = U} payload user_header types is_default is_default_header fixed degrades decides fixed_reader reader_degrades) by commands alone replies later × (later.hub ≡ after.hub)
+  are_counted_with_hub config commands alone after replies is_new go =
+      let (by, same, beyond, goes) = counts_anew payload user_header types is_default is_default_header fixed degrades decides fixed_reader reader_degrades unnamed first_counts commands alone after replies (new_rises config alone is_new) (new_below config alone is_new) go in
+      let (later, runs, hub) = goes alone (new_follows config alone is_new by) in
+      (by, later, runs, hub)
+
   pub are_counted_anew : CountsAnew (Step {T = T} {U = U} payload user_header types is_default is_default_header fixed degrades decides fixed_reader reader_degrades)
   are_counted_anew config commands alone after replies is_new go =
-      let (by, same, beyond, goes) = counts_anew payload user_header types is_default is_default_header fixed degrades decides fixed_reader reader_degrades unnamed first_counts commands alone after replies (new_rises config alone is_new) (new_below config alone is_new) go in
-      let (later, runs) = goes alone (new_follows config alone is_new by) in
+      let (by, later, runs, hub) = are_counted_with_hub config commands alone after replies is_new go in
       (by, later, runs)
+
+  -- and in the end as many lives began, and as many factories were counted
+  pub is_alone_with_counts : (config : HubConfig) (hash : ServiceHash) (mine : ℕ → Bool) (commands : List (Bool × Command T)) (first alone new : NumberedHub T U B D) (replies : List (Reply T)) → IsNew config first → IsNew config alone
+      → RunsAmongOthers hash mine (Step {T = T} {U = U} payload user_header types is_default is_default_header fixed degrades decides fixed_reader reader_degrades) commands first replies new
+      → (by : Renaming) × (later : NumberedHub T U B D) × RunsAnew (Step {T = T} {U = U} payload user_header types is_default is_default_header fixed degrades decides fixed_reader reader_degrades) by commands alone replies later
+      × (later.hub.table.next ≡ new.hub.table.next) × (later.hub.factories ≡ new.hub.factories)
+  is_alone_with_counts config hash mine commands first alone new replies is_first is_alone go =
+      let (after, runs, agree) = is_as_if_alone payload user_header types is_default is_default_header fixed degrades decides fixed_reader reader_degrades config hash mine commands first alone new replies is_first is_alone go in
+      let (by, later, anew, hub) = are_counted_with_hub config commands alone after replies is_alone runs in
+      (by, later, anew, ap (λ it. it.table.next) hub ∙ agree.hubs.lives, ap (λ it. it.factories) hub ∙ agree.hubs.owners)
 
   pub is_alone_anew : IsAloneAnew (Step {T = T} {U = U} payload user_header types is_default is_default_header fixed degrades decides fixed_reader reader_degrades)
   is_alone_anew config hash mine commands first alone new replies is_first is_alone go =
-      let (after, runs, agree) = is_as_if_alone payload user_header types is_default is_default_header fixed degrades decides fixed_reader reader_degrades config hash mine commands first alone new replies is_first is_alone go in
-      are_counted_anew config commands alone after replies is_alone runs
+      let (by, later, anew, lives, owners) = is_alone_with_counts config hash mine commands first alone new replies is_first is_alone go in
+      (by, later, anew)
 
   pub each_service_is_alone_anew : EachServiceIsAloneAnew (Step {T = T} {U = U} payload user_header types is_default is_default_header fixed degrades decides fixed_reader reader_degrades)
   each_service_is_alone_anew config hash commands first alone new replies is_first is_alone go =

@@ -1,0 +1,5 @@
+pub mod Lists
+pub mod Publishers
+pub mod AmongPublishers
+pub mod Subscribers
+pub mod Calls

@@ -1,0 +1,3 @@
+-- The definitions that the contract about lives under other numbers cites.
+pub mod Renaming
+pub mod RenamingLaws
