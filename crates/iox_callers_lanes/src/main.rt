@@ -1,16 +1,73 @@
-//! First calls of lanes, each as a function whose contract follows from the contracts of that crate alone; each is run, and
+//! First calls of lanes and of the crates that they are made of, each as a function whose contract follows from the contracts of that crate alone; each is run, and
 //! what it returns is printed.
 #![tactic(auto)]
 
-ghost use Rattle.std.specs.Prelude.{◌≡◌, ◌<◌, IfOk, get_or, length, true, false, []};
+ghost use Rattle.std.specs.Prelude.{◌≡◌, ◌<◌, IfOk, Some, get_or, length, true, false, []};
 ghost use Rattle.iox_lanes_machine.specs.Findings.{FindsTo};
 ghost use Rattle.iox_lanes_machine.specs.Mailboxes.{OrdersFollow};
 
+use iox_lanes_calls::subscriber::SlotExtent;
+use iox_lanes_calls::{PublisherCall, Receipt};
 use iox_lanes_machine::{Found, LaneSizes, Lanes};
-use iox_lanes_parties::{Call, Entry, Move, Party};
+use iox_lanes_parties::{Answer, Call, Entry, Move, Party, SubscriberLane};
+use iox_lanes_publisher::{LanePublisher, LoanAnswer, SlotBook};
+use iox_lanes_subscriber::LaneSubscriber;
+use iox_lanes_words::{SharedAccess, SharedWord, SlotWord};
 use iox_queues_rings::RingKind;
 use std::alloc::{AllocError, Global};
-use std::io;
+use std::io::{self, Print};
+
+/// `iox_lanes_calls`: the access by which a write of one word stores it into the slot of a loan, and whether the write is over but for its
+/// last step then.
+fn stored(slot: u64, word: u64) -> (SharedAccess, bool)
+    ensures store { result.0 ≡ SharedAccess.Store (SharedWord.Slot slot (SlotWord.Payload 0)) word }
+    ensures over { result.1 ≡ true }
+{
+    let call = PublisherCall::write(&[word], slot);
+    let access = call.next();
+    let call = call.take(0, &[], &[word]);
+    (access, call.is_over())
+}
+
+/// `iox_lanes_publisher`: what the first loan answers of a publisher that nobody is connected to, and whose two slots are 8 and 9.
+fn lent_first(alloc: Global, most_loans: u64) -> Result<Option<LoanAnswer>, AllocError>
+    ensures lent { 0 < most_loans → IfOk result (λ answer. answer ≡ Some (LoanAnswer.Slot 8)) }
+    ensures refused { most_loans ≡ 0 → IfOk result (λ answer. answer ≡ Some LoanAnswer.ExceedsMaxLoans) }
+{
+    let book = SlotBook::new(alloc, 8, 2, 0, most_loans, 0)?;
+    let mut publisher = LanePublisher::new(alloc, &[], book, 1, 3)?;
+    publisher.begin_loan();
+    publisher.take(0);
+    Ok(publisher.answer())
+}
+
+/// `iox_lanes_subscriber`: the first access of a read of a slot, and what is read then where it answers so.
+fn noted(alloc: Global, slot: u64, answer: u64) -> Result<(SharedAccess, Option<u64>), AllocError>
+    ensures load { IfOk result (λ noted. noted.0 ≡ SharedAccess.Load (SharedWord.Slot slot (SlotWord.Header 0))) }
+    ensures word { IfOk result (λ noted. noted.1 ≡ Some answer) }
+{
+    let mut subscriber = LaneSubscriber::new(alloc, &[], 4, ONE_WORD, 4, 1)?;
+    subscriber.begin_read(slot);
+    let access = subscriber.next();
+    subscriber.take(answer);
+    Ok((access, subscriber.words().first().copied()))
+}
+
+/// `iox_lanes_parties`: what a subscriber receives that is connected to nobody.
+fn received_of_nobody(alloc: Global, moment: u64) -> Result<Option<Answer>, AllocError>
+    ensures { IfOk result (λ answer. answer ≡ Some (Answer.Received Receipt.Nothing)) }
+{
+    let port = LaneSubscriber::new(alloc, &[], 4, ONE_WORD, 4, 1)?;
+    let mut lane = SubscriberLane::new(port);
+    lane.begin(moment, &Call::Receive);
+    Ok(lane.go_on(0, 0))
+}
+
+/// Slots of one word of payload behind the header.
+const ONE_WORD: SlotExtent = SlotExtent {
+    user_header_words: 0,
+    payload_words: 1,
+};
 
 /// `iox_lanes_machine`: takes in what is found before the first step, and answers whether it did; else the lanes stay as they were.
 fn took_in(lanes: &mut Lanes, found: Found) -> bool
@@ -82,7 +139,16 @@ fn looked(alloc: Global) -> Result<usize, AllocError> {
     Ok(count)
 }
 
+/// What one publisher or one subscriber does, with no words.
+fn print_ports(rt: &impl Print, alloc: Global) -> io::Result<()> {
+    println!(rt; "iox_lanes_calls: {:?}", stored(3, 7))?;
+    println!(rt; "iox_lanes_publisher: {:?}", lent_first(alloc, 1)?)?;
+    println!(rt; "iox_lanes_subscriber: {:?}", noted(alloc, 3, 5)?)?;
+    println!(rt; "iox_lanes_parties: {:?}", received_of_nobody(alloc, 1)?)
+}
+
 fn main(rt: HostRuntime) -> io::Result<()> {
+    print_ports(&rt, rt.alloc())?;
     println!(rt; "iox_lanes_machine: {:?}", looked(rt.alloc())?)?;
     println!(rt; "iox_lanes_machine: {:?}", found(rt.alloc())?)?;
     Ok(())

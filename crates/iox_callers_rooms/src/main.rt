@@ -6,6 +6,8 @@ ghost use Rattle.std.specs.Prelude.{◌≡◌, Ok, IfOk, IfSome, Some};
 ghost use Rattle.iox_domain_settings.specs.PortSettings.{publisher_defaults};
 ghost use Rattle.iox_domain_settings.specs.Sizes.{SizesOf};
 ghost use Rattle.iox_domain_values.specs.declared.backpressure.BackpressureDecision.TheVariants as decided;
+ghost use Rattle.iox_negotiate_errors.specs.PublishSubscribeErrors.{open_error};
+ghost use Rattle.iox_negotiate_errors.specs.PublishSubscribeTexts.{open_text};
 ghost use Rattle.iox_negotiate_rounds.specs.Opening.{OpensOrCreates};
 ghost use Rattle.iox_negotiate_rounds.specs.Runs.{Does};
 ghost use Rattle.iox_negotiate_rounds.specs.declared.request.Opened.{Opened};
@@ -15,6 +17,7 @@ ghost use Rattle.iox_negotiate_table.specs.declared.node.Node.TheVariants.{Forei
 use iox_describe::pattern::Event;
 use iox_describe::publish_subscribe::StaticConfig;
 use iox_describe::requirement::event::Requirement;
+use iox_describe::requirement::publish_subscribe::ClauseError;
 use iox_describe::{
     AttributeSpecifier, AttributeVerifier, Description, Header, MessageTypeDetails,
     MessagingPattern, ServiceHash, ServiceName, Settings, TypeVariant, service_hash,
@@ -23,8 +26,8 @@ use iox_domain_settings::{PublisherSettings, sizes_of};
 use iox_domain_values::backpressure::{BackpressureAction, BackpressureDecision, BackpressureInfo};
 use iox_domain_values::{BackpressureHandler, BackpressureStrategy, ServiceSizes, backpressure};
 use iox_negotiate::{Asked, Builder};
-use iox_negotiate_errors::PublishSubscribeOpenOrCreateError;
-use iox_negotiate_rounds::{OpenOrCreateFailure, Request, Storage, open_or_create};
+use iox_negotiate_errors::{PublishSubscribeOpenError, PublishSubscribeOpenOrCreateError};
+use iox_negotiate_rounds::{OpenFailure, OpenOrCreateFailure, Request, Storage, open_or_create};
 use iox_negotiate_table::{ForeignStep, Table};
 use std::alloc::{AllocError, Global};
 use std::io::{self, Print};
@@ -59,6 +62,14 @@ fn locked(alloc: Global, id: u64, hash: ServiceHash, node: u64) -> Result<Table,
     // a node of others acts
     table.act(&hash, &step)?;
     Ok(table)
+}
+
+/// `iox_negotiate_errors`: what a failure of the rounds displays as, where a publish-subscribe service was to be opened.
+fn text_of(failure: OpenFailure<ClauseError>) -> &'static str
+    ensures { result.now ≡ open_text (open_error failure) }
+{
+    let error = PublishSubscribeOpenError::from(failure);
+    error.text()
 }
 
 /// `iox_negotiate`: a service of numbers that a node opens or creates in a table, and closes again; in which table it was, and as
@@ -135,6 +146,10 @@ fn main(rt: HostRuntime) -> io::Result<()> {
         return Ok(());
     };
     println!(rt; "iox_domain_settings: {:?}", sized(of_numbers(name)))?;
+    println!(rt;
+        "iox_negotiate_errors: {}",
+        text_of(OpenFailure::DoesNotExist)
+    )?;
     print_event(&rt, rt.alloc(), name)?;
     print_services(&rt, rt.alloc(), name)
 }

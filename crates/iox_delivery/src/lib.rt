@@ -13,17 +13,32 @@
 //!
 //! No port, loan, sample or waiting send may be let go: it is spent by the call that ends it.
 //!
-//! First calls. Tests in `iox_hub_rows` make them, with a hub as the home.
+//! First calls, of a publisher and of a subscriber; tests in `iox_hub_rows` make them with a hub as the home.
 //!
 //! ```
-//! let loan = publisher.loan_uninit(alloc, &mut home)?;
-//! let sample = loan.write_payload(&mut home, 7);
-//! let sent = sample.send(alloc, &mut home);
-//! // the subscriber's side
-//! if let Some(sample) = subscriber.receive(alloc, &mut home)? {
-//!     let value = *sample.payload(&home);
-//!     sample.release(&mut home);
+//! let loan = publisher.loan_uninit(alloc, home).ok()?;
+//! let sample = loan.write_payload(home, 7);
+//! if !sample.holds(home) || sample.is_blocked(home) {
+//!     sample.drop_with(home);
+//!     return None;
 //! }
+//! match sample.send(alloc, home) {
+//!     Ok(Sent::Delivered(count)) => Some(count),
+//!     Ok(Sent::Blocked(blocked)) => {
+//!         blocked.drop_with(home);
+//!         None
+//!     }
+//!     Err(_) => None,
+//! }
+//! // the subscriber's side
+//! let sample = subscriber.receive(alloc, home).ok()??;
+//! if !sample.holds(home) {
+//!     sample.drop_with(home);
+//!     return None;
+//! }
+//! let value = *sample.payload(home);
+//! sample.release(home);
+//! Some(value)
 //! ```
 #![tactic(auto)]
 

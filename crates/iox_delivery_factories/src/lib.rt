@@ -7,11 +7,13 @@
 //! | `publisher` | makes a publisher of single values, or of slices |
 //! | `subscriber` | makes a subscriber of single values, or of slices |
 //!
-//! First calls. Tests in `iox_delivery_rows` make them.
+//! First calls, of a publisher of six loans. Tests in `iox_delivery_rows` make others, too.
 //!
 //! ```
-//! let builder = publisher_builder(&domain, node_id, owner).max_loaned_samples(6);
-//! let publisher = builder.create(alloc, &mut domain)?;
+//! let mut domain = Domain::<u64, ()>::new(alloc, id, description, 128).ok()?;
+//! let builder = publisher_builder(&domain, 5, 9).max_loaned_samples(6);
+//! // where the domain is lent
+//! let publisher = builder.create(alloc, domain)?;
 //! ```
 #![tactic(auto)]
 

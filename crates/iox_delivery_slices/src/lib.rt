@@ -9,11 +9,13 @@
 //!
 //! No port, loan or sample may be let go: it is spent by the call that ends it.
 //!
-//! First calls. Tests in `iox_delivery_rows` make them.
+//! First calls, of a publisher. Tests in `iox_delivery_rows` have those of subscribers.
 //!
 //! ```
-//! let loan = publisher.loan_slice_uninit(alloc, &mut home, 4)?;
-//! let sample = loan.write_from_slice(&mut home, &[1, 2, 3, 4]);
+//! let loan = publisher.loan_slice_uninit(alloc, home, 4).ok()?;
+//! let sample = loan.write_from_slice(home, &[1, 2, 3, 4]);
+//! let may = sample.holds(home);
+//! sample.drop_with(home);
 //! ```
 #![tactic(auto)]
 

@@ -14,13 +14,15 @@
 //!
 //! Lending, writing, reading and releasing ask nobody: these calls are those of the domain's `ports`.
 //!
-//! First calls. Tests in `iox_delivery_rows` make them.
+//! First calls, of a new domain; tests in `iox_delivery_rows` go on from there.
 //!
 //! ```
-//! if Domain::<u64, ()>::fits(&description) {
-//!     let mut domain = Domain::<u64, ()>::new(alloc, id, &description, 128)?;
+//! if Domain::<u64, ()>::fits(description) {
+//!     let domain = Domain::<u64, ()>::new(alloc, id, description, 128)?;
 //!     let living = domain.living(owner);
+//!     return Ok(Some(living));
 //! }
+//! Ok(None)
 //! ```
 #![tactic(auto)]
 

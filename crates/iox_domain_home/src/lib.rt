@@ -7,9 +7,8 @@
 //! First calls. `Domain` of `iox_domain` and `Hub` of `iox_hub_base` are homes.
 //!
 //! ```
-//! if let Some(ports) = home.ports(domain_id) {
-//!     // the ports of that domain
-//! }
+//! let ports = home.ports(id)?;
+//! Some(ports.service)
 //! ```
 #![tactic(auto)]
 

@@ -10,13 +10,15 @@
 //! - [`reading`]: what is read of a sample.
 //! - [`living`]: how much lives.
 //!
-//! First calls. `Domain` of `iox_domain` makes them, and tests in `iox_domain_port_rows`.
+//! First calls, of a publisher; tests in `iox_domain_port_rows` have those of subscribers.
 //!
 //! ```
 //! if let Some(Ok(slot)) = ports.loan(alloc, number, 1, 1, blank) {
 //!     ports.write_payload(number, slot, value);
-//!     let sent = ports.send(alloc, number, slot, &handlers);
+//!     let sent = ports.send(alloc, number, slot, handlers);
+//!     return sent;
 //! }
+//! None
 //! ```
 #![tactic(auto)]
 

@@ -8,7 +8,13 @@
 //! - [`publisher`]: a loan, a write, a send and the dropping of a loan.
 //! - [`subscriber`]: a receive, a read and a release.
 //!
-//! First calls: `next` says the access of a call, `take` goes on after its answer. `Lanes` of `iox_lanes_machine` makes them.
+//! First calls, of a write of one word; `Lanes` of `iox_lanes_machine` makes them with the words of a service.
+//!
+//! ```
+//! let call = PublisherCall::write(&[word], slot);
+//! let access = call.next();
+//! let call = call.take(0, &[], &[word]);
+//! ```
 #![tactic(auto)]
 
 pub mod answers;

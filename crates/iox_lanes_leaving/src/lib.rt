@@ -5,10 +5,14 @@
 //! - [`restoring`]: it gets those that the lanes leave at a connection, and those of a history.
 //! - [`restored`]: it gets all of them.
 //!
-//! First calls. `into_domain` of `iox_lanes` makes them.
+//! First calls, of a publisher that forgets its messages. `into_domain` of `iox_lanes` makes those of `restore`.
 //!
 //! ```
-//! let came_back = restore(&lanes, from, &indices, first, history, &mut port.sender, &mut one);
+//! if is_rested(sender) {
+//!     forget_messages(sender);
+//!     return true;
+//! }
+//! false
 //! ```
 #![tactic(auto)]
 

@@ -5,7 +5,13 @@
 //! - [`laws`]: ports keep to their own service.
 //! - [`publisher_lane`], [`subscriber_lane`]: a port with the call that it began last.
 //!
-//! First calls: those of `Lanes` of `iox_lanes_machine`, which is made of it.
+//! First calls, of a subscriber that is connected to nobody; `Lanes` of `iox_lanes_machine` makes them with the words of a service.
+//!
+//! ```
+//! let mut lane = SubscriberLane::new(port);
+//! lane.begin(moment, &Call::Receive);
+//! Ok(lane.go_on(0, 0))
+//! ```
 #![tactic(auto)]
 
 pub mod call;

@@ -3,7 +3,15 @@
 //! - [`slot_book`]: what its slots are used for.
 //! - [`lane_publisher`]: the publisher.
 //!
-//! First calls: those of `Lanes` of `iox_lanes_machine`, which is made of it.
+//! First calls, of a loan of a publisher that nobody is connected to; `Lanes` of `iox_lanes_machine` makes them with the words of a service.
+//!
+//! ```
+//! let book = SlotBook::new(alloc, 8, 2, 0, most_loans, 0)?;
+//! let mut publisher = LanePublisher::new(alloc, &[], book, 1, 3)?;
+//! publisher.begin_loan();
+//! publisher.take(0);
+//! Ok(publisher.answer())
+//! ```
 #![tactic(auto)]
 
 pub mod lane_publisher;

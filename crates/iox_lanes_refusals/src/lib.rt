@@ -7,12 +7,11 @@
 //! - [`slices`]: what isn't one value.
 //! - [`reasons`]: the first reason that applies.
 //!
-//! A first call. Tests in `iox_lanes_opening_rows` make it.
+//! First calls, of a domain. Tests in `iox_lanes_opening_rows` have each reason.
 //!
 //! ```
-//! if let Some(error) = refusal(&domain) {
-//!     return Err(error);
-//! }
+//! let error = refusal(domain)?;
+//! Some(error.text())
 //! ```
 #![tactic(auto)]
 

@@ -2,7 +2,14 @@
 //!
 //! - [`lane_subscriber`]: the subscriber.
 //!
-//! First calls: those of `Lanes` of `iox_lanes_machine`, which is made of it.
+//! First calls, of the first access of a read; `Lanes` of `iox_lanes_machine` makes them with the words of a service.
+//!
+//! ```
+//! let mut subscriber = LaneSubscriber::new(alloc, &[], 4, ONE_WORD, 4, 1)?;
+//! subscriber.begin_read(slot);
+//! let access = subscriber.next();
+//! subscriber.take(answer);
+//! ```
 #![tactic(auto)]
 
 pub mod lane_subscriber;

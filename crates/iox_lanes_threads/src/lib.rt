@@ -8,13 +8,18 @@
 //! - `room`: the room that the ports need.
 //! - [`ending`]: from threads to ports that exist still.
 //!
-//! First calls, of lanes that stand between calls.
+//! First calls, of lanes that stand between calls. The program `example_threads` has the ports in threads of their own.
 //!
 //! ```
-//! let LaneThreads { board, mut publishers, mut subscribers } = open_threads(alloc, 1, lanes)?;
-//! let lent = publishers[0].loan_uninit();
-//! let got = subscribers[0].receive(&rt);
-//! let ended = end(board, publishers, subscribers);
+//! let mut threads = iox_lanes_threads::open_threads(alloc, 1, lanes).ok()?;
+//! let publisher = threads.publishers.first_mut()?;
+//! // the publisher's
+//! let Some(LoanAnswer::Slot(loan)) = publisher.loan_uninit() else {
+//!     return None;
+//! };
+//! if publisher.write(loan, payload, &[]) {
+//!     return Some(loan);
+//! }
 //! ```
 #![tactic(auto)]
 

@@ -6,13 +6,11 @@
 //! | `publish_subscribe`, `event`, `request_response` | the three errors of a pattern, of the failures of the rounds |
 //! | `close` | the errors of closing a factory |
 //!
-//! First calls. The builders of `iox_negotiate` return these errors.
+//! First calls, of a failure of the rounds. The builders of `iox_negotiate` return these errors.
 //!
 //! ```
-//! match builder.open(alloc, &mut table) {
-//!     Err(error) => eprintln!(rt; "{}", error.text())?,
-//!     Ok(factory) => {}
-//! }
+//! let error = PublishSubscribeOpenError::from(failure);
+//! error.text()
 //! ```
 #![tactic(auto)]
 
