@@ -1,6 +1,5 @@
 -- The definitions that contracts about commands and replies cite.
 pub mod Patterns
-pub mod Ports
 pub mod Held
 pub mod RefusalText
 pub use Rattle.iox_negotiate_errors.specs.DescribeBase as DescribeBase

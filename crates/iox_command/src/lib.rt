@@ -4,7 +4,6 @@
 //! | Module | What it has |
 //! |---|---|
 //! | `command` | the commands |
-//! | `port_command` | those of ports by themselves |
 //! | `service` | the settings of a service that a command names, by its pattern |
 //! | `port` | the options of a publisher and of a subscriber |
 //! | `step` | what a foreign process does between the accesses of a command |
@@ -29,7 +28,6 @@
 
 pub mod command;
 pub mod port;
-pub mod port_command;
 pub mod refusal;
 pub mod reply;
 pub mod service;
@@ -39,7 +37,6 @@ pub mod values;
 
 pub use command::Command;
 pub use port::{PortNumber, PublisherOptions, SubscriberOptions};
-pub use port_command::PortCommand;
 pub use refusal::{HubError, Refusal};
 pub use reply::Reply;
 pub use service::{

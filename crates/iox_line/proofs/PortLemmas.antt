@@ -1,12 +1,12 @@
 -- Which commands are of ports that there are.
 use Rattle.std.proofs.Common.{◌≡◌, ◌⊎◌, inl, inr, ◌≤◌, ℕ, List, [], ◌∷◌, Option, None, Some, IfSome, length, refl, cond, true, false, Bool, sym, ap, ◌∙◌}
 use Rattle.std.specs.Option.{option_map}
-use Rattle.iox_line_steps.specs.Command.Ports.{command_of}
+use Rattle.iox_command_ports.specs.Ports.{command_of}
 use Rattle.iox_line_steps.specs.Command.Patterns.{pattern_of}
 use Rattle.iox_line_steps.specs.Command.declared.command.Command.{Command}
 use Rattle.iox_line_steps.specs.Command.declared.command.Command.TheVariants as command
-use Rattle.iox_line_steps.specs.Command.declared.port_command.PortCommand.{PortCommand}
-use Rattle.iox_line_steps.specs.Command.declared.port_command.PortCommand.TheVariants as port
+use Rattle.iox_command_ports.specs.declared.port_command.PortCommand.{PortCommand}
+use Rattle.iox_command_ports.specs.declared.port_command.PortCommand.TheVariants as port
 use Rattle.iox_line_steps.specs.Command.declared.step.StepBefore.{StepBefore}
 use Rattle.iox_line_steps.specs.LineServices.declared.service.NamedService.{NamedService}
 use Rattle.iox_line_steps.specs.LineServices.Reading.{pattern_named, name_of, service_of}

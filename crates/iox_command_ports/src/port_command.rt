@@ -1,10 +1,8 @@
 //! What may be asked of a port.
 ghost use Rattle.std.specs.Prelude.{◌≡◌};
-ghost use Rattle.iox_command.specs.Ports.{command_of};
+ghost use Rattle.iox_command_ports.specs.Ports.{command_of};
 
-use crate::command::Command;
-use crate::port::PortNumber;
-use crate::values::Values;
+use iox_command::{Command, PortNumber, Values};
 
 /// One command of a port that there is: those commands that need no name and no settings. It is small, so that it costs little to hand on.
 ///

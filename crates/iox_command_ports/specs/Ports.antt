@@ -1,8 +1,8 @@
 -- The commands of ports that there are, among all commands.
 use Rattle.iox_command.specs.declared.command.Command.{Command}
 use Rattle.iox_command.specs.declared.command.Command.TheVariants as command
-use Rattle.iox_command.specs.declared.port_command.PortCommand.{PortCommand}
-use Rattle.iox_command.specs.declared.port_command.PortCommand.TheVariants as port
+use Rattle.iox_command_ports.specs.declared.port_command.PortCommand.{PortCommand}
+use Rattle.iox_command_ports.specs.declared.port_command.PortCommand.TheVariants as port
 
 -- a command of a port, among all commands
 abbrev pub command_of : {T : Type 0} → PortCommand T → Command T
