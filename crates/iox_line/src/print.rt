@@ -42,6 +42,7 @@ fn append_reply(reply: &Reply<u64>, out: &mut Vec<u8>) -> Result<(), AllocError>
     }
 }
 
+#[inline(always)]
 fn append(text: &[u8], out: &mut Vec<u8>) -> Result<(), AllocError>
     ensures ok { OnOk result (out.new.items ≡ out.old.items ++ text.now) }
     ensures err { OnErr result (out.new.items ≡ out.old.items) }
@@ -49,6 +50,7 @@ fn append(text: &[u8], out: &mut Vec<u8>) -> Result<(), AllocError>
     out.extend_from_slice(text)
 }
 
+#[inline(always)]
 fn append_both(first: &[u8], second: &[u8], out: &mut Vec<u8>) -> Result<(), AllocError>
     ensures ok { OnOk result (out.new.items ≡ out.old.items ++ (first.now ++ second.now)) }
     ensures err { OnErr result (take (length out.old.items) out.new.items ≡ out.old.items) }
@@ -57,6 +59,7 @@ fn append_both(first: &[u8], second: &[u8], out: &mut Vec<u8>) -> Result<(), All
     append(second, out)
 }
 
+#[inline(always)]
 fn append_made(kind: &[u8], number: u64, out: &mut Vec<u8>) -> Result<(), AllocError>
     ensures ok { OnOk result (out.new.items ≡ out.old.items ++ (kind.now ++ decimal number)) }
     ensures err { OnErr result (take (length out.old.items) out.new.items ≡ out.old.items) }
