@@ -42,12 +42,17 @@ fn append_reply(reply: &Reply<u64>, out: &mut Vec<u8>) -> Result<(), AllocError>
     }
 }
 
+// These texts are short, so their bytes are put down one by one.
 #[inline(always)]
 fn append(text: &[u8], out: &mut Vec<u8>) -> Result<(), AllocError>
     ensures ok { OnOk result (out.new.items ≡ out.old.items ++ text.now) }
     ensures err { OnErr result (out.new.items ≡ out.old.items) }
 {
-    out.extend_from_slice(text)
+    out.reserve(text.len())?;
+    for &byte in text {
+        out.push_reserved(byte);
+    }
+    Ok(())
 }
 
 #[inline(always)]
