@@ -1,12 +1,12 @@
 -- How a conversation goes on.
-use Rattle.std.proofs.Common.{◌≡◌, ℕ, ◌+◌, ◌<◌, ◌≤◌, ◌==◌, true, false, List, [], ◌∷◌, Option, IfSome, Result, Ok, Err, OnOk, ◌++◌, length, refl, sym, ap, inl, arith, append_assoc, length-append}
+use Rattle.std.proofs.Common.{◌≡◌, ℕ, ◌+◌, ◌<◌, ◌≤◌, true, List, [], ◌∷◌, Option, IfSome, Result, Ok, Err, OnOk, ◌++◌, ◌∙◌, length, take, refl, sym, ap, inl, arith, append_assoc, length-append}
 use Rattle.std.proofs.lemmas.List.{append-nil}
 use Rattle.std.specs.Io.KnownBytes.{Appends, Consumes}
 use Rattle.std.proofs.KnownBytes.{Consumes-whole}
 use Rattle.iox_conversation.specs.Lines.{heard}
 use Rattle.iox_conversation.specs.Conversation.{Served, SessionState, Advances, Ends, IsConversation, Converses, BreaksOff}
 use Rattle.iox_conversation.specs.declared.error.ServeError.{ServeError}
-use Rattle.iox_conversation.proofs.LineLemmas.{is_unbroken, heard-whole, heard-last, heard-full}
+use Rattle.iox_conversation.proofs.LineLemmas.{is_unbroken, unbroken-append, heard-whole, heard-last, heard-cut}
 
 -- what answers some lines and then what answers more answers all of them
 pub Served-append : {M : Type 0} (answers : M → List ℕ → List ℕ → M → Type 0) (old mid new : M) (lines more : List (List ℕ)) (out next : List ℕ)
@@ -25,35 +25,36 @@ Served-append answers old mid new (line ∷ lines) more out next first second = 
 pub Advances-none : {M : Type 0} (answers : M → List ℕ → List ℕ → M → Type 0) (used : M → ℕ) (old : SessionState M) → Advances answers used old [] [] old
 Advances-none answers used old = record { done = []; served = (refl, refl); lines = λ rest. refl; counts = omega arith }
 
--- a byte came that belongs to the line under way
-pub Advances-pushed : {M : Type 0} (answers : M → List ℕ → List ℕ → M → Type 0) (used : M → ℕ) (old : SessionState M) (b : ℕ) → Advances answers used old (b ∷ []) [] (record old { line = old.line ++ b ∷ [] })
-Advances-pushed answers used old b = record {
+-- bytes came that belong to the line under way
+pub Advances-heard : {M : Type 0} (answers : M → List ℕ → List ℕ → M → Type 0) (used : M → ℕ) (old new : SessionState M) (part : List ℕ) → is_unbroken old.line ≡ true → is_unbroken part ≡ true
+    → new.machine ≡ old.machine → new.line ≡ take 1025 (old.line ++ part) → Advances answers used old part [] new
+Advances-heard answers used old new part unbroken more who line = record {
   done = [];
-  served = (refl, refl);
-  lines = λ rest. ap heard (sym (append_assoc old.line (b ∷ []) rest));
-  counts = omega arith;
+  served = (refl, who);
+  lines = λ rest. rw line (ap heard (sym (append_assoc old.line part rest)) ∙ heard-cut (old.line ++ part) rest (unbroken-append old.line part unbroken more));
+  counts = rw who (omega arith);
 }
 
--- a byte came of a line that is too long already
-pub Advances-ignored : {M : Type 0} (answers : M → List ℕ → List ℕ → M → Type 0) (used : M → ℕ) (old : SessionState M) (b : ℕ) → is_unbroken old.line ≡ true → length old.line ≡ 1025 → (b == 10) ≡ false
-    → Advances answers used old (b ∷ []) [] old
-Advances-ignored answers used old b unbroken full other = record {
-  done = [];
-  served = (refl, refl);
-  lines = λ rest. heard-full old.line b rest unbroken full other;
-  counts = omega arith;
-}
-
--- a newline came, and the line is answered
-pub Advances-answered : {M : Type 0} (answers : M → List ℕ → List ℕ → M → Type 0) (used : M → ℕ) (old : SessionState M) (text : List ℕ) (machine : M) → is_unbroken old.line ≡ true → length old.line ≤ 1025
-    → answers old.machine old.line text machine → used machine ≤ used old.machine + 1
-    → Advances answers used old (10 ∷ []) (text ++ 10 ∷ []) (record { machine = machine; line = [] })
-Advances-answered answers used old text machine unbroken short answered counts = record {
-  done = old.line ∷ [];
+-- bytes and a newline came, and the line is answered
+pub Advances-ended : {M : Type 0} (answers : M → List ℕ → List ℕ → M → Type 0) (used : M → ℕ) (old : SessionState M) (part text : List ℕ) (machine : M) → is_unbroken old.line ≡ true → is_unbroken part ≡ true
+    → answers old.machine (take 1025 (old.line ++ part)) text machine → used machine ≤ used old.machine + 1
+    → Advances answers used old (part ++ 10 ∷ []) (text ++ 10 ∷ []) (record { machine = machine; line = [] })
+Advances-ended answers used old part text machine unbroken more answered counts = record {
+  done = take 1025 (old.line ++ part) ∷ [];
   served = (text, [], machine, answered, (refl, refl), refl);
-  lines = λ rest. heard-whole old.line rest unbroken short;
-  counts = counts;
+  lines = λ rest. rw (append_assoc part (10 ∷ []) rest, ← append_assoc old.line part (10 ∷ rest)) (heard-whole (old.line ++ part) rest (unbroken-append old.line part unbroken more));
+  counts = omega (arith, counts, length-append part (10 ∷ []));
 }
+
+-- the same, of a line that was put together before it was answered
+pub Advances-put_together : {M : Type 0} (answers : M → List ℕ → List ℕ → M → Type 0) (used : M → ℕ) (old mid kept : SessionState M) (part text : List ℕ) (machine : M) → is_unbroken old.line ≡ true → is_unbroken part ≡ true
+    → mid ≡ kept → kept.machine ≡ old.machine → kept.line ≡ take 1025 (old.line ++ part)
+    → answers mid.machine mid.line text machine → used machine ≤ used mid.machine + 1
+    → Advances answers used old (part ++ 10 ∷ []) (text ++ 10 ∷ []) (record { machine = machine; line = [] })
+Advances-put_together {M} answers used old mid kept part text machine unbroken more same who line answered counts =
+    let who_now : mid.machine ≡ old.machine = ap (λ (s : SessionState M). s.machine) same ∙ who in
+    let line_now : mid.line ≡ take 1025 (old.line ++ part) = ap (λ (s : SessionState M). s.line) same ∙ line in
+    Advances-ended answers used old part text machine unbroken more (rw (who_now, line_now) at answered) (rw who_now at counts)
 
 -- one piece came after another
 pub Advances-append : {M : Type 0} (answers : M → List ℕ → List ℕ → M → Type 0) (used : M → ℕ) (old mid new : SessionState M) (bytes more out next : List ℕ)
@@ -65,7 +66,8 @@ Advances-append answers used old mid new bytes more out next first second = reco
   counts = omega (arith, first.counts, second.counts, length-append bytes more);
 }
 
-length-zero : (xs : List ℕ) → length xs ≡ 0 → xs ≡ []
+-- what has no elements is empty
+pub length-zero : (xs : List ℕ) → length xs ≡ 0 → xs ≡ []
 length-zero [] h = refl
 length-zero (x ∷ xs) h = absurd (omega (arith, h))
 

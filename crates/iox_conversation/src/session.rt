@@ -1,9 +1,10 @@
 //! A conversation under way: who answers, and what was heard of the line that isn't whole yet.
-ghost use Rattle.std.specs.Prelude.{◌≡◌, ◌==◌, ℕ, List, ◌+◌, ◌++◌, ◌∷◌, [], ◌<◌, ◌≤◌, ◌^◌, true, not, length, OnOk, IfOk};
+ghost use Rattle.std.specs.Prelude.{◌≡◌, ◌==◌, ℕ, List, ◌+◌, ◌++◌, ◌∷◌, [], ◌<◌, ◌≤◌, ◌^◌, true, not, length, take, OnOk, IfOk};
 ghost use Rattle.std.specs.List.{list_all};
 ghost use Rattle.iox_conversation.specs.Conversation.{Advances, Ends};
 
 use crate::machine::AnswersLines;
+use memchr::memchr;
 use std::alloc::{AllocError, Global};
 use std::marker::Model;
 
@@ -41,25 +42,35 @@ impl<M: AnswersLines> Session<M> {
         })
     }
 
-    /// Takes one byte, and appends the reply line if it ends a line.
-    pub fn take_byte(
-        &mut self,
-        alloc: Global,
-        byte: u8,
-        out: &mut Vec<u8>,
-    ) -> Result<(), AllocError>
-        requires { M.used self.old.machine + 1 < 2 ^ 64 }
+    /// Hears more of the line under way. Past its first 1,025 bytes nothing is kept.
+    fn hear(&mut self, part: &[u8])
+        requires { list_all (λ b. not (b == 10)) part.now ≡ true }
+        ensures line { self.new.line ≡ take 1025 (self.old.line ++ part.now) }
+        ensures machine { self.new.machine ≡ self.old.machine }
         ensures whole { list_all (λ b. not (b == 10)) self.new.line ≡ true }
-        ensures answers { OnOk result ((text : List ℕ) × (out.new.items ≡ out.old.items ++ text) × Advances M.answers M.used self.old (byte ∷ []) text self.new) }
     {
-        if byte != b'\n' {
-            if self.line.len() <= LINE_LIMIT {
-                self.line.push_reserved(byte);
-            }
+        let room = LINE_LIMIT + 1 - self.line.len();
+        let kept = &part[..part.len().min(room)];
+        let Ok(()) = self.line.extend_from_slice(kept) else {
+            unreachable!();
+        };
+    }
+
+    /// Ends the line under way by these bytes, and appends its reply line. A line that lies there whole isn't copied.
+    fn end_line(&mut self, alloc: Global, part: &[u8], out: &mut Vec<u8>) -> Result<(), AllocError>
+        requires unbroken { list_all (λ b. not (b == 10)) part.now ≡ true }
+        requires used { M.used self.old.machine + 1 < 2 ^ 64 }
+        ensures whole { list_all (λ b. not (b == 10)) self.new.line ≡ true }
+        ensures answers { OnOk result ((text : List ℕ) × (out.new.items ≡ out.old.items ++ text) × Advances M.answers M.used self.old (part.now ++ 10 ∷ []) text self.new) }
+    {
+        if !self.line.is_empty() {
+            self.hear(part);
+            answer(alloc, &mut self.machine, &self.line, out)?;
+            self.line.clear();
             return Ok(());
         }
-        answer(alloc, &mut self.machine, &self.line, out)?;
-        self.line.clear();
+        let heard = &part[..part.len().min(LINE_LIMIT + 1)];
+        answer(alloc, &mut self.machine, heard, out)?;
         Ok(())
     }
 
@@ -75,9 +86,12 @@ impl<M: AnswersLines> Session<M> {
         ensures answers { OnOk result ((text : List ℕ) × (out.new.items ≡ out.old.items ++ text) × Advances M.answers M.used self.old bytes.now text self.new) }
     {
         let _ = &self.line;
-        for &byte in bytes {
-            self.take_byte(alloc, byte, out)?;
+        let mut rest = bytes;
+        while let Some(end) = memchr(b'\n', rest) {
+            self.end_line(alloc, &rest[..end], out)?;
+            rest = &rest[end + 1..];
         }
+        self.hear(rest);
         Ok(())
     }
 

@@ -5,6 +5,7 @@
 //! | `numbered_hub` | the hub with what was made in it |
 //! | `services` | the commands on nodes and services |
 //! | `step` | one command, and its reply |
+//! | `port_step` | one command of a port, and its reply |
 //! | `run` | a list of commands |
 //! | `laws` | what it comes to that each service has one agreement |
 //!
@@ -19,6 +20,7 @@
 
 pub mod laws;
 pub mod numbered_hub;
+mod port_step;
 pub mod run;
 mod services;
 mod step;

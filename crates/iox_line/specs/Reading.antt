@@ -175,6 +175,19 @@ of_verb verb.Has words = option_map (λ n. command.Has n) (only subscriber_lette
 of_verb verb.Publisher words = publisher_command words
 of_verb verb.Subscriber words = subscriber_command words
 
+-- a command of a port that there is; another is none
+abbrev pub if_of_port : Option (Command ℕ) → Option (Command ℕ)
+if_of_port None = None
+if_of_port (Some command.Node) = None
+if_of_port (Some (command.Create node name options attributes steps)) = None
+if_of_port (Some (command.Open node name options requirements steps)) = None
+if_of_port (Some (command.OpenOrCreate node name options requirements steps)) = None
+if_of_port (Some (command.Foreign pattern name steps)) = None
+if_of_port (Some (command.Close factory)) = None
+if_of_port (Some (command.Publisher factory options)) = None
+if_of_port (Some (command.Subscriber factory options)) = None
+if_of_port other = other
+
 -- the command of a verb that was read, and the words after it
 abbrev pub of_read : Option Verb → Option ServiceVerb → List (List ℕ) → Option (Command ℕ)
 of_read (Some verb) other words = of_verb verb words

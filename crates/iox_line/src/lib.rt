@@ -41,5 +41,5 @@ pub mod verb;
 
 pub use error::LineError;
 pub use print::print_reply;
-pub use read::read_command;
+pub use read::{read_command, read_port_command};
 pub use scratch::Scratch;

@@ -42,13 +42,20 @@ fn append_reply(reply: &Reply<u64>, out: &mut Vec<u8>) -> Result<(), AllocError>
     }
 }
 
+// These texts are short, so their bytes are put down one by one.
+#[inline(always)]
 fn append(text: &[u8], out: &mut Vec<u8>) -> Result<(), AllocError>
     ensures ok { OnOk result (out.new.items ≡ out.old.items ++ text.now) }
     ensures err { OnErr result (out.new.items ≡ out.old.items) }
 {
-    out.extend_from_slice(text)
+    out.reserve(text.len())?;
+    for &byte in text {
+        out.push_reserved(byte);
+    }
+    Ok(())
 }
 
+#[inline(always)]
 fn append_both(first: &[u8], second: &[u8], out: &mut Vec<u8>) -> Result<(), AllocError>
     ensures ok { OnOk result (out.new.items ≡ out.old.items ++ (first.now ++ second.now)) }
     ensures err { OnErr result (take (length out.old.items) out.new.items ≡ out.old.items) }
@@ -57,6 +64,7 @@ fn append_both(first: &[u8], second: &[u8], out: &mut Vec<u8>) -> Result<(), All
     append(second, out)
 }
 
+#[inline(always)]
 fn append_made(kind: &[u8], number: u64, out: &mut Vec<u8>) -> Result<(), AllocError>
     ensures ok { OnOk result (out.new.items ≡ out.old.items ++ (kind.now ++ decimal number)) }
     ensures err { OnErr result (take (length out.old.items) out.new.items ≡ out.old.items) }

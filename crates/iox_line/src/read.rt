@@ -1,8 +1,12 @@
 //! From the bytes of a line to the command that they spell.
-ghost use Rattle.std.specs.Prelude.{◌≡◌, ◌≤◌, length};
-ghost use Rattle.iox_line.specs.Reading.{of_verb, of_words, publisher_command, subscriber_command};
+ghost use Rattle.std.specs.Prelude.{◌≡◌, ◌≤◌, ℕ, None, length, IfSome};
+ghost use Rattle.std.specs.Option.{option_map};
+ghost use Rattle.iox_line.specs.Reading.{if_of_port, of_verb, of_words, publisher_command, subscriber_command};
 ghost use Rattle.iox_line_attributes.specs.CommandText.Memory.{MayLack};
+ghost use Rattle.iox_command_ports.specs.Ports.{command_of};
+ghost use Rattle.iox_command_ports.specs.declared.port_command.PortCommand.{PortCommand};
 ghost use Rattle.iox_line.specs.Outcome.{Answers, takes_memory};
+ghost use Rattle.iox_line.specs.Spelling.{Spells};
 
 use crate::arguments::{only, port, with_number, with_two, with_values};
 use crate::error::LineError;
@@ -11,6 +15,7 @@ use crate::scratch::Scratch;
 use crate::service::of_service;
 use crate::verb::{Verb, first_verb, service_verb};
 use iox_command::Command;
+use iox_command_ports::PortCommand;
 use iox_command_text::Words;
 use iox_command_text::number::numbered;
 use std::alloc::{AllocError, Global};
@@ -35,6 +40,21 @@ pub fn read_command<'a>(
         Ok(None) => Ok(Err(LineError::Faulty)),
         Err(lacking) => Err(lacking),
     }
+}
+
+/// The command of a port that a line spells, without its newline; `None` if it spells none, or has more than 1,024 bytes.
+/// The values of a message are put into the scratch. It takes no memory, and what it answers is what `read_command` answers.
+pub fn read_port_command<'a>(line: &[u8], scratch: &'a mut Scratch) -> Option<PortCommand<'a, u64>>
+    ensures some { IfSome result (λ command. (length line.now ≤ 1024) × Spells line.now (command_of command)) }
+    ensures none { result ≡ None → (command : PortCommand ℕ) → length line.now ≤ 1024 → Spells line.now (command_of command) → ⊥ }
+{
+    if line.len() > 1_024 {
+        return None;
+    }
+    let mut words = Words::new(line);
+    let word = words.next()?;
+    let verb = first_verb(word)?;
+    of_port_verb(verb, words, scratch)
 }
 
 fn of_words<'a>(
@@ -72,71 +92,89 @@ fn of_verb<'a>(verb: Verb, words: Words, scratch: &'a mut Scratch) -> Option<Com
             let factory = only(b'f', words)?;
             Some(Command::Close { factory })
         }
+        Verb::Publisher => publisher_line(words),
+        Verb::Subscriber => subscriber_line(words),
+        _ => {
+            let command = of_port_verb(verb, words, scratch)?;
+            Some(command.into_command())
+        }
+    }
+}
+
+/// The command of a port, if the verb is of one.
+fn of_port_verb<'a>(
+    verb: Verb,
+    words: Words,
+    scratch: &'a mut Scratch,
+) -> Option<PortCommand<'a, u64>>
+    requires { length words ≤ 1025 }
+    ensures { option_map command_of result ≡ if_of_port (of_verb verb words.entry) }
+{
+    match verb {
+        Verb::Node | Verb::Close | Verb::Publisher | Verb::Subscriber => None,
         Verb::Loan => {
             let (publisher, length) = with_number(b'p', words)?;
-            Some(Command::Loan { publisher, length })
+            Some(PortCommand::Loan { publisher, length })
         }
         Verb::LoanUninit => {
             let (publisher, length) = with_number(b'p', words)?;
-            Some(Command::LoanUninit { publisher, length })
+            Some(PortCommand::LoanUninit { publisher, length })
         }
         Verb::Set => {
             let (loan, place, value) = with_two(b'l', words)?;
-            Some(Command::Set { loan, place, value })
+            Some(PortCommand::Set { loan, place, value })
         }
         Verb::Fill => {
             let (loan, values) = with_values(b'l', words, scratch)?;
-            Some(Command::Fill { loan, values })
+            Some(PortCommand::Fill { loan, values })
         }
         Verb::Drop => {
             let loan = only(b'l', words)?;
-            Some(Command::Drop { loan })
+            Some(PortCommand::Drop { loan })
         }
         Verb::Send => {
             let loan = only(b'l', words)?;
-            Some(Command::Send { loan })
+            Some(PortCommand::Send { loan })
         }
         Verb::Put => {
             let (publisher, values) = with_values(b'p', words, scratch)?;
-            Some(Command::Put { publisher, values })
+            Some(PortCommand::Put { publisher, values })
         }
         Verb::Retry => {
             let (publisher, nanoseconds) = with_number(b'p', words)?;
-            Some(Command::Retry {
+            Some(PortCommand::Retry {
                 publisher,
                 nanoseconds,
             })
         }
         Verb::GiveUp => {
             let publisher = only(b'p', words)?;
-            Some(Command::GiveUp { publisher })
+            Some(PortCommand::GiveUp { publisher })
         }
         Verb::Receive => {
             let subscriber = only(b's', words)?;
-            Some(Command::Receive { subscriber })
+            Some(PortCommand::Receive { subscriber })
         }
         Verb::Read => {
             let sample = only(b'm', words)?;
-            Some(Command::Read { sample })
+            Some(PortCommand::Read { sample })
         }
         Verb::Release => {
             let sample = only(b'm', words)?;
-            Some(Command::Release { sample })
+            Some(PortCommand::Release { sample })
         }
         Verb::Update => {
             let port = port(words)?;
-            Some(Command::Update { port })
+            Some(PortCommand::Update { port })
         }
         Verb::Leave => {
             let port = port(words)?;
-            Some(Command::Leave { port })
+            Some(PortCommand::Leave { port })
         }
         Verb::Has => {
             let subscriber = only(b's', words)?;
-            Some(Command::Has { subscriber })
+            Some(PortCommand::Has { subscriber })
         }
-        Verb::Publisher => publisher_line(words),
-        Verb::Subscriber => subscriber_line(words),
     }
 }
 

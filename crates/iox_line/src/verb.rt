@@ -1,8 +1,7 @@
 //! The first word of a line.
 ghost use Rattle.std.specs.Prelude.{◌≡◌};
+ghost use Rattle.iox_line_attributes.specs.CommandText.Words.{same};
 ghost use Rattle.iox_line.specs.Verbs.{verb_of, seldom_verb_of, service_verb_of};
-
-use iox_command_text::words::is;
 
 /// What a line asks for. This port's own.
 #[derive(Clone, Copy, Debug, PartialEq, Eq)]
@@ -58,6 +57,22 @@ pub enum ServiceVerb {
     OpenOrCreate,
     /// `foreign`
     Foreign,
+}
+
+// Whether a word is this text. Verbs are short: to look at their bytes in turn is quicker than to compare slices.
+#[inline(always)]
+fn is(word: &[u8], text: &[u8]) -> bool
+    ensures { result ≡ same word.now text.now }
+{
+    if word.len() != text.len() {
+        return false;
+    }
+    for place in 0..text.len() {
+        if word[place] != text[place] {
+            return false;
+        }
+    }
+    true
 }
 
 /// What a first word asks for, but for those that name a service; `None` if nothing that there is.
