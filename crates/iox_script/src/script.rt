@@ -1,5 +1,5 @@
 //! A hub that a script drives, one line at a time.
-ghost use Rattle.std.specs.Prelude.{◌≡◌, ◌⊎◌, ◌+◌, ◌<◌, ◌^◌, ℕ, List, true, OnOk, IfErr, IfSome, Err, ◌++◌, codes};
+ghost use Rattle.std.specs.Prelude.{◌≡◌, ◌⊎◌, ◌+◌, ◌<◌, ◌≤◌, ◌^◌, ℕ, List, true, OnOk, IfErr, IfSome, Err, ◌++◌, codes};
 ghost use Rattle.std.specs.Io.KnownBytes.{Appends};
 ghost use Rattle.iox_conversation.specs.Conversation.{IsConversation};
 ghost use Rattle.iox_conversation.specs.declared.error.ServeError.TheVariants as failed;
@@ -10,7 +10,7 @@ ghost use Rattle.iox_script.specs.declared.script.Script.{Script};
 
 use iox_conversation::{AnswersLines, Input, Output, ServeError};
 use iox_hub_run::{FixedDegradation, FixedHandlers, HubConfig, NumberedHub};
-use iox_line::{LineError, Scratch, print_reply, read_command};
+use iox_line::{LineError, Scratch, print_reply, read_command, read_port_command};
 use std::alloc::{AllocError, Global};
 use std::io::{Read, Write};
 
@@ -35,6 +35,26 @@ impl AnswersLines for Script {
         line: &[u8],
         out: &mut Vec<u8>,
     ) -> Result<(), AllocError> {
+        if let Some(command) = read_port_command(line, &mut self.scratch) {
+            let reply = self.hub.step_port(alloc, command)?;
+            return print_reply(&reply, out);
+        }
+        self.answer_any(alloc, line, out)
+    }
+}
+
+impl Script {
+    // The same of any line. Most lines ask ports, and those are small.
+    fn answer_any(
+        &mut self,
+        alloc: Global,
+        line: &[u8],
+        out: &mut Vec<u8>,
+    ) -> Result<(), AllocError>
+        requires { numbers_used self.old.hub + 1 < 2 ^ 64 }
+        ensures answers { OnOk result ((text : List ℕ) × (out.new.items ≡ out.old.items ++ text) × AnswersLine self.old line.now text self.new) }
+        ensures counts { numbers_used self.new.hub ≤ numbers_used self.old.hub + 1 }
+    {
         match read_command(alloc, line, &mut self.scratch)? {
             Ok(command) => {
                 let reply = self.hub.step(alloc, command)?;
