@@ -1,11 +1,11 @@
 //! The tables: which port, loan or sample goes by a number.
-ghost use Rattle.std.specs.Prelude.{◌≡◌, ◌&&◌, true, false, not, IfSome};
+ghost use Rattle.std.specs.Prelude.{◌≡◌, true, false, IfSome};
 ghost use Rattle.iox_delivery_slices.specs.Delivery.Holding.{publisher_stands, publisher_blocked};
 ghost use Rattle.iox_numbered.specs.NumberTable.{value_at};
 ghost use Rattle.iox_hub_ports.specs.Calls.{ready};
 ghost use Rattle.iox_hub_ports.specs.Tables.{IsEmpty, port_under, lender};
 
-use iox_delivery::PortId;
+use iox_delivery::{PortId, publishing};
 use iox_domain_home::Home;
 use iox_domain_subscriber::Taken;
 use iox_numbered::Numbered;
@@ -113,23 +113,10 @@ impl Made {
         ensures free { IfSome result (λ port. publisher_blocked port.number (H.ports_of port.domain home.now) ≡ false) }
     {
         let port = self.lender(publisher, elements)?;
-        if may_lend(port, home) {
+        if publishing::holds(port, home) && !publishing::is_blocked(port, home) {
             Some(port)
         } else {
             None
         }
-    }
-}
-
-// Whether a publisher exists, and no send of it waits. It is looked for once.
-fn may_lend<T: Copy, U: Copy, H: Home<T, U>>(port: PortId, home: &H) -> bool
-    ensures { result ≡ (publisher_stands port.number (H.ports_of port.domain home.now) && not (publisher_blocked port.number (H.ports_of port.domain home.now))) }
-{
-    let Some(ports) = home.ports(port.domain) else {
-        return false;
-    };
-    match ports.publishers.get(port.number) {
-        Some(publisher) => publisher.stands && !publisher.sender.is_sending(),
-        None => false,
     }
 }
