@@ -46,22 +46,27 @@ fn is_sent(
         user_header: Vec::from_slice(alloc, &[user_header])?,
         payload: Vec::from_slice(alloc, &payload)?,
     };
-    Ok(is_called(lanes, PUBLISHER, Call::LoanUninit)
-        && is_called(lanes, PUBLISHER, write)
-        && is_called(lanes, PUBLISHER, Call::Send { loan }))
+    Ok(
+        is_called(lanes, PUBLISHER, Call::LoanUninit)
+            && is_called(lanes, PUBLISHER, write)
+            && is_called(lanes, PUBLISHER, Call::Send { loan }),
+    )
 }
 
 // A message is received and read.
 fn is_read(lanes: &mut RecordedLanes, sample: u64) -> bool {
-    is_called(lanes, SUBSCRIBER, Call::Receive) && is_called(lanes, SUBSCRIBER, Call::Read { sample })
+    is_called(lanes, SUBSCRIBER, Call::Receive)
+        && is_called(lanes, SUBSCRIBER, Call::Read { sample })
 }
 
 // Two messages are sent, and each is read.
 fn are_read(alloc: Global, lanes: &mut RecordedLanes) -> Result<bool, AllocError> {
-    Ok(is_sent(alloc, lanes, 0, 5, [7, 8])?
-        && is_read(lanes, 0)
-        && is_sent(alloc, lanes, 1, 6, [9, 10])?
-        && is_read(lanes, 1))
+    Ok(
+        is_sent(alloc, lanes, 0, 5, [7, 8])?
+            && is_read(lanes, 0)
+            && is_sent(alloc, lanes, 1, 6, [9, 10])?
+            && is_read(lanes, 1),
+    )
 }
 
 // Whether a message that was kept has these words, in this slot of the first publisher.
@@ -74,7 +79,13 @@ fn a_read_gives_the_message_that_is_kept(rt: HostRuntime) -> Result<(), Fail> {
     let alloc = rt.alloc();
     let mut lanes = RecordedLanes::new(alloc, Lanes::new(alloc, SIZES)?);
     assert!(rt; lanes.is_empty() && are_read(alloc, &mut lanes)?);
-    assert!(rt; is_kept(lanes.message(0), 0, &[0, 0, 1, 5, 7, 8]) && is_kept(lanes.message(1), 1, &[0, 0, 1, 6, 9, 10]));
-    assert!(rt; lanes.len() == 2 && lanes.lanes().words_read() == [0, 0, 1, 5, 7, 8, 0, 0, 1, 6, 9, 10].as_slice());
+    assert!(rt;
+        is_kept(lanes.message(0), 0, &[0, 0, 1, 5, 7, 8])
+            && is_kept(lanes.message(1), 1, &[0, 0, 1, 6, 9, 10])
+    );
+    assert!(rt;
+        lanes.len() == 2
+            && lanes.lanes().words_read() == [0, 0, 1, 5, 7, 8, 0, 0, 1, 6, 9, 10].as_slice()
+    );
     Ok(())
 }
