@@ -12,14 +12,13 @@
 //! | `ports` | builders of ports; domains that are taken and put back |
 //! | `home` | the hub as a home of its ports |
 //!
-//! First calls. Tests in `iox_hub_rows` make them: `conversations.rt` goes from two nodes to a message that was read.
+//! First calls, of a builder of a service. Tests in `iox_hub_rows` go on: `conversations.rt` goes from two nodes to a message that was read.
 //!
 //! ```
-//! let mut hub = Hub::<u64, ()>::new(alloc, config);
+//! let mut hub = Hub::<u64, (), Nobody, Nobody>::new(alloc, config);
 //! let node = hub.new_node()?;
 //! let builder = hub.service_builder(&node, name).publish_subscribe::<u64>();
-//! let factory = builder.create_in(alloc, &mut hub, Vec::new(alloc))?;
-//! let publishers = hub.publisher_builder(&factory);
+//! Ok((node.number(), builder.holds(&hub)))
 //! ```
 #![tactic(auto)]
 

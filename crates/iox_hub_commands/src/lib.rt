@@ -13,11 +13,11 @@
 //! | `receiving` | subscribers receive |
 //! | `following` | ports follow the list of the others, say whether messages wait, and leave |
 //!
-//! First calls. `NumberedHub` of `iox_hub_run` makes them.
+//! First calls, where nothing was made. `NumberedHub` of `iox_hub_run` makes the others.
 //!
 //! ```
-//! let reply = lending::put(alloc, &made, &mut home, 1, &[7]);
-//! let reply = messages::release(&mut made, &mut home, 1);
+//! let mut made = Made::new(alloc);
+//! let reply = messages::release(&mut made, home, sample);
 //! ```
 #![tactic(auto)]
 

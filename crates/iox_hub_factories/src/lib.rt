@@ -12,12 +12,11 @@
 //! | `acting` | nodes of others act |
 //! | `laws` | what these calls come to for the factories, in other words than theirs |
 //!
-//! First calls. `NumberedHub` of `iox_hub_run` makes them.
+//! First calls, where nothing was opened. `NumberedHub` of `iox_hub_run` makes the others.
 //!
 //! ```
 //! let mut factories = Factories::new(alloc);
-//! let number = factories.create(alloc, &mut hub, &asked, &attributes, &steps);
-//! let closed = factories.close(&mut hub, 1);
+//! let closed = factories.close(hub, number);
 //! ```
 #![tactic(auto)]
 

@@ -11,13 +11,11 @@
 //! | `growing` | loans and samples that come where there may be no room for one more |
 //! | `laws` | what the calls come to, in other words |
 //!
-//! First calls. `iox_hub_commands` makes them.
+//! First calls, where nothing was made. `iox_hub_commands` makes the others.
 //!
 //! ```
-//! if let Some(Ok(loan)) = made.loan_uninit(alloc, &mut home, publisher, 1) {
-//!     made.fill(&mut home, loan, &[7]);
-//!     let sent = made.send(alloc, &mut home, loan);
-//! }
+//! let made = Made::new(alloc);
+//! let sent = made.put(alloc, home, publisher, &[7]);
 //! ```
 #![tactic(auto)]
 

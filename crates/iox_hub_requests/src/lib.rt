@@ -8,11 +8,11 @@
 //!
 //! Services of a hub over values of `T` carry slices of them, with a user header of `U`; those of request-response in both directions.
 //!
-//! First calls. `iox_hub_factories` makes them.
+//! First calls, of a publish-subscribe service. `iox_hub_factories` makes them.
 //!
 //! ```
-//! let requirement = publish_subscribe(&options, message_types::<u64, ()>());
-//! let steps = step_lists(alloc, &name, &types, &asked_steps)?;
+//! let types = message_types::<u64, ()>();
+//! publish_subscribe(options, types)
 //! ```
 #![tactic(auto)]
 

@@ -9,13 +9,15 @@
 //! | `laws` | what holds of these calls, in other words |
 //! | `presences` | what is open, by numbers |
 //!
-//! First calls. `Hub` of `iox_hub_base` makes them.
+//! First calls, of a domain that is taken out and put back. `Hub` of `iox_hub_base` makes them.
 //!
 //! ```
-//! let mut services = Services::new(alloc, 1);
-//! services.open(alloc, &description, number, 128)?;
-//! let domain = services.take(number)?;
-//! services.put(domain)?;
+//! let mut services = Services::<u64, (), Nobody, Nobody>::new(alloc, 4);
+//! services.open(alloc, description, 2, 128)?;
+//! // where a service is open under the number
+//! let domain = services.take(number).ok()?;
+//! let id = domain.id;
+//! services.put(domain).ok()?;
 //! ```
 #![tactic(auto)]
 

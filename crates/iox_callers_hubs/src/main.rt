@@ -1,0 +1,144 @@
+//! First calls of hubs: of their services, and of what commands make in them; each as a function whose contract follows from the
+//! contracts of that crate alone. Each is run, and what it returns is printed.
+#![tactic(auto)]
+
+ghost use Rattle.std.specs.Prelude.{◌≡◌, Ok, None, true, false, codes, IfSome};
+ghost use Rattle.iox_hub_requests.specs.Asked.{asked_publish_subscribe, types_of};
+
+use iox_command::{HubError, PublishSubscribeOptions, Reply};
+use iox_describe::publish_subscribe::StaticConfig;
+use iox_describe::requirement::publish_subscribe::Requirement;
+use iox_describe::{
+    AttributeSpecifier, Description, Header, MessageTypeDetails, ServiceName, Settings, TypeVariant,
+};
+use iox_domain::{DomainId, Nobody};
+use iox_domain_home::Home;
+use iox_domain_values::DomainError;
+use iox_hub_base::{Hub, HubBuilder, HubConfig};
+use iox_hub_commands::{Made, messages};
+use iox_hub_factories::Factories;
+use iox_hub_requests::{message_types, publish_subscribe};
+use iox_hub_services::Services;
+use iox_negotiate_errors::CloseError;
+use std::alloc::Global;
+use std::io::{self, Print};
+
+/// `iox_hub_requests`: what is asked of a service of slices of numbers by these options.
+fn asked(options: &PublishSubscribeOptions) -> Requirement
+    ensures { result ≡ asked_publish_subscribe options.now (types_of (codes "u64") 8 8 (codes "()") 0 1) }
+{
+    let types = message_types::<u64, ()>();
+    publish_subscribe(options, types)
+}
+
+/// `iox_hub_services`: which domain it is that is taken out of a hub under a number; it is put back.
+fn taken(services: &mut Services<u64, (), Nobody, Nobody>, number: u64) -> Option<DomainId>
+    ensures { IfSome result (λ id. id ≡ record { hub = services.old.hub; service = number }) }
+{
+    let domain = services.take(number).ok()?;
+    let id = domain.id;
+    services.put(domain).ok()?;
+    Some(id)
+}
+
+/// `iox_hub_base`: the number of a new hub's first node, and whether what builds a service for that node is of this hub.
+fn first_node(alloc: Global, config: HubConfig, name: ServiceName) -> Result<(u64, bool), HubError>
+    ensures { result ≡ Ok (1, true) }
+{
+    let mut hub = Hub::<u64, (), Nobody, Nobody>::new(alloc, config);
+    let node = hub.new_node()?;
+    let builder = hub.service_builder(&node, name).publish_subscribe::<u64>();
+    Ok((node.number(), builder.holds(&hub)))
+}
+
+/// `iox_hub_factories`: closes a factory by its number, of a hub in which commands opened none: nothing happens.
+fn closed_of_none(
+    alloc: Global,
+    hub: &mut Hub<u64, (), Nobody, Nobody>,
+    number: u64,
+) -> Option<Result<(), CloseError>>
+    ensures none { result ≡ None }
+    ensures same { hub.new ≡ hub.old }
+{
+    let mut factories = Factories::new(alloc);
+    let closed = factories.close(hub, number);
+    closed
+}
+
+/// `iox_hub_ports`: whether a value is put by the publisher of a number where commands made none: nothing happens.
+fn put_by_nobody<H: Home<u64, ()>>(alloc: Global, home: &mut H, publisher: u64) -> bool
+    ensures none { result ≡ false }
+    ensures same { home.new ≡ home.old }
+{
+    let made = Made::new(alloc);
+    let sent = made.put(alloc, home, publisher, &[7]);
+    sent.is_some()
+}
+
+/// `iox_hub_commands`: what is replied to the release of a sample where none is held: that it's skipped, and nothing happens.
+fn release_of_none<H: Home<u64, ()>>(alloc: Global, home: &mut H, sample: u64) -> Reply<u64>
+    ensures skipped { result ≡ Reply.Skipped }
+    ensures same { home.new ≡ home.old }
+{
+    let mut made = Made::new(alloc);
+    let reply = messages::release(&mut made, home, sample);
+    reply
+}
+
+/// Which hub it is.
+const CONFIG: HubConfig = HubConfig {
+    expired_connection_buffer: 128,
+    id: 4,
+};
+
+/// A service of which three publishers are asked for.
+const OPTIONS: PublishSubscribeOptions = PublishSubscribeOptions {
+    max_subscribers: None,
+    max_publishers: Some(3),
+    max_nodes: None,
+    subscriber_max_buffer_size: None,
+    subscriber_max_borrowed_samples: None,
+    history_size: None,
+    enable_safe_overflow: None,
+};
+
+/// The description of a service of slices of numbers.
+fn of_numbers(name: ServiceName) -> Description {
+    let types = MessageTypeDetails::from::<Header, (), u64>(TypeVariant::Dynamic);
+    let settings = Settings::PublishSubscribe(StaticConfig::new(types));
+    Description::new(name, settings, AttributeSpecifier::new())
+}
+
+/// Which domain it is that is taken under the number 2, once such a service is open there.
+fn taken_once(alloc: Global, description: &Description) -> Result<Option<DomainId>, DomainError> {
+    let mut services = Services::<u64, (), Nobody, Nobody>::new(alloc, 4);
+    services.open(alloc, description, 2, 128)?;
+    Ok(taken(&mut services, 2))
+}
+
+/// What becomes of commands in a hub in which nothing was made.
+fn print_commands(rt: &impl Print, alloc: Global) -> io::Result<()> {
+    let mut hub = Hub::<u64, (), Nobody, Nobody>::new(alloc, CONFIG);
+    println!(rt;
+        "iox_hub_factories: {:?}",
+        closed_of_none(alloc, &mut hub, 1)
+    )?;
+    println!(rt; "iox_hub_ports: {:?}", put_by_nobody(alloc, &mut hub, 1))?;
+    println!(rt;
+        "iox_hub_commands: {:?}",
+        release_of_none(alloc, &mut hub, 1)
+    )
+}
+
+fn main(rt: HostRuntime) -> io::Result<()> {
+    let Ok(name) = ServiceName::new(b"numbers") else {
+        return Ok(());
+    };
+    println!(rt; "iox_hub_requests: {:?}", asked(&OPTIONS).max_publishers)?;
+    println!(rt;
+        "iox_hub_services: {:?}",
+        taken_once(rt.alloc(), &of_numbers(name))
+    )?;
+    println!(rt; "iox_hub_base: {:?}", first_node(rt.alloc(), CONFIG, name))?;
+    print_commands(&rt, rt.alloc())
+}
