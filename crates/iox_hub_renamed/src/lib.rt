@@ -1,6 +1,6 @@
 //! What commands do depends on no number of a life, and on none of a factory that the hub counts; so a service alone has all of its numbers
-//! counted anew: laws of every hub. A law is the contract of a function that does nothing. A proof cites it by a call of the function; what it
-//! states is then among the facts of the caller:
+//! counted anew: laws of every hub. A law is the contract of a function that does nothing. A proof cites a law by a call of its function; what
+//! it states is then among the facts of the caller:
 //!
 //! ```
 //! all_numbers_are_counted_anew::<u64, (), FixedHandlers, FixedDegradation>();
