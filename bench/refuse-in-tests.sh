@@ -21,6 +21,11 @@ names=$("$tests" --list | sed -n 's/: test$//p' | grep -F -- "$words")
 [ -n "$names" ] || { echo "no test ran"; exit 3; }
 for name in $names; do
     requests=$(LD_PRELOAD="$place/librefuse.so" "$tests" "$name" 2>&1 | sed -n 's/^requests: //p')
+    if [ -z "$requests" ]; then
+        wrong=$((wrong + 1))
+        echo "$name: its requests can't be counted"
+        continue
+    fi
     failed=0
     for ((n = 1; n <= requests; n++)); do
         # The braces keep back what the shell says of a test that aborts.

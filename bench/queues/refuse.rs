@@ -8,6 +8,7 @@ unsafe extern "C" {
     fn getenv(name: *const c_char) -> *const c_char;
     fn atexit(run: extern "C" fn()) -> i32;
     fn dprintf(file: i32, format: *const c_char, ...) -> i32;
+    fn syscall(number: i64, ...) -> i64;
 }
 
 static REQUESTS: AtomicU64 = AtomicU64::new(0);
@@ -39,4 +40,15 @@ unsafe extern "C" fn malloc(size: usize) -> *mut c_void {
 #[unsafe(no_mangle)]
 unsafe extern "C" fn realloc(block: *mut c_void, size: usize) -> *mut c_void {
     if is_refused() { std::ptr::null_mut() } else { unsafe { __libc_realloc(block, size) } }
+}
+
+/// A program with threads ends by this call, and what `atexit` was given isn't run.
+#[unsafe(no_mangle)]
+unsafe extern "C" fn _exit(status: i32) -> ! {
+    const EXIT_GROUP: i64 = 231;
+    if REQUESTS.load(SeqCst) > 0 {
+        tell();
+    }
+    unsafe { syscall(EXIT_GROUP, status) };
+    loop {}
 }
