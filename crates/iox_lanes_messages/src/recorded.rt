@@ -80,6 +80,7 @@ impl RecordedLanes {
         if self.messages.reserve(1).is_err() {
             return Stepped::NoMemory;
         }
+        // The beginning of a call records nothing, so this step lacks no memory.
         let stepped = self.lanes.step(party, step);
         self.messages.push_reserved(message);
         stepped
