@@ -9,73 +9,73 @@ use Rattle.std.specs.List.{AllByRecursion}
 use Rattle.std.specs.Map.{remove_entry, set_value, lookup}
 use Rattle.std.specs.Ordering.{nat_cmp}
 use Rattle.std.specs.declared.alloc.AllocError.{AllocError}
-use Rattle.iox_hub_commands.specs.Command.declared.command.Command.{Command}
-use Rattle.iox_hub_commands.specs.Command.declared.command.Command.TheVariants as command
-use Rattle.iox_hub_commands.specs.Command.declared.refusal.HubError.{HubError}
-use Rattle.iox_hub_commands.specs.Command.declared.refusal.Refusal.{Refusal}
-use Rattle.iox_hub_commands.specs.Command.declared.reply.Reply.{Reply}
-use Rattle.iox_hub_commands.specs.Command.declared.step.ForeignStep.{ForeignStep as Named}
-use Rattle.iox_hub_commands.specs.DescribeBase.Detail.{Detail}
-use Rattle.iox_hub_commands.specs.DescribeBase.declared.hash.ServiceHash.{ServiceHash}
-use Rattle.iox_hub_commands.specs.DescribeBase.declared.message_type.MessageTypeDetails.{MessageTypeDetails}
-use Rattle.iox_hub_commands.specs.DescribeBase.declared.pattern.MessagingPattern.{MessagingPattern}
-use Rattle.iox_hub_commands.specs.DescribeSettings.declared.static_config.Settings.{Settings}
-use Rattle.iox_hub_commands.specs.DomainHome.declared.domain_id.DomainId.{DomainId}
-use Rattle.iox_hub_commands.specs.DomainPorts.Living.{living}
-use Rattle.iox_hub_commands.specs.DomainSettings.Sizes.{sizes}
-use Rattle.iox_hub_commands.specs.DomainPorts.declared.service_ports.ServicePorts.{ServicePorts}
-use Rattle.iox_hub_commands.specs.DomainValues.declared.backpressure.BackpressureAction.{BackpressureAction}
-use Rattle.iox_hub_commands.specs.DomainValues.declared.backpressure.BackpressureDecision.{BackpressureDecision}
-use Rattle.iox_hub_commands.specs.DomainValues.declared.backpressure.BackpressureInfo.{BackpressureInfo}
-use Rattle.iox_hub_commands.specs.DomainValues.declared.backpressure_strategy.BackpressureStrategy.{BackpressureStrategy}
-use Rattle.iox_hub_commands.specs.DomainValues.declared.degradation.DegradationAction.{DegradationAction}
-use Rattle.iox_hub_commands.specs.DomainValues.declared.degradation.DegradationCause.{DegradationCause}
-use Rattle.iox_hub_commands.specs.DomainValues.declared.degradation.DegradationInfo.{DegradationInfo}
-use Rattle.iox_hub_factories.specs.Closing.{ClosesUnless, ClosesIfOf, ClosesNumbered}
-use Rattle.iox_hub_factories.specs.Domain.Domains.{IsNewDomain}
-use Rattle.iox_hub_factories.specs.Domain.declared.domain.Domain.{Domain}
-use Rattle.iox_hub_factories.specs.Foreign.{ActsNamed}
-use Rattle.iox_hub_factories.specs.HubBase.Closing.{is_last, less_one}
-use Rattle.iox_hub_factories.specs.HubBase.Opening.{Made as Opened, Enters, Settles, OpensInHub}
-use Rattle.iox_hub_factories.specs.HubBase.declared.hub.Hub.{Hub}
-use Rattle.iox_hub_factories.specs.HubBase.declared.hub.HubConfig.{HubConfig}
-use Rattle.iox_hub_factories.specs.HubServices.AsHome.{domain_at, stepped_if}
-use Rattle.iox_hub_factories.specs.HubServices.Numbered.{one_value, others_beside}
-use Rattle.iox_hub_factories.specs.HubServices.Open.{OpenServices, presence_of}
-use Rattle.iox_hub_factories.specs.HubServices.Opening.{Opens as ServiceOpens}
-use Rattle.iox_hub_factories.specs.HubServices.declared.presence.Presence.{Presence}
-use Rattle.iox_hub_factories.specs.HubServices.declared.presence.Presence.TheVariants.{Here}
-use Rattle.iox_hub_factories.specs.Numbered.NumberTable.{NumberTable}
-use Rattle.iox_hub_factories.specs.Numbering.{GetsNumber}
-use Rattle.iox_hub_factories.specs.Tables.{FactoryTable, parts_of}
-use Rattle.iox_hub_factories.specs.declared.made.MadeFactory.{MadeFactory}
-use Rattle.iox_hub_run.specs.AgreementLaws.{service_of}
-use Rattle.iox_hub_run.specs.Numbers.{IsNew}
-use Rattle.iox_hub_run.specs.Runs.{IsRun}
-use Rattle.iox_hub_run.specs.Steps.{IsReplied, Step}
-use Rattle.iox_hub_run.specs.declared.numbered_hub.NumberedHub.{NumberedHub}
-use Rattle.iox_hub_run.proofs.RunLemmas.{run_goes}
-use Rattle.iox_hub_run.proofs.StepChanges.{step_changes, numbers_go_on}
-use Rattle.iox_hub_independence.specs.Asking.{hash_asked, service_at, publisher_service, loan_service, sample_service}
-use Rattle.iox_hub_independence.specs.Left.{IsLeft}
-use Rattle.iox_hub_independence.proofs.Steps as beside
+use Rattle.iox_hub_locality.specs.HubCommands.Command.declared.command.Command.{Command}
+use Rattle.iox_hub_locality.specs.HubCommands.Command.declared.command.Command.TheVariants as command
+use Rattle.iox_hub_locality.specs.HubCommands.Command.declared.refusal.HubError.{HubError}
+use Rattle.iox_hub_locality.specs.HubCommands.Command.declared.refusal.Refusal.{Refusal}
+use Rattle.iox_hub_locality.specs.HubCommands.Command.declared.reply.Reply.{Reply}
+use Rattle.iox_hub_locality.specs.HubCommands.Command.declared.step.ForeignStep.{ForeignStep as Named}
+use Rattle.iox_hub_locality.specs.HubCommands.DescribeBase.Detail.{Detail}
+use Rattle.iox_hub_locality.specs.HubCommands.DescribeBase.declared.hash.ServiceHash.{ServiceHash}
+use Rattle.iox_hub_locality.specs.HubCommands.DescribeBase.declared.message_type.MessageTypeDetails.{MessageTypeDetails}
+use Rattle.iox_hub_locality.specs.HubCommands.DescribeBase.declared.pattern.MessagingPattern.{MessagingPattern}
+use Rattle.iox_hub_locality.specs.HubCommands.DescribeSettings.declared.static_config.Settings.{Settings}
+use Rattle.iox_hub_locality.specs.HubCommands.DomainHome.declared.domain_id.DomainId.{DomainId}
+use Rattle.iox_hub_locality.specs.HubCommands.DomainPorts.Living.{living}
+use Rattle.iox_hub_locality.specs.HubCommands.DomainSettings.Sizes.{sizes}
+use Rattle.iox_hub_locality.specs.HubCommands.DomainPorts.declared.service_ports.ServicePorts.{ServicePorts}
+use Rattle.iox_hub_locality.specs.HubCommands.DomainValues.declared.backpressure.BackpressureAction.{BackpressureAction}
+use Rattle.iox_hub_locality.specs.HubCommands.DomainValues.declared.backpressure.BackpressureDecision.{BackpressureDecision}
+use Rattle.iox_hub_locality.specs.HubCommands.DomainValues.declared.backpressure.BackpressureInfo.{BackpressureInfo}
+use Rattle.iox_hub_locality.specs.HubCommands.DomainValues.declared.backpressure_strategy.BackpressureStrategy.{BackpressureStrategy}
+use Rattle.iox_hub_locality.specs.HubCommands.DomainValues.declared.degradation.DegradationAction.{DegradationAction}
+use Rattle.iox_hub_locality.specs.HubCommands.DomainValues.declared.degradation.DegradationCause.{DegradationCause}
+use Rattle.iox_hub_locality.specs.HubCommands.DomainValues.declared.degradation.DegradationInfo.{DegradationInfo}
+use Rattle.iox_hub_locality.specs.HubFactories.Closing.{ClosesUnless, ClosesIfOf, ClosesNumbered}
+use Rattle.iox_hub_locality.specs.HubFactories.Domain.Domains.{IsNewDomain}
+use Rattle.iox_hub_locality.specs.HubFactories.Domain.declared.domain.Domain.{Domain}
+use Rattle.iox_hub_locality.specs.HubFactories.Foreign.{ActsNamed}
+use Rattle.iox_hub_locality.specs.HubFactories.HubBase.Closing.{is_last, less_one}
+use Rattle.iox_hub_locality.specs.HubFactories.HubBase.Opening.{Made as Opened, Enters, Settles, OpensInHub}
+use Rattle.iox_hub_locality.specs.HubFactories.HubBase.declared.hub.Hub.{Hub}
+use Rattle.iox_hub_locality.specs.HubFactories.HubBase.declared.hub.HubConfig.{HubConfig}
+use Rattle.iox_hub_locality.specs.HubFactories.HubServices.AsHome.{domain_at, stepped_if}
+use Rattle.iox_hub_locality.specs.HubFactories.HubServices.Numbered.{one_value, others_beside}
+use Rattle.iox_hub_locality.specs.HubFactories.HubServices.Open.{OpenServices, presence_of}
+use Rattle.iox_hub_locality.specs.HubFactories.HubServices.Opening.{Opens as ServiceOpens}
+use Rattle.iox_hub_locality.specs.HubFactories.HubServices.declared.presence.Presence.{Presence}
+use Rattle.iox_hub_locality.specs.HubFactories.HubServices.declared.presence.Presence.TheVariants.{Here}
+use Rattle.iox_hub_locality.specs.HubFactories.Numbered.NumberTable.{NumberTable}
+use Rattle.iox_hub_locality.specs.HubFactories.Numbering.{GetsNumber}
+use Rattle.iox_hub_locality.specs.HubFactories.Tables.{FactoryTable, parts_of}
+use Rattle.iox_hub_locality.specs.HubFactories.declared.made.MadeFactory.{MadeFactory}
+use Rattle.iox_hub_locality.specs.HubRun.AgreementLaws.{service_of}
+use Rattle.iox_hub_locality.specs.HubRun.Numbers.{IsNew}
+use Rattle.iox_hub_locality.specs.HubRun.Runs.{IsRun}
+use Rattle.iox_hub_locality.specs.HubRun.Steps.{IsReplied, Step}
+use Rattle.iox_hub_locality.specs.HubRun.declared.numbered_hub.NumberedHub.{NumberedHub}
+use Rattle.iox_hub_locality.proofs.HubRun.RunLemmas.{run_goes}
+use Rattle.iox_hub_locality.proofs.HubRun.StepChanges.{step_changes, numbers_go_on}
+use Rattle.iox_hub_locality.specs.HubIndependence.Asking.{hash_asked, service_at, publisher_service, loan_service, sample_service}
+use Rattle.iox_hub_locality.specs.HubIndependence.Left.{IsLeft}
+use Rattle.iox_hub_locality.proofs.HubIndependence.Steps as beside
 use Rattle.iox_hub_locality.specs.Locality.{IsOpening}
 use Rattle.iox_hub_locality.proofs.Framed.{step_goes_on}
 use Rattle.iox_hub_locality.proofs.Keeping.{OfServices, step_keeps}
 use Rattle.iox_hub_locality.proofs.Lives.{IsFrom, past_rises, past_follows}
 use Rattle.iox_hub_locality.proofs.Names.{insert_at}
 use Rattle.iox_hub_locality.proofs.Opened.{opening_goes}
-use Rattle.iox_negotiate_laws.specs.Lives.{number_of}
-use Rattle.iox_negotiate_laws.specs.Negotiate.declared.factory.Membership.{Membership}
-use Rattle.iox_negotiate_laws.specs.NegotiateErrors.declared.close.CloseError.{CloseError}
-use Rattle.iox_negotiate_laws.specs.NegotiateTable.Contents.{Contents}
-use Rattle.iox_negotiate_laws.specs.NegotiateTable.Stepped.{Steps}
-use Rattle.iox_negotiate_laws.specs.NegotiateTable.declared.entry.Entry.{Entry}
-use Rattle.iox_negotiate_laws.specs.NegotiateTable.declared.step.ForeignStep.{ForeignStep}
-use Rattle.iox_negotiate_laws.proofs.Agreements.{past-on, no-past}
-use Rattle.iox_negotiate_laws.proofs.Maps.{no, none-found, none-passes, set-found, remove-all}
-use Rattle.iox_negotiate_laws.proofs.Stepping.{Past}
-use Rattle.iox_negotiate_laws.proofs.Tables.{runs}
+use Rattle.iox_hub_locality.specs.NegotiateLaws.Lives.{number_of}
+use Rattle.iox_hub_locality.specs.NegotiateLaws.Negotiate.declared.factory.Membership.{Membership}
+use Rattle.iox_hub_locality.specs.NegotiateLaws.NegotiateErrors.declared.close.CloseError.{CloseError}
+use Rattle.iox_hub_locality.specs.NegotiateLaws.NegotiateTable.Contents.{Contents}
+use Rattle.iox_hub_locality.specs.NegotiateLaws.NegotiateTable.Stepped.{Steps}
+use Rattle.iox_hub_locality.specs.NegotiateLaws.NegotiateTable.declared.entry.Entry.{Entry}
+use Rattle.iox_hub_locality.specs.NegotiateLaws.NegotiateTable.declared.step.ForeignStep.{ForeignStep}
+use Rattle.iox_hub_locality.proofs.NegotiateLaws.Agreements.{past-on, no-past}
+use Rattle.iox_hub_locality.proofs.NegotiateLaws.Maps.{no, none-found, none-passes, set-found, remove-all}
+use Rattle.iox_hub_locality.proofs.NegotiateLaws.Stepping.{Past}
+use Rattle.iox_hub_locality.proofs.NegotiateLaws.Tables.{runs}
 use Rattle.iox_hub_alone.specs.Beginning.{NoneIsOf, NothingMadeOf, HasNothingOf, IsEmptyDomain, IsOldOrNew, NothingAhead, DomainsStartEmpty, LivesBeginAnew}
 use Rattle.iox_hub_alone.proofs.Beside.{left, opening_or_not, hash_of_opening}
 use Rattle.iox_hub_alone.proofs.Concerning.{AllMine}

@@ -4,61 +4,61 @@ use Rattle.std.specs.Map.{lookup}
 use Rattle.std.specs.Option.{unwrap_or}
 use Rattle.std.proofs.lemmas.Bool.{eqb-true, eq-eqb}
 use Rattle.std.specs.declared.alloc.AllocError.{AllocError}
-use Rattle.iox_hub_commands.specs.Command.declared.command.Command.{Command}
-use Rattle.iox_hub_commands.specs.Command.declared.command.Command.TheVariants as command
-use Rattle.iox_hub_commands.specs.Command.declared.refusal.Refusal.{Refusal}
-use Rattle.iox_hub_commands.specs.Command.declared.reply.Reply.{Reply}
-use Rattle.iox_hub_commands.specs.DescribeBase.Detail.{Detail}
-use Rattle.iox_hub_commands.specs.DescribeBase.declared.hash.ServiceHash.{ServiceHash}
-use Rattle.iox_hub_commands.specs.DescribeBase.declared.message_type.MessageTypeDetails.{MessageTypeDetails}
-use Rattle.iox_hub_commands.specs.DescribeBase.declared.pattern.MessagingPattern.{MessagingPattern}
-use Rattle.iox_hub_commands.specs.DescribeSettings.declared.static_config.Settings.{Settings}
-use Rattle.iox_hub_commands.specs.DomainValues.declared.backpressure.BackpressureAction.{BackpressureAction}
-use Rattle.iox_hub_commands.specs.DomainValues.declared.backpressure.BackpressureDecision.{BackpressureDecision}
-use Rattle.iox_hub_commands.specs.DomainValues.declared.backpressure.BackpressureInfo.{BackpressureInfo}
-use Rattle.iox_hub_commands.specs.DomainValues.declared.backpressure_strategy.BackpressureStrategy.{BackpressureStrategy}
-use Rattle.iox_hub_commands.specs.DomainValues.declared.degradation.DegradationAction.{DegradationAction}
-use Rattle.iox_hub_commands.specs.DomainValues.declared.degradation.DegradationCause.{DegradationCause}
-use Rattle.iox_hub_commands.specs.DomainValues.declared.degradation.DegradationInfo.{DegradationInfo}
-use Rattle.iox_hub_factories.specs.Asking.{hash_of}
-use Rattle.iox_hub_factories.specs.HubBase.Hubs.{factories_of}
-use Rattle.iox_hub_factories.specs.HubBase.Opening.{Made, Settles, OpensInHub}
-use Rattle.iox_hub_factories.specs.HubBase.declared.hub.Hub.{Hub}
-use Rattle.iox_hub_factories.specs.HubServices.Numbered.{others_beside}
-use Rattle.iox_hub_factories.specs.HubServices.Open.{OpenServices, presence_of}
-use Rattle.iox_hub_factories.specs.HubServices.Opening.{Opens as ServiceOpens}
-use Rattle.iox_hub_factories.specs.HubServices.declared.presence.Presence.TheVariants.{Here}
-use Rattle.iox_hub_factories.specs.Numbered.NumberTable.{Rises, value_at, inserted}
-use Rattle.iox_hub_factories.specs.Numbering.{Numbers, GetsNumber}
-use Rattle.iox_hub_factories.specs.Tables.{FactoryTable, SameNumbers}
-use Rattle.iox_hub_factories.specs.declared.made.MadeFactory.{MadeFactory}
-use Rattle.iox_hub_factories.proofs.Numbered.Telling.{found_and_gone}
-use Rattle.iox_hub_run.specs.AgreementLaws.{service_of, carried_by}
-use Rattle.iox_hub_run.specs.Lives.{NumbersRise}
-use Rattle.iox_hub_run.specs.Steps.{Step}
-use Rattle.iox_hub_run.specs.declared.numbered_hub.NumberedHub.{NumberedHub}
-use Rattle.iox_hub_independence.specs.Asking.{hash_asked, number_asked}
-use Rattle.iox_hub_independence.specs.Left.{AllLeft, IsLeft}
-use Rattle.iox_hub_independence.proofs.Names.{AllUnder, closes_under, untouched_same, untouched_on, stepped_went_leaves, went_leaves}
-use Rattle.iox_hub_independence.proofs.Negotiated.{same-good, not-bad}
-use Rattle.iox_hub_independence.proofs.Ports.{same_made}
-use Rattle.iox_hub_independence.proofs.Steps.{step_left}
-use Rattle.iox_hub_independence.proofs.Steps as beside
-use Rattle.iox_hub_independence.proofs.Tables.{same_left, inserted_left}
+use Rattle.iox_hub_locality.specs.HubCommands.Command.declared.command.Command.{Command}
+use Rattle.iox_hub_locality.specs.HubCommands.Command.declared.command.Command.TheVariants as command
+use Rattle.iox_hub_locality.specs.HubCommands.Command.declared.refusal.Refusal.{Refusal}
+use Rattle.iox_hub_locality.specs.HubCommands.Command.declared.reply.Reply.{Reply}
+use Rattle.iox_hub_locality.specs.HubCommands.DescribeBase.Detail.{Detail}
+use Rattle.iox_hub_locality.specs.HubCommands.DescribeBase.declared.hash.ServiceHash.{ServiceHash}
+use Rattle.iox_hub_locality.specs.HubCommands.DescribeBase.declared.message_type.MessageTypeDetails.{MessageTypeDetails}
+use Rattle.iox_hub_locality.specs.HubCommands.DescribeBase.declared.pattern.MessagingPattern.{MessagingPattern}
+use Rattle.iox_hub_locality.specs.HubCommands.DescribeSettings.declared.static_config.Settings.{Settings}
+use Rattle.iox_hub_locality.specs.HubCommands.DomainValues.declared.backpressure.BackpressureAction.{BackpressureAction}
+use Rattle.iox_hub_locality.specs.HubCommands.DomainValues.declared.backpressure.BackpressureDecision.{BackpressureDecision}
+use Rattle.iox_hub_locality.specs.HubCommands.DomainValues.declared.backpressure.BackpressureInfo.{BackpressureInfo}
+use Rattle.iox_hub_locality.specs.HubCommands.DomainValues.declared.backpressure_strategy.BackpressureStrategy.{BackpressureStrategy}
+use Rattle.iox_hub_locality.specs.HubCommands.DomainValues.declared.degradation.DegradationAction.{DegradationAction}
+use Rattle.iox_hub_locality.specs.HubCommands.DomainValues.declared.degradation.DegradationCause.{DegradationCause}
+use Rattle.iox_hub_locality.specs.HubCommands.DomainValues.declared.degradation.DegradationInfo.{DegradationInfo}
+use Rattle.iox_hub_locality.specs.HubFactories.Asking.{hash_of}
+use Rattle.iox_hub_locality.specs.HubFactories.HubBase.Hubs.{factories_of}
+use Rattle.iox_hub_locality.specs.HubFactories.HubBase.Opening.{Made, Settles, OpensInHub}
+use Rattle.iox_hub_locality.specs.HubFactories.HubBase.declared.hub.Hub.{Hub}
+use Rattle.iox_hub_locality.specs.HubFactories.HubServices.Numbered.{others_beside}
+use Rattle.iox_hub_locality.specs.HubFactories.HubServices.Open.{OpenServices, presence_of}
+use Rattle.iox_hub_locality.specs.HubFactories.HubServices.Opening.{Opens as ServiceOpens}
+use Rattle.iox_hub_locality.specs.HubFactories.HubServices.declared.presence.Presence.TheVariants.{Here}
+use Rattle.iox_hub_locality.specs.HubFactories.Numbered.NumberTable.{Rises, value_at, inserted}
+use Rattle.iox_hub_locality.specs.HubFactories.Numbering.{Numbers, GetsNumber}
+use Rattle.iox_hub_locality.specs.HubFactories.Tables.{FactoryTable, SameNumbers}
+use Rattle.iox_hub_locality.specs.HubFactories.declared.made.MadeFactory.{MadeFactory}
+use Rattle.iox_hub_locality.proofs.HubFactories.Numbered.Telling.{found_and_gone}
+use Rattle.iox_hub_locality.specs.HubRun.AgreementLaws.{service_of, carried_by}
+use Rattle.iox_hub_locality.specs.HubRun.Lives.{NumbersRise}
+use Rattle.iox_hub_locality.specs.HubRun.Steps.{Step}
+use Rattle.iox_hub_locality.specs.HubRun.declared.numbered_hub.NumberedHub.{NumberedHub}
+use Rattle.iox_hub_locality.specs.HubIndependence.Asking.{hash_asked, number_asked}
+use Rattle.iox_hub_locality.specs.HubIndependence.Left.{AllLeft, IsLeft}
+use Rattle.iox_hub_locality.proofs.HubIndependence.Names.{AllUnder, closes_under, untouched_same, untouched_on, stepped_went_leaves, went_leaves}
+use Rattle.iox_hub_locality.proofs.HubIndependence.Negotiated.{same-good, not-bad}
+use Rattle.iox_hub_locality.proofs.HubIndependence.Ports.{same_made}
+use Rattle.iox_hub_locality.proofs.HubIndependence.Steps.{step_left}
+use Rattle.iox_hub_locality.proofs.HubIndependence.Steps as beside
+use Rattle.iox_hub_locality.proofs.HubIndependence.Tables.{same_left, inserted_left}
 use Rattle.iox_hub_locality.specs.Locality.{IsOpening}
 use Rattle.iox_hub_locality.proofs.Lives.{IsFrom, past_follows}
 use Rattle.iox_hub_locality.proofs.Made.{rises_as}
 use Rattle.iox_hub_locality.proofs.Negotiated.{IsNegotiation}
 use Rattle.iox_hub_locality.proofs.Opened.{opening_goes}
-use Rattle.iox_negotiate_laws.specs.Closing.{IsUntouched}
-use Rattle.iox_negotiate_laws.specs.Negotiate.declared.factory.Membership.{Membership}
-use Rattle.iox_negotiate_laws.specs.NegotiateTable.Contents.{Contents}
-use Rattle.iox_negotiate_laws.specs.NegotiateTable.Stepped.{Steps}
-use Rattle.iox_negotiate_laws.specs.NegotiateTable.declared.entry.Entry.TheVariants.{Described}
-use Rattle.iox_negotiate_laws.specs.NegotiateTable.declared.step.ForeignStep.{ForeignStep}
-use Rattle.iox_negotiate_laws.proofs.Agreements.{stepped-went-past}
-use Rattle.iox_negotiate_laws.proofs.Maps.{no}
-use Rattle.iox_negotiate_laws.proofs.Tables.{IsTable}
+use Rattle.iox_hub_locality.specs.NegotiateLaws.Closing.{IsUntouched}
+use Rattle.iox_hub_locality.specs.NegotiateLaws.Negotiate.declared.factory.Membership.{Membership}
+use Rattle.iox_hub_locality.specs.NegotiateLaws.NegotiateTable.Contents.{Contents}
+use Rattle.iox_hub_locality.specs.NegotiateLaws.NegotiateTable.Stepped.{Steps}
+use Rattle.iox_hub_locality.specs.NegotiateLaws.NegotiateTable.declared.entry.Entry.TheVariants.{Described}
+use Rattle.iox_hub_locality.specs.NegotiateLaws.NegotiateTable.declared.step.ForeignStep.{ForeignStep}
+use Rattle.iox_hub_locality.proofs.NegotiateLaws.Agreements.{stepped-went-past}
+use Rattle.iox_hub_locality.proofs.NegotiateLaws.Maps.{no}
+use Rattle.iox_hub_locality.proofs.NegotiateLaws.Tables.{IsTable}
 
 -- ---- a command that creates or opens a service
 

@@ -1,40 +1,40 @@
 -- Which factories go by numbers after a command: those that did, or the one that it creates or opens.
 use Rattle.std.proofs.Common.{◌≡◌, ◌∙◌, ◌⊎◌, ℕ, Bool, true, false, Option, None, Some, Result, Ok, Err, refl, sym, ap, nat_eq, inl, inr}
 use Rattle.std.specs.declared.alloc.AllocError.{AllocError}
-use Rattle.iox_hub_commands.specs.Command.declared.command.Command.{Command}
-use Rattle.iox_hub_commands.specs.Command.declared.command.Command.TheVariants as command
-use Rattle.iox_hub_commands.specs.Command.declared.port.PublisherOptions.{PublisherOptions}
-use Rattle.iox_hub_commands.specs.Command.declared.port.SubscriberOptions.{SubscriberOptions}
-use Rattle.iox_hub_commands.specs.Command.declared.reply.Reply.{Reply}
-use Rattle.iox_hub_commands.specs.DescribeBase.Detail.{Detail}
-use Rattle.iox_hub_commands.specs.DescribeBase.declared.hash.ServiceHash.{ServiceHash}
-use Rattle.iox_hub_commands.specs.DescribeBase.declared.message_type.MessageTypeDetails.{MessageTypeDetails}
-use Rattle.iox_hub_commands.specs.DomainValues.declared.backpressure.BackpressureAction.{BackpressureAction}
-use Rattle.iox_hub_commands.specs.DomainValues.declared.backpressure.BackpressureDecision.{BackpressureDecision}
-use Rattle.iox_hub_commands.specs.DomainValues.declared.backpressure.BackpressureInfo.{BackpressureInfo}
-use Rattle.iox_hub_commands.specs.DomainValues.declared.backpressure_strategy.BackpressureStrategy.{BackpressureStrategy}
-use Rattle.iox_hub_commands.specs.DomainValues.declared.degradation.DegradationAction.{DegradationAction}
-use Rattle.iox_hub_commands.specs.DomainValues.declared.degradation.DegradationCause.{DegradationCause}
-use Rattle.iox_hub_commands.specs.DomainValues.declared.degradation.DegradationInfo.{DegradationInfo}
-use Rattle.iox_hub_factories.specs.Closing.{ClosesUnless, ClosesIfOf, ClosesNumbered}
-use Rattle.iox_hub_factories.specs.HubBase.Opening.{Made as Opened}
-use Rattle.iox_hub_factories.specs.HubBase.declared.hub.Hub.{Hub}
-use Rattle.iox_hub_factories.specs.Numbered.NumberTable.{Rises, value_at, removed}
-use Rattle.iox_hub_factories.specs.Tables.{FactoryTable, parts_of}
-use Rattle.iox_hub_factories.specs.declared.made.MadeFactory.{MadeFactory}
-use Rattle.iox_hub_factories.proofs.Numbered.Telling.{found_and_gone}
+use Rattle.iox_hub_locality.specs.HubCommands.Command.declared.command.Command.{Command}
+use Rattle.iox_hub_locality.specs.HubCommands.Command.declared.command.Command.TheVariants as command
+use Rattle.iox_hub_locality.specs.HubCommands.Command.declared.port.PublisherOptions.{PublisherOptions}
+use Rattle.iox_hub_locality.specs.HubCommands.Command.declared.port.SubscriberOptions.{SubscriberOptions}
+use Rattle.iox_hub_locality.specs.HubCommands.Command.declared.reply.Reply.{Reply}
+use Rattle.iox_hub_locality.specs.HubCommands.DescribeBase.Detail.{Detail}
+use Rattle.iox_hub_locality.specs.HubCommands.DescribeBase.declared.hash.ServiceHash.{ServiceHash}
+use Rattle.iox_hub_locality.specs.HubCommands.DescribeBase.declared.message_type.MessageTypeDetails.{MessageTypeDetails}
+use Rattle.iox_hub_locality.specs.HubCommands.DomainValues.declared.backpressure.BackpressureAction.{BackpressureAction}
+use Rattle.iox_hub_locality.specs.HubCommands.DomainValues.declared.backpressure.BackpressureDecision.{BackpressureDecision}
+use Rattle.iox_hub_locality.specs.HubCommands.DomainValues.declared.backpressure.BackpressureInfo.{BackpressureInfo}
+use Rattle.iox_hub_locality.specs.HubCommands.DomainValues.declared.backpressure_strategy.BackpressureStrategy.{BackpressureStrategy}
+use Rattle.iox_hub_locality.specs.HubCommands.DomainValues.declared.degradation.DegradationAction.{DegradationAction}
+use Rattle.iox_hub_locality.specs.HubCommands.DomainValues.declared.degradation.DegradationCause.{DegradationCause}
+use Rattle.iox_hub_locality.specs.HubCommands.DomainValues.declared.degradation.DegradationInfo.{DegradationInfo}
+use Rattle.iox_hub_locality.specs.HubFactories.Closing.{ClosesUnless, ClosesIfOf, ClosesNumbered}
+use Rattle.iox_hub_locality.specs.HubFactories.HubBase.Opening.{Made as Opened}
+use Rattle.iox_hub_locality.specs.HubFactories.HubBase.declared.hub.Hub.{Hub}
+use Rattle.iox_hub_locality.specs.HubFactories.Numbered.NumberTable.{Rises, value_at, removed}
+use Rattle.iox_hub_locality.specs.HubFactories.Tables.{FactoryTable, parts_of}
+use Rattle.iox_hub_locality.specs.HubFactories.declared.made.MadeFactory.{MadeFactory}
+use Rattle.iox_hub_locality.proofs.HubFactories.Numbered.Telling.{found_and_gone}
 use Rattle.std.proofs.lemmas.Bool.{eqb-true, eq-eqb}
-use Rattle.iox_hub_run.specs.AgreementLaws.{service_of, carried_by}
-use Rattle.iox_hub_run.specs.Lives.{NumbersRise}
-use Rattle.iox_hub_run.specs.Services.{PublisherComes, SubscriberComes}
-use Rattle.iox_hub_run.specs.Steps.{IsReplied, Step}
-use Rattle.iox_hub_run.specs.declared.numbered_hub.NumberedHub.{NumberedHub}
-use Rattle.iox_hub_independence.specs.Asking.{hash_asked}
-use Rattle.iox_hub_independence.proofs.Steps as beside
-use Rattle.iox_negotiate_laws.specs.Negotiate.declared.factory.Membership.{Membership}
-use Rattle.iox_negotiate_laws.specs.NegotiateErrors.declared.close.CloseError.{CloseError}
-use Rattle.iox_negotiate_laws.proofs.Maps.{no}
-use Rattle.iox_negotiate_laws.proofs.Tables.{IsTable}
+use Rattle.iox_hub_locality.specs.HubRun.AgreementLaws.{service_of, carried_by}
+use Rattle.iox_hub_locality.specs.HubRun.Lives.{NumbersRise}
+use Rattle.iox_hub_locality.specs.HubRun.Services.{PublisherComes, SubscriberComes}
+use Rattle.iox_hub_locality.specs.HubRun.Steps.{IsReplied, Step}
+use Rattle.iox_hub_locality.specs.HubRun.declared.numbered_hub.NumberedHub.{NumberedHub}
+use Rattle.iox_hub_locality.specs.HubIndependence.Asking.{hash_asked}
+use Rattle.iox_hub_locality.proofs.HubIndependence.Steps as beside
+use Rattle.iox_hub_locality.specs.NegotiateLaws.Negotiate.declared.factory.Membership.{Membership}
+use Rattle.iox_hub_locality.specs.NegotiateLaws.NegotiateErrors.declared.close.CloseError.{CloseError}
+use Rattle.iox_hub_locality.proofs.NegotiateLaws.Maps.{no}
+use Rattle.iox_hub_locality.proofs.NegotiateLaws.Tables.{IsTable}
 use Rattle.iox_hub_locality.specs.Locality.{IsOpening}
 use Rattle.iox_hub_locality.proofs.Lives.{IsFrom}
 use Rattle.iox_hub_alone.proofs.Beside.{opening_or_not, hash_of_opening, opened}

@@ -2,22 +2,22 @@
 use Rattle.std.proofs.Common.{◌≡◌, ℕ, Bool, true, Option, None, Some, Result, Ok, refl, sym, ap, subst}
 use Rattle.std.specs.Ordering.{nat_cmp}
 use Rattle.std.specs.declared.alloc.AllocError.{AllocError}
-use Rattle.iox_hub_commands.specs.Command.declared.command.Command.{Command}
-use Rattle.iox_hub_commands.specs.Command.declared.command.Command.TheVariants as command
-use Rattle.iox_hub_commands.specs.Command.declared.reply.Reply.{Reply}
-use Rattle.iox_hub_commands.specs.DescribeBase.Detail.{Detail}
-use Rattle.iox_hub_commands.specs.DescribeBase.declared.hash.ServiceHash.{ServiceHash}
-use Rattle.iox_hub_commands.specs.DescribeBase.declared.message_type.MessageTypeDetails.{MessageTypeDetails}
-use Rattle.iox_hub_commands.specs.DomainValues.declared.backpressure.BackpressureAction.{BackpressureAction}
-use Rattle.iox_hub_commands.specs.DomainValues.declared.backpressure.BackpressureDecision.{BackpressureDecision}
-use Rattle.iox_hub_commands.specs.DomainValues.declared.backpressure.BackpressureInfo.{BackpressureInfo}
-use Rattle.iox_hub_commands.specs.DomainValues.declared.backpressure_strategy.BackpressureStrategy.{BackpressureStrategy}
-use Rattle.iox_hub_commands.specs.DomainValues.declared.degradation.DegradationAction.{DegradationAction}
-use Rattle.iox_hub_commands.specs.DomainValues.declared.degradation.DegradationCause.{DegradationCause}
-use Rattle.iox_hub_commands.specs.DomainValues.declared.degradation.DegradationInfo.{DegradationInfo}
-use Rattle.iox_hub_run.specs.Lives.{NumbersRise}
-use Rattle.iox_hub_run.specs.Steps.{Step}
-use Rattle.iox_hub_run.specs.declared.numbered_hub.NumberedHub.{NumberedHub}
+use Rattle.iox_hub_locality.specs.HubCommands.Command.declared.command.Command.{Command}
+use Rattle.iox_hub_locality.specs.HubCommands.Command.declared.command.Command.TheVariants as command
+use Rattle.iox_hub_locality.specs.HubCommands.Command.declared.reply.Reply.{Reply}
+use Rattle.iox_hub_locality.specs.HubCommands.DescribeBase.Detail.{Detail}
+use Rattle.iox_hub_locality.specs.HubCommands.DescribeBase.declared.hash.ServiceHash.{ServiceHash}
+use Rattle.iox_hub_locality.specs.HubCommands.DescribeBase.declared.message_type.MessageTypeDetails.{MessageTypeDetails}
+use Rattle.iox_hub_locality.specs.HubCommands.DomainValues.declared.backpressure.BackpressureAction.{BackpressureAction}
+use Rattle.iox_hub_locality.specs.HubCommands.DomainValues.declared.backpressure.BackpressureDecision.{BackpressureDecision}
+use Rattle.iox_hub_locality.specs.HubCommands.DomainValues.declared.backpressure.BackpressureInfo.{BackpressureInfo}
+use Rattle.iox_hub_locality.specs.HubCommands.DomainValues.declared.backpressure_strategy.BackpressureStrategy.{BackpressureStrategy}
+use Rattle.iox_hub_locality.specs.HubCommands.DomainValues.declared.degradation.DegradationAction.{DegradationAction}
+use Rattle.iox_hub_locality.specs.HubCommands.DomainValues.declared.degradation.DegradationCause.{DegradationCause}
+use Rattle.iox_hub_locality.specs.HubCommands.DomainValues.declared.degradation.DegradationInfo.{DegradationInfo}
+use Rattle.iox_hub_locality.specs.HubRun.Lives.{NumbersRise}
+use Rattle.iox_hub_locality.specs.HubRun.Steps.{Step}
+use Rattle.iox_hub_locality.specs.HubRun.declared.numbered_hub.NumberedHub.{NumberedHub}
 use Rattle.iox_hub_locality.specs.Agreeing.{AgreeOn}
 use Rattle.iox_hub_locality.specs.Locality.{IsOfLife, NumbersOnce}
 use Rattle.iox_hub_locality.proofs.Closing.{close_alike}
@@ -25,11 +25,11 @@ use Rattle.iox_hub_locality.proofs.Foreign.{foreign_alike}
 use Rattle.iox_hub_locality.proofs.Opening.{opens_tables_alike}
 use Rattle.iox_hub_locality.proofs.Ordered.{from_rising, rising_once}
 use Rattle.iox_hub_locality.proofs.Steps.{ports_answer_alike}
-use Rattle.iox_negotiate_laws.specs.Lives.{number_of}
-use Rattle.iox_negotiate_laws.specs.NegotiateTable.Contents.{entry_at}
-use Rattle.iox_negotiate_laws.specs.NegotiateTable.declared.entry.Entry.{Entry}
-use Rattle.iox_negotiate_laws.proofs.Maps.{Rising}
-use Rattle.iox_negotiate_laws.proofs.Tables.{IsTable}
+use Rattle.iox_hub_locality.specs.NegotiateLaws.Lives.{number_of}
+use Rattle.iox_hub_locality.specs.NegotiateLaws.NegotiateTable.Contents.{entry_at}
+use Rattle.iox_hub_locality.specs.NegotiateLaws.NegotiateTable.declared.entry.Entry.{Entry}
+use Rattle.iox_hub_locality.proofs.NegotiateLaws.Maps.{Rising}
+use Rattle.iox_hub_locality.proofs.NegotiateLaws.Tables.{IsTable}
 use Rattle.iox_hub_alone.specs.Alone.{OfService}
 use Rattle.iox_hub_alone.proofs.Concerning.{AllMine, concerns}
 

@@ -1,15 +1,15 @@
 -- Tables of what goes by numbers: all of one service, and numbers that are passed over.
 use Rattle.std.proofs.Common.{◌≡◌, ◌∙◌, ◌+◌, ◌≤◌, ◌<◌, ℕ, Bool, true, false, List, [], ◌∷◌, Option, None, Some, option_map, refl, sym, ap, nat_eq, arith}
 use Rattle.std.specs.Map.{lookup}
-use Rattle.iox_hub_factories.specs.Numbered.NumberTable.{NumberTable, Rises, value_at}
-use Rattle.iox_hub_independence.specs.Left.{AllLeft}
-use Rattle.iox_hub_independence.proofs.Tables.{found_as_before}
+use Rattle.iox_hub_locality.specs.HubFactories.Numbered.NumberTable.{NumberTable, Rises, value_at}
+use Rattle.iox_hub_locality.specs.HubIndependence.Left.{AllLeft}
+use Rattle.iox_hub_locality.proofs.HubIndependence.Tables.{found_as_before}
 use Rattle.iox_hub_locality.specs.Agreeing.{SameOf}
 use Rattle.iox_hub_locality.specs.Locality.{FoundMine}
-use Rattle.iox_negotiate_laws.specs.Lives.{number_of}
-use Rattle.iox_negotiate_laws.specs.NegotiateTable.Contents.{Contents}
-use Rattle.iox_negotiate_laws.proofs.Maps.{weaker}
-use Rattle.iox_negotiate_laws.proofs.Tables.{IsTable}
+use Rattle.iox_hub_locality.specs.NegotiateLaws.Lives.{number_of}
+use Rattle.iox_hub_locality.specs.NegotiateLaws.NegotiateTable.Contents.{Contents}
+use Rattle.iox_hub_locality.proofs.NegotiateLaws.Maps.{weaker}
+use Rattle.iox_hub_locality.proofs.NegotiateLaws.Tables.{IsTable}
 use Rattle.iox_hub_alone.specs.Alone.{NumberFound}
 use Rattle.iox_hub_alone.specs.Passing.{PassesIn}
 

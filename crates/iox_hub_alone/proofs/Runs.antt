@@ -2,41 +2,41 @@
 use Rattle.std.proofs.Common.{◌≡◌, ◌≢◌, ◌∙◌, ◌-◌, ◌^◌, ◌≤◌, ◌<◌, ◌⊎◌, ℕ, Bool, true, false, List, [], ◌∷◌, Option, None, Some, Result, Ok, refl, sym, ap, subst, inl, inr, arith}
 use Rattle.std.specs.Ordering.{nat_cmp}
 use Rattle.std.specs.declared.alloc.AllocError.{AllocError}
-use Rattle.iox_hub_commands.specs.Command.declared.command.Command.{Command}
-use Rattle.iox_hub_commands.specs.Command.declared.reply.Reply.{Reply}
-use Rattle.iox_hub_commands.specs.DescribeBase.Detail.{Detail}
-use Rattle.iox_hub_commands.specs.DescribeBase.declared.hash.ServiceHash.{ServiceHash}
-use Rattle.iox_hub_commands.specs.DescribeBase.declared.message_type.MessageTypeDetails.{MessageTypeDetails}
-use Rattle.iox_hub_commands.specs.DomainValues.declared.backpressure.BackpressureAction.{BackpressureAction}
-use Rattle.iox_hub_commands.specs.DomainValues.declared.backpressure.BackpressureDecision.{BackpressureDecision}
-use Rattle.iox_hub_commands.specs.DomainValues.declared.backpressure.BackpressureInfo.{BackpressureInfo}
-use Rattle.iox_hub_commands.specs.DomainValues.declared.backpressure_strategy.BackpressureStrategy.{BackpressureStrategy}
-use Rattle.iox_hub_commands.specs.DomainValues.declared.degradation.DegradationAction.{DegradationAction}
-use Rattle.iox_hub_commands.specs.DomainValues.declared.degradation.DegradationCause.{DegradationCause}
-use Rattle.iox_hub_commands.specs.DomainValues.declared.degradation.DegradationInfo.{DegradationInfo}
-use Rattle.iox_hub_factories.specs.HubBase.Hubs.{factories_of, one_more}
-use Rattle.iox_hub_factories.specs.HubServices.Open.{presence_of}
-use Rattle.iox_hub_factories.specs.Numbered.NumberTable.{value_at}
-use Rattle.iox_hub_factories.specs.HubBase.declared.hub.HubConfig.{HubConfig}
-use Rattle.iox_hub_run.specs.AgreementLaws.{service_of}
-use Rattle.iox_hub_run.specs.Lives.{NumbersGoOn}
-use Rattle.iox_hub_run.specs.Numbers.{IsNew}
-use Rattle.iox_hub_run.specs.Steps.{Step}
-use Rattle.iox_hub_run.specs.declared.numbered_hub.NumberedHub.{NumberedHub}
-use Rattle.iox_hub_run.proofs.StepChanges.{step_changes, numbers_go_on}
-use Rattle.iox_hub_independence.specs.Asking.{hash_asked, number_asked, service_at, publisher_service, loan_service, sample_service}
-use Rattle.iox_hub_independence.specs.Left.{if_of, IsLeft}
-use Rattle.iox_hub_independence.proofs.Negotiated.{same-good}
+use Rattle.iox_hub_locality.specs.HubCommands.Command.declared.command.Command.{Command}
+use Rattle.iox_hub_locality.specs.HubCommands.Command.declared.reply.Reply.{Reply}
+use Rattle.iox_hub_locality.specs.HubCommands.DescribeBase.Detail.{Detail}
+use Rattle.iox_hub_locality.specs.HubCommands.DescribeBase.declared.hash.ServiceHash.{ServiceHash}
+use Rattle.iox_hub_locality.specs.HubCommands.DescribeBase.declared.message_type.MessageTypeDetails.{MessageTypeDetails}
+use Rattle.iox_hub_locality.specs.HubCommands.DomainValues.declared.backpressure.BackpressureAction.{BackpressureAction}
+use Rattle.iox_hub_locality.specs.HubCommands.DomainValues.declared.backpressure.BackpressureDecision.{BackpressureDecision}
+use Rattle.iox_hub_locality.specs.HubCommands.DomainValues.declared.backpressure.BackpressureInfo.{BackpressureInfo}
+use Rattle.iox_hub_locality.specs.HubCommands.DomainValues.declared.backpressure_strategy.BackpressureStrategy.{BackpressureStrategy}
+use Rattle.iox_hub_locality.specs.HubCommands.DomainValues.declared.degradation.DegradationAction.{DegradationAction}
+use Rattle.iox_hub_locality.specs.HubCommands.DomainValues.declared.degradation.DegradationCause.{DegradationCause}
+use Rattle.iox_hub_locality.specs.HubCommands.DomainValues.declared.degradation.DegradationInfo.{DegradationInfo}
+use Rattle.iox_hub_locality.specs.HubFactories.HubBase.Hubs.{factories_of, one_more}
+use Rattle.iox_hub_locality.specs.HubFactories.HubServices.Open.{presence_of}
+use Rattle.iox_hub_locality.specs.HubFactories.Numbered.NumberTable.{value_at}
+use Rattle.iox_hub_locality.specs.HubFactories.HubBase.declared.hub.HubConfig.{HubConfig}
+use Rattle.iox_hub_locality.specs.HubRun.AgreementLaws.{service_of}
+use Rattle.iox_hub_locality.specs.HubRun.Lives.{NumbersGoOn}
+use Rattle.iox_hub_locality.specs.HubRun.Numbers.{IsNew}
+use Rattle.iox_hub_locality.specs.HubRun.Steps.{Step}
+use Rattle.iox_hub_locality.specs.HubRun.declared.numbered_hub.NumberedHub.{NumberedHub}
+use Rattle.iox_hub_locality.proofs.HubRun.StepChanges.{step_changes, numbers_go_on}
+use Rattle.iox_hub_locality.specs.HubIndependence.Asking.{hash_asked, number_asked, service_at, publisher_service, loan_service, sample_service}
+use Rattle.iox_hub_locality.specs.HubIndependence.Left.{if_of, IsLeft}
+use Rattle.iox_hub_locality.proofs.HubIndependence.Negotiated.{same-good}
 use Rattle.iox_hub_locality.specs.Agreeing.{AgreeOn}
 use Rattle.iox_hub_locality.specs.Locality.{HashFound, IsMemoryWanted}
 use Rattle.iox_hub_locality.proofs.Framed.{step_goes_by, step_goes_on}
 use Rattle.iox_hub_locality.proofs.Lives.{IsFrom, past_rises, past_follows, past_id}
-use Rattle.iox_negotiate_laws.specs.Closing.{IsUntouched}
-use Rattle.iox_negotiate_laws.specs.Lives.{number_of}
-use Rattle.iox_negotiate_laws.specs.NegotiateTable.Contents.{Contents, entry_at, segment_at}
-use Rattle.iox_negotiate_laws.specs.NegotiateTable.declared.entry.Entry.{Entry}
-use Rattle.iox_negotiate_laws.proofs.Maps.{Rising, on}
-use Rattle.iox_negotiate_laws.proofs.Tables.{IsTable, new-table, runs}
+use Rattle.iox_hub_locality.specs.NegotiateLaws.Closing.{IsUntouched}
+use Rattle.iox_hub_locality.specs.NegotiateLaws.Lives.{number_of}
+use Rattle.iox_hub_locality.specs.NegotiateLaws.NegotiateTable.Contents.{Contents, entry_at, segment_at}
+use Rattle.iox_hub_locality.specs.NegotiateLaws.NegotiateTable.declared.entry.Entry.{Entry}
+use Rattle.iox_hub_locality.proofs.NegotiateLaws.Maps.{Rising, on}
+use Rattle.iox_hub_locality.proofs.NegotiateLaws.Tables.{IsTable, new-table, runs}
 use Rattle.iox_hub_alone.specs.Alone.{StepWithMemory, NumberFound, LivesBegin, OfService, OfOthers, RunsAmongOthers, RunsAlone, IsAsIfAlone}
 use Rattle.iox_hub_alone.specs.Passing.{PassesOver}
 use Rattle.iox_hub_alone.proofs.Beside.{left, untouched}

@@ -1,16 +1,16 @@
 -- A service among others, and alone.
 use Rattle.std.specs.Prelude.{ℕ, ◌≡◌, ◌≢◌, ◌≤◌, ◌<◌, Bool, true, false, List, [], ◌∷◌, Option, None, Some, Result, Ok}
 use Rattle.std.specs.declared.alloc.AllocError.{AllocError}
-use Rattle.iox_hub_run.specs.Command.declared.command.Command.{Command}
-use Rattle.iox_hub_run.specs.Command.declared.reply.Reply.{Reply}
-use Rattle.iox_hub_run.specs.HubBase.DescribeBase.declared.hash.ServiceHash.{ServiceHash}
-use Rattle.iox_hub_run.specs.HubBase.declared.hub.HubConfig.{HubConfig}
-use Rattle.iox_hub_run.specs.Numbers.{IsNew}
-use Rattle.iox_hub_run.specs.declared.numbered_hub.NumberedHub.{NumberedHub}
-use Rattle.iox_hub_independence.specs.Asking.{hash_asked, number_asked}
+use Rattle.iox_hub_locality.specs.HubRun.Command.declared.command.Command.{Command}
+use Rattle.iox_hub_locality.specs.HubRun.Command.declared.reply.Reply.{Reply}
+use Rattle.iox_hub_locality.specs.HubRun.HubBase.DescribeBase.declared.hash.ServiceHash.{ServiceHash}
+use Rattle.iox_hub_locality.specs.HubRun.HubBase.declared.hub.HubConfig.{HubConfig}
+use Rattle.iox_hub_locality.specs.HubRun.Numbers.{IsNew}
+use Rattle.iox_hub_locality.specs.HubRun.declared.numbered_hub.NumberedHub.{NumberedHub}
+use Rattle.iox_hub_locality.specs.HubIndependence.Asking.{hash_asked, number_asked}
 use Rattle.iox_hub_locality.specs.Agreeing.{AgreeOn}
 use Rattle.iox_hub_locality.specs.Locality.{HashFound, IsNode, IsMemoryWanted}
-use Rattle.iox_negotiate_laws.specs.NegotiateTable.Contents.{Contents}
+use Rattle.iox_hub_locality.specs.NegotiateLaws.NegotiateTable.Contents.{Contents}
 use Rattle.iox_hub_alone.specs.Passing.{PassesOver}
 
 -- The number that is found, if one is, is of the service.

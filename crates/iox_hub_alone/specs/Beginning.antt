@@ -2,28 +2,28 @@
 use Rattle.std.specs.Prelude.{ℕ, ◌≡◌, ◌≢◌, ◌≤◌, ◌⊎◌, Bool, List, [], None, Some, Result}
 use Rattle.std.specs.List.{AllByRecursion}
 use Rattle.std.specs.declared.alloc.AllocError.{AllocError}
-use Rattle.iox_hub_run.specs.AgreementLaws.{service_of}
-use Rattle.iox_hub_run.specs.Command.declared.command.Command.{Command}
-use Rattle.iox_hub_run.specs.Command.declared.reply.Reply.{Reply}
-use Rattle.iox_hub_run.specs.HubBase.DescribeBase.declared.hash.ServiceHash.{ServiceHash}
-use Rattle.iox_hub_run.specs.HubBase.Domain.declared.domain.Domain.{Domain}
-use Rattle.iox_hub_run.specs.HubBase.HubServices.Open.{presence_of}
-use Rattle.iox_hub_run.specs.HubBase.HubServices.declared.presence.Presence.{Presence}
-use Rattle.iox_hub_run.specs.HubBase.HubServices.declared.presence.Presence.TheVariants.{Here}
-use Rattle.iox_hub_run.specs.HubBase.declared.hub.Hub.{Hub}
-use Rattle.iox_hub_run.specs.HubBase.declared.hub.HubConfig.{HubConfig}
-use Rattle.iox_hub_run.specs.HubCommands.DomainPorts.Living.{living}
-use Rattle.iox_hub_run.specs.HubCommands.DomainSettings.Sizes.{sizes}
-use Rattle.iox_hub_run.specs.HubCommands.HubPorts.Numbered.NumberTable.{NumberTable, value_at}
-use Rattle.iox_hub_run.specs.HubCommands.HubPorts.declared.made.Made.{Made}
-use Rattle.iox_hub_run.specs.Numbers.{IsNew}
-use Rattle.iox_hub_run.specs.Runs.{Runs, IsRun}
-use Rattle.iox_hub_run.specs.declared.numbered_hub.NumberedHub.{NumberedHub}
-use Rattle.iox_hub_independence.specs.Asking.{service_at, publisher_service, loan_service, sample_service}
+use Rattle.iox_hub_locality.specs.HubRun.AgreementLaws.{service_of}
+use Rattle.iox_hub_locality.specs.HubRun.Command.declared.command.Command.{Command}
+use Rattle.iox_hub_locality.specs.HubRun.Command.declared.reply.Reply.{Reply}
+use Rattle.iox_hub_locality.specs.HubRun.HubBase.DescribeBase.declared.hash.ServiceHash.{ServiceHash}
+use Rattle.iox_hub_locality.specs.HubRun.HubBase.Domain.declared.domain.Domain.{Domain}
+use Rattle.iox_hub_locality.specs.HubRun.HubBase.HubServices.Open.{presence_of}
+use Rattle.iox_hub_locality.specs.HubRun.HubBase.HubServices.declared.presence.Presence.{Presence}
+use Rattle.iox_hub_locality.specs.HubRun.HubBase.HubServices.declared.presence.Presence.TheVariants.{Here}
+use Rattle.iox_hub_locality.specs.HubRun.HubBase.declared.hub.Hub.{Hub}
+use Rattle.iox_hub_locality.specs.HubRun.HubBase.declared.hub.HubConfig.{HubConfig}
+use Rattle.iox_hub_locality.specs.HubRun.HubCommands.DomainPorts.Living.{living}
+use Rattle.iox_hub_locality.specs.HubRun.HubCommands.DomainSettings.Sizes.{sizes}
+use Rattle.iox_hub_locality.specs.HubRun.HubCommands.HubPorts.Numbered.NumberTable.{NumberTable, value_at}
+use Rattle.iox_hub_locality.specs.HubRun.HubCommands.HubPorts.declared.made.Made.{Made}
+use Rattle.iox_hub_locality.specs.HubRun.Numbers.{IsNew}
+use Rattle.iox_hub_locality.specs.HubRun.Runs.{Runs, IsRun}
+use Rattle.iox_hub_locality.specs.HubRun.declared.numbered_hub.NumberedHub.{NumberedHub}
+use Rattle.iox_hub_locality.specs.HubIndependence.Asking.{service_at, publisher_service, loan_service, sample_service}
 use Rattle.iox_hub_locality.specs.Locality.{IsOpening}
-use Rattle.iox_negotiate_laws.specs.Lives.{number_of}
-use Rattle.iox_negotiate_laws.specs.NegotiateTable.Contents.{entry_at}
-use Rattle.iox_negotiate_laws.specs.NegotiateTable.declared.entry.Entry.{Entry}
+use Rattle.iox_hub_locality.specs.NegotiateLaws.Lives.{number_of}
+use Rattle.iox_hub_locality.specs.NegotiateLaws.NegotiateTable.Contents.{entry_at}
+use Rattle.iox_hub_locality.specs.NegotiateLaws.NegotiateTable.declared.entry.Entry.{Entry}
 
 -- Nothing that goes by a number is of the life of this number.
 abbrev pub NoneIsOf : {V : Type 0} → (V → ℕ) → ℕ → NumberTable V → Type 0

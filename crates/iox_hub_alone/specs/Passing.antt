@@ -1,9 +1,9 @@
 -- Numbers are passed over.
 use Rattle.std.specs.Prelude.{◌≡◌, ◌≤◌}
-use Rattle.iox_hub_run.specs.HubBase.declared.hub.Hub.{Hub}
-use Rattle.iox_hub_run.specs.HubCommands.HubPorts.Numbered.NumberTable.{NumberTable}
-use Rattle.iox_hub_run.specs.HubCommands.HubPorts.declared.made.Made.{Made}
-use Rattle.iox_hub_run.specs.declared.numbered_hub.NumberedHub.{NumberedHub}
+use Rattle.iox_hub_locality.specs.HubRun.HubBase.declared.hub.Hub.{Hub}
+use Rattle.iox_hub_locality.specs.HubRun.HubCommands.HubPorts.Numbered.NumberTable.{NumberTable}
+use Rattle.iox_hub_locality.specs.HubRun.HubCommands.HubPorts.declared.made.Made.{Made}
+use Rattle.iox_hub_locality.specs.HubRun.declared.numbered_hub.NumberedHub.{NumberedHub}
 
 -- The number that comes next may be a later one; the same values stand under the same numbers.
 pub record PassesIn {V : Type 0} (old new : NumberTable V) : Type 0 where

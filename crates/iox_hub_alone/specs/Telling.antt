@@ -1,13 +1,13 @@
 -- Every run can be told as one of a service among others.
 use Rattle.std.specs.Prelude.{ℕ, ◌≡◌, Bool, true, false, List, [], ◌∷◌, Result}
 use Rattle.std.specs.declared.alloc.AllocError.{AllocError}
-use Rattle.iox_hub_run.specs.Command.declared.command.Command.{Command}
-use Rattle.iox_hub_run.specs.Command.declared.reply.Reply.{Reply}
-use Rattle.iox_hub_run.specs.HubBase.DescribeBase.declared.hash.ServiceHash.{ServiceHash}
-use Rattle.iox_hub_run.specs.HubBase.declared.hub.HubConfig.{HubConfig}
-use Rattle.iox_hub_run.specs.Numbers.{IsNew}
-use Rattle.iox_hub_run.specs.Runs.{Runs}
-use Rattle.iox_hub_run.specs.declared.numbered_hub.NumberedHub.{NumberedHub}
+use Rattle.iox_hub_locality.specs.HubRun.Command.declared.command.Command.{Command}
+use Rattle.iox_hub_locality.specs.HubRun.Command.declared.reply.Reply.{Reply}
+use Rattle.iox_hub_locality.specs.HubRun.HubBase.DescribeBase.declared.hash.ServiceHash.{ServiceHash}
+use Rattle.iox_hub_locality.specs.HubRun.HubBase.declared.hub.HubConfig.{HubConfig}
+use Rattle.iox_hub_locality.specs.HubRun.Numbers.{IsNew}
+use Rattle.iox_hub_locality.specs.HubRun.Runs.{Runs}
+use Rattle.iox_hub_locality.specs.HubRun.declared.numbered_hub.NumberedHub.{NumberedHub}
 use Rattle.iox_hub_alone.specs.Alone.{StepWithMemory, RunsAmongOthers}
 
 module _ {T : Type 0} where

@@ -9,14 +9,12 @@
 ghost use Rattle.iox_hub_alone.specs.Alone.{IsAsIfAlone};
 ghost use Rattle.iox_hub_alone.specs.Beginning.{DomainsStartEmpty, LivesBeginAnew, NothingAhead};
 ghost use Rattle.iox_hub_alone.specs.Telling.{EachRunCanBeTold};
-ghost use Rattle.iox_hub_commands.specs.DescribeBase.Detail.{detail};
-ghost use Rattle.iox_hub_commands.specs.DescribeBase.declared.type_detail.TypeVariant.TheVariants.{FixedSize};
-ghost use Rattle.iox_hub_factories.specs.HubRequests.Asked.{types_of};
-ghost use Rattle.iox_hub_run.specs.Steps.{Step};
+ghost use Rattle.iox_hub_locality.specs.HubCommands.DescribeBase.Detail.{detail};
+ghost use Rattle.iox_hub_locality.specs.HubCommands.DescribeBase.declared.type_detail.TypeVariant.TheVariants.{FixedSize};
+ghost use Rattle.iox_hub_locality.specs.HubFactories.HubRequests.Asked.{types_of};
+ghost use Rattle.iox_hub_locality.specs.HubRun.Steps.{Step};
 
-use iox_describe_base::ZeroCopySend;
-use iox_hub_commands::{PublisherHandlers, SubscriberHandler};
-use iox_queues_base::Words;
+pub use iox_hub_locality::{PublisherHandlers, SubscriberHandler, Words, ZeroCopySend};
 
 /// In any run of a new hub, leave out all commands that ask nothing of a service, but for those that make nodes. Those that are left may be
 /// replied to just so in a run of a new hub without the others, if only the numbers that the others took are passed over: of factories,

@@ -13,9 +13,9 @@ ghost use Rattle.iox_hub_factories.specs.HubRequests.Asked.{types_of};
 ghost use Rattle.iox_hub_independence.specs.Laws.{LeavesOthers, LeftIsFound, RunsLeaveOthers};
 ghost use Rattle.iox_hub_run.specs.Steps.{Step};
 
-use iox_describe_base::ZeroCopySend;
-use iox_hub_commands::{PublisherHandlers, SubscriberHandler};
-use iox_queues_base::Words;
+pub use iox_describe_base::ZeroCopySend;
+pub use iox_hub_commands::{PublisherHandlers, SubscriberHandler};
+pub use iox_queues_base::Words;
 
 /// A command that asks nothing of a service leaves all of it as it was, whatever is replied: its agreement and its nodes, its factories,
 /// ports, loans and samples under their numbers, what waits, what is borrowed, and what is history. So does each part of a run of a new hub

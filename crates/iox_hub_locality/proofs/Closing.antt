@@ -9,41 +9,41 @@ use Rattle.std.specs.declared.cmp.Ordering.{Ordering}
 use Rattle.std.specs.declared.cmp.Ordering.TheVariants.{Less, Equal, Greater}
 use Rattle.std.specs.Map.{lookup, remove_entry}
 use Rattle.std.specs.Ordering.{nat_cmp, match_ordering}
-use Rattle.iox_hub_commands.specs.Command.declared.command.Command.TheVariants as command
-use Rattle.iox_hub_commands.specs.Command.declared.reply.Reply.{Reply}
-use Rattle.iox_hub_commands.specs.DescribeBase.Detail.{Detail}
-use Rattle.iox_hub_commands.specs.DescribeBase.declared.hash.ServiceHash.{ServiceHash}
-use Rattle.iox_hub_commands.specs.DescribeBase.declared.message_type.MessageTypeDetails.{MessageTypeDetails}
-use Rattle.iox_hub_commands.specs.DomainValues.declared.backpressure.BackpressureAction.{BackpressureAction}
-use Rattle.iox_hub_commands.specs.DomainValues.declared.backpressure.BackpressureDecision.{BackpressureDecision}
-use Rattle.iox_hub_commands.specs.DomainValues.declared.backpressure.BackpressureInfo.{BackpressureInfo}
-use Rattle.iox_hub_commands.specs.DomainValues.declared.backpressure_strategy.BackpressureStrategy.{BackpressureStrategy}
-use Rattle.iox_hub_commands.specs.DomainValues.declared.degradation.DegradationAction.{DegradationAction}
-use Rattle.iox_hub_commands.specs.DomainValues.declared.degradation.DegradationCause.{DegradationCause}
-use Rattle.iox_hub_commands.specs.DomainValues.declared.degradation.DegradationInfo.{DegradationInfo}
-use Rattle.iox_hub_factories.specs.Closing.{ClosesUnless, ClosesIfOf, ClosesNumbered}
-use Rattle.iox_hub_factories.specs.Domain.Kept.{kept, forgotten}
-use Rattle.iox_hub_factories.specs.HubBase.Closing.{is_last, who_counts, lives_in, in_use, less_one}
-use Rattle.iox_hub_factories.specs.HubBase.Hubs.{factories_of}
-use Rattle.iox_hub_factories.specs.HubBase.declared.hub.Hub.{Hub}
-use Rattle.iox_hub_factories.specs.HubServices.Numbered.{is_number, not_number, others_beside}
-use Rattle.iox_hub_factories.specs.HubServices.Open.{presence_of}
-use Rattle.iox_hub_factories.specs.HubServices.Opening.{without_service}
-use Rattle.iox_hub_factories.specs.Numbered.NumberTable.{Rises, value_at, removed}
-use Rattle.iox_hub_factories.specs.Tables.{FactoryTable, parts_of}
-use Rattle.iox_hub_factories.specs.declared.made.MadeFactory.{MadeFactory}
-use Rattle.iox_hub_run.specs.AgreementLaws.{service_of, carried_by}
-use Rattle.iox_hub_run.specs.Lives.{NumbersRise}
-use Rattle.iox_hub_run.specs.Services.{Closes}
-use Rattle.iox_hub_run.specs.Steps.{Step}
-use Rattle.iox_hub_run.specs.declared.numbered_hub.NumberedHub.{NumberedHub}
+use Rattle.iox_hub_independence.specs.HubCommands.Command.declared.command.Command.TheVariants as command
+use Rattle.iox_hub_independence.specs.HubCommands.Command.declared.reply.Reply.{Reply}
+use Rattle.iox_hub_independence.specs.HubCommands.DescribeBase.Detail.{Detail}
+use Rattle.iox_hub_independence.specs.HubCommands.DescribeBase.declared.hash.ServiceHash.{ServiceHash}
+use Rattle.iox_hub_independence.specs.HubCommands.DescribeBase.declared.message_type.MessageTypeDetails.{MessageTypeDetails}
+use Rattle.iox_hub_independence.specs.HubCommands.DomainValues.declared.backpressure.BackpressureAction.{BackpressureAction}
+use Rattle.iox_hub_independence.specs.HubCommands.DomainValues.declared.backpressure.BackpressureDecision.{BackpressureDecision}
+use Rattle.iox_hub_independence.specs.HubCommands.DomainValues.declared.backpressure.BackpressureInfo.{BackpressureInfo}
+use Rattle.iox_hub_independence.specs.HubCommands.DomainValues.declared.backpressure_strategy.BackpressureStrategy.{BackpressureStrategy}
+use Rattle.iox_hub_independence.specs.HubCommands.DomainValues.declared.degradation.DegradationAction.{DegradationAction}
+use Rattle.iox_hub_independence.specs.HubCommands.DomainValues.declared.degradation.DegradationCause.{DegradationCause}
+use Rattle.iox_hub_independence.specs.HubCommands.DomainValues.declared.degradation.DegradationInfo.{DegradationInfo}
+use Rattle.iox_hub_independence.specs.HubFactories.Closing.{ClosesUnless, ClosesIfOf, ClosesNumbered}
+use Rattle.iox_hub_independence.specs.HubFactories.Domain.Kept.{kept, forgotten}
+use Rattle.iox_hub_independence.specs.HubFactories.HubBase.Closing.{is_last, who_counts, lives_in, in_use, less_one}
+use Rattle.iox_hub_independence.specs.HubFactories.HubBase.Hubs.{factories_of}
+use Rattle.iox_hub_independence.specs.HubFactories.HubBase.declared.hub.Hub.{Hub}
+use Rattle.iox_hub_independence.specs.HubFactories.HubServices.Numbered.{is_number, not_number, others_beside}
+use Rattle.iox_hub_independence.specs.HubFactories.HubServices.Open.{presence_of}
+use Rattle.iox_hub_independence.specs.HubFactories.HubServices.Opening.{without_service}
+use Rattle.iox_hub_independence.specs.HubFactories.Numbered.NumberTable.{Rises, value_at, removed}
+use Rattle.iox_hub_independence.specs.HubFactories.Tables.{FactoryTable, parts_of}
+use Rattle.iox_hub_independence.specs.HubFactories.declared.made.MadeFactory.{MadeFactory}
+use Rattle.iox_hub_independence.specs.HubRun.AgreementLaws.{service_of, carried_by}
+use Rattle.iox_hub_independence.specs.HubRun.Lives.{NumbersRise}
+use Rattle.iox_hub_independence.specs.HubRun.Services.{Closes}
+use Rattle.iox_hub_independence.specs.HubRun.Steps.{Step}
+use Rattle.iox_hub_independence.specs.HubRun.declared.numbered_hub.NumberedHub.{NumberedHub}
 use Rattle.iox_hub_independence.proofs.Names.{closes_under, AllUnder}
-use Rattle.iox_negotiate_laws.specs.Negotiate.declared.factory.Membership.{Membership}
-use Rattle.iox_negotiate_laws.specs.NegotiateErrors.declared.close.CloseError.{CloseError}
-use Rattle.iox_negotiate_laws.specs.NegotiateRounds.Runs.{Went}
-use Rattle.iox_negotiate_laws.specs.NegotiateTable.Sights.{Sight}
-use Rattle.iox_negotiate_laws.proofs.Maps.{Distinct, no, remove-apart, remove-same}
-use Rattle.iox_negotiate_laws.proofs.Tables.{IsTable, reached}
+use Rattle.iox_hub_independence.specs.NegotiateLaws.Negotiate.declared.factory.Membership.{Membership}
+use Rattle.iox_hub_independence.specs.NegotiateLaws.NegotiateErrors.declared.close.CloseError.{CloseError}
+use Rattle.iox_hub_independence.specs.NegotiateLaws.NegotiateRounds.Runs.{Went}
+use Rattle.iox_hub_independence.specs.NegotiateLaws.NegotiateTable.Sights.{Sight}
+use Rattle.iox_hub_independence.proofs.NegotiateLaws.Maps.{Distinct, no, remove-apart, remove-same}
+use Rattle.iox_hub_independence.proofs.NegotiateLaws.Tables.{IsTable, reached}
 use Rattle.iox_hub_locality.specs.Agreeing.{SameOf, HubsAgree, AgreeOn}
 use Rattle.iox_hub_locality.specs.Locality.{FoundMine, EachOnce, NumbersOnce, HashFound, CloseAnswersAlike}
 use Rattle.iox_hub_locality.proofs.Domains.{agree_still}

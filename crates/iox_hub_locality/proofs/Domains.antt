@@ -4,19 +4,19 @@ use Rattle.std.proofs.lemmas.Bool.{eqb-true, eq-eqb}
 use Rattle.std.specs.BTreeMap.{is_at}
 use Rattle.std.specs.Map.{lookup, set_value}
 use Rattle.std.specs.Ordering.{nat_cmp}
-use Rattle.iox_hub_commands.specs.DescribeBase.declared.hash.ServiceHash.{ServiceHash}
-use Rattle.iox_hub_commands.specs.DomainHome.Homes.{AtDomain, LeavesDomain, MakesAt}
-use Rattle.iox_hub_commands.specs.DomainHome.declared.domain_id.DomainId.{DomainId}
-use Rattle.iox_hub_commands.specs.DomainPorts.declared.service_ports.ServicePorts.{ServicePorts}
-use Rattle.iox_hub_commands.specs.Delivery.Publishing.{changed_at}
-use Rattle.iox_hub_factories.specs.Domain.Domains.{with_ports}
-use Rattle.iox_hub_factories.specs.Domain.declared.domain.Domain.{Domain}
-use Rattle.iox_hub_factories.specs.HubBase.AsHome.{hub_ports, with_hub_ports, with_services}
-use Rattle.iox_hub_factories.specs.HubBase.declared.hub.Hub.{Hub}
-use Rattle.iox_hub_factories.specs.HubServices.AsHome.{domain_at, stepped, stepped_if}
-use Rattle.iox_hub_factories.specs.HubServices.Numbered.{changed_found, absent_unchanged, others_unchanged}
-use Rattle.iox_hub_factories.specs.HubServices.Open.{OpenServices, presence_of, here_if, with_domain}
-use Rattle.iox_hub_factories.specs.HubServices.declared.presence.Presence.TheVariants.{Here}
+use Rattle.iox_hub_independence.specs.HubCommands.DescribeBase.declared.hash.ServiceHash.{ServiceHash}
+use Rattle.iox_hub_independence.specs.HubCommands.DomainHome.Homes.{AtDomain, LeavesDomain, MakesAt}
+use Rattle.iox_hub_independence.specs.HubCommands.DomainHome.declared.domain_id.DomainId.{DomainId}
+use Rattle.iox_hub_independence.specs.HubCommands.DomainPorts.declared.service_ports.ServicePorts.{ServicePorts}
+use Rattle.iox_hub_independence.specs.HubCommands.Delivery.Publishing.{changed_at}
+use Rattle.iox_hub_independence.specs.HubFactories.Domain.Domains.{with_ports}
+use Rattle.iox_hub_independence.specs.HubFactories.Domain.declared.domain.Domain.{Domain}
+use Rattle.iox_hub_independence.specs.HubFactories.HubBase.AsHome.{hub_ports, with_hub_ports, with_services}
+use Rattle.iox_hub_independence.specs.HubFactories.HubBase.declared.hub.Hub.{Hub}
+use Rattle.iox_hub_independence.specs.HubFactories.HubServices.AsHome.{domain_at, stepped, stepped_if}
+use Rattle.iox_hub_independence.specs.HubFactories.HubServices.Numbered.{changed_found, absent_unchanged, others_unchanged}
+use Rattle.iox_hub_independence.specs.HubFactories.HubServices.Open.{OpenServices, presence_of, here_if, with_domain}
+use Rattle.iox_hub_independence.specs.HubFactories.HubServices.declared.presence.Presence.TheVariants.{Here}
 use Rattle.iox_hub_locality.specs.Agreeing.{HubsAgree}
 
 set_found : {X : Type 0} (number : ℕ) (values : List (ℕ × X)) (w : X) (found : Option X) → lookup (is_at (nat_cmp number)) values ≡ found → lookup (is_at (nat_cmp number)) (set_value (is_at (nat_cmp number)) values w) ≡ option_map (λ x. w) found

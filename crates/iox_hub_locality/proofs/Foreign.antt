@@ -1,28 +1,28 @@
 -- What steps of foreign nodes do in two hubs that agree on the service.
 use Rattle.std.proofs.Common.{◌≡◌, ℕ, Bool, List, Option, Some, Result, refl, sym, subst, inl, inr}
-use Rattle.iox_hub_commands.specs.Command.declared.command.Command.TheVariants as command
-use Rattle.iox_hub_commands.specs.Command.declared.refusal.HubError.{HubError}
-use Rattle.iox_hub_commands.specs.Command.declared.reply.Reply.{Reply}
-use Rattle.iox_hub_commands.specs.Command.declared.step.ForeignStep.{ForeignStep as Named}
-use Rattle.iox_hub_commands.specs.DescribeBase.Detail.{Detail}
-use Rattle.iox_hub_commands.specs.DescribeBase.Hash.{service_hash_of}
-use Rattle.iox_hub_commands.specs.DescribeBase.declared.hash.ServiceHash.{ServiceHash}
-use Rattle.iox_hub_commands.specs.DescribeBase.declared.message_type.MessageTypeDetails.{MessageTypeDetails}
-use Rattle.iox_hub_commands.specs.DescribeBase.declared.pattern.MessagingPattern.{MessagingPattern}
-use Rattle.iox_hub_commands.specs.DomainValues.declared.backpressure.BackpressureAction.{BackpressureAction}
-use Rattle.iox_hub_commands.specs.DomainValues.declared.backpressure.BackpressureDecision.{BackpressureDecision}
-use Rattle.iox_hub_commands.specs.DomainValues.declared.backpressure.BackpressureInfo.{BackpressureInfo}
-use Rattle.iox_hub_commands.specs.DomainValues.declared.backpressure_strategy.BackpressureStrategy.{BackpressureStrategy}
-use Rattle.iox_hub_commands.specs.DomainValues.declared.degradation.DegradationAction.{DegradationAction}
-use Rattle.iox_hub_commands.specs.DomainValues.declared.degradation.DegradationCause.{DegradationCause}
-use Rattle.iox_hub_commands.specs.DomainValues.declared.degradation.DegradationInfo.{DegradationInfo}
-use Rattle.iox_hub_factories.specs.Foreign.{ActsNamed}
-use Rattle.iox_hub_factories.specs.HubBase.declared.hub.Hub.{Hub}
-use Rattle.iox_hub_run.specs.Services.{Acts}
-use Rattle.iox_hub_run.specs.Steps.{Step}
-use Rattle.iox_hub_run.specs.declared.numbered_hub.NumberedHub.{NumberedHub}
-use Rattle.iox_negotiate_laws.specs.NegotiateTable.Contents.{Contents}
-use Rattle.iox_negotiate_laws.proofs.Tables.{IsTable, reached}
+use Rattle.iox_hub_independence.specs.HubCommands.Command.declared.command.Command.TheVariants as command
+use Rattle.iox_hub_independence.specs.HubCommands.Command.declared.refusal.HubError.{HubError}
+use Rattle.iox_hub_independence.specs.HubCommands.Command.declared.reply.Reply.{Reply}
+use Rattle.iox_hub_independence.specs.HubCommands.Command.declared.step.ForeignStep.{ForeignStep as Named}
+use Rattle.iox_hub_independence.specs.HubCommands.DescribeBase.Detail.{Detail}
+use Rattle.iox_hub_independence.specs.HubCommands.DescribeBase.Hash.{service_hash_of}
+use Rattle.iox_hub_independence.specs.HubCommands.DescribeBase.declared.hash.ServiceHash.{ServiceHash}
+use Rattle.iox_hub_independence.specs.HubCommands.DescribeBase.declared.message_type.MessageTypeDetails.{MessageTypeDetails}
+use Rattle.iox_hub_independence.specs.HubCommands.DescribeBase.declared.pattern.MessagingPattern.{MessagingPattern}
+use Rattle.iox_hub_independence.specs.HubCommands.DomainValues.declared.backpressure.BackpressureAction.{BackpressureAction}
+use Rattle.iox_hub_independence.specs.HubCommands.DomainValues.declared.backpressure.BackpressureDecision.{BackpressureDecision}
+use Rattle.iox_hub_independence.specs.HubCommands.DomainValues.declared.backpressure.BackpressureInfo.{BackpressureInfo}
+use Rattle.iox_hub_independence.specs.HubCommands.DomainValues.declared.backpressure_strategy.BackpressureStrategy.{BackpressureStrategy}
+use Rattle.iox_hub_independence.specs.HubCommands.DomainValues.declared.degradation.DegradationAction.{DegradationAction}
+use Rattle.iox_hub_independence.specs.HubCommands.DomainValues.declared.degradation.DegradationCause.{DegradationCause}
+use Rattle.iox_hub_independence.specs.HubCommands.DomainValues.declared.degradation.DegradationInfo.{DegradationInfo}
+use Rattle.iox_hub_independence.specs.HubFactories.Foreign.{ActsNamed}
+use Rattle.iox_hub_independence.specs.HubFactories.HubBase.declared.hub.Hub.{Hub}
+use Rattle.iox_hub_independence.specs.HubRun.Services.{Acts}
+use Rattle.iox_hub_independence.specs.HubRun.Steps.{Step}
+use Rattle.iox_hub_independence.specs.HubRun.declared.numbered_hub.NumberedHub.{NumberedHub}
+use Rattle.iox_hub_independence.specs.NegotiateLaws.NegotiateTable.Contents.{Contents}
+use Rattle.iox_hub_independence.proofs.NegotiateLaws.Tables.{IsTable, reached}
 use Rattle.iox_hub_locality.specs.Agreeing.{HubsAgree, AgreeOn}
 use Rattle.iox_hub_locality.specs.Locality.{ForeignAnswersAlike}
 use Rattle.iox_hub_locality.proofs.Names.{TablesAgree, acts_all_alike}

@@ -5,52 +5,52 @@ use Rattle.std.specs.Cmp.{nat_cmp_total}
 use Rattle.std.specs.Ordering.{nat_cmp}
 use Rattle.std.specs.declared.alloc.AllocError.{AllocError}
 use Rattle.std.proofs.lemmas.Map.Lookups.{exact_unsigned}
-use Rattle.iox_hub_commands.specs.Command.declared.command.Command.{Command}
-use Rattle.iox_hub_commands.specs.Command.declared.command.Command.TheVariants as command
-use Rattle.iox_hub_commands.specs.Command.declared.refusal.HubError.{HubError}
-use Rattle.iox_hub_commands.specs.Command.declared.refusal.Refusal.{Refusal}
-use Rattle.iox_hub_commands.specs.Command.declared.reply.Reply.{Reply}
-use Rattle.iox_hub_commands.specs.Command.declared.step.ForeignStep.{ForeignStep as Named}
-use Rattle.iox_hub_commands.specs.DescribeBase.Detail.{Detail}
-use Rattle.iox_hub_commands.specs.DescribeBase.declared.hash.ServiceHash.{ServiceHash}
-use Rattle.iox_hub_commands.specs.DescribeBase.declared.message_type.MessageTypeDetails.{MessageTypeDetails}
-use Rattle.iox_hub_commands.specs.DescribeBase.declared.pattern.MessagingPattern.{MessagingPattern}
-use Rattle.iox_hub_commands.specs.DescribeSettings.declared.static_config.Settings.{Settings}
-use Rattle.iox_hub_commands.specs.DomainHome.declared.domain_id.DomainId.{DomainId}
-use Rattle.iox_hub_commands.specs.DomainValues.declared.backpressure.BackpressureAction.{BackpressureAction}
-use Rattle.iox_hub_commands.specs.DomainValues.declared.backpressure.BackpressureDecision.{BackpressureDecision}
-use Rattle.iox_hub_commands.specs.DomainValues.declared.backpressure.BackpressureInfo.{BackpressureInfo}
-use Rattle.iox_hub_commands.specs.DomainValues.declared.backpressure_strategy.BackpressureStrategy.{BackpressureStrategy}
-use Rattle.iox_hub_commands.specs.DomainValues.declared.degradation.DegradationAction.{DegradationAction}
-use Rattle.iox_hub_commands.specs.DomainValues.declared.degradation.DegradationCause.{DegradationCause}
-use Rattle.iox_hub_commands.specs.DomainValues.declared.degradation.DegradationInfo.{DegradationInfo}
-use Rattle.iox_hub_factories.specs.Closing.{ClosesUnless, ClosesIfOf, ClosesNumbered}
-use Rattle.iox_hub_factories.specs.Domain.declared.domain.Domain.{Domain}
-use Rattle.iox_hub_factories.specs.Foreign.{ActsNamed}
-use Rattle.iox_hub_factories.specs.HubBase.AsHome.{with_services}
-use Rattle.iox_hub_factories.specs.HubBase.Closing.{is_last, less_one}
-use Rattle.iox_hub_factories.specs.HubBase.Hubs.{one_more, factories_of}
-use Rattle.iox_hub_factories.specs.HubBase.Opening.{Made, Enters, Settles, OpensInHub}
-use Rattle.iox_hub_factories.specs.HubBase.declared.hub.Hub.{Hub}
-use Rattle.iox_hub_factories.specs.HubServices.AsHome.{domain_at, stepped, stepped_if}
-use Rattle.iox_hub_factories.specs.HubServices.Open.{OpenServices}
-use Rattle.iox_hub_factories.specs.HubServices.Opening.{Opens as ServiceOpens}
-use Rattle.iox_hub_factories.specs.HubServices.declared.presence.Presence.TheVariants.{Here}
-use Rattle.iox_hub_factories.specs.Numbering.{GetsNumber}
-use Rattle.iox_hub_factories.specs.Tables.{FactoryTable, parts_of}
-use Rattle.iox_hub_factories.specs.declared.made.MadeFactory.{MadeFactory}
-use Rattle.iox_hub_run.specs.Steps.{IsReplied, Step}
-use Rattle.iox_hub_run.specs.declared.numbered_hub.NumberedHub.{NumberedHub}
+use Rattle.iox_hub_independence.specs.HubCommands.Command.declared.command.Command.{Command}
+use Rattle.iox_hub_independence.specs.HubCommands.Command.declared.command.Command.TheVariants as command
+use Rattle.iox_hub_independence.specs.HubCommands.Command.declared.refusal.HubError.{HubError}
+use Rattle.iox_hub_independence.specs.HubCommands.Command.declared.refusal.Refusal.{Refusal}
+use Rattle.iox_hub_independence.specs.HubCommands.Command.declared.reply.Reply.{Reply}
+use Rattle.iox_hub_independence.specs.HubCommands.Command.declared.step.ForeignStep.{ForeignStep as Named}
+use Rattle.iox_hub_independence.specs.HubCommands.DescribeBase.Detail.{Detail}
+use Rattle.iox_hub_independence.specs.HubCommands.DescribeBase.declared.hash.ServiceHash.{ServiceHash}
+use Rattle.iox_hub_independence.specs.HubCommands.DescribeBase.declared.message_type.MessageTypeDetails.{MessageTypeDetails}
+use Rattle.iox_hub_independence.specs.HubCommands.DescribeBase.declared.pattern.MessagingPattern.{MessagingPattern}
+use Rattle.iox_hub_independence.specs.HubCommands.DescribeSettings.declared.static_config.Settings.{Settings}
+use Rattle.iox_hub_independence.specs.HubCommands.DomainHome.declared.domain_id.DomainId.{DomainId}
+use Rattle.iox_hub_independence.specs.HubCommands.DomainValues.declared.backpressure.BackpressureAction.{BackpressureAction}
+use Rattle.iox_hub_independence.specs.HubCommands.DomainValues.declared.backpressure.BackpressureDecision.{BackpressureDecision}
+use Rattle.iox_hub_independence.specs.HubCommands.DomainValues.declared.backpressure.BackpressureInfo.{BackpressureInfo}
+use Rattle.iox_hub_independence.specs.HubCommands.DomainValues.declared.backpressure_strategy.BackpressureStrategy.{BackpressureStrategy}
+use Rattle.iox_hub_independence.specs.HubCommands.DomainValues.declared.degradation.DegradationAction.{DegradationAction}
+use Rattle.iox_hub_independence.specs.HubCommands.DomainValues.declared.degradation.DegradationCause.{DegradationCause}
+use Rattle.iox_hub_independence.specs.HubCommands.DomainValues.declared.degradation.DegradationInfo.{DegradationInfo}
+use Rattle.iox_hub_independence.specs.HubFactories.Closing.{ClosesUnless, ClosesIfOf, ClosesNumbered}
+use Rattle.iox_hub_independence.specs.HubFactories.Domain.declared.domain.Domain.{Domain}
+use Rattle.iox_hub_independence.specs.HubFactories.Foreign.{ActsNamed}
+use Rattle.iox_hub_independence.specs.HubFactories.HubBase.AsHome.{with_services}
+use Rattle.iox_hub_independence.specs.HubFactories.HubBase.Closing.{is_last, less_one}
+use Rattle.iox_hub_independence.specs.HubFactories.HubBase.Hubs.{one_more, factories_of}
+use Rattle.iox_hub_independence.specs.HubFactories.HubBase.Opening.{Made, Enters, Settles, OpensInHub}
+use Rattle.iox_hub_independence.specs.HubFactories.HubBase.declared.hub.Hub.{Hub}
+use Rattle.iox_hub_independence.specs.HubFactories.HubServices.AsHome.{domain_at, stepped, stepped_if}
+use Rattle.iox_hub_independence.specs.HubFactories.HubServices.Open.{OpenServices}
+use Rattle.iox_hub_independence.specs.HubFactories.HubServices.Opening.{Opens as ServiceOpens}
+use Rattle.iox_hub_independence.specs.HubFactories.HubServices.declared.presence.Presence.TheVariants.{Here}
+use Rattle.iox_hub_independence.specs.HubFactories.Numbering.{GetsNumber}
+use Rattle.iox_hub_independence.specs.HubFactories.Tables.{FactoryTable, parts_of}
+use Rattle.iox_hub_independence.specs.HubFactories.declared.made.MadeFactory.{MadeFactory}
+use Rattle.iox_hub_independence.specs.HubRun.Steps.{IsReplied, Step}
+use Rattle.iox_hub_independence.specs.HubRun.declared.numbered_hub.NumberedHub.{NumberedHub}
 use Rattle.iox_hub_independence.specs.Asking.{hash_asked}
-use Rattle.iox_negotiate_laws.specs.Negotiate.declared.factory.Membership.{Membership}
-use Rattle.iox_negotiate_laws.specs.NegotiateErrors.declared.close.CloseError.{CloseError}
-use Rattle.iox_negotiate_laws.specs.NegotiateTable.Contents.{Contents}
-use Rattle.iox_negotiate_laws.specs.NegotiateTable.Stepped.{Steps}
-use Rattle.iox_negotiate_laws.specs.NegotiateTable.declared.step.ForeignStep.{ForeignStep}
-use Rattle.iox_negotiate_laws.proofs.Agreements.{past-on, no-past, went-past, stepped-went-past}
-use Rattle.iox_negotiate_laws.proofs.Maps.{Rising, insert-rising, remove-rising, set-rising}
-use Rattle.iox_negotiate_laws.proofs.Stepping.{Past, acts-ran}
-use Rattle.iox_hub_factories.specs.Asking.{hash_of}
+use Rattle.iox_hub_independence.specs.NegotiateLaws.Negotiate.declared.factory.Membership.{Membership}
+use Rattle.iox_hub_independence.specs.NegotiateLaws.NegotiateErrors.declared.close.CloseError.{CloseError}
+use Rattle.iox_hub_independence.specs.NegotiateLaws.NegotiateTable.Contents.{Contents}
+use Rattle.iox_hub_independence.specs.NegotiateLaws.NegotiateTable.Stepped.{Steps}
+use Rattle.iox_hub_independence.specs.NegotiateLaws.NegotiateTable.declared.step.ForeignStep.{ForeignStep}
+use Rattle.iox_hub_independence.proofs.NegotiateLaws.Agreements.{past-on, no-past, went-past, stepped-went-past}
+use Rattle.iox_hub_independence.proofs.NegotiateLaws.Maps.{Rising, insert-rising, remove-rising, set-rising}
+use Rattle.iox_hub_independence.proofs.NegotiateLaws.Stepping.{Past, acts-ran}
+use Rattle.iox_hub_independence.specs.HubFactories.Asking.{hash_of}
 use Rattle.iox_hub_locality.specs.Locality.{IsNode, IsOpening}
 use Rattle.iox_hub_locality.proofs.Keeping.{OfServices, step_keeps}
 use Rattle.iox_hub_locality.proofs.Negotiated.{IsNegotiation}

@@ -2,65 +2,65 @@
 use Rattle.std.proofs.Common.{◌≡◌, ℕ, Bool, true, false, List, Option, None, Some, Result, Ok, Err, if◌then◌else◌, refl, sym, ap, subst, length}
 use Rattle.std.specs.Prelude.{replicate}
 use Rattle.std.specs.declared.alloc.AllocError.{AllocError}
-use Rattle.iox_hub_commands.specs.Command.declared.port.PortNumber.{PortNumber}
-use Rattle.iox_hub_commands.specs.Command.declared.port.PortNumber.TheVariants as port_number
-use Rattle.iox_hub_commands.specs.Command.declared.reply.Reply.{Reply}
-use Rattle.iox_hub_commands.specs.Delivery.Publishing.{AfterLoan}
-use Rattle.iox_hub_commands.specs.Delivery.Subscribing.{ReleasesOne}
-use Rattle.iox_hub_commands.specs.Delivery.declared.port_id.PortId.{PortId}
-use Rattle.iox_hub_commands.specs.DeliverySlices.Slices.{each_written_in, FillsLent, WritesAndSends}
-use Rattle.iox_hub_commands.specs.DomainHome.Homes.{AtDomain}
-use Rattle.iox_hub_commands.specs.DomainHome.Steps as steps
-use Rattle.iox_hub_commands.specs.DomainHome.declared.domain_id.DomainId.{DomainId}
-use Rattle.iox_hub_commands.specs.DomainPorts.Lending.{gave_up_in}
-use Rattle.iox_hub_commands.specs.DomainPorts.declared.service_ports.ServicePorts.{ServicePorts}
-use Rattle.iox_hub_commands.specs.DomainPublisher.declared.meeting.Sent.{Sent}
-use Rattle.iox_hub_commands.specs.DomainSubscriber.declared.attached.Taken.{Taken}
-use Rattle.iox_hub_commands.specs.DomainValues.declared.backpressure.BackpressureDecision.{BackpressureDecision}
-use Rattle.iox_hub_commands.specs.DomainValues.declared.backpressure.BackpressureInfo.{BackpressureInfo}
-use Rattle.iox_hub_commands.specs.DomainValues.declared.connection_failure.ConnectionFailure.{ConnectionFailure}
-use Rattle.iox_hub_commands.specs.DomainValues.declared.degradation.DegradationAction.{DegradationAction}
-use Rattle.iox_hub_commands.specs.DomainValues.declared.degradation.DegradationCause.{DegradationCause}
-use Rattle.iox_hub_commands.specs.DomainValues.declared.degradation.DegradationInfo.{DegradationInfo}
-use Rattle.iox_hub_commands.specs.DomainValues.declared.port_error.LoanError.{LoanError}
-use Rattle.iox_hub_commands.specs.DomainValues.declared.port_error.ReceiveError.{ReceiveError}
-use Rattle.iox_hub_commands.specs.DomainValues.declared.port_error.SendError.{SendError}
-use Rattle.iox_hub_factories.specs.HubBase.AsHome.{hub_ports, with_hub_ports, without_hub_publisher, without_hub_subscriber}
-use Rattle.iox_hub_factories.specs.HubBase.declared.hub.Hub.{Hub}
-use Rattle.iox_hub_factories.specs.HubServices.AsHome.{publisher_kept, subscriber_kept, publisher_forgotten, subscriber_forgotten}
-use Rattle.iox_hub_commands.specs.Following.{UpdateStep, HasStep, LeaveStep}
-use Rattle.iox_hub_commands.specs.Lending.{LoanStep, LoanUninitStep, PutStep}
-use Rattle.iox_hub_commands.specs.Messages.{SetStep, FillStep, DropStep, SendStep, RetryStep, GiveUpStep, ReleaseStep}
-use Rattle.iox_hub_commands.specs.Receiving.{ReceiveStep}
-use Rattle.iox_hub_commands.specs.HubPorts.Calls.{AtPort, AtPortIf, Lends, LendsWritten, Puts, Follows, Sends, Retries, GivesUp, PublisherGoes, FollowsPublishers, Tells, Receives, SubscriberGoes, ready}
-use Rattle.iox_hub_commands.specs.HubPorts.Growing.{GrowsFirst}
-use Rattle.iox_hub_commands.specs.HubPorts.Loans.{changed_under, set_in, filled_in, SendsUnder}
-use Rattle.iox_hub_commands.specs.HubPorts.Numbering.{LendsNumbered, LendsWrittenNumbered, ReceivesNumbered}
-use Rattle.iox_hub_commands.specs.HubPorts.Reading.{ReleasesUnder}
-use Rattle.iox_hub_commands.specs.HubPorts.Tables.{IsFull, lender, port_under}
-use Rattle.iox_hub_commands.specs.HubPorts.declared.made.Made.{Made}
-use Rattle.iox_hub_commands.specs.HubPorts.declared.made.MadeLoan.{MadeLoan}
-use Rattle.iox_hub_commands.specs.HubPorts.declared.made.MadeSample.{MadeSample}
-use Rattle.iox_hub_factories.specs.Numbered.NumberTable.{value_at}
-use Rattle.iox_hub_commands.specs.Command.declared.command.Command.{Command}
-use Rattle.iox_hub_commands.specs.Command.declared.command.Command.TheVariants as command
-use Rattle.iox_hub_commands.specs.Command.declared.port.PublisherOptions.{PublisherOptions}
-use Rattle.iox_hub_commands.specs.Command.declared.port.SubscriberOptions.{SubscriberOptions}
-use Rattle.iox_hub_commands.specs.Delivery.Publishing.{changed_at}
-use Rattle.iox_hub_commands.specs.DescribeBase.Detail.{Detail}
-use Rattle.iox_hub_commands.specs.DescribeBase.declared.message_type.MessageTypeDetails.{MessageTypeDetails}
-use Rattle.iox_hub_commands.specs.DomainHome.Homes.{LeavesDomain, MakesAt}
-use Rattle.iox_hub_commands.specs.DomainValues.declared.backpressure.BackpressureAction.{BackpressureAction}
-use Rattle.iox_hub_commands.specs.DomainValues.declared.backpressure_strategy.BackpressureStrategy.{BackpressureStrategy}
-use Rattle.iox_hub_commands.specs.Naming.{publisher_handlers, subscriber_handler}
-use Rattle.iox_hub_factories.specs.Domain.Domains.{with_ports}
-use Rattle.iox_hub_factories.specs.Domain.declared.domain.Domain.{Domain}
-use Rattle.iox_hub_factories.specs.HubBase.AsHome.{with_services}
-use Rattle.iox_hub_factories.specs.HubBase.Opening.{Made as Opened}
-use Rattle.iox_hub_factories.specs.HubServices.AsHome.{stepped}
-use Rattle.iox_hub_run.specs.Services.{PublisherComes, SubscriberComes, domain_of_factory}
-use Rattle.iox_hub_run.specs.Steps.{IsReplied, Step, publisher_may_degrade, publisher_may_decide, subscriber_may_degrade}
-use Rattle.iox_hub_run.specs.declared.numbered_hub.NumberedHub.{NumberedHub}
+use Rattle.iox_hub_independence.specs.HubCommands.Command.declared.port.PortNumber.{PortNumber}
+use Rattle.iox_hub_independence.specs.HubCommands.Command.declared.port.PortNumber.TheVariants as port_number
+use Rattle.iox_hub_independence.specs.HubCommands.Command.declared.reply.Reply.{Reply}
+use Rattle.iox_hub_independence.specs.HubCommands.Delivery.Publishing.{AfterLoan}
+use Rattle.iox_hub_independence.specs.HubCommands.Delivery.Subscribing.{ReleasesOne}
+use Rattle.iox_hub_independence.specs.HubCommands.Delivery.declared.port_id.PortId.{PortId}
+use Rattle.iox_hub_independence.specs.HubCommands.DeliverySlices.Slices.{each_written_in, FillsLent, WritesAndSends}
+use Rattle.iox_hub_independence.specs.HubCommands.DomainHome.Homes.{AtDomain}
+use Rattle.iox_hub_independence.specs.HubCommands.DomainHome.Steps as steps
+use Rattle.iox_hub_independence.specs.HubCommands.DomainHome.declared.domain_id.DomainId.{DomainId}
+use Rattle.iox_hub_independence.specs.HubCommands.DomainPorts.Lending.{gave_up_in}
+use Rattle.iox_hub_independence.specs.HubCommands.DomainPorts.declared.service_ports.ServicePorts.{ServicePorts}
+use Rattle.iox_hub_independence.specs.HubCommands.DomainPublisher.declared.meeting.Sent.{Sent}
+use Rattle.iox_hub_independence.specs.HubCommands.DomainSubscriber.declared.attached.Taken.{Taken}
+use Rattle.iox_hub_independence.specs.HubCommands.DomainValues.declared.backpressure.BackpressureDecision.{BackpressureDecision}
+use Rattle.iox_hub_independence.specs.HubCommands.DomainValues.declared.backpressure.BackpressureInfo.{BackpressureInfo}
+use Rattle.iox_hub_independence.specs.HubCommands.DomainValues.declared.connection_failure.ConnectionFailure.{ConnectionFailure}
+use Rattle.iox_hub_independence.specs.HubCommands.DomainValues.declared.degradation.DegradationAction.{DegradationAction}
+use Rattle.iox_hub_independence.specs.HubCommands.DomainValues.declared.degradation.DegradationCause.{DegradationCause}
+use Rattle.iox_hub_independence.specs.HubCommands.DomainValues.declared.degradation.DegradationInfo.{DegradationInfo}
+use Rattle.iox_hub_independence.specs.HubCommands.DomainValues.declared.port_error.LoanError.{LoanError}
+use Rattle.iox_hub_independence.specs.HubCommands.DomainValues.declared.port_error.ReceiveError.{ReceiveError}
+use Rattle.iox_hub_independence.specs.HubCommands.DomainValues.declared.port_error.SendError.{SendError}
+use Rattle.iox_hub_independence.specs.HubFactories.HubBase.AsHome.{hub_ports, with_hub_ports, without_hub_publisher, without_hub_subscriber}
+use Rattle.iox_hub_independence.specs.HubFactories.HubBase.declared.hub.Hub.{Hub}
+use Rattle.iox_hub_independence.specs.HubFactories.HubServices.AsHome.{publisher_kept, subscriber_kept, publisher_forgotten, subscriber_forgotten}
+use Rattle.iox_hub_independence.specs.HubCommands.Following.{UpdateStep, HasStep, LeaveStep}
+use Rattle.iox_hub_independence.specs.HubCommands.Lending.{LoanStep, LoanUninitStep, PutStep}
+use Rattle.iox_hub_independence.specs.HubCommands.Messages.{SetStep, FillStep, DropStep, SendStep, RetryStep, GiveUpStep, ReleaseStep}
+use Rattle.iox_hub_independence.specs.HubCommands.Receiving.{ReceiveStep}
+use Rattle.iox_hub_independence.specs.HubCommands.HubPorts.Calls.{AtPort, AtPortIf, Lends, LendsWritten, Puts, Follows, Sends, Retries, GivesUp, PublisherGoes, FollowsPublishers, Tells, Receives, SubscriberGoes, ready}
+use Rattle.iox_hub_independence.specs.HubCommands.HubPorts.Growing.{GrowsFirst}
+use Rattle.iox_hub_independence.specs.HubCommands.HubPorts.Loans.{changed_under, set_in, filled_in, SendsUnder}
+use Rattle.iox_hub_independence.specs.HubCommands.HubPorts.Numbering.{LendsNumbered, LendsWrittenNumbered, ReceivesNumbered}
+use Rattle.iox_hub_independence.specs.HubCommands.HubPorts.Reading.{ReleasesUnder}
+use Rattle.iox_hub_independence.specs.HubCommands.HubPorts.Tables.{IsFull, lender, port_under}
+use Rattle.iox_hub_independence.specs.HubCommands.HubPorts.declared.made.Made.{Made}
+use Rattle.iox_hub_independence.specs.HubCommands.HubPorts.declared.made.MadeLoan.{MadeLoan}
+use Rattle.iox_hub_independence.specs.HubCommands.HubPorts.declared.made.MadeSample.{MadeSample}
+use Rattle.iox_hub_independence.specs.HubFactories.Numbered.NumberTable.{value_at}
+use Rattle.iox_hub_independence.specs.HubCommands.Command.declared.command.Command.{Command}
+use Rattle.iox_hub_independence.specs.HubCommands.Command.declared.command.Command.TheVariants as command
+use Rattle.iox_hub_independence.specs.HubCommands.Command.declared.port.PublisherOptions.{PublisherOptions}
+use Rattle.iox_hub_independence.specs.HubCommands.Command.declared.port.SubscriberOptions.{SubscriberOptions}
+use Rattle.iox_hub_independence.specs.HubCommands.Delivery.Publishing.{changed_at}
+use Rattle.iox_hub_independence.specs.HubCommands.DescribeBase.Detail.{Detail}
+use Rattle.iox_hub_independence.specs.HubCommands.DescribeBase.declared.message_type.MessageTypeDetails.{MessageTypeDetails}
+use Rattle.iox_hub_independence.specs.HubCommands.DomainHome.Homes.{LeavesDomain, MakesAt}
+use Rattle.iox_hub_independence.specs.HubCommands.DomainValues.declared.backpressure.BackpressureAction.{BackpressureAction}
+use Rattle.iox_hub_independence.specs.HubCommands.DomainValues.declared.backpressure_strategy.BackpressureStrategy.{BackpressureStrategy}
+use Rattle.iox_hub_independence.specs.HubCommands.Naming.{publisher_handlers, subscriber_handler}
+use Rattle.iox_hub_independence.specs.HubFactories.Domain.Domains.{with_ports}
+use Rattle.iox_hub_independence.specs.HubFactories.Domain.declared.domain.Domain.{Domain}
+use Rattle.iox_hub_independence.specs.HubFactories.HubBase.AsHome.{with_services}
+use Rattle.iox_hub_independence.specs.HubFactories.HubBase.Opening.{Made as Opened}
+use Rattle.iox_hub_independence.specs.HubFactories.HubServices.AsHome.{stepped}
+use Rattle.iox_hub_independence.specs.HubRun.Services.{PublisherComes, SubscriberComes, domain_of_factory}
+use Rattle.iox_hub_independence.specs.HubRun.Steps.{IsReplied, Step, publisher_may_degrade, publisher_may_decide, subscriber_may_degrade}
+use Rattle.iox_hub_independence.specs.HubRun.declared.numbered_hub.NumberedHub.{NumberedHub}
 
 -- a command that makes a node, or is about a service and its factories
 abbrev pub OfServices : {T : Type 0} → Command T → Type 0

@@ -15,3 +15,7 @@ pub mod Opened
 pub mod Keeping
 pub mod Framed
 pub mod Ordered
+pub use Rattle.iox_hub_independence.proofs.HubFactories as HubFactories
+pub use Rattle.iox_hub_independence.proofs as HubIndependence
+pub use Rattle.iox_hub_independence.proofs.HubRun as HubRun
+pub use Rattle.iox_hub_independence.proofs.NegotiateLaws as NegotiateLaws

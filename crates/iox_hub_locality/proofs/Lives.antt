@@ -1,18 +1,18 @@
 -- Which life lies under a hash, from one table to a later one.
 use Rattle.std.proofs.Common.{◌≡◌, ◌∙◌, ◌+◌, ◌≤◌, ◌<◌, ◌⊎◌, ℕ, List, [], ◌∷◌, None, Some, option_map, refl, sym, ap, subst, inl, inr, arith}
 use Rattle.std.specs.BTreeMap.{is_at}
-use Rattle.iox_negotiate_laws.specs.Describe.DescribeBase.declared.hash.ServiceHash.{ServiceHash}
-use Rattle.iox_negotiate_laws.specs.Describe.Line.{line}
-use Rattle.iox_negotiate_laws.specs.Histories.{Event, Happens, Ran}
-use Rattle.iox_negotiate_laws.specs.Lives.{number_of}
-use Rattle.iox_negotiate_laws.specs.NegotiateTable.Contents.{Contents, entry_at, digest_cmp}
-use Rattle.iox_negotiate_laws.specs.NegotiateTable.declared.entry.Entry.{Entry}
-use Rattle.iox_negotiate_laws.specs.NegotiateTable.declared.entry.Entry.TheVariants.{Locked, Described}
-use Rattle.iox_negotiate_laws.specs.NegotiateTable.declared.node.Node.TheVariants.{Own, Foreign}
-use Rattle.iox_negotiate_laws.proofs.Changes.{Change, Same, LockOf, Without, PublishOf, NewSegment, OfSegment, WithoutSegment, ServiceOf, Removal, hash_of, changes, by_hash, elsewhere, rises}
-use Rattle.iox_negotiate_laws.proofs.Closing.{entry-gone}
-use Rattle.iox_negotiate_laws.proofs.Stepping.{Past}
-use Rattle.iox_negotiate_laws.proofs.Tables.{IsTable, digest-self, happens}
+use Rattle.iox_hub_independence.specs.NegotiateLaws.Describe.DescribeBase.declared.hash.ServiceHash.{ServiceHash}
+use Rattle.iox_hub_independence.specs.NegotiateLaws.Describe.Line.{line}
+use Rattle.iox_hub_independence.specs.NegotiateLaws.Histories.{Event, Happens, Ran}
+use Rattle.iox_hub_independence.specs.NegotiateLaws.Lives.{number_of}
+use Rattle.iox_hub_independence.specs.NegotiateLaws.NegotiateTable.Contents.{Contents, entry_at, digest_cmp}
+use Rattle.iox_hub_independence.specs.NegotiateLaws.NegotiateTable.declared.entry.Entry.{Entry}
+use Rattle.iox_hub_independence.specs.NegotiateLaws.NegotiateTable.declared.entry.Entry.TheVariants.{Locked, Described}
+use Rattle.iox_hub_independence.specs.NegotiateLaws.NegotiateTable.declared.node.Node.TheVariants.{Own, Foreign}
+use Rattle.iox_hub_independence.proofs.NegotiateLaws.Changes.{Change, Same, LockOf, Without, PublishOf, NewSegment, OfSegment, WithoutSegment, ServiceOf, Removal, hash_of, changes, by_hash, elsewhere, rises}
+use Rattle.iox_hub_independence.proofs.NegotiateLaws.Closing.{entry-gone}
+use Rattle.iox_hub_independence.proofs.NegotiateLaws.Stepping.{Past}
+use Rattle.iox_hub_independence.proofs.NegotiateLaws.Tables.{IsTable, digest-self, happens}
 use Rattle.iox_hub_locality.proofs.Names.{set_at, insert_at}
 
 -- The number is of what lay under the hash, or of a life that began since.

@@ -1,18 +1,18 @@
 -- What goes by numbers in two hubs, where the same comes or goes.
 use Rattle.std.proofs.Common.{◌≡◌, ◌∙◌, ◌≤◌, ℕ, Bool, true, false, List, Option, None, Some, Result, Ok, Err, refl, sym, ap, subst, arith}
-use Rattle.iox_hub_commands.specs.Delivery.declared.port_id.PortId.{PortId}
-use Rattle.iox_hub_commands.specs.DomainHome.declared.domain_id.DomainId.{DomainId}
-use Rattle.iox_hub_commands.specs.DomainSubscriber.declared.attached.Taken.{Taken}
-use Rattle.iox_hub_commands.specs.DomainValues.declared.port_error.LoanError.{LoanError}
-use Rattle.iox_hub_commands.specs.DomainValues.declared.port_error.ReceiveError.{ReceiveError}
-use Rattle.iox_hub_commands.specs.HubPorts.Making.{with_publisher, with_subscriber, NumbersPort}
-use Rattle.iox_hub_commands.specs.HubPorts.Numbering.{removed_if, with_loan, with_sample, NumbersLoan, NumbersSample}
-use Rattle.iox_hub_commands.specs.HubPorts.Tables.{IsRoomier, without_publisher, without_subscriber, without_loan, without_sample}
-use Rattle.iox_hub_commands.specs.HubPorts.declared.made.Made.{Made}
-use Rattle.iox_hub_commands.specs.HubPorts.declared.made.MadeLoan.{MadeLoan}
-use Rattle.iox_hub_commands.specs.HubPorts.declared.made.MadePublisher.{MadePublisher}
-use Rattle.iox_hub_commands.specs.HubPorts.declared.made.MadeSample.{MadeSample}
-use Rattle.iox_hub_factories.specs.Numbered.NumberTable.{NumberTable, Rises}
+use Rattle.iox_hub_independence.specs.HubCommands.Delivery.declared.port_id.PortId.{PortId}
+use Rattle.iox_hub_independence.specs.HubCommands.DomainHome.declared.domain_id.DomainId.{DomainId}
+use Rattle.iox_hub_independence.specs.HubCommands.DomainSubscriber.declared.attached.Taken.{Taken}
+use Rattle.iox_hub_independence.specs.HubCommands.DomainValues.declared.port_error.LoanError.{LoanError}
+use Rattle.iox_hub_independence.specs.HubCommands.DomainValues.declared.port_error.ReceiveError.{ReceiveError}
+use Rattle.iox_hub_independence.specs.HubCommands.HubPorts.Making.{with_publisher, with_subscriber, NumbersPort}
+use Rattle.iox_hub_independence.specs.HubCommands.HubPorts.Numbering.{removed_if, with_loan, with_sample, NumbersLoan, NumbersSample}
+use Rattle.iox_hub_independence.specs.HubCommands.HubPorts.Tables.{IsRoomier, without_publisher, without_subscriber, without_loan, without_sample}
+use Rattle.iox_hub_independence.specs.HubCommands.HubPorts.declared.made.Made.{Made}
+use Rattle.iox_hub_independence.specs.HubCommands.HubPorts.declared.made.MadeLoan.{MadeLoan}
+use Rattle.iox_hub_independence.specs.HubCommands.HubPorts.declared.made.MadePublisher.{MadePublisher}
+use Rattle.iox_hub_independence.specs.HubCommands.HubPorts.declared.made.MadeSample.{MadeSample}
+use Rattle.iox_hub_independence.specs.HubFactories.Numbered.NumberTable.{NumberTable, Rises}
 use Rattle.iox_hub_independence.specs.Asking.{service_at, publisher_service, loan_service, sample_service}
 use Rattle.iox_hub_independence.proofs.Tables.{same_left}
 use Rattle.iox_hub_locality.specs.Agreeing.{SameOf, MadeAgree}

@@ -1,28 +1,28 @@
 -- What the calls that open or create come to in two tables that have the same under their hash.
 use Rattle.std.proofs.Common.{◌≡◌, ⊎_elim, ℕ, List, [], ◌∷◌, Some, Result, Ok, Err, refl, sym, ap, subst, inl}
 use Rattle.std.specs.Result.{result_map_both}
-use Rattle.iox_hub_commands.specs.DescribeBase.declared.hash.ServiceHash.{ServiceHash}
-use Rattle.iox_hub_commands.specs.DescribeSettings.Agreement.{Agreement}
-use Rattle.iox_negotiate_laws.specs.Calls.{factory_of}
-use Rattle.iox_negotiate_laws.specs.Describe.Line.{line}
-use Rattle.iox_negotiate_laws.specs.Negotiate.Factory.{membership}
-use Rattle.iox_negotiate_laws.specs.Negotiate.Negotiation.{Negotiates, Creates, Either}
-use Rattle.iox_negotiate_laws.specs.Negotiate.declared.factory.Membership.{Membership}
-use Rattle.iox_negotiate_laws.specs.NegotiateRounds.Access.{Access}
-use Rattle.iox_negotiate_laws.specs.NegotiateRounds.Creating.{CreatesIf}
-use Rattle.iox_negotiate_laws.specs.NegotiateRounds.Opening.{Opens, OpensOrCreates}
-use Rattle.iox_negotiate_laws.specs.NegotiateRounds.Runs.{Went}
-use Rattle.iox_negotiate_laws.specs.NegotiateRounds.declared.failure.CreateFailure.{CreateFailure}
-use Rattle.iox_negotiate_laws.specs.NegotiateRounds.declared.failure.OpenFailure.{OpenFailure}
-use Rattle.iox_negotiate_laws.specs.NegotiateRounds.declared.failure.OpenOrCreateFailure.{OpenOrCreateFailure}
-use Rattle.iox_negotiate_laws.specs.NegotiateRounds.declared.request.Opened.{Opened}
-use Rattle.iox_negotiate_laws.specs.NegotiateTable.Contents.{Contents, entry_at}
-use Rattle.iox_negotiate_laws.specs.NegotiateTable.Stepped.{Steps, SteppedSight}
-use Rattle.iox_negotiate_laws.specs.NegotiateTable.declared.entry.Entry.TheVariants.{Described}
-use Rattle.iox_negotiate_laws.proofs.Ending.{World, creates-ends, opens-ends, either-ends}
-use Rattle.iox_negotiate_laws.proofs.Negotiate.Meeting.{opens-met, either-met}
-use Rattle.iox_negotiate_laws.proofs.NegotiateRounds.Counting.{creates-service}
-use Rattle.iox_negotiate_laws.proofs.Tables.{IsTable}
+use Rattle.iox_hub_independence.specs.HubCommands.DescribeBase.declared.hash.ServiceHash.{ServiceHash}
+use Rattle.iox_hub_independence.specs.HubCommands.DescribeSettings.Agreement.{Agreement}
+use Rattle.iox_hub_independence.specs.NegotiateLaws.Calls.{factory_of}
+use Rattle.iox_hub_independence.specs.NegotiateLaws.Describe.Line.{line}
+use Rattle.iox_hub_independence.specs.NegotiateLaws.Negotiate.Factory.{membership}
+use Rattle.iox_hub_independence.specs.NegotiateLaws.Negotiate.Negotiation.{Negotiates, Creates, Either}
+use Rattle.iox_hub_independence.specs.NegotiateLaws.Negotiate.declared.factory.Membership.{Membership}
+use Rattle.iox_hub_independence.specs.NegotiateLaws.NegotiateRounds.Access.{Access}
+use Rattle.iox_hub_independence.specs.NegotiateLaws.NegotiateRounds.Creating.{CreatesIf}
+use Rattle.iox_hub_independence.specs.NegotiateLaws.NegotiateRounds.Opening.{Opens, OpensOrCreates}
+use Rattle.iox_hub_independence.specs.NegotiateLaws.NegotiateRounds.Runs.{Went}
+use Rattle.iox_hub_independence.specs.NegotiateLaws.NegotiateRounds.declared.failure.CreateFailure.{CreateFailure}
+use Rattle.iox_hub_independence.specs.NegotiateLaws.NegotiateRounds.declared.failure.OpenFailure.{OpenFailure}
+use Rattle.iox_hub_independence.specs.NegotiateLaws.NegotiateRounds.declared.failure.OpenOrCreateFailure.{OpenOrCreateFailure}
+use Rattle.iox_hub_independence.specs.NegotiateLaws.NegotiateRounds.declared.request.Opened.{Opened}
+use Rattle.iox_hub_independence.specs.NegotiateLaws.NegotiateTable.Contents.{Contents, entry_at}
+use Rattle.iox_hub_independence.specs.NegotiateLaws.NegotiateTable.Stepped.{Steps, SteppedSight}
+use Rattle.iox_hub_independence.specs.NegotiateLaws.NegotiateTable.declared.entry.Entry.TheVariants.{Described}
+use Rattle.iox_hub_independence.proofs.NegotiateLaws.Ending.{World, creates-ends, opens-ends, either-ends}
+use Rattle.iox_hub_independence.proofs.NegotiateLaws.Negotiate.Meeting.{opens-met, either-met}
+use Rattle.iox_hub_independence.proofs.NegotiateLaws.NegotiateRounds.Counting.{creates-service}
+use Rattle.iox_hub_independence.proofs.NegotiateLaws.Tables.{IsTable}
 use Rattle.iox_hub_independence.proofs.Names.{AllUnder, creates_under, opens_under, either_under}
 use Rattle.iox_hub_independence.proofs.Negotiated.{same-good, not-bad}
 use Rattle.iox_hub_locality.proofs.Stepped.{StepsAgree, stepped_went_alike}

@@ -2,41 +2,41 @@
 -- factory gets a number.
 use Rattle.std.proofs.Common.{◌≡◌, ℕ, Bool, true, false, List, Option, Some, Result, Ok, Err, ap}
 use Rattle.std.specs.declared.alloc.AllocError.{AllocError}
-use Rattle.iox_hub_commands.specs.Command.declared.command.Command.{Command}
-use Rattle.iox_hub_commands.specs.Command.declared.command.Command.TheVariants as command
-use Rattle.iox_hub_commands.specs.Command.declared.refusal.Refusal.{Refusal}
-use Rattle.iox_hub_commands.specs.Command.declared.reply.Reply.{Reply}
-use Rattle.iox_hub_commands.specs.Command.declared.service.ServiceOptions.{ServiceOptions}
-use Rattle.iox_hub_commands.specs.Command.declared.service.ServiceOptions.TheVariants as options
-use Rattle.iox_hub_commands.specs.Command.declared.step.StepBefore.{StepBefore}
-use Rattle.iox_hub_commands.specs.DescribeBase.Attributes.{Required}
-use Rattle.iox_hub_commands.specs.DescribeBase.Detail.{Detail}
-use Rattle.iox_hub_commands.specs.DescribeBase.declared.attribute.Attribute.{Attribute}
-use Rattle.iox_hub_commands.specs.DescribeBase.declared.hash.ServiceHash.{ServiceHash}
-use Rattle.iox_hub_commands.specs.DescribeBase.declared.message_type.MessageTypeDetails.{MessageTypeDetails}
-use Rattle.iox_hub_commands.specs.DescribeBase.declared.pattern.MessagingPattern.{MessagingPattern}
-use Rattle.iox_hub_commands.specs.DomainValues.declared.backpressure.BackpressureAction.{BackpressureAction}
-use Rattle.iox_hub_commands.specs.DomainValues.declared.backpressure.BackpressureDecision.{BackpressureDecision}
-use Rattle.iox_hub_commands.specs.DomainValues.declared.backpressure.BackpressureInfo.{BackpressureInfo}
-use Rattle.iox_hub_commands.specs.DomainValues.declared.backpressure_strategy.BackpressureStrategy.{BackpressureStrategy}
-use Rattle.iox_hub_commands.specs.DomainValues.declared.degradation.DegradationAction.{DegradationAction}
-use Rattle.iox_hub_commands.specs.DomainValues.declared.degradation.DegradationCause.{DegradationCause}
-use Rattle.iox_hub_commands.specs.DomainValues.declared.degradation.DegradationInfo.{DegradationInfo}
-use Rattle.iox_hub_factories.specs.Asking.{hash_of, agreed_of, required_agreement}
-use Rattle.iox_hub_factories.specs.Creating.{CreatesAs, CreatesNumbered}
-use Rattle.iox_hub_factories.specs.Either.{EitherAs, EitherNumbered}
-use Rattle.iox_hub_factories.specs.HubBase.Opening.{OpensInHub}
-use Rattle.iox_hub_factories.specs.HubBase.declared.hub.Hub.{Hub}
-use Rattle.iox_hub_factories.specs.Numbering.{GetsNumber}
-use Rattle.iox_hub_factories.specs.Opening.{OpensAs, OpensNumbered}
-use Rattle.iox_hub_factories.specs.Tables.{FactoryTable, SameNumbers}
-use Rattle.iox_hub_factories.specs.declared.asked.ServiceAsked.{ServiceAsked}
-use Rattle.iox_hub_run.specs.Steps.{IsReplied, Step}
-use Rattle.iox_hub_run.specs.declared.numbered_hub.NumberedHub.{NumberedHub}
+use Rattle.iox_hub_independence.specs.HubCommands.Command.declared.command.Command.{Command}
+use Rattle.iox_hub_independence.specs.HubCommands.Command.declared.command.Command.TheVariants as command
+use Rattle.iox_hub_independence.specs.HubCommands.Command.declared.refusal.Refusal.{Refusal}
+use Rattle.iox_hub_independence.specs.HubCommands.Command.declared.reply.Reply.{Reply}
+use Rattle.iox_hub_independence.specs.HubCommands.Command.declared.service.ServiceOptions.{ServiceOptions}
+use Rattle.iox_hub_independence.specs.HubCommands.Command.declared.service.ServiceOptions.TheVariants as options
+use Rattle.iox_hub_independence.specs.HubCommands.Command.declared.step.StepBefore.{StepBefore}
+use Rattle.iox_hub_independence.specs.HubCommands.DescribeBase.Attributes.{Required}
+use Rattle.iox_hub_independence.specs.HubCommands.DescribeBase.Detail.{Detail}
+use Rattle.iox_hub_independence.specs.HubCommands.DescribeBase.declared.attribute.Attribute.{Attribute}
+use Rattle.iox_hub_independence.specs.HubCommands.DescribeBase.declared.hash.ServiceHash.{ServiceHash}
+use Rattle.iox_hub_independence.specs.HubCommands.DescribeBase.declared.message_type.MessageTypeDetails.{MessageTypeDetails}
+use Rattle.iox_hub_independence.specs.HubCommands.DescribeBase.declared.pattern.MessagingPattern.{MessagingPattern}
+use Rattle.iox_hub_independence.specs.HubCommands.DomainValues.declared.backpressure.BackpressureAction.{BackpressureAction}
+use Rattle.iox_hub_independence.specs.HubCommands.DomainValues.declared.backpressure.BackpressureDecision.{BackpressureDecision}
+use Rattle.iox_hub_independence.specs.HubCommands.DomainValues.declared.backpressure.BackpressureInfo.{BackpressureInfo}
+use Rattle.iox_hub_independence.specs.HubCommands.DomainValues.declared.backpressure_strategy.BackpressureStrategy.{BackpressureStrategy}
+use Rattle.iox_hub_independence.specs.HubCommands.DomainValues.declared.degradation.DegradationAction.{DegradationAction}
+use Rattle.iox_hub_independence.specs.HubCommands.DomainValues.declared.degradation.DegradationCause.{DegradationCause}
+use Rattle.iox_hub_independence.specs.HubCommands.DomainValues.declared.degradation.DegradationInfo.{DegradationInfo}
+use Rattle.iox_hub_independence.specs.HubFactories.Asking.{hash_of, agreed_of, required_agreement}
+use Rattle.iox_hub_independence.specs.HubFactories.Creating.{CreatesAs, CreatesNumbered}
+use Rattle.iox_hub_independence.specs.HubFactories.Either.{EitherAs, EitherNumbered}
+use Rattle.iox_hub_independence.specs.HubFactories.HubBase.Opening.{OpensInHub}
+use Rattle.iox_hub_independence.specs.HubFactories.HubBase.declared.hub.Hub.{Hub}
+use Rattle.iox_hub_independence.specs.HubFactories.Numbering.{GetsNumber}
+use Rattle.iox_hub_independence.specs.HubFactories.Opening.{OpensAs, OpensNumbered}
+use Rattle.iox_hub_independence.specs.HubFactories.Tables.{FactoryTable, SameNumbers}
+use Rattle.iox_hub_independence.specs.HubFactories.declared.asked.ServiceAsked.{ServiceAsked}
+use Rattle.iox_hub_independence.specs.HubRun.Steps.{IsReplied, Step}
+use Rattle.iox_hub_independence.specs.HubRun.declared.numbered_hub.NumberedHub.{NumberedHub}
 use Rattle.iox_hub_independence.specs.Asking.{hash_asked}
-use Rattle.iox_negotiate_laws.specs.Negotiate.declared.factory.Membership.{Membership}
-use Rattle.iox_negotiate_laws.specs.NegotiateTable.Stepped.{Steps}
-use Rattle.iox_negotiate_laws.specs.NegotiateTable.declared.step.ForeignStep.{ForeignStep}
+use Rattle.iox_hub_independence.specs.NegotiateLaws.Negotiate.declared.factory.Membership.{Membership}
+use Rattle.iox_hub_independence.specs.NegotiateLaws.NegotiateTable.Stepped.{Steps}
+use Rattle.iox_hub_independence.specs.NegotiateLaws.NegotiateTable.declared.step.ForeignStep.{ForeignStep}
 use Rattle.iox_hub_locality.specs.Locality.{IsOpening}
 use Rattle.iox_hub_locality.proofs.Foreign.{hash_named}
 use Rattle.iox_hub_locality.proofs.Negotiated.{IsNegotiation, of_hash, creating, opening, either}

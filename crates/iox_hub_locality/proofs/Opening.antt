@@ -5,57 +5,57 @@ use Rattle.std.specs.Map.{lookup}
 use Rattle.std.specs.Ordering.{nat_cmp}
 use Rattle.std.specs.declared.alloc.AllocError.{AllocError}
 use Rattle.std.proofs.lemmas.Bool.{eqb-true, eq-eqb}
-use Rattle.iox_hub_commands.specs.Command.declared.command.Command.{Command}
-use Rattle.iox_hub_commands.specs.Command.declared.command.Command.TheVariants as command
-use Rattle.iox_hub_commands.specs.Command.declared.refusal.Refusal.{Refusal}
-use Rattle.iox_hub_commands.specs.Command.declared.reply.Reply.{Reply}
-use Rattle.iox_hub_commands.specs.Command.declared.service.ServiceOptions.{ServiceOptions}
-use Rattle.iox_hub_commands.specs.Command.declared.service.ServiceOptions.TheVariants as options
-use Rattle.iox_hub_commands.specs.Command.declared.step.StepBefore.{StepBefore}
-use Rattle.iox_hub_commands.specs.DescribeBase.Attributes.{Required}
-use Rattle.iox_hub_commands.specs.DescribeBase.Detail.{Detail}
-use Rattle.iox_hub_commands.specs.DescribeBase.declared.attribute.Attribute.{Attribute}
-use Rattle.iox_hub_commands.specs.DescribeBase.declared.hash.ServiceHash.{ServiceHash}
-use Rattle.iox_hub_commands.specs.DescribeBase.declared.message_type.MessageTypeDetails.{MessageTypeDetails}
-use Rattle.iox_hub_commands.specs.DescribeBase.declared.pattern.MessagingPattern.{MessagingPattern}
-use Rattle.iox_hub_commands.specs.DescribeSettings.declared.static_config.Settings.{Settings}
-use Rattle.iox_hub_commands.specs.DomainValues.declared.backpressure.BackpressureAction.{BackpressureAction}
-use Rattle.iox_hub_commands.specs.DomainValues.declared.backpressure.BackpressureDecision.{BackpressureDecision}
-use Rattle.iox_hub_commands.specs.DomainValues.declared.backpressure.BackpressureInfo.{BackpressureInfo}
-use Rattle.iox_hub_commands.specs.DomainValues.declared.backpressure_strategy.BackpressureStrategy.{BackpressureStrategy}
-use Rattle.iox_hub_commands.specs.DomainValues.declared.degradation.DegradationAction.{DegradationAction}
-use Rattle.iox_hub_commands.specs.DomainValues.declared.degradation.DegradationCause.{DegradationCause}
-use Rattle.iox_hub_commands.specs.DomainValues.declared.degradation.DegradationInfo.{DegradationInfo}
-use Rattle.iox_hub_commands.specs.Replies.{factory_reply}
-use Rattle.iox_hub_factories.specs.Asking.{hash_of, agreed_of, required_agreement}
-use Rattle.iox_hub_factories.specs.Creating.{CreatesAs, CreatesNumbered, create_lacking}
-use Rattle.iox_hub_factories.specs.Either.{EitherAs, EitherNumbered, either_lacking}
-use Rattle.iox_hub_factories.specs.HubBase.Hubs.{factories_of, with_factory, one_more, is_node}
-use Rattle.iox_hub_factories.specs.HubBase.Opening.{Made, Enters, Settles, OpensInHub}
-use Rattle.iox_hub_factories.specs.HubBase.declared.hub.Hub.{Hub}
-use Rattle.iox_hub_factories.specs.HubServices.Numbered.{others_beside}
-use Rattle.iox_hub_factories.specs.HubServices.Open.{OpenServices, presence_of, opened}
-use Rattle.iox_hub_factories.specs.HubServices.Opening.{Opens as ServiceOpens}
-use Rattle.iox_hub_factories.specs.Domain.Domains.{IsNewDomain}
-use Rattle.iox_hub_factories.specs.HubServices.declared.presence.Presence.TheVariants.{Here}
-use Rattle.iox_hub_factories.specs.Numbered.NumberTable.{Rises, inserted}
-use Rattle.iox_hub_factories.specs.Numbering.{Numbers, GetsNumber}
-use Rattle.iox_hub_factories.specs.Opening.{OpensAs, OpensNumbered, open_lacking}
-use Rattle.iox_hub_factories.specs.Tables.{FactoryTable}
-use Rattle.iox_hub_factories.specs.declared.asked.ServiceAsked.{ServiceAsked}
-use Rattle.iox_hub_run.specs.AgreementLaws.{service_of}
-use Rattle.iox_hub_run.specs.Steps.{Step}
-use Rattle.iox_hub_run.specs.declared.numbered_hub.NumberedHub.{NumberedHub}
-use Rattle.iox_negotiate_laws.specs.Lives.{number_of}
-use Rattle.iox_negotiate_laws.specs.Negotiate.declared.factory.Membership.{Membership}
-use Rattle.iox_negotiate_laws.specs.NegotiateTable.Contents.{Contents, entry_at}
-use Rattle.iox_negotiate_laws.specs.NegotiateTable.Stepped.{Steps}
-use Rattle.iox_negotiate_laws.specs.NegotiateTable.declared.entry.Entry.{Entry}
-use Rattle.iox_negotiate_laws.specs.NegotiateTable.declared.entry.Entry.TheVariants.{Described}
-use Rattle.iox_negotiate_laws.specs.NegotiateTable.declared.step.ForeignStep.{ForeignStep}
-use Rattle.iox_negotiate_laws.proofs.Agreements.{stepped-went-past, went-past}
-use Rattle.iox_negotiate_laws.proofs.Maps.{no}
-use Rattle.iox_negotiate_laws.proofs.Tables.{IsTable, reached}
+use Rattle.iox_hub_independence.specs.HubCommands.Command.declared.command.Command.{Command}
+use Rattle.iox_hub_independence.specs.HubCommands.Command.declared.command.Command.TheVariants as command
+use Rattle.iox_hub_independence.specs.HubCommands.Command.declared.refusal.Refusal.{Refusal}
+use Rattle.iox_hub_independence.specs.HubCommands.Command.declared.reply.Reply.{Reply}
+use Rattle.iox_hub_independence.specs.HubCommands.Command.declared.service.ServiceOptions.{ServiceOptions}
+use Rattle.iox_hub_independence.specs.HubCommands.Command.declared.service.ServiceOptions.TheVariants as options
+use Rattle.iox_hub_independence.specs.HubCommands.Command.declared.step.StepBefore.{StepBefore}
+use Rattle.iox_hub_independence.specs.HubCommands.DescribeBase.Attributes.{Required}
+use Rattle.iox_hub_independence.specs.HubCommands.DescribeBase.Detail.{Detail}
+use Rattle.iox_hub_independence.specs.HubCommands.DescribeBase.declared.attribute.Attribute.{Attribute}
+use Rattle.iox_hub_independence.specs.HubCommands.DescribeBase.declared.hash.ServiceHash.{ServiceHash}
+use Rattle.iox_hub_independence.specs.HubCommands.DescribeBase.declared.message_type.MessageTypeDetails.{MessageTypeDetails}
+use Rattle.iox_hub_independence.specs.HubCommands.DescribeBase.declared.pattern.MessagingPattern.{MessagingPattern}
+use Rattle.iox_hub_independence.specs.HubCommands.DescribeSettings.declared.static_config.Settings.{Settings}
+use Rattle.iox_hub_independence.specs.HubCommands.DomainValues.declared.backpressure.BackpressureAction.{BackpressureAction}
+use Rattle.iox_hub_independence.specs.HubCommands.DomainValues.declared.backpressure.BackpressureDecision.{BackpressureDecision}
+use Rattle.iox_hub_independence.specs.HubCommands.DomainValues.declared.backpressure.BackpressureInfo.{BackpressureInfo}
+use Rattle.iox_hub_independence.specs.HubCommands.DomainValues.declared.backpressure_strategy.BackpressureStrategy.{BackpressureStrategy}
+use Rattle.iox_hub_independence.specs.HubCommands.DomainValues.declared.degradation.DegradationAction.{DegradationAction}
+use Rattle.iox_hub_independence.specs.HubCommands.DomainValues.declared.degradation.DegradationCause.{DegradationCause}
+use Rattle.iox_hub_independence.specs.HubCommands.DomainValues.declared.degradation.DegradationInfo.{DegradationInfo}
+use Rattle.iox_hub_independence.specs.HubCommands.Replies.{factory_reply}
+use Rattle.iox_hub_independence.specs.HubFactories.Asking.{hash_of, agreed_of, required_agreement}
+use Rattle.iox_hub_independence.specs.HubFactories.Creating.{CreatesAs, CreatesNumbered, create_lacking}
+use Rattle.iox_hub_independence.specs.HubFactories.Either.{EitherAs, EitherNumbered, either_lacking}
+use Rattle.iox_hub_independence.specs.HubFactories.HubBase.Hubs.{factories_of, with_factory, one_more, is_node}
+use Rattle.iox_hub_independence.specs.HubFactories.HubBase.Opening.{Made, Enters, Settles, OpensInHub}
+use Rattle.iox_hub_independence.specs.HubFactories.HubBase.declared.hub.Hub.{Hub}
+use Rattle.iox_hub_independence.specs.HubFactories.HubServices.Numbered.{others_beside}
+use Rattle.iox_hub_independence.specs.HubFactories.HubServices.Open.{OpenServices, presence_of, opened}
+use Rattle.iox_hub_independence.specs.HubFactories.HubServices.Opening.{Opens as ServiceOpens}
+use Rattle.iox_hub_independence.specs.HubFactories.Domain.Domains.{IsNewDomain}
+use Rattle.iox_hub_independence.specs.HubFactories.HubServices.declared.presence.Presence.TheVariants.{Here}
+use Rattle.iox_hub_independence.specs.HubFactories.Numbered.NumberTable.{Rises, inserted}
+use Rattle.iox_hub_independence.specs.HubFactories.Numbering.{Numbers, GetsNumber}
+use Rattle.iox_hub_independence.specs.HubFactories.Opening.{OpensAs, OpensNumbered, open_lacking}
+use Rattle.iox_hub_independence.specs.HubFactories.Tables.{FactoryTable}
+use Rattle.iox_hub_independence.specs.HubFactories.declared.asked.ServiceAsked.{ServiceAsked}
+use Rattle.iox_hub_independence.specs.HubRun.AgreementLaws.{service_of}
+use Rattle.iox_hub_independence.specs.HubRun.Steps.{Step}
+use Rattle.iox_hub_independence.specs.HubRun.declared.numbered_hub.NumberedHub.{NumberedHub}
+use Rattle.iox_hub_independence.specs.NegotiateLaws.Lives.{number_of}
+use Rattle.iox_hub_independence.specs.NegotiateLaws.Negotiate.declared.factory.Membership.{Membership}
+use Rattle.iox_hub_independence.specs.NegotiateLaws.NegotiateTable.Contents.{Contents, entry_at}
+use Rattle.iox_hub_independence.specs.NegotiateLaws.NegotiateTable.Stepped.{Steps}
+use Rattle.iox_hub_independence.specs.NegotiateLaws.NegotiateTable.declared.entry.Entry.{Entry}
+use Rattle.iox_hub_independence.specs.NegotiateLaws.NegotiateTable.declared.entry.Entry.TheVariants.{Described}
+use Rattle.iox_hub_independence.specs.NegotiateLaws.NegotiateTable.declared.step.ForeignStep.{ForeignStep}
+use Rattle.iox_hub_independence.proofs.NegotiateLaws.Agreements.{stepped-went-past, went-past}
+use Rattle.iox_hub_independence.proofs.NegotiateLaws.Maps.{no}
+use Rattle.iox_hub_independence.proofs.NegotiateLaws.Tables.{IsTable, reached}
 use Rattle.iox_hub_independence.proofs.Names.{AllUnder, closes_under}
 use Rattle.iox_hub_locality.specs.Agreeing.{SameOf, HubsAgree, AgreeOn}
 use Rattle.iox_hub_independence.specs.Asking.{hash_asked}

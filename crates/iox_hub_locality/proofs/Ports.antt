@@ -1,39 +1,39 @@
 -- What the calls of a port do in two hubs that have its domain the same.
 use Rattle.std.proofs.Common.{◌≡◌, ◌∙◌, ◌||◌, ◌==◌, if◌then◌else◌, ℕ, Bool, true, false, List, Option, None, Some, Result, Ok, Err, refl, sym, ap, subst, length}
 use Rattle.std.specs.Prelude.{replicate, IfOk}
-use Rattle.iox_hub_commands.specs.DescribeBase.declared.hash.ServiceHash.{ServiceHash}
-use Rattle.iox_hub_commands.specs.Delivery.Lent.{IsReady}
-use Rattle.iox_hub_commands.specs.Delivery.Holding.{loan_found}
-use Rattle.iox_hub_commands.specs.Delivery.Publishing.{AfterLoan, changed_at}
-use Rattle.iox_hub_commands.specs.Delivery.Subscribing.{ReleasesOne}
-use Rattle.iox_hub_commands.specs.Delivery.declared.port_id.PortId.{PortId}
-use Rattle.iox_hub_commands.specs.DeliverySlices.Slices.{each_written_in, FillsLent, WritesAndSends}
-use Rattle.iox_hub_commands.specs.DomainHome.Steps as steps
-use Rattle.iox_hub_commands.specs.DomainPorts.Lending.{written_in}
-use Rattle.iox_hub_commands.specs.DomainPorts.declared.service_ports.ServicePorts.{ServicePorts}
-use Rattle.iox_hub_commands.specs.DomainPublisher.declared.meeting.Sent.{Sent}
-use Rattle.iox_hub_commands.specs.DomainSender.Messages.{write_all}
-use Rattle.iox_hub_commands.specs.DomainSender.Sending.{has_length}
-use Rattle.iox_hub_commands.specs.DomainValues.declared.backpressure.BackpressureDecision.{BackpressureDecision}
-use Rattle.iox_hub_commands.specs.DomainValues.declared.backpressure.BackpressureInfo.{BackpressureInfo}
-use Rattle.iox_hub_commands.specs.DomainValues.declared.degradation.DegradationAction.{DegradationAction}
-use Rattle.iox_hub_commands.specs.DomainValues.declared.degradation.DegradationCause.{DegradationCause}
-use Rattle.iox_hub_commands.specs.DomainValues.declared.degradation.DegradationInfo.{DegradationInfo}
-use Rattle.iox_hub_commands.specs.DomainValues.declared.port_error.LoanError.{LoanError}
-use Rattle.iox_hub_commands.specs.DomainValues.declared.port_error.SendError.{SendError}
-use Rattle.iox_hub_commands.specs.HubPorts.Calls.{AtPort, AtPortIf, Lends, LendsWritten, Puts, Follows, Sends, Retries, GivesUp, PublisherGoes, FollowsPublishers, Tells, Receives, SubscriberGoes, may_lend, ready}
-use Rattle.iox_hub_commands.specs.HubPorts.Loans.{changed_under, SendsUnder}
-use Rattle.iox_hub_commands.specs.HubPorts.Reading.{ReleasesUnder}
-use Rattle.iox_hub_commands.specs.HubPorts.Tables.{lender, port_under}
-use Rattle.iox_hub_commands.specs.HubPorts.declared.made.MadeLoan.{MadeLoan}
-use Rattle.iox_hub_commands.specs.HubPorts.declared.made.MadePublisher.{MadePublisher}
-use Rattle.iox_hub_commands.specs.HubPorts.declared.made.MadeSample.{MadeSample}
-use Rattle.iox_hub_factories.specs.Domain.Handling.{kept_degrades, kept_decides}
-use Rattle.iox_hub_factories.specs.HubBase.AsHome.{hub_ports, with_hub_ports, without_hub_publisher, without_hub_subscriber}
-use Rattle.iox_hub_factories.specs.HubBase.declared.hub.Hub.{Hub}
-use Rattle.iox_hub_factories.specs.HubServices.AsHome.{publisher_forgotten, subscriber_forgotten, publisher_handlers_in, subscriber_handler_in}
+use Rattle.iox_hub_independence.specs.HubCommands.DescribeBase.declared.hash.ServiceHash.{ServiceHash}
+use Rattle.iox_hub_independence.specs.HubCommands.Delivery.Lent.{IsReady}
+use Rattle.iox_hub_independence.specs.HubCommands.Delivery.Holding.{loan_found}
+use Rattle.iox_hub_independence.specs.HubCommands.Delivery.Publishing.{AfterLoan, changed_at}
+use Rattle.iox_hub_independence.specs.HubCommands.Delivery.Subscribing.{ReleasesOne}
+use Rattle.iox_hub_independence.specs.HubCommands.Delivery.declared.port_id.PortId.{PortId}
+use Rattle.iox_hub_independence.specs.HubCommands.DeliverySlices.Slices.{each_written_in, FillsLent, WritesAndSends}
+use Rattle.iox_hub_independence.specs.HubCommands.DomainHome.Steps as steps
+use Rattle.iox_hub_independence.specs.HubCommands.DomainPorts.Lending.{written_in}
+use Rattle.iox_hub_independence.specs.HubCommands.DomainPorts.declared.service_ports.ServicePorts.{ServicePorts}
+use Rattle.iox_hub_independence.specs.HubCommands.DomainPublisher.declared.meeting.Sent.{Sent}
+use Rattle.iox_hub_independence.specs.HubCommands.DomainSender.Messages.{write_all}
+use Rattle.iox_hub_independence.specs.HubCommands.DomainSender.Sending.{has_length}
+use Rattle.iox_hub_independence.specs.HubCommands.DomainValues.declared.backpressure.BackpressureDecision.{BackpressureDecision}
+use Rattle.iox_hub_independence.specs.HubCommands.DomainValues.declared.backpressure.BackpressureInfo.{BackpressureInfo}
+use Rattle.iox_hub_independence.specs.HubCommands.DomainValues.declared.degradation.DegradationAction.{DegradationAction}
+use Rattle.iox_hub_independence.specs.HubCommands.DomainValues.declared.degradation.DegradationCause.{DegradationCause}
+use Rattle.iox_hub_independence.specs.HubCommands.DomainValues.declared.degradation.DegradationInfo.{DegradationInfo}
+use Rattle.iox_hub_independence.specs.HubCommands.DomainValues.declared.port_error.LoanError.{LoanError}
+use Rattle.iox_hub_independence.specs.HubCommands.DomainValues.declared.port_error.SendError.{SendError}
+use Rattle.iox_hub_independence.specs.HubCommands.HubPorts.Calls.{AtPort, AtPortIf, Lends, LendsWritten, Puts, Follows, Sends, Retries, GivesUp, PublisherGoes, FollowsPublishers, Tells, Receives, SubscriberGoes, may_lend, ready}
+use Rattle.iox_hub_independence.specs.HubCommands.HubPorts.Loans.{changed_under, SendsUnder}
+use Rattle.iox_hub_independence.specs.HubCommands.HubPorts.Reading.{ReleasesUnder}
+use Rattle.iox_hub_independence.specs.HubCommands.HubPorts.Tables.{lender, port_under}
+use Rattle.iox_hub_independence.specs.HubCommands.HubPorts.declared.made.MadeLoan.{MadeLoan}
+use Rattle.iox_hub_independence.specs.HubCommands.HubPorts.declared.made.MadePublisher.{MadePublisher}
+use Rattle.iox_hub_independence.specs.HubCommands.HubPorts.declared.made.MadeSample.{MadeSample}
+use Rattle.iox_hub_independence.specs.HubFactories.Domain.Handling.{kept_degrades, kept_decides}
+use Rattle.iox_hub_independence.specs.HubFactories.HubBase.AsHome.{hub_ports, with_hub_ports, without_hub_publisher, without_hub_subscriber}
+use Rattle.iox_hub_independence.specs.HubFactories.HubBase.declared.hub.Hub.{Hub}
+use Rattle.iox_hub_independence.specs.HubFactories.HubServices.AsHome.{publisher_forgotten, subscriber_forgotten, publisher_handlers_in, subscriber_handler_in}
 use Rattle.iox_hub_independence.specs.Asking.{service_at, publisher_service, loan_service, sample_service}
-use Rattle.iox_hub_run.specs.Steps.{publisher_may_degrade, publisher_may_decide, subscriber_may_degrade}
+use Rattle.iox_hub_independence.specs.HubRun.Steps.{publisher_may_degrade, publisher_may_decide, subscriber_may_degrade}
 use Rattle.iox_hub_locality.specs.Agreeing.{HubsAgree}
 use Rattle.iox_hub_locality.proofs.Domains.{Alike, agree_still, ports_same, at_domain_alike, leaves_alike, changed_agree}
 use Rattle.iox_hub_locality.proofs.Tables.{IsOf}

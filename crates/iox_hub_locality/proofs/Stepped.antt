@@ -1,16 +1,16 @@
 -- Accesses with foreign steps before them, under one hash, in two tables that have the same under it.
 use Rattle.std.proofs.Common.{◌≡◌, ◌∙◌, List, [], ◌∷◌, Result, Ok, Err, refl, sym, ap, subst, drop}
 use Rattle.std.specs.declared.alloc.AllocError.{AllocError}
-use Rattle.iox_negotiate_laws.specs.Describe.DescribeBase.declared.hash.ServiceHash.{ServiceHash}
-use Rattle.iox_negotiate_laws.specs.Histories.{Accesses}
-use Rattle.iox_negotiate_laws.specs.NegotiateRounds.Access.{Access, Look, Lock, MakeSegment, Publish, Unlock, OpenSegment, Leave, RemoveDescription, RemoveSegment}
-use Rattle.iox_negotiate_laws.specs.NegotiateRounds.Runs.{Went}
-use Rattle.iox_negotiate_laws.specs.NegotiateTable.Contents.{Contents}
-use Rattle.iox_negotiate_laws.specs.NegotiateTable.Sights.{Sight}
-use Rattle.iox_negotiate_laws.specs.NegotiateTable.Stepped.{Steps, GoesOn, ActsAll, next_list, Preceded, Alone, SteppedSight}
-use Rattle.iox_negotiate_laws.proofs.Changes.{hash_of}
-use Rattle.iox_negotiate_laws.proofs.Stepping.{acts-keep, stepped-keeps}
-use Rattle.iox_negotiate_laws.proofs.Tables.{IsTable, sees, acts}
+use Rattle.iox_hub_independence.specs.NegotiateLaws.Describe.DescribeBase.declared.hash.ServiceHash.{ServiceHash}
+use Rattle.iox_hub_independence.specs.NegotiateLaws.Histories.{Accesses}
+use Rattle.iox_hub_independence.specs.NegotiateLaws.NegotiateRounds.Access.{Access, Look, Lock, MakeSegment, Publish, Unlock, OpenSegment, Leave, RemoveDescription, RemoveSegment}
+use Rattle.iox_hub_independence.specs.NegotiateLaws.NegotiateRounds.Runs.{Went}
+use Rattle.iox_hub_independence.specs.NegotiateLaws.NegotiateTable.Contents.{Contents}
+use Rattle.iox_hub_independence.specs.NegotiateLaws.NegotiateTable.Sights.{Sight}
+use Rattle.iox_hub_independence.specs.NegotiateLaws.NegotiateTable.Stepped.{Steps, GoesOn, ActsAll, next_list, Preceded, Alone, SteppedSight}
+use Rattle.iox_hub_independence.proofs.NegotiateLaws.Changes.{hash_of}
+use Rattle.iox_hub_independence.proofs.NegotiateLaws.Stepping.{acts-keep, stepped-keeps}
+use Rattle.iox_hub_independence.proofs.NegotiateLaws.Tables.{IsTable, sees, acts}
 use Rattle.iox_hub_independence.proofs.Names.{AllUnder}
 use Rattle.iox_hub_locality.proofs.Names.{TablesAgree, still, sight_alike, acts_all_alike}
 

@@ -2,58 +2,58 @@
 use Rattle.std.proofs.Common.{◌≡◌, ◌∙◌, ℕ, Bool, true, List, Option, None, Some, option_map, Result, Ok, Err, refl, sym, ap, subst, length, if◌then◌else◌}
 use Rattle.std.specs.Prelude.{is_some}
 use Rattle.std.specs.declared.alloc.AllocError.{AllocError}
-use Rattle.iox_hub_commands.specs.Command.declared.command.Command.{Command}
-use Rattle.iox_hub_commands.specs.Command.declared.command.Command.TheVariants as command
-use Rattle.iox_hub_commands.specs.Command.declared.port.PortNumber.TheVariants as port_number
-use Rattle.iox_hub_commands.specs.Command.declared.port.PublisherOptions.{PublisherOptions}
-use Rattle.iox_hub_commands.specs.Command.declared.port.SubscriberOptions.{SubscriberOptions}
-use Rattle.iox_hub_commands.specs.Command.declared.reply.Reply.{Reply}
-use Rattle.iox_hub_commands.specs.Command.declared.reply.Reply.TheVariants as reply_of
-use Rattle.iox_hub_commands.specs.DescribeBase.Detail.{Detail}
-use Rattle.iox_hub_commands.specs.DescribeBase.declared.hash.ServiceHash.{ServiceHash}
-use Rattle.iox_hub_commands.specs.DescribeBase.declared.message_type.MessageTypeDetails.{MessageTypeDetails}
-use Rattle.iox_hub_commands.specs.DomainHome.declared.domain_id.DomainId.{DomainId}
-use Rattle.iox_hub_commands.specs.DomainPorts.Lending.{gave_up_in}
-use Rattle.iox_hub_commands.specs.DomainSubscriber.declared.attached.Taken.{Taken}
-use Rattle.iox_hub_commands.specs.DomainValues.declared.backpressure.BackpressureAction.{BackpressureAction}
-use Rattle.iox_hub_commands.specs.DomainValues.declared.backpressure.BackpressureDecision.{BackpressureDecision}
-use Rattle.iox_hub_commands.specs.DomainValues.declared.backpressure.BackpressureInfo.{BackpressureInfo}
-use Rattle.iox_hub_commands.specs.DomainValues.declared.backpressure_strategy.BackpressureStrategy.{BackpressureStrategy}
-use Rattle.iox_hub_commands.specs.DomainValues.declared.degradation.DegradationAction.{DegradationAction}
-use Rattle.iox_hub_commands.specs.DomainValues.declared.degradation.DegradationCause.{DegradationCause}
-use Rattle.iox_hub_commands.specs.DomainValues.declared.degradation.DegradationInfo.{DegradationInfo}
-use Rattle.iox_hub_commands.specs.DomainValues.declared.port_error.ReceiveError.{ReceiveError}
-use Rattle.iox_hub_commands.specs.Following.{LeaveStep}
-use Rattle.iox_hub_commands.specs.HubPorts.Calls.{AtPort, AtPortIf, Lends, LendsWritten, Puts, Follows, Retries, GivesUp, PublisherGoes, FollowsPublishers, Tells, Receives, SubscriberGoes, ready}
-use Rattle.iox_hub_commands.specs.HubPorts.Loans.{loan_under, is_set, set_in, is_filled, filled_in, changed_under, SendsUnder}
-use Rattle.iox_hub_commands.specs.HubPorts.Numbering.{removed_if, LendsNumbered, LendsWrittenNumbered, ReceivesNumbered, NumbersSample}
-use Rattle.iox_hub_commands.specs.HubPorts.Reading.{values_under, is_held, ReleasesUnder}
-use Rattle.iox_hub_commands.specs.HubPorts.Tables.{lender, port_under, without_publisher, without_subscriber, without_loan, without_sample}
-use Rattle.iox_hub_commands.specs.HubPorts.declared.made.Made.{Made}
-use Rattle.iox_hub_commands.specs.HubPorts.declared.made.MadeLoan.{MadeLoan}
-use Rattle.iox_hub_commands.specs.HubPorts.declared.made.MadeSample.{MadeSample}
-use Rattle.iox_hub_commands.specs.Delivery.declared.port_id.PortId.{PortId}
-use Rattle.iox_hub_commands.specs.Delivery.Holding.{loan_found, message_found, holds_message}
-use Rattle.iox_hub_commands.specs.HubPorts.Loans.{fits_in}
-use Rattle.iox_hub_commands.specs.Lending.{LoanStep, LoanUninitStep}
-use Rattle.iox_hub_commands.specs.Messages.{SetStep, FillStep, DropStep, SendStep, ReadStep, ReleaseStep, IsReadReply}
-use Rattle.iox_hub_commands.specs.Naming.{publisher_handlers, subscriber_handler}
-use Rattle.iox_hub_commands.specs.Receiving.{ReceiveStep, IsReceiveReply, IsArrival}
-use Rattle.iox_hub_commands.specs.Replies.{sent_reply, given_up_reply, updated_reply, has_reply, done_reply}
-use Rattle.iox_hub_factories.specs.HubBase.AsHome.{hub_ports, with_hub_ports, without_hub_publisher, without_hub_subscriber}
-use Rattle.iox_hub_factories.specs.HubBase.Hubs.{one_more}
-use Rattle.iox_hub_factories.specs.HubBase.Opening.{Made as Opened}
-use Rattle.iox_hub_factories.specs.HubBase.declared.hub.Hub.{Hub}
-use Rattle.iox_hub_factories.specs.HubServices.AsHome.{publisher_kept, subscriber_kept}
-use Rattle.iox_hub_factories.specs.Numbered.NumberTable.{value_at, inserted}
-use Rattle.iox_hub_factories.proofs.Numbered.Telling.{found_and_gone}
-use Rattle.iox_hub_factories.specs.Tables.{publish_subscribe_in}
-use Rattle.iox_hub_factories.specs.declared.made.MadeFactory.{MadeFactory}
-use Rattle.iox_hub_factories.specs.declared.made.MadeFactory.TheVariants as made
-use Rattle.iox_hub_run.specs.AgreementLaws.{service_of}
-use Rattle.iox_hub_run.specs.Services.{NodeMakes, PublisherComes, SubscriberComes, domain_of_factory}
-use Rattle.iox_hub_run.specs.Steps.{Step, publisher_may_degrade, publisher_may_decide, subscriber_may_degrade}
-use Rattle.iox_hub_run.specs.declared.numbered_hub.NumberedHub.{NumberedHub}
+use Rattle.iox_hub_independence.specs.HubCommands.Command.declared.command.Command.{Command}
+use Rattle.iox_hub_independence.specs.HubCommands.Command.declared.command.Command.TheVariants as command
+use Rattle.iox_hub_independence.specs.HubCommands.Command.declared.port.PortNumber.TheVariants as port_number
+use Rattle.iox_hub_independence.specs.HubCommands.Command.declared.port.PublisherOptions.{PublisherOptions}
+use Rattle.iox_hub_independence.specs.HubCommands.Command.declared.port.SubscriberOptions.{SubscriberOptions}
+use Rattle.iox_hub_independence.specs.HubCommands.Command.declared.reply.Reply.{Reply}
+use Rattle.iox_hub_independence.specs.HubCommands.Command.declared.reply.Reply.TheVariants as reply_of
+use Rattle.iox_hub_independence.specs.HubCommands.DescribeBase.Detail.{Detail}
+use Rattle.iox_hub_independence.specs.HubCommands.DescribeBase.declared.hash.ServiceHash.{ServiceHash}
+use Rattle.iox_hub_independence.specs.HubCommands.DescribeBase.declared.message_type.MessageTypeDetails.{MessageTypeDetails}
+use Rattle.iox_hub_independence.specs.HubCommands.DomainHome.declared.domain_id.DomainId.{DomainId}
+use Rattle.iox_hub_independence.specs.HubCommands.DomainPorts.Lending.{gave_up_in}
+use Rattle.iox_hub_independence.specs.HubCommands.DomainSubscriber.declared.attached.Taken.{Taken}
+use Rattle.iox_hub_independence.specs.HubCommands.DomainValues.declared.backpressure.BackpressureAction.{BackpressureAction}
+use Rattle.iox_hub_independence.specs.HubCommands.DomainValues.declared.backpressure.BackpressureDecision.{BackpressureDecision}
+use Rattle.iox_hub_independence.specs.HubCommands.DomainValues.declared.backpressure.BackpressureInfo.{BackpressureInfo}
+use Rattle.iox_hub_independence.specs.HubCommands.DomainValues.declared.backpressure_strategy.BackpressureStrategy.{BackpressureStrategy}
+use Rattle.iox_hub_independence.specs.HubCommands.DomainValues.declared.degradation.DegradationAction.{DegradationAction}
+use Rattle.iox_hub_independence.specs.HubCommands.DomainValues.declared.degradation.DegradationCause.{DegradationCause}
+use Rattle.iox_hub_independence.specs.HubCommands.DomainValues.declared.degradation.DegradationInfo.{DegradationInfo}
+use Rattle.iox_hub_independence.specs.HubCommands.DomainValues.declared.port_error.ReceiveError.{ReceiveError}
+use Rattle.iox_hub_independence.specs.HubCommands.Following.{LeaveStep}
+use Rattle.iox_hub_independence.specs.HubCommands.HubPorts.Calls.{AtPort, AtPortIf, Lends, LendsWritten, Puts, Follows, Retries, GivesUp, PublisherGoes, FollowsPublishers, Tells, Receives, SubscriberGoes, ready}
+use Rattle.iox_hub_independence.specs.HubCommands.HubPorts.Loans.{loan_under, is_set, set_in, is_filled, filled_in, changed_under, SendsUnder}
+use Rattle.iox_hub_independence.specs.HubCommands.HubPorts.Numbering.{removed_if, LendsNumbered, LendsWrittenNumbered, ReceivesNumbered, NumbersSample}
+use Rattle.iox_hub_independence.specs.HubCommands.HubPorts.Reading.{values_under, is_held, ReleasesUnder}
+use Rattle.iox_hub_independence.specs.HubCommands.HubPorts.Tables.{lender, port_under, without_publisher, without_subscriber, without_loan, without_sample}
+use Rattle.iox_hub_independence.specs.HubCommands.HubPorts.declared.made.Made.{Made}
+use Rattle.iox_hub_independence.specs.HubCommands.HubPorts.declared.made.MadeLoan.{MadeLoan}
+use Rattle.iox_hub_independence.specs.HubCommands.HubPorts.declared.made.MadeSample.{MadeSample}
+use Rattle.iox_hub_independence.specs.HubCommands.Delivery.declared.port_id.PortId.{PortId}
+use Rattle.iox_hub_independence.specs.HubCommands.Delivery.Holding.{loan_found, message_found, holds_message}
+use Rattle.iox_hub_independence.specs.HubCommands.HubPorts.Loans.{fits_in}
+use Rattle.iox_hub_independence.specs.HubCommands.Lending.{LoanStep, LoanUninitStep}
+use Rattle.iox_hub_independence.specs.HubCommands.Messages.{SetStep, FillStep, DropStep, SendStep, ReadStep, ReleaseStep, IsReadReply}
+use Rattle.iox_hub_independence.specs.HubCommands.Naming.{publisher_handlers, subscriber_handler}
+use Rattle.iox_hub_independence.specs.HubCommands.Receiving.{ReceiveStep, IsReceiveReply, IsArrival}
+use Rattle.iox_hub_independence.specs.HubCommands.Replies.{sent_reply, given_up_reply, updated_reply, has_reply, done_reply}
+use Rattle.iox_hub_independence.specs.HubFactories.HubBase.AsHome.{hub_ports, with_hub_ports, without_hub_publisher, without_hub_subscriber}
+use Rattle.iox_hub_independence.specs.HubFactories.HubBase.Hubs.{one_more}
+use Rattle.iox_hub_independence.specs.HubFactories.HubBase.Opening.{Made as Opened}
+use Rattle.iox_hub_independence.specs.HubFactories.HubBase.declared.hub.Hub.{Hub}
+use Rattle.iox_hub_independence.specs.HubFactories.HubServices.AsHome.{publisher_kept, subscriber_kept}
+use Rattle.iox_hub_independence.specs.HubFactories.Numbered.NumberTable.{value_at, inserted}
+use Rattle.iox_hub_independence.proofs.HubFactories.Numbered.Telling.{found_and_gone}
+use Rattle.iox_hub_independence.specs.HubFactories.Tables.{publish_subscribe_in}
+use Rattle.iox_hub_independence.specs.HubFactories.declared.made.MadeFactory.{MadeFactory}
+use Rattle.iox_hub_independence.specs.HubFactories.declared.made.MadeFactory.TheVariants as made
+use Rattle.iox_hub_independence.specs.HubRun.AgreementLaws.{service_of}
+use Rattle.iox_hub_independence.specs.HubRun.Services.{NodeMakes, PublisherComes, SubscriberComes, domain_of_factory}
+use Rattle.iox_hub_independence.specs.HubRun.Steps.{Step, publisher_may_degrade, publisher_may_decide, subscriber_may_degrade}
+use Rattle.iox_hub_independence.specs.HubRun.declared.numbered_hub.NumberedHub.{NumberedHub}
 use Rattle.iox_hub_independence.specs.Asking.{service_at, publisher_service, loan_service, sample_service}
 use Rattle.iox_hub_locality.specs.Agreeing.{SameOf, HubsAgree, MadeAgree, AgreeOn}
 use Rattle.iox_hub_locality.specs.Locality.{IsOfPorts, FoundMine, Concerns, PortsAnswerAlike}

@@ -1,16 +1,16 @@
 -- When two hubs have the same of a service.
 use Rattle.std.specs.Prelude.{ℕ, ◌≡◌, Bool, true}
-use Rattle.iox_hub_run.specs.AgreementLaws.{service_of}
-use Rattle.iox_hub_run.specs.HubBase.DescribeBase.declared.hash.ServiceHash.{ServiceHash}
-use Rattle.iox_hub_run.specs.HubBase.Hubs.{factories_of}
-use Rattle.iox_hub_run.specs.HubBase.HubServices.Open.{presence_of}
-use Rattle.iox_hub_run.specs.HubBase.declared.hub.Hub.{Hub}
-use Rattle.iox_hub_run.specs.HubCommands.HubPorts.Numbered.NumberTable.{NumberTable}
-use Rattle.iox_hub_run.specs.HubCommands.HubPorts.declared.made.Made.{Made}
-use Rattle.iox_hub_run.specs.declared.numbered_hub.NumberedHub.{NumberedHub}
+use Rattle.iox_hub_independence.specs.HubRun.AgreementLaws.{service_of}
+use Rattle.iox_hub_independence.specs.HubRun.HubBase.DescribeBase.declared.hash.ServiceHash.{ServiceHash}
+use Rattle.iox_hub_independence.specs.HubRun.HubBase.Hubs.{factories_of}
+use Rattle.iox_hub_independence.specs.HubRun.HubBase.HubServices.Open.{presence_of}
+use Rattle.iox_hub_independence.specs.HubRun.HubBase.declared.hub.Hub.{Hub}
+use Rattle.iox_hub_independence.specs.HubRun.HubCommands.HubPorts.Numbered.NumberTable.{NumberTable}
+use Rattle.iox_hub_independence.specs.HubRun.HubCommands.HubPorts.declared.made.Made.{Made}
+use Rattle.iox_hub_independence.specs.HubRun.declared.numbered_hub.NumberedHub.{NumberedHub}
 use Rattle.iox_hub_independence.specs.Asking.{service_at, publisher_service, loan_service, sample_service}
 use Rattle.iox_hub_independence.specs.Left.{AllLeft}
-use Rattle.iox_negotiate_laws.specs.Closing.{IsUntouched}
+use Rattle.iox_hub_independence.specs.NegotiateLaws.Closing.{IsUntouched}
 
 -- Here and below `mine` tells which numbers are a service's own: each life of a service has a number, and a name may have had several.
 

@@ -2,23 +2,23 @@
 use Rattle.std.specs.Prelude.{ℕ, ◌≡◌, ◌≢◌, ◌≤◌, ◌<◌, ◌⊎◌, Bool, true, List, [], ◌∷◌, Option, None, Some, Result, Ok, Err}
 use Rattle.std.specs.List.{AllByRecursion}
 use Rattle.std.specs.declared.alloc.AllocError.{AllocError}
-use Rattle.iox_hub_run.specs.Command.declared.command.Command.{Command}
-use Rattle.iox_hub_run.specs.Command.declared.command.Command.TheVariants as command
-use Rattle.iox_hub_run.specs.Command.declared.reply.Reply.{Reply}
-use Rattle.iox_hub_commands.specs.Replies.{factory_reply}
-use Rattle.iox_hub_factories.specs.Creating.{create_lacking}
-use Rattle.iox_hub_factories.specs.Either.{either_lacking}
-use Rattle.iox_hub_factories.specs.Opening.{open_lacking}
-use Rattle.iox_hub_run.specs.HubBase.DescribeBase.declared.hash.ServiceHash.{ServiceHash}
-use Rattle.iox_hub_run.specs.HubBase.declared.hub.Hub.{Hub}
-use Rattle.iox_hub_run.specs.Lives.{NumbersRise}
-use Rattle.iox_hub_run.specs.Runs.{Runs}
-use Rattle.iox_hub_run.specs.declared.numbered_hub.NumberedHub.{NumberedHub}
+use Rattle.iox_hub_independence.specs.HubRun.Command.declared.command.Command.{Command}
+use Rattle.iox_hub_independence.specs.HubRun.Command.declared.command.Command.TheVariants as command
+use Rattle.iox_hub_independence.specs.HubRun.Command.declared.reply.Reply.{Reply}
+use Rattle.iox_hub_independence.specs.HubCommands.Replies.{factory_reply}
+use Rattle.iox_hub_independence.specs.HubFactories.Creating.{create_lacking}
+use Rattle.iox_hub_independence.specs.HubFactories.Either.{either_lacking}
+use Rattle.iox_hub_independence.specs.HubFactories.Opening.{open_lacking}
+use Rattle.iox_hub_independence.specs.HubRun.HubBase.DescribeBase.declared.hash.ServiceHash.{ServiceHash}
+use Rattle.iox_hub_independence.specs.HubRun.HubBase.declared.hub.Hub.{Hub}
+use Rattle.iox_hub_independence.specs.HubRun.Lives.{NumbersRise}
+use Rattle.iox_hub_independence.specs.HubRun.Runs.{Runs}
+use Rattle.iox_hub_independence.specs.HubRun.declared.numbered_hub.NumberedHub.{NumberedHub}
 use Rattle.iox_hub_independence.specs.Asking.{hash_asked, number_asked}
-use Rattle.iox_negotiate_laws.specs.Histories.{IsReached}
-use Rattle.iox_negotiate_laws.specs.Lives.{number_of}
-use Rattle.iox_negotiate_laws.specs.NegotiateTable.Contents.{Contents, entry_at}
-use Rattle.iox_negotiate_laws.specs.NegotiateTable.declared.entry.Entry.{Entry}
+use Rattle.iox_hub_independence.specs.NegotiateLaws.Histories.{IsReached}
+use Rattle.iox_hub_independence.specs.NegotiateLaws.Lives.{number_of}
+use Rattle.iox_hub_independence.specs.NegotiateLaws.NegotiateTable.Contents.{Contents, entry_at}
+use Rattle.iox_hub_independence.specs.NegotiateLaws.NegotiateTable.declared.entry.Entry.{Entry}
 use Rattle.iox_hub_locality.specs.Agreeing.{AgreeOn}
 
 -- A command that makes a node or a port, or asks something of a port, a loan or a sample: any but those that create, open and close

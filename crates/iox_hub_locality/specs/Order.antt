@@ -2,13 +2,13 @@
 use Rattle.std.specs.Prelude.{ℕ, ◌<◌, Bool, List, [], ◌∷◌, Result}
 use Rattle.std.specs.List.{AllByRecursion}
 use Rattle.std.specs.declared.alloc.AllocError.{AllocError}
-use Rattle.iox_hub_run.specs.Command.declared.command.Command.{Command}
-use Rattle.iox_hub_run.specs.Command.declared.reply.Reply.{Reply}
-use Rattle.iox_hub_run.specs.HubBase.declared.hub.Hub.{Hub}
-use Rattle.iox_hub_run.specs.HubBase.declared.hub.HubConfig.{HubConfig}
-use Rattle.iox_hub_run.specs.Numbers.{IsNew}
-use Rattle.iox_hub_run.specs.Runs.{IsRun}
-use Rattle.iox_hub_run.specs.declared.numbered_hub.NumberedHub.{NumberedHub}
+use Rattle.iox_hub_independence.specs.HubRun.Command.declared.command.Command.{Command}
+use Rattle.iox_hub_independence.specs.HubRun.Command.declared.reply.Reply.{Reply}
+use Rattle.iox_hub_independence.specs.HubRun.HubBase.declared.hub.Hub.{Hub}
+use Rattle.iox_hub_independence.specs.HubRun.HubBase.declared.hub.HubConfig.{HubConfig}
+use Rattle.iox_hub_independence.specs.HubRun.Numbers.{IsNew}
+use Rattle.iox_hub_independence.specs.HubRun.Runs.{IsRun}
+use Rattle.iox_hub_independence.specs.HubRun.declared.numbered_hub.NumberedHub.{NumberedHub}
 use Rattle.iox_hub_locality.specs.Locality.{NumbersOnce}
 
 -- Each number is below all those after it.

@@ -6,16 +6,14 @@
 //! ```
 #![tactic(auto)]
 
-ghost use Rattle.iox_hub_commands.specs.DescribeBase.Detail.{detail};
-ghost use Rattle.iox_hub_commands.specs.DescribeBase.declared.type_detail.TypeVariant.TheVariants.{FixedSize};
-ghost use Rattle.iox_hub_factories.specs.HubRequests.Asked.{types_of};
+ghost use Rattle.iox_hub_independence.specs.HubCommands.DescribeBase.Detail.{detail};
+ghost use Rattle.iox_hub_independence.specs.HubCommands.DescribeBase.declared.type_detail.TypeVariant.TheVariants.{FixedSize};
+ghost use Rattle.iox_hub_independence.specs.HubFactories.HubRequests.Asked.{types_of};
 ghost use Rattle.iox_hub_locality.specs.Locality.{CloseAnswersAlike, ForeignAnswersAlike, OpensAnswerAlike, PortsAnswerAlike, RunsAnswerAlike};
 ghost use Rattle.iox_hub_locality.specs.Order.{RunsAreInOrder, StaysInOrder};
-ghost use Rattle.iox_hub_run.specs.Steps.{Step};
+ghost use Rattle.iox_hub_independence.specs.HubRun.Steps.{Step};
 
-use iox_describe_base::ZeroCopySend;
-use iox_hub_commands::{PublisherHandlers, SubscriberHandler};
-use iox_queues_base::Words;
+pub use iox_hub_independence::{PublisherHandlers, SubscriberHandler, Words, ZeroCopySend};
 
 /// Of two hubs that agree on a service: what the one may reply to a command that asks something of a port, a loan or a sample of this
 /// service, makes a port of it, creates or opens it, closes a factory of it, or has nodes of others do steps on it, the other may reply, and

@@ -3,31 +3,31 @@ use Rattle.std.proofs.Common.{◌≡◌, ◌∙◌, ◌<◌, ◌≤◌, ◌-◌,
 use Rattle.std.specs.List.{AllByRecursion}
 use Rattle.std.specs.declared.alloc.AllocError.{AllocError}
 use Rattle.iox_domain_renamed.specs.Renaming.{Renaming}
-use Rattle.iox_hub_commands.specs.Command.declared.command.Command.{Command}
-use Rattle.iox_hub_commands.specs.Command.declared.command.Command.TheVariants as command
-use Rattle.iox_hub_commands.specs.Command.declared.reply.Reply.{Reply}
-use Rattle.iox_hub_commands.specs.DescribeBase.Detail.{Detail}
-use Rattle.iox_hub_commands.specs.DescribeBase.declared.message_type.MessageTypeDetails.{MessageTypeDetails}
-use Rattle.iox_hub_commands.specs.DomainValues.declared.backpressure.BackpressureAction.{BackpressureAction}
-use Rattle.iox_hub_commands.specs.DomainValues.declared.backpressure.BackpressureDecision.{BackpressureDecision}
-use Rattle.iox_hub_commands.specs.DomainValues.declared.backpressure.BackpressureInfo.{BackpressureInfo}
-use Rattle.iox_hub_commands.specs.DomainValues.declared.backpressure_strategy.BackpressureStrategy.{BackpressureStrategy}
-use Rattle.iox_hub_commands.specs.DomainValues.declared.degradation.DegradationAction.{DegradationAction}
-use Rattle.iox_hub_commands.specs.DomainValues.declared.degradation.DegradationCause.{DegradationCause}
-use Rattle.iox_hub_commands.specs.DomainValues.declared.degradation.DegradationInfo.{DegradationInfo}
-use Rattle.iox_hub_factories.specs.HubBase.Hubs.{is_node}
-use Rattle.iox_hub_factories.specs.HubBase.declared.hub.Hub.{Hub}
-use Rattle.iox_hub_factories.specs.declared.factories.Factories.{Factories}
-use Rattle.iox_hub_factories.specs.HubBase.Opening.{Made as Opened}
-use Rattle.iox_hub_commands.specs.Command.declared.port.PublisherOptions.{PublisherOptions}
-use Rattle.iox_hub_commands.specs.Command.declared.port.SubscriberOptions.{SubscriberOptions}
-use Rattle.iox_hub_run.specs.Services.{NodeMakes, PublisherComes, SubscriberComes}
-use Rattle.iox_hub_run.specs.Steps.{IsReplied, Step}
-use Rattle.iox_hub_run.specs.declared.numbered_hub.NumberedHub.{NumberedHub}
-use Rattle.iox_negotiate_laws.proofs.Tables.{IsTable, reached}
-use Rattle.iox_negotiate_laws.specs.NegotiateTable.Contents.{Contents}
+use Rattle.iox_hub_renumbered.specs.HubCommands.Command.declared.command.Command.{Command}
+use Rattle.iox_hub_renumbered.specs.HubCommands.Command.declared.command.Command.TheVariants as command
+use Rattle.iox_hub_renumbered.specs.HubCommands.Command.declared.reply.Reply.{Reply}
+use Rattle.iox_hub_renumbered.specs.HubCommands.DescribeBase.Detail.{Detail}
+use Rattle.iox_hub_renumbered.specs.HubCommands.DescribeBase.declared.message_type.MessageTypeDetails.{MessageTypeDetails}
+use Rattle.iox_hub_renumbered.specs.HubCommands.DomainValues.declared.backpressure.BackpressureAction.{BackpressureAction}
+use Rattle.iox_hub_renumbered.specs.HubCommands.DomainValues.declared.backpressure.BackpressureDecision.{BackpressureDecision}
+use Rattle.iox_hub_renumbered.specs.HubCommands.DomainValues.declared.backpressure.BackpressureInfo.{BackpressureInfo}
+use Rattle.iox_hub_renumbered.specs.HubCommands.DomainValues.declared.backpressure_strategy.BackpressureStrategy.{BackpressureStrategy}
+use Rattle.iox_hub_renumbered.specs.HubCommands.DomainValues.declared.degradation.DegradationAction.{DegradationAction}
+use Rattle.iox_hub_renumbered.specs.HubCommands.DomainValues.declared.degradation.DegradationCause.{DegradationCause}
+use Rattle.iox_hub_renumbered.specs.HubCommands.DomainValues.declared.degradation.DegradationInfo.{DegradationInfo}
+use Rattle.iox_hub_renumbered.specs.HubFactories.HubBase.Hubs.{is_node}
+use Rattle.iox_hub_renumbered.specs.HubFactories.HubBase.declared.hub.Hub.{Hub}
+use Rattle.iox_hub_renumbered.specs.HubFactories.declared.factories.Factories.{Factories}
+use Rattle.iox_hub_renumbered.specs.HubFactories.HubBase.Opening.{Made as Opened}
+use Rattle.iox_hub_renumbered.specs.HubCommands.Command.declared.port.PublisherOptions.{PublisherOptions}
+use Rattle.iox_hub_renumbered.specs.HubCommands.Command.declared.port.SubscriberOptions.{SubscriberOptions}
+use Rattle.iox_hub_renumbered.specs.HubRun.Services.{NodeMakes, PublisherComes, SubscriberComes}
+use Rattle.iox_hub_renumbered.specs.HubRun.Steps.{IsReplied, Step}
+use Rattle.iox_hub_renumbered.specs.HubRun.declared.numbered_hub.NumberedHub.{NumberedHub}
+use Rattle.iox_hub_renumbered.proofs.NegotiateLaws.Tables.{IsTable, reached}
+use Rattle.iox_hub_renumbered.specs.NegotiateLaws.NegotiateTable.Contents.{Contents}
 use Rattle.iox_negotiate_renamed.specs.Renaming.{AreInOrder, GoBy}
-use Rattle.iox_hub_locality.proofs.Keeping.{step_keeps}
+use Rattle.iox_hub_renumbered.proofs.HubLocality.Keeping.{step_keeps}
 use Rattle.iox_hub_renamed.specs.Renaming.{renamed_numbered}
 use Rattle.iox_hub_renamed.specs.RenamingLaws.{LooksAtNoService, HaveNumbers, HubGoesBy, HasNumbers, GoesBy, IsOfPorts, EachGoesByOtherNumbers}
 use Rattle.iox_hub_renamed.proofs.Homes.{still_live}

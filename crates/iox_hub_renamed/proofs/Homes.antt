@@ -7,31 +7,31 @@ use Rattle.std.specs.Ordering.{nat_cmp}
 use Rattle.iox_domain_renamed.specs.Renaming.{Renaming, renamed_ports, renamed_call, renamed_failure, renamed_mailbox}
 use Rattle.iox_domain_renamed.specs.RenamingLaws.{DegradesWhateverService, DecidesWhateverService, TestsAlike}
 use Rattle.iox_domain_renamed.proofs.Calls.{happens_as}
-use Rattle.iox_hub_commands.specs.Delivery.Publishing.{changed_at}
-use Rattle.iox_hub_commands.specs.DomainHome.Homes.{AtDomain, LeavesDomain, MakesAt}
-use Rattle.iox_hub_commands.specs.DomainHome.declared.domain_id.DomainId.{DomainId}
-use Rattle.iox_hub_commands.specs.DomainLaws.Calls.{PortCall, Happens}
-use Rattle.iox_hub_commands.specs.DomainPorts.declared.service_ports.ServicePorts.{ServicePorts}
-use Rattle.iox_hub_commands.specs.DomainValues.declared.backpressure.BackpressureDecision.{BackpressureDecision}
-use Rattle.iox_hub_commands.specs.DomainValues.declared.backpressure.BackpressureInfo.{BackpressureInfo}
-use Rattle.iox_hub_commands.specs.DomainValues.declared.degradation.DegradationAction.{DegradationAction}
-use Rattle.iox_hub_commands.specs.DomainValues.declared.degradation.DegradationCause.{DegradationCause}
-use Rattle.iox_hub_commands.specs.DomainValues.declared.degradation.DegradationCause.TheVariants.{FailedToEstablishConnection}
-use Rattle.iox_hub_commands.specs.DomainValues.declared.degradation.DegradationInfo.{DegradationInfo}
-use Rattle.iox_hub_factories.specs.Domain.Domains.{with_ports}
-use Rattle.iox_hub_factories.specs.Domain.Handling.{kept_degrades, kept_decides}
-use Rattle.iox_hub_factories.specs.Domain.declared.domain.Domain.{Domain}
-use Rattle.iox_hub_factories.specs.HubBase.AsHome.{hub_ports, with_hub_ports, with_services}
-use Rattle.iox_hub_factories.specs.HubBase.declared.hub.Hub.{Hub}
-use Rattle.iox_hub_factories.specs.HubServices.AsHome.{domain_at, stepped_if, stepped, publisher_handlers_in, subscriber_handler_in}
-use Rattle.iox_hub_factories.specs.HubServices.Open.{OpenServices, presence_of, domain_of, here_if}
-use Rattle.iox_hub_factories.specs.HubServices.declared.presence.Presence.{Presence}
-use Rattle.iox_hub_factories.specs.HubServices.declared.presence.Presence.TheVariants.{Here, Out}
-use Rattle.iox_hub_run.specs.Grown.{AnySlots, AnyAction, AnyDecision}
-use Rattle.iox_hub_run.specs.Steps.{publisher_may_degrade, publisher_may_decide, subscriber_may_degrade}
+use Rattle.iox_hub_renumbered.specs.HubCommands.Delivery.Publishing.{changed_at}
+use Rattle.iox_hub_renumbered.specs.HubCommands.DomainHome.Homes.{AtDomain, LeavesDomain, MakesAt}
+use Rattle.iox_hub_renumbered.specs.HubCommands.DomainHome.declared.domain_id.DomainId.{DomainId}
+use Rattle.iox_hub_renumbered.specs.HubCommands.DomainLaws.Calls.{PortCall, Happens}
+use Rattle.iox_hub_renumbered.specs.HubCommands.DomainPorts.declared.service_ports.ServicePorts.{ServicePorts}
+use Rattle.iox_hub_renumbered.specs.HubCommands.DomainValues.declared.backpressure.BackpressureDecision.{BackpressureDecision}
+use Rattle.iox_hub_renumbered.specs.HubCommands.DomainValues.declared.backpressure.BackpressureInfo.{BackpressureInfo}
+use Rattle.iox_hub_renumbered.specs.HubCommands.DomainValues.declared.degradation.DegradationAction.{DegradationAction}
+use Rattle.iox_hub_renumbered.specs.HubCommands.DomainValues.declared.degradation.DegradationCause.{DegradationCause}
+use Rattle.iox_hub_renumbered.specs.HubCommands.DomainValues.declared.degradation.DegradationCause.TheVariants.{FailedToEstablishConnection}
+use Rattle.iox_hub_renumbered.specs.HubCommands.DomainValues.declared.degradation.DegradationInfo.{DegradationInfo}
+use Rattle.iox_hub_renumbered.specs.HubFactories.Domain.Domains.{with_ports}
+use Rattle.iox_hub_renumbered.specs.HubFactories.Domain.Handling.{kept_degrades, kept_decides}
+use Rattle.iox_hub_renumbered.specs.HubFactories.Domain.declared.domain.Domain.{Domain}
+use Rattle.iox_hub_renumbered.specs.HubFactories.HubBase.AsHome.{hub_ports, with_hub_ports, with_services}
+use Rattle.iox_hub_renumbered.specs.HubFactories.HubBase.declared.hub.Hub.{Hub}
+use Rattle.iox_hub_renumbered.specs.HubFactories.HubServices.AsHome.{domain_at, stepped_if, stepped, publisher_handlers_in, subscriber_handler_in}
+use Rattle.iox_hub_renumbered.specs.HubFactories.HubServices.Open.{OpenServices, presence_of, domain_of, here_if}
+use Rattle.iox_hub_renumbered.specs.HubFactories.HubServices.declared.presence.Presence.{Presence}
+use Rattle.iox_hub_renumbered.specs.HubFactories.HubServices.declared.presence.Presence.TheVariants.{Here, Out}
+use Rattle.iox_hub_renumbered.specs.HubRun.Grown.{AnySlots, AnyAction, AnyDecision}
+use Rattle.iox_hub_renumbered.specs.HubRun.Steps.{publisher_may_degrade, publisher_may_decide, subscriber_may_degrade}
 use Rattle.iox_negotiate_renamed.specs.Renaming.{AreInOrder}
 use Rattle.iox_negotiate_renamed.proofs.Numbers.{at_as, moved_found, moved_set, weaker}
-use Rattle.iox_negotiate_laws.proofs.Maps.{set-found}
+use Rattle.iox_hub_renumbered.proofs.NegotiateLaws.Maps.{set-found}
 use Rattle.iox_hub_renamed.specs.RenamingLaws.{HaveNumbers}
 use Rattle.iox_hub_renamed.specs.Renaming.{renamed_id, renamed_domain, renamed_presence, renamed_services, renamed_hub}
 

@@ -2,21 +2,21 @@
 use Rattle.std.proofs.Common.{◌≡◌, ◌∙◌, ◌≤◌, ℕ, Bool, true, false, List, [], ◌∷◌, ◌++◌, map, length, Option, None, Some, option_map, Result, Ok, Err, nat_eq, refl, sym, ap, subst, suc, if◌then◌else◌}
 use Rattle.iox_domain_renamed.specs.Renaming.{Renaming}
 use Rattle.iox_domain_renamed.proofs.Lists.{each_found, each_gone}
-use Rattle.iox_hub_commands.specs.Delivery.declared.port_id.PortId.{PortId}
-use Rattle.iox_hub_commands.specs.DomainHome.declared.domain_id.DomainId.{DomainId}
-use Rattle.iox_hub_commands.specs.DomainSubscriber.declared.attached.Taken.{Taken}
-use Rattle.iox_hub_commands.specs.DomainValues.declared.port_error.LoanError.{LoanError}
-use Rattle.iox_hub_commands.specs.DomainValues.declared.port_error.ReceiveError.{ReceiveError}
-use Rattle.iox_hub_commands.specs.HubPorts.Making.{with_publisher, with_subscriber, NumbersPort}
-use Rattle.iox_hub_commands.specs.HubPorts.Numbering.{removed_if, with_loan, with_sample, NumbersLoan, NumbersSample}
-use Rattle.iox_hub_commands.specs.HubPorts.Tables.{SameNumbers, IsRoomier, IsFull, lender, port_under, without_publisher, without_subscriber, without_loan, without_sample}
-use Rattle.iox_hub_commands.specs.HubPorts.declared.made.Made.{Made}
-use Rattle.iox_hub_commands.specs.HubPorts.declared.made.MadePublisher.{MadePublisher}
-use Rattle.iox_hub_factories.specs.HubBase.Opening.{Made as Opened}
-use Rattle.iox_hub_factories.specs.Numbered.NumberTable.{NumberTable, value_at, inserted, removed}
-use Rattle.iox_hub_factories.specs.Tables.{publish_subscribe_in}
-use Rattle.iox_hub_factories.specs.declared.made.MadeFactory.{MadeFactory}
-use Rattle.iox_hub_factories.specs.declared.made.MadeFactory.TheVariants as made_factory
+use Rattle.iox_hub_renumbered.specs.HubCommands.Delivery.declared.port_id.PortId.{PortId}
+use Rattle.iox_hub_renumbered.specs.HubCommands.DomainHome.declared.domain_id.DomainId.{DomainId}
+use Rattle.iox_hub_renumbered.specs.HubCommands.DomainSubscriber.declared.attached.Taken.{Taken}
+use Rattle.iox_hub_renumbered.specs.HubCommands.DomainValues.declared.port_error.LoanError.{LoanError}
+use Rattle.iox_hub_renumbered.specs.HubCommands.DomainValues.declared.port_error.ReceiveError.{ReceiveError}
+use Rattle.iox_hub_renumbered.specs.HubCommands.HubPorts.Making.{with_publisher, with_subscriber, NumbersPort}
+use Rattle.iox_hub_renumbered.specs.HubCommands.HubPorts.Numbering.{removed_if, with_loan, with_sample, NumbersLoan, NumbersSample}
+use Rattle.iox_hub_renumbered.specs.HubCommands.HubPorts.Tables.{SameNumbers, IsRoomier, IsFull, lender, port_under, without_publisher, without_subscriber, without_loan, without_sample}
+use Rattle.iox_hub_renumbered.specs.HubCommands.HubPorts.declared.made.Made.{Made}
+use Rattle.iox_hub_renumbered.specs.HubCommands.HubPorts.declared.made.MadePublisher.{MadePublisher}
+use Rattle.iox_hub_renumbered.specs.HubFactories.HubBase.Opening.{Made as Opened}
+use Rattle.iox_hub_renumbered.specs.HubFactories.Numbered.NumberTable.{NumberTable, value_at, inserted, removed}
+use Rattle.iox_hub_renumbered.specs.HubFactories.Tables.{publish_subscribe_in}
+use Rattle.iox_hub_renumbered.specs.HubFactories.declared.made.MadeFactory.{MadeFactory}
+use Rattle.iox_hub_renumbered.specs.HubFactories.declared.made.MadeFactory.TheVariants as made_factory
 use Rattle.iox_negotiate_renamed.specs.Renaming.{renamed_member}
 use Rattle.iox_hub_renamed.specs.Renaming.{renamed_id, renamed_port, renamed_made_publisher, renamed_made_loan, renamed_made_sample, mapped, renamed_made, renamed_factory}
 

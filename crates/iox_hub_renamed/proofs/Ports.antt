@@ -9,48 +9,48 @@ use Rattle.iox_domain_renamed.proofs.AmongPublishers.{found_as, changed_as as am
 use Rattle.iox_domain_renamed.proofs.Calls.{happens_as, reads_alike}
 use Rattle.iox_domain_renamed.proofs.Lists.{each_found}
 use Rattle.iox_domain_renamed.proofs.Publishers.{changed_if_as}
-use Rattle.iox_hub_commands.specs.Delivery.Holding.{publisher_found, publisher_stands, publisher_blocked, loan_found, subscriber_found, message_found, holds_message}
-use Rattle.iox_hub_commands.specs.Delivery.Lent.{IsReady}
-use Rattle.iox_hub_commands.specs.Delivery.Publishing.{AfterLoan, changed_at}
-use Rattle.iox_hub_commands.specs.Delivery.Subscribing.{ReleasesOne}
-use Rattle.iox_hub_commands.specs.Delivery.declared.port_id.PortId.{PortId}
-use Rattle.iox_hub_commands.specs.DeliverySlices.Slices.{each_written, each_written_in, FillsLent, WritesAndSends}
-use Rattle.iox_hub_commands.specs.DomainHome.Homes.{AtDomain}
-use Rattle.iox_hub_commands.specs.DomainHome.Steps as steps
-use Rattle.iox_hub_commands.specs.DomainHome.declared.domain_id.DomainId.{DomainId}
-use Rattle.iox_hub_commands.specs.DomainLaws.Calls as call
-use Rattle.iox_hub_commands.specs.DomainPorts.Lending.{passes_port, written_in, gave_up_in}
-use Rattle.iox_hub_commands.specs.DomainPorts.Publishing.{is_blocked}
-use Rattle.iox_hub_commands.specs.DomainPorts.Subscribers.{subscriber_of}
-use Rattle.iox_hub_commands.specs.DomainPorts.declared.service_ports.ServicePorts.{ServicePorts}
-use Rattle.iox_hub_commands.specs.DomainPublisher.Writing.{changed_if}
-use Rattle.iox_hub_commands.specs.DomainPublisher.declared.meeting.Sent.{Sent}
-use Rattle.iox_hub_commands.specs.DomainPublisher.declared.publisher_port.PublisherPort.{PublisherPort}
-use Rattle.iox_hub_commands.specs.DomainSender.Messages.{Loan, write_value, write_all}
-use Rattle.iox_hub_commands.specs.DomainSender.Sending.{has_place, has_length}
-use Rattle.iox_hub_commands.specs.DomainSubscriber.Publishers as among
-use Rattle.iox_hub_commands.specs.DomainSubscriber.declared.attached.Taken.{Taken}
-use Rattle.iox_hub_commands.specs.DomainSubscriber.declared.subscriber_port.SubscriberPort.{SubscriberPort}
-use Rattle.iox_hub_commands.specs.DomainValues.declared.backpressure.BackpressureDecision.{BackpressureDecision}
-use Rattle.iox_hub_commands.specs.DomainValues.declared.backpressure.BackpressureInfo.{BackpressureInfo}
-use Rattle.iox_hub_commands.specs.DomainValues.declared.connection_failure.ConnectionFailure.{ConnectionFailure}
-use Rattle.iox_hub_commands.specs.DomainValues.declared.degradation.DegradationAction.{DegradationAction}
-use Rattle.iox_hub_commands.specs.DomainValues.declared.degradation.DegradationCause.{DegradationCause}
-use Rattle.iox_hub_commands.specs.DomainValues.declared.degradation.DegradationInfo.{DegradationInfo}
-use Rattle.iox_hub_commands.specs.DomainValues.declared.port_error.LoanError.{LoanError}
-use Rattle.iox_hub_commands.specs.DomainValues.declared.port_error.ReceiveError.{ReceiveError}
-use Rattle.iox_hub_commands.specs.DomainValues.declared.port_error.SendError.{SendError}
-use Rattle.iox_hub_commands.specs.HubPorts.Calls.{AtPort, AtPortIf, Lends, LendsWritten, Puts, Follows, Sends, Retries, GivesUp, PublisherGoes, FollowsPublishers, Tells, Receives, SubscriberGoes, may_lend, ready}
-use Rattle.iox_hub_commands.specs.HubPorts.Loans.{loan_under, changed_under, is_filled, set_in, fits_in, filled_in, SendsUnder}
-use Rattle.iox_hub_commands.specs.HubPorts.Reading.{values_under, is_held, ReleasesUnder}
-use Rattle.iox_hub_commands.specs.HubPorts.declared.made.MadeLoan.{MadeLoan}
-use Rattle.iox_hub_commands.specs.HubPorts.declared.made.MadeSample.{MadeSample}
-use Rattle.iox_hub_factories.specs.Domain.Domains.{with_ports}
-use Rattle.iox_hub_factories.specs.HubBase.AsHome.{hub_ports, with_hub_ports, without_hub_publisher, without_hub_subscriber}
-use Rattle.iox_hub_factories.specs.HubBase.declared.hub.Hub.{Hub}
-use Rattle.iox_hub_factories.specs.HubServices.AsHome.{publisher_forgotten, subscriber_forgotten}
-use Rattle.iox_hub_run.specs.Grown.{AnySlots, AnyAction, AnyDecision}
-use Rattle.iox_hub_run.specs.Steps.{publisher_may_degrade, publisher_may_decide, subscriber_may_degrade}
+use Rattle.iox_hub_renumbered.specs.HubCommands.Delivery.Holding.{publisher_found, publisher_stands, publisher_blocked, loan_found, subscriber_found, message_found, holds_message}
+use Rattle.iox_hub_renumbered.specs.HubCommands.Delivery.Lent.{IsReady}
+use Rattle.iox_hub_renumbered.specs.HubCommands.Delivery.Publishing.{AfterLoan, changed_at}
+use Rattle.iox_hub_renumbered.specs.HubCommands.Delivery.Subscribing.{ReleasesOne}
+use Rattle.iox_hub_renumbered.specs.HubCommands.Delivery.declared.port_id.PortId.{PortId}
+use Rattle.iox_hub_renumbered.specs.HubCommands.DeliverySlices.Slices.{each_written, each_written_in, FillsLent, WritesAndSends}
+use Rattle.iox_hub_renumbered.specs.HubCommands.DomainHome.Homes.{AtDomain}
+use Rattle.iox_hub_renumbered.specs.HubCommands.DomainHome.Steps as steps
+use Rattle.iox_hub_renumbered.specs.HubCommands.DomainHome.declared.domain_id.DomainId.{DomainId}
+use Rattle.iox_hub_renumbered.specs.HubCommands.DomainLaws.Calls as call
+use Rattle.iox_hub_renumbered.specs.HubCommands.DomainPorts.Lending.{passes_port, written_in, gave_up_in}
+use Rattle.iox_hub_renumbered.specs.HubCommands.DomainPorts.Publishing.{is_blocked}
+use Rattle.iox_hub_renumbered.specs.HubCommands.DomainPorts.Subscribers.{subscriber_of}
+use Rattle.iox_hub_renumbered.specs.HubCommands.DomainPorts.declared.service_ports.ServicePorts.{ServicePorts}
+use Rattle.iox_hub_renumbered.specs.HubCommands.DomainPublisher.Writing.{changed_if}
+use Rattle.iox_hub_renumbered.specs.HubCommands.DomainPublisher.declared.meeting.Sent.{Sent}
+use Rattle.iox_hub_renumbered.specs.HubCommands.DomainPublisher.declared.publisher_port.PublisherPort.{PublisherPort}
+use Rattle.iox_hub_renumbered.specs.HubCommands.DomainSender.Messages.{Loan, write_value, write_all}
+use Rattle.iox_hub_renumbered.specs.HubCommands.DomainSender.Sending.{has_place, has_length}
+use Rattle.iox_hub_renumbered.specs.HubCommands.DomainSubscriber.Publishers as among
+use Rattle.iox_hub_renumbered.specs.HubCommands.DomainSubscriber.declared.attached.Taken.{Taken}
+use Rattle.iox_hub_renumbered.specs.HubCommands.DomainSubscriber.declared.subscriber_port.SubscriberPort.{SubscriberPort}
+use Rattle.iox_hub_renumbered.specs.HubCommands.DomainValues.declared.backpressure.BackpressureDecision.{BackpressureDecision}
+use Rattle.iox_hub_renumbered.specs.HubCommands.DomainValues.declared.backpressure.BackpressureInfo.{BackpressureInfo}
+use Rattle.iox_hub_renumbered.specs.HubCommands.DomainValues.declared.connection_failure.ConnectionFailure.{ConnectionFailure}
+use Rattle.iox_hub_renumbered.specs.HubCommands.DomainValues.declared.degradation.DegradationAction.{DegradationAction}
+use Rattle.iox_hub_renumbered.specs.HubCommands.DomainValues.declared.degradation.DegradationCause.{DegradationCause}
+use Rattle.iox_hub_renumbered.specs.HubCommands.DomainValues.declared.degradation.DegradationInfo.{DegradationInfo}
+use Rattle.iox_hub_renumbered.specs.HubCommands.DomainValues.declared.port_error.LoanError.{LoanError}
+use Rattle.iox_hub_renumbered.specs.HubCommands.DomainValues.declared.port_error.ReceiveError.{ReceiveError}
+use Rattle.iox_hub_renumbered.specs.HubCommands.DomainValues.declared.port_error.SendError.{SendError}
+use Rattle.iox_hub_renumbered.specs.HubCommands.HubPorts.Calls.{AtPort, AtPortIf, Lends, LendsWritten, Puts, Follows, Sends, Retries, GivesUp, PublisherGoes, FollowsPublishers, Tells, Receives, SubscriberGoes, may_lend, ready}
+use Rattle.iox_hub_renumbered.specs.HubCommands.HubPorts.Loans.{loan_under, changed_under, is_filled, set_in, fits_in, filled_in, SendsUnder}
+use Rattle.iox_hub_renumbered.specs.HubCommands.HubPorts.Reading.{values_under, is_held, ReleasesUnder}
+use Rattle.iox_hub_renumbered.specs.HubCommands.HubPorts.declared.made.MadeLoan.{MadeLoan}
+use Rattle.iox_hub_renumbered.specs.HubCommands.HubPorts.declared.made.MadeSample.{MadeSample}
+use Rattle.iox_hub_renumbered.specs.HubFactories.Domain.Domains.{with_ports}
+use Rattle.iox_hub_renumbered.specs.HubFactories.HubBase.AsHome.{hub_ports, with_hub_ports, without_hub_publisher, without_hub_subscriber}
+use Rattle.iox_hub_renumbered.specs.HubFactories.HubBase.declared.hub.Hub.{Hub}
+use Rattle.iox_hub_renumbered.specs.HubFactories.HubServices.AsHome.{publisher_forgotten, subscriber_forgotten}
+use Rattle.iox_hub_renumbered.specs.HubRun.Grown.{AnySlots, AnyAction, AnyDecision}
+use Rattle.iox_hub_renumbered.specs.HubRun.Steps.{publisher_may_degrade, publisher_may_decide, subscriber_may_degrade}
 use Rattle.iox_negotiate_renamed.specs.Renaming.{AreInOrder}
 use Rattle.iox_hub_renamed.specs.Renaming.{renamed_port, renamed_made_loan, renamed_made_sample, renamed_hub}
 use Rattle.iox_hub_renamed.specs.RenamingLaws.{HaveNumbers}

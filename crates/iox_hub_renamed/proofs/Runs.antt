@@ -3,41 +3,41 @@ use Rattle.std.proofs.Common.{◌≡◌, ◌∙◌, ◌+◌, ◌-◌, ◌^◌, �
 use Rattle.std.specs.List.{AllByRecursion}
 use Rattle.std.specs.declared.alloc.AllocError.{AllocError}
 use Rattle.iox_domain_renamed.specs.Renaming.{Renaming}
-use Rattle.iox_hub_commands.specs.Command.declared.command.Command.{Command}
-use Rattle.iox_hub_commands.specs.Command.declared.reply.Reply.{Reply}
-use Rattle.iox_hub_commands.specs.DescribeBase.Detail.{Detail}
-use Rattle.iox_hub_commands.specs.DescribeBase.declared.message_type.MessageTypeDetails.{MessageTypeDetails}
-use Rattle.iox_hub_commands.specs.DomainValues.declared.backpressure.BackpressureAction.{BackpressureAction}
-use Rattle.iox_hub_commands.specs.DomainValues.declared.backpressure.BackpressureDecision.{BackpressureDecision}
-use Rattle.iox_hub_commands.specs.DomainValues.declared.backpressure.BackpressureInfo.{BackpressureInfo}
-use Rattle.iox_hub_commands.specs.DomainValues.declared.backpressure_strategy.BackpressureStrategy.{BackpressureStrategy}
-use Rattle.iox_hub_commands.specs.DomainValues.declared.degradation.DegradationAction.{DegradationAction}
-use Rattle.iox_hub_commands.specs.DomainValues.declared.degradation.DegradationCause.{DegradationCause}
-use Rattle.iox_hub_commands.specs.DomainValues.declared.degradation.DegradationInfo.{DegradationInfo}
-use Rattle.iox_hub_commands.specs.HubPorts.declared.made.Made.{Made}
-use Rattle.iox_hub_factories.specs.HubBase.Hubs.{one_more}
-use Rattle.iox_hub_factories.specs.HubBase.declared.hub.HubConfig.{HubConfig}
-use Rattle.iox_hub_factories.specs.HubServices.Open.{OpenServices}
-use Rattle.iox_hub_factories.specs.Numbered.NumberTable.{NumberTable}
-use Rattle.iox_hub_factories.specs.declared.factories.Factories.{Factories}
-use Rattle.iox_hub_commands.specs.DomainValues.Actions.{decision_of}
-use Rattle.iox_hub_run.specs.HubCommands.declared.handlers.FixedDegradation.{FixedDegradation}
-use Rattle.iox_hub_run.specs.HubCommands.declared.handlers.FixedHandlers.{FixedHandlers}
-use Rattle.iox_hub_run.specs.Numbers.{IsNew}
-use Rattle.iox_hub_run.specs.Runs.{Runs}
-use Rattle.iox_hub_run.specs.Steps.{Step}
-use Rattle.iox_hub_run.specs.declared.numbered_hub.NumberedHub.{NumberedHub}
-use Rattle.iox_negotiate_laws.specs.Lives.{number_of}
-use Rattle.iox_negotiate_laws.specs.NegotiateTable.Contents.{Contents}
-use Rattle.iox_negotiate_laws.specs.NegotiateTable.declared.entry.Entry.{Entry}
-use Rattle.iox_negotiate_laws.specs.NegotiateTable.declared.segment.Segment.{Segment}
-use Rattle.iox_negotiate_laws.proofs.Tables.{IsTable, new-table, runs}
+use Rattle.iox_hub_renumbered.specs.HubCommands.Command.declared.command.Command.{Command}
+use Rattle.iox_hub_renumbered.specs.HubCommands.Command.declared.reply.Reply.{Reply}
+use Rattle.iox_hub_renumbered.specs.HubCommands.DescribeBase.Detail.{Detail}
+use Rattle.iox_hub_renumbered.specs.HubCommands.DescribeBase.declared.message_type.MessageTypeDetails.{MessageTypeDetails}
+use Rattle.iox_hub_renumbered.specs.HubCommands.DomainValues.declared.backpressure.BackpressureAction.{BackpressureAction}
+use Rattle.iox_hub_renumbered.specs.HubCommands.DomainValues.declared.backpressure.BackpressureDecision.{BackpressureDecision}
+use Rattle.iox_hub_renumbered.specs.HubCommands.DomainValues.declared.backpressure.BackpressureInfo.{BackpressureInfo}
+use Rattle.iox_hub_renumbered.specs.HubCommands.DomainValues.declared.backpressure_strategy.BackpressureStrategy.{BackpressureStrategy}
+use Rattle.iox_hub_renumbered.specs.HubCommands.DomainValues.declared.degradation.DegradationAction.{DegradationAction}
+use Rattle.iox_hub_renumbered.specs.HubCommands.DomainValues.declared.degradation.DegradationCause.{DegradationCause}
+use Rattle.iox_hub_renumbered.specs.HubCommands.DomainValues.declared.degradation.DegradationInfo.{DegradationInfo}
+use Rattle.iox_hub_renumbered.specs.HubCommands.HubPorts.declared.made.Made.{Made}
+use Rattle.iox_hub_renumbered.specs.HubFactories.HubBase.Hubs.{one_more}
+use Rattle.iox_hub_renumbered.specs.HubFactories.HubBase.declared.hub.HubConfig.{HubConfig}
+use Rattle.iox_hub_renumbered.specs.HubFactories.HubServices.Open.{OpenServices}
+use Rattle.iox_hub_renumbered.specs.HubFactories.Numbered.NumberTable.{NumberTable}
+use Rattle.iox_hub_renumbered.specs.HubFactories.declared.factories.Factories.{Factories}
+use Rattle.iox_hub_renumbered.specs.HubCommands.DomainValues.Actions.{decision_of}
+use Rattle.iox_hub_renumbered.specs.HubRun.HubCommands.declared.handlers.FixedDegradation.{FixedDegradation}
+use Rattle.iox_hub_renumbered.specs.HubRun.HubCommands.declared.handlers.FixedHandlers.{FixedHandlers}
+use Rattle.iox_hub_renumbered.specs.HubRun.Numbers.{IsNew}
+use Rattle.iox_hub_renumbered.specs.HubRun.Runs.{Runs}
+use Rattle.iox_hub_renumbered.specs.HubRun.Steps.{Step}
+use Rattle.iox_hub_renumbered.specs.HubRun.declared.numbered_hub.NumberedHub.{NumberedHub}
+use Rattle.iox_hub_renumbered.specs.NegotiateLaws.Lives.{number_of}
+use Rattle.iox_hub_renumbered.specs.NegotiateLaws.NegotiateTable.Contents.{Contents}
+use Rattle.iox_hub_renumbered.specs.NegotiateLaws.NegotiateTable.declared.entry.Entry.{Entry}
+use Rattle.iox_hub_renumbered.specs.NegotiateLaws.NegotiateTable.declared.segment.Segment.{Segment}
+use Rattle.iox_hub_renumbered.proofs.NegotiateLaws.Tables.{IsTable, new-table, runs}
 use Rattle.iox_negotiate_renamed.specs.Renaming.{AreInOrder, renamed_entry, renamed_place, renamed_table}
 use Rattle.iox_negotiate_renamed.proofs.Acting.{past_rises}
 use Rattle.iox_negotiate_renamed.proofs.Numbers.{weaker}
-use Rattle.iox_hub_locality.proofs.Framed.{step_goes_on}
-use Rattle.iox_hub_alone.specs.Telling.{replies_told}
-use Rattle.iox_hub_alone.proofs.Telling.{each_run_can_be_told}
+use Rattle.iox_hub_renumbered.proofs.HubLocality.Framed.{step_goes_on}
+use Rattle.iox_hub_renumbered.specs.HubAlone.Telling.{replies_told}
+use Rattle.iox_hub_renumbered.proofs.HubAlone.Telling.{each_run_can_be_told}
 use Rattle.iox_hub_renumbered.specs.Anew.{PassesLives, RunsAnew}
 use Rattle.iox_hub_renumbered.specs.Renaming.{Renaming as Names, renamed, renamed_reply}
 use Rattle.iox_hub_renumbered.proofs.Runs.{Below, SameBelow, counted, skipped, by_order, counted_below, counted_above, skipped_below, skipped_above, below_counted, below_skipped, same_counted, same_skipped, is_alone_with_counts}

@@ -10,60 +10,60 @@ use Rattle.std.specs.Result.{result_map_both}
 use Rattle.std.specs.declared.alloc.AllocError.{AllocError}
 use Rattle.iox_domain_renamed.specs.Renaming.{Renaming, renamed_ports}
 use Rattle.iox_domain_renamed.proofs.Calls.{reads_alike}
-use Rattle.iox_hub_commands.specs.Command.declared.refusal.HubError.{HubError}
-use Rattle.iox_hub_commands.specs.Command.declared.refusal.Refusal.{Refusal}
-use Rattle.iox_hub_commands.specs.Command.declared.service.ServiceOptions.{ServiceOptions}
-use Rattle.iox_hub_commands.specs.Command.declared.service.ServiceOptions.TheVariants as options
-use Rattle.iox_hub_commands.specs.Command.declared.step.ForeignStep.{ForeignStep as Named}
-use Rattle.iox_hub_commands.specs.Command.declared.step.StepBefore.{StepBefore}
-use Rattle.iox_hub_commands.specs.DescribeBase.Attributes.{Required}
-use Rattle.iox_hub_commands.specs.DescribeBase.Detail.{Detail}
-use Rattle.iox_hub_commands.specs.DescribeBase.Hash.{service_hash_of}
-use Rattle.iox_hub_commands.specs.DescribeBase.declared.attribute.Attribute.{Attribute}
-use Rattle.iox_hub_commands.specs.DescribeBase.declared.hash.ServiceHash.{ServiceHash}
-use Rattle.iox_hub_commands.specs.DescribeBase.declared.message_type.MessageTypeDetails.{MessageTypeDetails}
-use Rattle.iox_hub_commands.specs.DescribeBase.declared.pattern.MessagingPattern.{MessagingPattern}
-use Rattle.iox_hub_commands.specs.DescribeSettings.Agreement.{Agreement}
-use Rattle.iox_hub_commands.specs.DescribeSettings.declared.static_config.Settings.{Settings}
-use Rattle.iox_hub_factories.specs.Asking.{hash_of, agreed_of, required_agreement}
-use Rattle.iox_hub_factories.specs.Closing.{Leaves, ClosesUnless, ClosesIfOf, ClosesNumbered}
-use Rattle.iox_hub_factories.specs.Creating.{CreatesAs, CreatesNumbered, create_lacking}
-use Rattle.iox_hub_factories.specs.Domain.Kept.{kept_under, kept, forgotten}
-use Rattle.iox_hub_factories.specs.Either.{EitherAs, EitherNumbered, either_lacking}
-use Rattle.iox_hub_factories.specs.Foreign.{ActsNamed}
-use Rattle.iox_hub_factories.specs.HubBase.Closing.{is_last, who_counts, lives_in, in_use, less_one}
-use Rattle.iox_hub_factories.specs.HubBase.Foreign.{ActsOn}
-use Rattle.iox_hub_factories.specs.HubBase.Hubs.{factories_of, with_factory, one_more}
-use Rattle.iox_hub_factories.specs.HubBase.Opening.{Made, Enters, Settles, OpensInHub}
-use Rattle.iox_hub_factories.specs.HubBase.declared.hub.Hub.{Hub}
-use Rattle.iox_hub_factories.specs.HubServices.Open.{OpenServices, presence_of}
-use Rattle.iox_hub_factories.specs.HubServices.Opening.{is_open, Opens as ServiceOpens, without_service}
-use Rattle.iox_hub_factories.specs.HubServices.declared.presence.Presence.{Presence}
-use Rattle.iox_hub_factories.specs.HubServices.declared.presence.Presence.TheVariants.{Here, Out}
-use Rattle.iox_hub_factories.specs.Numbered.NumberTable.{value_at}
-use Rattle.iox_hub_factories.specs.Numbering.{Prepares, Numbers, GetsNumber, IsSkipped, IsRefusedWith}
-use Rattle.iox_hub_factories.specs.Opening.{OpensAs, OpensNumbered, open_lacking}
-use Rattle.iox_hub_factories.specs.Tables.{FactoryTable, pattern_in, parts_of}
-use Rattle.iox_hub_factories.specs.declared.asked.ServiceAsked.{ServiceAsked}
-use Rattle.iox_hub_factories.specs.declared.made.MadeFactory.{MadeFactory}
-use Rattle.iox_hub_factories.specs.declared.made.MadeFactory.TheVariants as made_factory
-use Rattle.iox_negotiate_laws.specs.Negotiate.Factory.{membership}
-use Rattle.iox_negotiate_laws.specs.Negotiate.Negotiation.{Negotiates, Creates, Either}
-use Rattle.iox_negotiate_laws.specs.Negotiate.declared.factory.Membership.{Membership}
-use Rattle.iox_negotiate_laws.specs.NegotiateErrors.declared.close.CloseError.{CloseError}
-use Rattle.iox_negotiate_laws.specs.NegotiateRounds.Access.{Access}
-use Rattle.iox_negotiate_laws.specs.NegotiateRounds.Creating.{CreatesIf}
-use Rattle.iox_negotiate_laws.specs.NegotiateRounds.Opening.{Opens, OpensOrCreates}
-use Rattle.iox_negotiate_laws.specs.NegotiateRounds.declared.failure.CreateFailure.{CreateFailure}
-use Rattle.iox_negotiate_laws.specs.NegotiateRounds.declared.failure.OpenFailure.{OpenFailure}
-use Rattle.iox_negotiate_laws.specs.NegotiateRounds.declared.failure.OpenOrCreateFailure.{OpenOrCreateFailure}
-use Rattle.iox_negotiate_laws.specs.NegotiateRounds.declared.request.Opened.{Opened}
-use Rattle.iox_negotiate_laws.specs.NegotiateTable.Stepped.{Steps, SteppedSight}
-use Rattle.iox_negotiate_laws.specs.NegotiateTable.declared.entry.Entry.TheVariants.{Described}
-use Rattle.iox_negotiate_laws.specs.NegotiateTable.declared.step.ForeignStep.{ForeignStep}
-use Rattle.iox_negotiate_laws.proofs.Agreements.{went-past}
-use Rattle.iox_negotiate_laws.proofs.Maps.{insert-all, remove-all, found-all}
-use Rattle.iox_negotiate_laws.proofs.Tables.{IsTable}
+use Rattle.iox_hub_renumbered.specs.HubCommands.Command.declared.refusal.HubError.{HubError}
+use Rattle.iox_hub_renumbered.specs.HubCommands.Command.declared.refusal.Refusal.{Refusal}
+use Rattle.iox_hub_renumbered.specs.HubCommands.Command.declared.service.ServiceOptions.{ServiceOptions}
+use Rattle.iox_hub_renumbered.specs.HubCommands.Command.declared.service.ServiceOptions.TheVariants as options
+use Rattle.iox_hub_renumbered.specs.HubCommands.Command.declared.step.ForeignStep.{ForeignStep as Named}
+use Rattle.iox_hub_renumbered.specs.HubCommands.Command.declared.step.StepBefore.{StepBefore}
+use Rattle.iox_hub_renumbered.specs.HubCommands.DescribeBase.Attributes.{Required}
+use Rattle.iox_hub_renumbered.specs.HubCommands.DescribeBase.Detail.{Detail}
+use Rattle.iox_hub_renumbered.specs.HubCommands.DescribeBase.Hash.{service_hash_of}
+use Rattle.iox_hub_renumbered.specs.HubCommands.DescribeBase.declared.attribute.Attribute.{Attribute}
+use Rattle.iox_hub_renumbered.specs.HubCommands.DescribeBase.declared.hash.ServiceHash.{ServiceHash}
+use Rattle.iox_hub_renumbered.specs.HubCommands.DescribeBase.declared.message_type.MessageTypeDetails.{MessageTypeDetails}
+use Rattle.iox_hub_renumbered.specs.HubCommands.DescribeBase.declared.pattern.MessagingPattern.{MessagingPattern}
+use Rattle.iox_hub_renumbered.specs.HubCommands.DescribeSettings.Agreement.{Agreement}
+use Rattle.iox_hub_renumbered.specs.HubCommands.DescribeSettings.declared.static_config.Settings.{Settings}
+use Rattle.iox_hub_renumbered.specs.HubFactories.Asking.{hash_of, agreed_of, required_agreement}
+use Rattle.iox_hub_renumbered.specs.HubFactories.Closing.{Leaves, ClosesUnless, ClosesIfOf, ClosesNumbered}
+use Rattle.iox_hub_renumbered.specs.HubFactories.Creating.{CreatesAs, CreatesNumbered, create_lacking}
+use Rattle.iox_hub_renumbered.specs.HubFactories.Domain.Kept.{kept_under, kept, forgotten}
+use Rattle.iox_hub_renumbered.specs.HubFactories.Either.{EitherAs, EitherNumbered, either_lacking}
+use Rattle.iox_hub_renumbered.specs.HubFactories.Foreign.{ActsNamed}
+use Rattle.iox_hub_renumbered.specs.HubFactories.HubBase.Closing.{is_last, who_counts, lives_in, in_use, less_one}
+use Rattle.iox_hub_renumbered.specs.HubFactories.HubBase.Foreign.{ActsOn}
+use Rattle.iox_hub_renumbered.specs.HubFactories.HubBase.Hubs.{factories_of, with_factory, one_more}
+use Rattle.iox_hub_renumbered.specs.HubFactories.HubBase.Opening.{Made, Enters, Settles, OpensInHub}
+use Rattle.iox_hub_renumbered.specs.HubFactories.HubBase.declared.hub.Hub.{Hub}
+use Rattle.iox_hub_renumbered.specs.HubFactories.HubServices.Open.{OpenServices, presence_of}
+use Rattle.iox_hub_renumbered.specs.HubFactories.HubServices.Opening.{is_open, Opens as ServiceOpens, without_service}
+use Rattle.iox_hub_renumbered.specs.HubFactories.HubServices.declared.presence.Presence.{Presence}
+use Rattle.iox_hub_renumbered.specs.HubFactories.HubServices.declared.presence.Presence.TheVariants.{Here, Out}
+use Rattle.iox_hub_renumbered.specs.HubFactories.Numbered.NumberTable.{value_at}
+use Rattle.iox_hub_renumbered.specs.HubFactories.Numbering.{Prepares, Numbers, GetsNumber, IsSkipped, IsRefusedWith}
+use Rattle.iox_hub_renumbered.specs.HubFactories.Opening.{OpensAs, OpensNumbered, open_lacking}
+use Rattle.iox_hub_renumbered.specs.HubFactories.Tables.{FactoryTable, pattern_in, parts_of}
+use Rattle.iox_hub_renumbered.specs.HubFactories.declared.asked.ServiceAsked.{ServiceAsked}
+use Rattle.iox_hub_renumbered.specs.HubFactories.declared.made.MadeFactory.{MadeFactory}
+use Rattle.iox_hub_renumbered.specs.HubFactories.declared.made.MadeFactory.TheVariants as made_factory
+use Rattle.iox_hub_renumbered.specs.NegotiateLaws.Negotiate.Factory.{membership}
+use Rattle.iox_hub_renumbered.specs.NegotiateLaws.Negotiate.Negotiation.{Negotiates, Creates, Either}
+use Rattle.iox_hub_renumbered.specs.NegotiateLaws.Negotiate.declared.factory.Membership.{Membership}
+use Rattle.iox_hub_renumbered.specs.NegotiateLaws.NegotiateErrors.declared.close.CloseError.{CloseError}
+use Rattle.iox_hub_renumbered.specs.NegotiateLaws.NegotiateRounds.Access.{Access}
+use Rattle.iox_hub_renumbered.specs.NegotiateLaws.NegotiateRounds.Creating.{CreatesIf}
+use Rattle.iox_hub_renumbered.specs.NegotiateLaws.NegotiateRounds.Opening.{Opens, OpensOrCreates}
+use Rattle.iox_hub_renumbered.specs.NegotiateLaws.NegotiateRounds.declared.failure.CreateFailure.{CreateFailure}
+use Rattle.iox_hub_renumbered.specs.NegotiateLaws.NegotiateRounds.declared.failure.OpenFailure.{OpenFailure}
+use Rattle.iox_hub_renumbered.specs.NegotiateLaws.NegotiateRounds.declared.failure.OpenOrCreateFailure.{OpenOrCreateFailure}
+use Rattle.iox_hub_renumbered.specs.NegotiateLaws.NegotiateRounds.declared.request.Opened.{Opened}
+use Rattle.iox_hub_renumbered.specs.NegotiateLaws.NegotiateTable.Stepped.{Steps, SteppedSight}
+use Rattle.iox_hub_renumbered.specs.NegotiateLaws.NegotiateTable.declared.entry.Entry.TheVariants.{Described}
+use Rattle.iox_hub_renumbered.specs.NegotiateLaws.NegotiateTable.declared.step.ForeignStep.{ForeignStep}
+use Rattle.iox_hub_renumbered.proofs.NegotiateLaws.Agreements.{went-past}
+use Rattle.iox_hub_renumbered.proofs.NegotiateLaws.Maps.{insert-all, remove-all, found-all}
+use Rattle.iox_hub_renumbered.proofs.NegotiateLaws.Tables.{IsTable}
 use Rattle.iox_negotiate_renamed.specs.Renaming.{AreInOrder, GoBy, renamed_access, renamed_answer, renamed_came, renamed_member, renamed_steps}
 use Rattle.iox_negotiate_renamed.specs.RenamingLaws.{LeadsOn}
 use Rattle.iox_negotiate_renamed.proofs.Acting.{acts_all_as, past_rises, low_on}
@@ -71,7 +71,7 @@ use Rattle.iox_negotiate_renamed.proofs.Calling.{does_as, does_alone_as}
 use Rattle.iox_negotiate_renamed.proofs.Numbers.{same_life, cmp_as, moved_found, moved_gone, moved_come, weaker}
 use Rattle.iox_negotiate_renamed.proofs.Rounds.{creates_if, opens, opens_or_creates, closes}
 use Rattle.iox_negotiate_renamed.proofs.Tables.{live_at}
-use Rattle.iox_hub_locality.proofs.Negotiated.{IsNegotiation, creating, opening, either}
+use Rattle.iox_hub_renumbered.proofs.HubLocality.Negotiated.{IsNegotiation, creating, opening, either}
 use Rattle.iox_hub_renamed.specs.Renaming.{mapped, renamed_factory, renamed_id, renamed_domain, renamed_presence, renamed_services, renamed_hub}
 use Rattle.iox_hub_renamed.specs.RenamingLaws.{HaveNumbers, HubGoesBy, HasNumbers}
 use Rattle.iox_hub_renamed.proofs.Homes.{keys_at, presence_as}

@@ -5,59 +5,59 @@ use Rattle.std.specs.Prelude.{is_some, unwrap_or}
 use Rattle.std.specs.declared.alloc.AllocError.{AllocError}
 use Rattle.iox_domain_renamed.specs.Renaming.{Renaming, renamed_ports}
 use Rattle.iox_domain_renamed.proofs.Calls.{happens_as}
-use Rattle.iox_hub_commands.specs.Command.declared.command.Command.{Command}
-use Rattle.iox_hub_commands.specs.Command.declared.command.Command.TheVariants as command
-use Rattle.iox_hub_commands.specs.Command.declared.port.PortNumber.{PortNumber}
-use Rattle.iox_hub_commands.specs.Command.declared.port.PortNumber.TheVariants as port_number
-use Rattle.iox_hub_commands.specs.Command.declared.port.PublisherOptions.{PublisherOptions}
-use Rattle.iox_hub_commands.specs.Command.declared.port.SubscriberOptions.{SubscriberOptions}
-use Rattle.iox_hub_commands.specs.Command.declared.reply.Reply.{Reply}
-use Rattle.iox_hub_commands.specs.DescribeBase.Detail.{Detail}
-use Rattle.iox_hub_commands.specs.DescribeBase.declared.message_type.MessageTypeDetails.{MessageTypeDetails}
-use Rattle.iox_hub_commands.specs.DomainHome.Steps as steps
-use Rattle.iox_hub_commands.specs.DomainHome.declared.domain_id.DomainId.{DomainId}
-use Rattle.iox_hub_commands.specs.DomainLaws.Calls as call
-use Rattle.iox_hub_commands.specs.DomainPorts.Lending.{gave_up_in}
-use Rattle.iox_hub_commands.specs.DomainPorts.declared.service_ports.ServicePorts.{ServicePorts}
-use Rattle.iox_hub_commands.specs.DomainValues.declared.backpressure.BackpressureAction.{BackpressureAction}
-use Rattle.iox_hub_commands.specs.DomainValues.declared.backpressure.BackpressureDecision.{BackpressureDecision}
-use Rattle.iox_hub_commands.specs.DomainValues.declared.backpressure.BackpressureInfo.{BackpressureInfo}
-use Rattle.iox_hub_commands.specs.DomainValues.declared.backpressure_strategy.BackpressureStrategy.{BackpressureStrategy}
-use Rattle.iox_hub_commands.specs.DomainValues.declared.degradation.DegradationAction.{DegradationAction}
-use Rattle.iox_hub_commands.specs.DomainValues.declared.degradation.DegradationCause.{DegradationCause}
-use Rattle.iox_hub_commands.specs.DomainValues.declared.degradation.DegradationCause.TheVariants.{FailedToEstablishConnection}
-use Rattle.iox_hub_commands.specs.DomainValues.declared.degradation.DegradationInfo.{DegradationInfo}
-use Rattle.iox_hub_commands.specs.DomainValues.declared.port_error.ReceiveError.{ReceiveError}
-use Rattle.iox_hub_commands.specs.Following.{UpdateStep, HasStep, LeaveStep}
-use Rattle.iox_hub_commands.specs.HubPorts.Calls.{AtPort, AtPortIf, Lends, LendsWritten, Puts, Follows, Retries, GivesUp, PublisherGoes, FollowsPublishers, Tells, Receives, SubscriberGoes, ready}
-use Rattle.iox_hub_commands.specs.HubPorts.Growing.{GrowsFirst}
-use Rattle.iox_hub_commands.specs.HubPorts.Loans.{loan_under, is_set, is_filled, set_in, filled_in, changed_under, SendsUnder}
-use Rattle.iox_hub_commands.specs.HubPorts.Making.{with_publisher, with_subscriber}
-use Rattle.iox_hub_commands.specs.HubPorts.Numbering.{LendsNumbered, LendsWrittenNumbered, ReceivesNumbered}
-use Rattle.iox_hub_commands.specs.HubPorts.Reading.{values_under, is_held, ReleasesUnder}
-use Rattle.iox_hub_commands.specs.HubPorts.Tables.{IsFull, lender, port_under, without_publisher, without_subscriber, without_loan, without_sample}
-use Rattle.iox_hub_commands.specs.HubPorts.declared.made.Made.{Made}
-use Rattle.iox_hub_commands.specs.Lending.{LoanStep, LoanUninitStep, PutStep}
-use Rattle.iox_hub_commands.specs.Messages.{SetStep, FillStep, DropStep, SendStep, RetryStep, GiveUpStep, IsReadReply, SomeValues, ReadStep, ReleaseStep}
-use Rattle.iox_hub_commands.specs.Naming.{publisher_config, publisher_handlers, subscriber_config, subscriber_handler}
-use Rattle.iox_hub_commands.specs.Receiving.{IsArrival, IsTold, ReceiveStep}
-use Rattle.iox_hub_factories.specs.Domain.declared.domain.Domain.{Domain}
-use Rattle.iox_hub_factories.specs.HubBase.AsHome.{with_services, hub_ports, with_hub_ports, without_hub_publisher, without_hub_subscriber}
-use Rattle.iox_hub_factories.specs.HubBase.Opening.{Made as Opened}
-use Rattle.iox_hub_factories.specs.HubBase.declared.hub.Hub.{Hub}
-use Rattle.iox_hub_factories.specs.HubServices.AsHome.{stepped, publisher_kept, subscriber_kept}
-use Rattle.iox_hub_factories.specs.Numbered.NumberTable.{value_at}
-use Rattle.iox_hub_factories.specs.Tables.{publish_subscribe_in}
-use Rattle.iox_hub_factories.specs.declared.factories.Factories.{Factories}
-use Rattle.iox_hub_run.specs.Grown.{AnySlots, AnyDecision}
-use Rattle.iox_hub_run.specs.Runs.{Runs}
-use Rattle.iox_hub_run.specs.Services.{domain_of_factory, owner_of_factory, PublisherComes, SubscriberComes}
-use Rattle.iox_hub_run.specs.Steps.{IsReplied, Step, publisher_may_degrade, publisher_may_decide, subscriber_may_degrade}
-use Rattle.iox_hub_run.specs.declared.numbered_hub.NumberedHub.{NumberedHub}
+use Rattle.iox_hub_renumbered.specs.HubCommands.Command.declared.command.Command.{Command}
+use Rattle.iox_hub_renumbered.specs.HubCommands.Command.declared.command.Command.TheVariants as command
+use Rattle.iox_hub_renumbered.specs.HubCommands.Command.declared.port.PortNumber.{PortNumber}
+use Rattle.iox_hub_renumbered.specs.HubCommands.Command.declared.port.PortNumber.TheVariants as port_number
+use Rattle.iox_hub_renumbered.specs.HubCommands.Command.declared.port.PublisherOptions.{PublisherOptions}
+use Rattle.iox_hub_renumbered.specs.HubCommands.Command.declared.port.SubscriberOptions.{SubscriberOptions}
+use Rattle.iox_hub_renumbered.specs.HubCommands.Command.declared.reply.Reply.{Reply}
+use Rattle.iox_hub_renumbered.specs.HubCommands.DescribeBase.Detail.{Detail}
+use Rattle.iox_hub_renumbered.specs.HubCommands.DescribeBase.declared.message_type.MessageTypeDetails.{MessageTypeDetails}
+use Rattle.iox_hub_renumbered.specs.HubCommands.DomainHome.Steps as steps
+use Rattle.iox_hub_renumbered.specs.HubCommands.DomainHome.declared.domain_id.DomainId.{DomainId}
+use Rattle.iox_hub_renumbered.specs.HubCommands.DomainLaws.Calls as call
+use Rattle.iox_hub_renumbered.specs.HubCommands.DomainPorts.Lending.{gave_up_in}
+use Rattle.iox_hub_renumbered.specs.HubCommands.DomainPorts.declared.service_ports.ServicePorts.{ServicePorts}
+use Rattle.iox_hub_renumbered.specs.HubCommands.DomainValues.declared.backpressure.BackpressureAction.{BackpressureAction}
+use Rattle.iox_hub_renumbered.specs.HubCommands.DomainValues.declared.backpressure.BackpressureDecision.{BackpressureDecision}
+use Rattle.iox_hub_renumbered.specs.HubCommands.DomainValues.declared.backpressure.BackpressureInfo.{BackpressureInfo}
+use Rattle.iox_hub_renumbered.specs.HubCommands.DomainValues.declared.backpressure_strategy.BackpressureStrategy.{BackpressureStrategy}
+use Rattle.iox_hub_renumbered.specs.HubCommands.DomainValues.declared.degradation.DegradationAction.{DegradationAction}
+use Rattle.iox_hub_renumbered.specs.HubCommands.DomainValues.declared.degradation.DegradationCause.{DegradationCause}
+use Rattle.iox_hub_renumbered.specs.HubCommands.DomainValues.declared.degradation.DegradationCause.TheVariants.{FailedToEstablishConnection}
+use Rattle.iox_hub_renumbered.specs.HubCommands.DomainValues.declared.degradation.DegradationInfo.{DegradationInfo}
+use Rattle.iox_hub_renumbered.specs.HubCommands.DomainValues.declared.port_error.ReceiveError.{ReceiveError}
+use Rattle.iox_hub_renumbered.specs.HubCommands.Following.{UpdateStep, HasStep, LeaveStep}
+use Rattle.iox_hub_renumbered.specs.HubCommands.HubPorts.Calls.{AtPort, AtPortIf, Lends, LendsWritten, Puts, Follows, Retries, GivesUp, PublisherGoes, FollowsPublishers, Tells, Receives, SubscriberGoes, ready}
+use Rattle.iox_hub_renumbered.specs.HubCommands.HubPorts.Growing.{GrowsFirst}
+use Rattle.iox_hub_renumbered.specs.HubCommands.HubPorts.Loans.{loan_under, is_set, is_filled, set_in, filled_in, changed_under, SendsUnder}
+use Rattle.iox_hub_renumbered.specs.HubCommands.HubPorts.Making.{with_publisher, with_subscriber}
+use Rattle.iox_hub_renumbered.specs.HubCommands.HubPorts.Numbering.{LendsNumbered, LendsWrittenNumbered, ReceivesNumbered}
+use Rattle.iox_hub_renumbered.specs.HubCommands.HubPorts.Reading.{values_under, is_held, ReleasesUnder}
+use Rattle.iox_hub_renumbered.specs.HubCommands.HubPorts.Tables.{IsFull, lender, port_under, without_publisher, without_subscriber, without_loan, without_sample}
+use Rattle.iox_hub_renumbered.specs.HubCommands.HubPorts.declared.made.Made.{Made}
+use Rattle.iox_hub_renumbered.specs.HubCommands.Lending.{LoanStep, LoanUninitStep, PutStep}
+use Rattle.iox_hub_renumbered.specs.HubCommands.Messages.{SetStep, FillStep, DropStep, SendStep, RetryStep, GiveUpStep, IsReadReply, SomeValues, ReadStep, ReleaseStep}
+use Rattle.iox_hub_renumbered.specs.HubCommands.Naming.{publisher_config, publisher_handlers, subscriber_config, subscriber_handler}
+use Rattle.iox_hub_renumbered.specs.HubCommands.Receiving.{IsArrival, IsTold, ReceiveStep}
+use Rattle.iox_hub_renumbered.specs.HubFactories.Domain.declared.domain.Domain.{Domain}
+use Rattle.iox_hub_renumbered.specs.HubFactories.HubBase.AsHome.{with_services, hub_ports, with_hub_ports, without_hub_publisher, without_hub_subscriber}
+use Rattle.iox_hub_renumbered.specs.HubFactories.HubBase.Opening.{Made as Opened}
+use Rattle.iox_hub_renumbered.specs.HubFactories.HubBase.declared.hub.Hub.{Hub}
+use Rattle.iox_hub_renumbered.specs.HubFactories.HubServices.AsHome.{stepped, publisher_kept, subscriber_kept}
+use Rattle.iox_hub_renumbered.specs.HubFactories.Numbered.NumberTable.{value_at}
+use Rattle.iox_hub_renumbered.specs.HubFactories.Tables.{publish_subscribe_in}
+use Rattle.iox_hub_renumbered.specs.HubFactories.declared.factories.Factories.{Factories}
+use Rattle.iox_hub_renumbered.specs.HubRun.Grown.{AnySlots, AnyDecision}
+use Rattle.iox_hub_renumbered.specs.HubRun.Runs.{Runs}
+use Rattle.iox_hub_renumbered.specs.HubRun.Services.{domain_of_factory, owner_of_factory, PublisherComes, SubscriberComes}
+use Rattle.iox_hub_renumbered.specs.HubRun.Steps.{IsReplied, Step, publisher_may_degrade, publisher_may_decide, subscriber_may_degrade}
+use Rattle.iox_hub_renumbered.specs.HubRun.declared.numbered_hub.NumberedHub.{NumberedHub}
 use Rattle.iox_negotiate_renamed.specs.Renaming.{AreInOrder}
 use Rattle.iox_hub_renamed.specs.Renaming.{mapped, renamed_factory, renamed_id, renamed_port, renamed_made_loan, renamed_made_sample, renamed_hub, renamed_numbered}
 use Rattle.iox_hub_renamed.specs.RenamingLaws.{LooksAtNoService, HaveNumbers, IsOfPorts, GoesByAnyNumber, RunGoesByAnyNumber}
-use Rattle.iox_hub_locality.proofs.Keeping.{OfServices, step_keeps}
+use Rattle.iox_hub_renumbered.proofs.HubLocality.Keeping.{OfServices, step_keeps}
 use Rattle.iox_hub_renamed.proofs.Homes.{makes_at, still_live}
 use Rattle.iox_hub_renamed.proofs.Making as making
 use Rattle.iox_hub_renamed.proofs.Making.{own}

@@ -1,21 +1,21 @@
 -- A service alone, all of whose numbers are counted anew.
 use Rattle.std.specs.Prelude.{ℕ, ◌≡◌, ◌-◌, ◌^◌, ◌<◌, Bool, true, false, List, [], ◌∷◌, map, Result}
 use Rattle.std.specs.declared.alloc.AllocError.{AllocError}
-use Rattle.iox_hub_commands.specs.DescribeBase.Detail.{Detail}
-use Rattle.iox_hub_commands.specs.DescribeBase.declared.message_type.MessageTypeDetails.{MessageTypeDetails}
-use Rattle.iox_hub_commands.specs.DomainValues.Actions.{decision_of}
-use Rattle.iox_hub_run.specs.Command.declared.command.Command.{Command}
-use Rattle.iox_hub_run.specs.Command.declared.reply.Reply.{Reply}
-use Rattle.iox_hub_run.specs.HubBase.DescribeBase.declared.hash.ServiceHash.{ServiceHash}
-use Rattle.iox_hub_run.specs.HubBase.declared.hub.HubConfig.{HubConfig}
-use Rattle.iox_hub_run.specs.HubCommands.declared.handlers.FixedDegradation.{FixedDegradation}
-use Rattle.iox_hub_run.specs.HubCommands.declared.handlers.FixedHandlers.{FixedHandlers}
-use Rattle.iox_hub_run.specs.Numbers.{IsNew}
-use Rattle.iox_hub_run.specs.Runs.{Runs}
-use Rattle.iox_hub_run.specs.Steps.{Step}
-use Rattle.iox_hub_run.specs.declared.numbered_hub.NumberedHub.{NumberedHub}
-use Rattle.iox_hub_alone.specs.Alone.{StepWithMemory, RunsAmongOthers}
-use Rattle.iox_hub_alone.specs.Telling.{commands_told, replies_told}
+use Rattle.iox_hub_renumbered.specs.HubCommands.DescribeBase.Detail.{Detail}
+use Rattle.iox_hub_renumbered.specs.HubCommands.DescribeBase.declared.message_type.MessageTypeDetails.{MessageTypeDetails}
+use Rattle.iox_hub_renumbered.specs.HubCommands.DomainValues.Actions.{decision_of}
+use Rattle.iox_hub_renumbered.specs.HubRun.Command.declared.command.Command.{Command}
+use Rattle.iox_hub_renumbered.specs.HubRun.Command.declared.reply.Reply.{Reply}
+use Rattle.iox_hub_renumbered.specs.HubRun.HubBase.DescribeBase.declared.hash.ServiceHash.{ServiceHash}
+use Rattle.iox_hub_renumbered.specs.HubRun.HubBase.declared.hub.HubConfig.{HubConfig}
+use Rattle.iox_hub_renumbered.specs.HubRun.HubCommands.declared.handlers.FixedDegradation.{FixedDegradation}
+use Rattle.iox_hub_renumbered.specs.HubRun.HubCommands.declared.handlers.FixedHandlers.{FixedHandlers}
+use Rattle.iox_hub_renumbered.specs.HubRun.Numbers.{IsNew}
+use Rattle.iox_hub_renumbered.specs.HubRun.Runs.{Runs}
+use Rattle.iox_hub_renumbered.specs.HubRun.Steps.{Step}
+use Rattle.iox_hub_renumbered.specs.HubRun.declared.numbered_hub.NumberedHub.{NumberedHub}
+use Rattle.iox_hub_renumbered.specs.HubAlone.Alone.{StepWithMemory, RunsAmongOthers}
+use Rattle.iox_hub_renumbered.specs.HubAlone.Telling.{commands_told, replies_told}
 use Rattle.iox_hub_renumbered.specs.Renaming.{Renaming, renamed, renamed_reply}
 
 -- of the commands those of the service, with what they name under its other number

@@ -1,21 +1,21 @@
 -- A hub whose lives, and whose counted factories, go by other numbers.
 use Rattle.std.specs.Prelude.{ℕ, map}
 use Rattle.iox_domain_renamed.specs.Renaming.{Renaming, renamed_ports}
-use Rattle.iox_hub_commands.specs.Delivery.declared.port_id.PortId.{PortId}
-use Rattle.iox_hub_commands.specs.DomainHome.declared.domain_id.DomainId.{DomainId}
-use Rattle.iox_hub_commands.specs.HubPorts.declared.made.Made.{Made}
-use Rattle.iox_hub_commands.specs.HubPorts.declared.made.MadeLoan.{MadeLoan}
-use Rattle.iox_hub_commands.specs.HubPorts.declared.made.MadePublisher.{MadePublisher}
-use Rattle.iox_hub_commands.specs.HubPorts.declared.made.MadeSample.{MadeSample}
-use Rattle.iox_hub_factories.specs.Domain.declared.domain.Domain.{Domain}
-use Rattle.iox_hub_factories.specs.HubBase.declared.hub.Hub.{Hub}
-use Rattle.iox_hub_factories.specs.HubServices.Open.{OpenServices}
-use Rattle.iox_hub_factories.specs.HubServices.declared.presence.Presence.{Presence}
-use Rattle.iox_hub_factories.specs.HubServices.declared.presence.Presence.TheVariants.{Here, Out}
-use Rattle.iox_hub_factories.specs.Numbered.NumberTable.{NumberTable}
-use Rattle.iox_hub_factories.specs.declared.made.MadeFactory.{MadeFactory}
-use Rattle.iox_hub_factories.specs.declared.made.MadeFactory.TheVariants as made
-use Rattle.iox_hub_run.specs.declared.numbered_hub.NumberedHub.{NumberedHub}
+use Rattle.iox_hub_renumbered.specs.HubCommands.Delivery.declared.port_id.PortId.{PortId}
+use Rattle.iox_hub_renumbered.specs.HubCommands.DomainHome.declared.domain_id.DomainId.{DomainId}
+use Rattle.iox_hub_renumbered.specs.HubCommands.HubPorts.declared.made.Made.{Made}
+use Rattle.iox_hub_renumbered.specs.HubCommands.HubPorts.declared.made.MadeLoan.{MadeLoan}
+use Rattle.iox_hub_renumbered.specs.HubCommands.HubPorts.declared.made.MadePublisher.{MadePublisher}
+use Rattle.iox_hub_renumbered.specs.HubCommands.HubPorts.declared.made.MadeSample.{MadeSample}
+use Rattle.iox_hub_renumbered.specs.HubFactories.Domain.declared.domain.Domain.{Domain}
+use Rattle.iox_hub_renumbered.specs.HubFactories.HubBase.declared.hub.Hub.{Hub}
+use Rattle.iox_hub_renumbered.specs.HubFactories.HubServices.Open.{OpenServices}
+use Rattle.iox_hub_renumbered.specs.HubFactories.HubServices.declared.presence.Presence.{Presence}
+use Rattle.iox_hub_renumbered.specs.HubFactories.HubServices.declared.presence.Presence.TheVariants.{Here, Out}
+use Rattle.iox_hub_renumbered.specs.HubFactories.Numbered.NumberTable.{NumberTable}
+use Rattle.iox_hub_renumbered.specs.HubFactories.declared.made.MadeFactory.{MadeFactory}
+use Rattle.iox_hub_renumbered.specs.HubFactories.declared.made.MadeFactory.TheVariants as made
+use Rattle.iox_hub_renumbered.specs.HubRun.declared.numbered_hub.NumberedHub.{NumberedHub}
 use Rattle.iox_negotiate_renamed.specs.Renaming.{renamed_member, renamed_table}
 
 -- the domain of a life under its other number

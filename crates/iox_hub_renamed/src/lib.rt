@@ -7,16 +7,14 @@
 //! ```
 #![tactic(auto)]
 
-ghost use Rattle.iox_hub_commands.specs.DescribeBase.Detail.{detail};
-ghost use Rattle.iox_hub_commands.specs.DescribeBase.declared.type_detail.TypeVariant.TheVariants.{FixedSize};
-ghost use Rattle.iox_hub_factories.specs.HubRequests.Asked.{types_of};
+ghost use Rattle.iox_hub_renumbered.specs.HubCommands.DescribeBase.Detail.{detail};
+ghost use Rattle.iox_hub_renumbered.specs.HubCommands.DescribeBase.declared.type_detail.TypeVariant.TheVariants.{FixedSize};
+ghost use Rattle.iox_hub_renumbered.specs.HubFactories.HubRequests.Asked.{types_of};
 ghost use Rattle.iox_hub_renamed.specs.Anew.{EachServiceIsAlone, FixedStep};
 ghost use Rattle.iox_hub_renamed.specs.RenamingLaws.{EachGoesByOtherNumbers, GoesByAnyNumber, LooksAtNoService, RunGoesByAnyNumber};
-ghost use Rattle.iox_hub_run.specs.Steps.{Step};
+ghost use Rattle.iox_hub_renumbered.specs.HubRun.Steps.{Step};
 
-use iox_describe_base::ZeroCopySend;
-use iox_hub_commands::{PublisherHandlers, SubscriberHandler};
-use iox_queues_base::Words;
+use iox_hub_renumbered::{PublisherHandlers, SubscriberHandler, Words, ZeroCopySend};
 
 /// Where who decides doesn't look at the number of the service: a command that makes a port, or names one, a loan or a sample, does in a hub
 /// whose lives and counted factories go by other numbers what it does in the hub, and is replied to in the same way; so do such commands, one

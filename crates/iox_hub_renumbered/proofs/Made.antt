@@ -1,16 +1,16 @@
 -- What goes by numbers in two hubs, where the same comes or goes under numbers that differ.
 use Rattle.std.proofs.Common.{◌≡◌, ◌∙◌, ◌+◌, ◌⊎◌, ℕ, Bool, true, false, Option, None, Some, Result, Ok, Err, refl, sym, ap, subst, inl, inr}
-use Rattle.iox_hub_commands.specs.Delivery.declared.port_id.PortId.{PortId}
-use Rattle.iox_hub_commands.specs.DomainHome.declared.domain_id.DomainId.{DomainId}
-use Rattle.iox_hub_commands.specs.DomainSubscriber.declared.attached.Taken.{Taken}
-use Rattle.iox_hub_commands.specs.DomainValues.declared.port_error.LoanError.{LoanError}
-use Rattle.iox_hub_commands.specs.DomainValues.declared.port_error.ReceiveError.{ReceiveError}
-use Rattle.iox_hub_commands.specs.HubPorts.Making.{with_publisher, with_subscriber, NumbersPort}
-use Rattle.iox_hub_commands.specs.HubPorts.Numbering.{removed_if, with_loan, with_sample, NumbersLoan, NumbersSample}
-use Rattle.iox_hub_commands.specs.HubPorts.Tables.{IsRoomier, without_publisher, without_subscriber, without_loan, without_sample}
-use Rattle.iox_hub_commands.specs.HubPorts.declared.made.Made.{Made}
-use Rattle.iox_hub_factories.specs.Numbered.NumberTable.{NumberTable}
-use Rattle.iox_hub_locality.proofs.Made.{MadeRises}
+use Rattle.iox_hub_alone.specs.HubCommands.Delivery.declared.port_id.PortId.{PortId}
+use Rattle.iox_hub_alone.specs.HubCommands.DomainHome.declared.domain_id.DomainId.{DomainId}
+use Rattle.iox_hub_alone.specs.HubCommands.DomainSubscriber.declared.attached.Taken.{Taken}
+use Rattle.iox_hub_alone.specs.HubCommands.DomainValues.declared.port_error.LoanError.{LoanError}
+use Rattle.iox_hub_alone.specs.HubCommands.DomainValues.declared.port_error.ReceiveError.{ReceiveError}
+use Rattle.iox_hub_alone.specs.HubCommands.HubPorts.Making.{with_publisher, with_subscriber, NumbersPort}
+use Rattle.iox_hub_alone.specs.HubCommands.HubPorts.Numbering.{removed_if, with_loan, with_sample, NumbersLoan, NumbersSample}
+use Rattle.iox_hub_alone.specs.HubCommands.HubPorts.Tables.{IsRoomier, without_publisher, without_subscriber, without_loan, without_sample}
+use Rattle.iox_hub_alone.specs.HubCommands.HubPorts.declared.made.Made.{Made}
+use Rattle.iox_hub_alone.specs.HubFactories.Numbered.NumberTable.{NumberTable}
+use Rattle.iox_hub_alone.proofs.HubLocality.Made.{MadeRises}
 use Rattle.iox_hub_renumbered.specs.Renaming.{Renaming}
 use Rattle.iox_hub_renumbered.proofs.Tables.{RenamedIn, NewBy, NewIf, Alike, roomier_renamed, inserted_renamed, removed_renamed}
 

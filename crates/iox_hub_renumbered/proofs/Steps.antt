@@ -2,76 +2,76 @@
 use Rattle.std.proofs.Common.{◌≡◌, ◌∙◌, ◌+◌, ◌<◌, ◌⊎◌, ℕ, Bool, true, false, List, Option, None, Some, Result, Ok, Err, refl, sym, ap, subst, inl, inr, length, if◌then◌else◌, arith}
 use Rattle.std.specs.Prelude.{is_some}
 use Rattle.std.specs.declared.alloc.AllocError.{AllocError}
-use Rattle.iox_hub_commands.specs.Command.declared.command.Command.{Command}
-use Rattle.iox_hub_commands.specs.Command.declared.command.Command.TheVariants as command
-use Rattle.iox_hub_commands.specs.Command.declared.port.PortNumber.TheVariants as port_number
-use Rattle.iox_hub_commands.specs.Command.declared.port.PublisherOptions.{PublisherOptions}
-use Rattle.iox_hub_commands.specs.Command.declared.port.SubscriberOptions.{SubscriberOptions}
-use Rattle.iox_hub_commands.specs.Command.declared.refusal.Refusal.{Refusal}
-use Rattle.iox_hub_commands.specs.Command.declared.refusal.HubError.{HubError}
-use Rattle.iox_hub_commands.specs.Command.declared.reply.Reply.{Reply}
-use Rattle.iox_hub_commands.specs.Command.declared.service.ServiceOptions.{ServiceOptions}
-use Rattle.iox_hub_commands.specs.Command.declared.service.ServiceOptions.TheVariants as options
-use Rattle.iox_hub_commands.specs.Command.declared.step.StepBefore.{StepBefore}
-use Rattle.iox_hub_commands.specs.DescribeBase.Attributes.{Required}
-use Rattle.iox_hub_commands.specs.DescribeBase.declared.attribute.Attribute.{Attribute}
-use Rattle.iox_hub_commands.specs.DescribeBase.declared.pattern.MessagingPattern.{MessagingPattern}
-use Rattle.iox_hub_commands.specs.DescribeBase.Detail.{Detail}
-use Rattle.iox_hub_commands.specs.DescribeBase.declared.message_type.MessageTypeDetails.{MessageTypeDetails}
-use Rattle.iox_hub_commands.specs.DomainValues.declared.backpressure.BackpressureAction.{BackpressureAction}
-use Rattle.iox_hub_commands.specs.DomainValues.declared.backpressure.BackpressureDecision.{BackpressureDecision}
-use Rattle.iox_hub_commands.specs.DomainValues.declared.backpressure.BackpressureInfo.{BackpressureInfo}
-use Rattle.iox_hub_commands.specs.DomainValues.declared.backpressure_strategy.BackpressureStrategy.{BackpressureStrategy}
-use Rattle.iox_hub_commands.specs.DomainValues.declared.degradation.DegradationAction.{DegradationAction}
-use Rattle.iox_hub_commands.specs.DomainValues.declared.degradation.DegradationCause.{DegradationCause}
-use Rattle.iox_hub_commands.specs.DomainValues.declared.degradation.DegradationInfo.{DegradationInfo}
-use Rattle.iox_hub_commands.specs.DomainPublisher.declared.meeting.Sent.{Sent}
-use Rattle.iox_hub_commands.specs.DomainPublisher.declared.meeting.Sent.TheVariants as sent_as
-use Rattle.iox_hub_commands.specs.DomainPorts.Lending.{gave_up_in}
-use Rattle.iox_hub_commands.specs.DomainValues.declared.connection_failure.ConnectionFailure.{ConnectionFailure}
-use Rattle.iox_hub_commands.specs.DomainValues.declared.create_error.PublisherCreateError.{PublisherCreateError}
-use Rattle.iox_hub_commands.specs.DomainValues.declared.create_error.SubscriberCreateError.{SubscriberCreateError}
-use Rattle.iox_hub_commands.specs.DomainValues.declared.port_error.LoanError.{LoanError}
-use Rattle.iox_hub_commands.specs.DomainValues.declared.port_error.ReceiveError.{ReceiveError}
-use Rattle.iox_hub_commands.specs.DomainValues.declared.port_error.SendError.{SendError}
-use Rattle.iox_hub_commands.specs.HubPorts.Calls.{AtPort, AtPortIf, Puts, Follows, Retries, GivesUp, PublisherGoes, FollowsPublishers, Tells, SubscriberGoes, ready}
-use Rattle.iox_hub_commands.specs.HubPorts.Loans.{loan_under, is_set, set_in, is_filled, filled_in, changed_under, SendsUnder}
-use Rattle.iox_hub_commands.specs.HubPorts.Numbering.{removed_if, LendsNumbered, LendsWrittenNumbered, ReceivesNumbered}
-use Rattle.iox_hub_commands.specs.HubPorts.Reading.{values_under, is_held, ReleasesUnder}
-use Rattle.iox_hub_commands.specs.HubPorts.Tables.{lender, port_under, without_publisher, without_subscriber, without_loan, without_sample}
-use Rattle.iox_hub_commands.specs.HubPorts.declared.made.Made.{Made}
-use Rattle.iox_hub_commands.specs.Messages.{IsReadReply}
-use Rattle.iox_hub_commands.specs.Receiving.{IsReceiveReply, IsArrival}
-use Rattle.iox_hub_commands.specs.Replies.{factory_reply, foreign_reply, closed_reply, publisher_reply, subscriber_reply, loan_reply, sent_reply, given_up_reply, updated_reply, has_reply, done_reply}
-use Rattle.iox_hub_factories.specs.Closing.{ClosesUnless, ClosesIfOf, ClosesNumbered}
-use Rattle.iox_hub_factories.specs.Asking.{hash_of, agreed_of, required_agreement, required_publish_subscribe, required_event, required_request_response}
-use Rattle.iox_hub_factories.specs.Creating.{CreatesAgreed, CreatesAs, CreatesNumbered, create_lacking}
-use Rattle.iox_hub_factories.specs.Either.{EitherJudged, EitherAs, EitherNumbered, either_lacking}
-use Rattle.iox_hub_factories.specs.HubRequests.DescribeVerdict.EventClauses as event_clauses
-use Rattle.iox_hub_factories.specs.HubRequests.DescribeVerdict.PublishSubscribeClauses as publish_subscribe_clauses
-use Rattle.iox_hub_factories.specs.HubRequests.DescribeVerdict.RequestResponseClauses as request_response_clauses
-use Rattle.iox_hub_factories.specs.HubRequests.DescribeVerdict.Verdict.{first_unmet}
-use Rattle.iox_hub_factories.specs.HubRequests.NegotiateErrors.EventErrors as event
-use Rattle.iox_hub_factories.specs.HubRequests.NegotiateErrors.PublishSubscribeErrors as publish_subscribe
-use Rattle.iox_hub_factories.specs.HubRequests.NegotiateErrors.RequestResponseErrors as request_response
-use Rattle.iox_hub_factories.specs.HubBase.AsHome.{hub_ports, with_hub_ports, without_hub_publisher, without_hub_subscriber}
-use Rattle.iox_hub_factories.specs.HubBase.Opening.{Made as Opened}
-use Rattle.iox_hub_factories.specs.HubBase.declared.hub.Hub.{Hub}
-use Rattle.iox_hub_factories.specs.Numbered.NumberTable.{Rises, value_at, inserted, removed}
-use Rattle.iox_hub_factories.specs.Numbering.{Numbers, GetsNumber}
-use Rattle.iox_hub_factories.specs.Opening.{OpensJudged, OpensAs, OpensNumbered, open_lacking}
-use Rattle.iox_hub_factories.specs.Tables.{FactoryTable, parts_of, publish_subscribe_in}
-use Rattle.iox_hub_factories.specs.declared.asked.ServiceAsked.{ServiceAsked}
-use Rattle.iox_hub_factories.specs.declared.made.MadeFactory.{MadeFactory}
-use Rattle.iox_hub_run.specs.Lives.{NumbersRise}
-use Rattle.iox_hub_run.specs.Services.{PublisherComes, SubscriberComes}
-use Rattle.iox_hub_run.specs.Steps.{Step, publisher_may_degrade, publisher_may_decide, subscriber_may_degrade}
-use Rattle.iox_hub_run.specs.declared.numbered_hub.NumberedHub.{NumberedHub}
-use Rattle.iox_negotiate_laws.specs.Negotiate.declared.factory.Membership.{Membership}
-use Rattle.iox_negotiate_laws.specs.NegotiateErrors.declared.close.CloseError.{CloseError}
-use Rattle.iox_negotiate_laws.specs.NegotiateTable.declared.step.ForeignStep.{ForeignStep}
-use Rattle.iox_hub_locality.specs.Locality.{IsMemoryWanted}
-use Rattle.iox_hub_locality.proofs.Made.{MadeRises, same_room, roomier_rises, rises_as}
+use Rattle.iox_hub_alone.specs.HubCommands.Command.declared.command.Command.{Command}
+use Rattle.iox_hub_alone.specs.HubCommands.Command.declared.command.Command.TheVariants as command
+use Rattle.iox_hub_alone.specs.HubCommands.Command.declared.port.PortNumber.TheVariants as port_number
+use Rattle.iox_hub_alone.specs.HubCommands.Command.declared.port.PublisherOptions.{PublisherOptions}
+use Rattle.iox_hub_alone.specs.HubCommands.Command.declared.port.SubscriberOptions.{SubscriberOptions}
+use Rattle.iox_hub_alone.specs.HubCommands.Command.declared.refusal.Refusal.{Refusal}
+use Rattle.iox_hub_alone.specs.HubCommands.Command.declared.refusal.HubError.{HubError}
+use Rattle.iox_hub_alone.specs.HubCommands.Command.declared.reply.Reply.{Reply}
+use Rattle.iox_hub_alone.specs.HubCommands.Command.declared.service.ServiceOptions.{ServiceOptions}
+use Rattle.iox_hub_alone.specs.HubCommands.Command.declared.service.ServiceOptions.TheVariants as options
+use Rattle.iox_hub_alone.specs.HubCommands.Command.declared.step.StepBefore.{StepBefore}
+use Rattle.iox_hub_alone.specs.HubCommands.DescribeBase.Attributes.{Required}
+use Rattle.iox_hub_alone.specs.HubCommands.DescribeBase.declared.attribute.Attribute.{Attribute}
+use Rattle.iox_hub_alone.specs.HubCommands.DescribeBase.declared.pattern.MessagingPattern.{MessagingPattern}
+use Rattle.iox_hub_alone.specs.HubCommands.DescribeBase.Detail.{Detail}
+use Rattle.iox_hub_alone.specs.HubCommands.DescribeBase.declared.message_type.MessageTypeDetails.{MessageTypeDetails}
+use Rattle.iox_hub_alone.specs.HubCommands.DomainValues.declared.backpressure.BackpressureAction.{BackpressureAction}
+use Rattle.iox_hub_alone.specs.HubCommands.DomainValues.declared.backpressure.BackpressureDecision.{BackpressureDecision}
+use Rattle.iox_hub_alone.specs.HubCommands.DomainValues.declared.backpressure.BackpressureInfo.{BackpressureInfo}
+use Rattle.iox_hub_alone.specs.HubCommands.DomainValues.declared.backpressure_strategy.BackpressureStrategy.{BackpressureStrategy}
+use Rattle.iox_hub_alone.specs.HubCommands.DomainValues.declared.degradation.DegradationAction.{DegradationAction}
+use Rattle.iox_hub_alone.specs.HubCommands.DomainValues.declared.degradation.DegradationCause.{DegradationCause}
+use Rattle.iox_hub_alone.specs.HubCommands.DomainValues.declared.degradation.DegradationInfo.{DegradationInfo}
+use Rattle.iox_hub_alone.specs.HubCommands.DomainPublisher.declared.meeting.Sent.{Sent}
+use Rattle.iox_hub_alone.specs.HubCommands.DomainPublisher.declared.meeting.Sent.TheVariants as sent_as
+use Rattle.iox_hub_alone.specs.HubCommands.DomainPorts.Lending.{gave_up_in}
+use Rattle.iox_hub_alone.specs.HubCommands.DomainValues.declared.connection_failure.ConnectionFailure.{ConnectionFailure}
+use Rattle.iox_hub_alone.specs.HubCommands.DomainValues.declared.create_error.PublisherCreateError.{PublisherCreateError}
+use Rattle.iox_hub_alone.specs.HubCommands.DomainValues.declared.create_error.SubscriberCreateError.{SubscriberCreateError}
+use Rattle.iox_hub_alone.specs.HubCommands.DomainValues.declared.port_error.LoanError.{LoanError}
+use Rattle.iox_hub_alone.specs.HubCommands.DomainValues.declared.port_error.ReceiveError.{ReceiveError}
+use Rattle.iox_hub_alone.specs.HubCommands.DomainValues.declared.port_error.SendError.{SendError}
+use Rattle.iox_hub_alone.specs.HubCommands.HubPorts.Calls.{AtPort, AtPortIf, Puts, Follows, Retries, GivesUp, PublisherGoes, FollowsPublishers, Tells, SubscriberGoes, ready}
+use Rattle.iox_hub_alone.specs.HubCommands.HubPorts.Loans.{loan_under, is_set, set_in, is_filled, filled_in, changed_under, SendsUnder}
+use Rattle.iox_hub_alone.specs.HubCommands.HubPorts.Numbering.{removed_if, LendsNumbered, LendsWrittenNumbered, ReceivesNumbered}
+use Rattle.iox_hub_alone.specs.HubCommands.HubPorts.Reading.{values_under, is_held, ReleasesUnder}
+use Rattle.iox_hub_alone.specs.HubCommands.HubPorts.Tables.{lender, port_under, without_publisher, without_subscriber, without_loan, without_sample}
+use Rattle.iox_hub_alone.specs.HubCommands.HubPorts.declared.made.Made.{Made}
+use Rattle.iox_hub_alone.specs.HubCommands.Messages.{IsReadReply}
+use Rattle.iox_hub_alone.specs.HubCommands.Receiving.{IsReceiveReply, IsArrival}
+use Rattle.iox_hub_alone.specs.HubCommands.Replies.{factory_reply, foreign_reply, closed_reply, publisher_reply, subscriber_reply, loan_reply, sent_reply, given_up_reply, updated_reply, has_reply, done_reply}
+use Rattle.iox_hub_alone.specs.HubFactories.Closing.{ClosesUnless, ClosesIfOf, ClosesNumbered}
+use Rattle.iox_hub_alone.specs.HubFactories.Asking.{hash_of, agreed_of, required_agreement, required_publish_subscribe, required_event, required_request_response}
+use Rattle.iox_hub_alone.specs.HubFactories.Creating.{CreatesAgreed, CreatesAs, CreatesNumbered, create_lacking}
+use Rattle.iox_hub_alone.specs.HubFactories.Either.{EitherJudged, EitherAs, EitherNumbered, either_lacking}
+use Rattle.iox_hub_alone.specs.HubFactories.HubRequests.DescribeVerdict.EventClauses as event_clauses
+use Rattle.iox_hub_alone.specs.HubFactories.HubRequests.DescribeVerdict.PublishSubscribeClauses as publish_subscribe_clauses
+use Rattle.iox_hub_alone.specs.HubFactories.HubRequests.DescribeVerdict.RequestResponseClauses as request_response_clauses
+use Rattle.iox_hub_alone.specs.HubFactories.HubRequests.DescribeVerdict.Verdict.{first_unmet}
+use Rattle.iox_hub_alone.specs.HubFactories.HubRequests.NegotiateErrors.EventErrors as event
+use Rattle.iox_hub_alone.specs.HubFactories.HubRequests.NegotiateErrors.PublishSubscribeErrors as publish_subscribe
+use Rattle.iox_hub_alone.specs.HubFactories.HubRequests.NegotiateErrors.RequestResponseErrors as request_response
+use Rattle.iox_hub_alone.specs.HubFactories.HubBase.AsHome.{hub_ports, with_hub_ports, without_hub_publisher, without_hub_subscriber}
+use Rattle.iox_hub_alone.specs.HubFactories.HubBase.Opening.{Made as Opened}
+use Rattle.iox_hub_alone.specs.HubFactories.HubBase.declared.hub.Hub.{Hub}
+use Rattle.iox_hub_alone.specs.HubFactories.Numbered.NumberTable.{Rises, value_at, inserted, removed}
+use Rattle.iox_hub_alone.specs.HubFactories.Numbering.{Numbers, GetsNumber}
+use Rattle.iox_hub_alone.specs.HubFactories.Opening.{OpensJudged, OpensAs, OpensNumbered, open_lacking}
+use Rattle.iox_hub_alone.specs.HubFactories.Tables.{FactoryTable, parts_of, publish_subscribe_in}
+use Rattle.iox_hub_alone.specs.HubFactories.declared.asked.ServiceAsked.{ServiceAsked}
+use Rattle.iox_hub_alone.specs.HubFactories.declared.made.MadeFactory.{MadeFactory}
+use Rattle.iox_hub_alone.specs.HubRun.Lives.{NumbersRise}
+use Rattle.iox_hub_alone.specs.HubRun.Services.{PublisherComes, SubscriberComes}
+use Rattle.iox_hub_alone.specs.HubRun.Steps.{Step, publisher_may_degrade, publisher_may_decide, subscriber_may_degrade}
+use Rattle.iox_hub_alone.specs.HubRun.declared.numbered_hub.NumberedHub.{NumberedHub}
+use Rattle.iox_hub_alone.specs.NegotiateLaws.Negotiate.declared.factory.Membership.{Membership}
+use Rattle.iox_hub_alone.specs.NegotiateLaws.NegotiateErrors.declared.close.CloseError.{CloseError}
+use Rattle.iox_hub_alone.specs.NegotiateLaws.NegotiateTable.declared.step.ForeignStep.{ForeignStep}
+use Rattle.iox_hub_alone.specs.HubLocality.Locality.{IsMemoryWanted}
+use Rattle.iox_hub_alone.proofs.HubLocality.Made.{MadeRises, same_room, roomier_rises, rises_as}
 use Rattle.iox_hub_renumbered.specs.Renaming.{Renaming, renamed, renamed_reply}
 use Rattle.iox_hub_renumbered.proofs.Made.{MadeRenamed, MadeNew, MadeGoes, renamed_answer, renamed_sample, roomier_made, goes_still, goes_roomier, new_roomier, publishers_spent, subscribers_spent, loans_spent, samples_spent, loans_renumbered, samples_renumbered, publishers_renumbered, subscribers_renumbered}
 use Rattle.iox_hub_renumbered.proofs.Tables.{RenamedIn, NewBy, NewIf, Alike, roomier_renamed, inserted_renamed, removed_renamed}

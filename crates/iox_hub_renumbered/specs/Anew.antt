@@ -1,13 +1,13 @@
 -- A service alone, whose numbers are counted anew.
 use Rattle.std.specs.Prelude.{ℕ, ◌≡◌, Bool, true, false, List, [], ◌∷◌, Result, Ok}
 use Rattle.std.specs.declared.alloc.AllocError.{AllocError}
-use Rattle.iox_hub_run.specs.Command.declared.command.Command.{Command}
-use Rattle.iox_hub_run.specs.Command.declared.reply.Reply.{Reply}
-use Rattle.iox_hub_run.specs.HubBase.DescribeBase.declared.hash.ServiceHash.{ServiceHash}
-use Rattle.iox_hub_run.specs.HubBase.declared.hub.HubConfig.{HubConfig}
-use Rattle.iox_hub_run.specs.Numbers.{IsNew}
-use Rattle.iox_hub_run.specs.Runs.{Runs}
-use Rattle.iox_hub_run.specs.declared.numbered_hub.NumberedHub.{NumberedHub}
+use Rattle.iox_hub_alone.specs.HubRun.Command.declared.command.Command.{Command}
+use Rattle.iox_hub_alone.specs.HubRun.Command.declared.reply.Reply.{Reply}
+use Rattle.iox_hub_alone.specs.HubRun.HubBase.DescribeBase.declared.hash.ServiceHash.{ServiceHash}
+use Rattle.iox_hub_alone.specs.HubRun.HubBase.declared.hub.HubConfig.{HubConfig}
+use Rattle.iox_hub_alone.specs.HubRun.Numbers.{IsNew}
+use Rattle.iox_hub_alone.specs.HubRun.Runs.{Runs}
+use Rattle.iox_hub_alone.specs.HubRun.declared.numbered_hub.NumberedHub.{NumberedHub}
 use Rattle.iox_hub_alone.specs.Alone.{StepWithMemory, RunsAmongOthers, RunsAlone}
 use Rattle.iox_hub_alone.specs.Passing.{PassesHub}
 use Rattle.iox_hub_alone.specs.Telling.{commands_told, replies_told}

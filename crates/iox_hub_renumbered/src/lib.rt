@@ -6,15 +6,13 @@
 //! ```
 #![tactic(auto)]
 
-ghost use Rattle.iox_hub_commands.specs.DescribeBase.Detail.{detail};
-ghost use Rattle.iox_hub_commands.specs.DescribeBase.declared.type_detail.TypeVariant.TheVariants.{FixedSize};
-ghost use Rattle.iox_hub_factories.specs.HubRequests.Asked.{types_of};
+ghost use Rattle.iox_hub_alone.specs.HubCommands.DescribeBase.Detail.{detail};
+ghost use Rattle.iox_hub_alone.specs.HubCommands.DescribeBase.declared.type_detail.TypeVariant.TheVariants.{FixedSize};
+ghost use Rattle.iox_hub_alone.specs.HubFactories.HubRequests.Asked.{types_of};
 ghost use Rattle.iox_hub_renumbered.specs.Anew.{CountsAnew, EachServiceIsAloneAnew, IsAloneAnew};
-ghost use Rattle.iox_hub_run.specs.Steps.{Step};
+ghost use Rattle.iox_hub_alone.specs.HubRun.Steps.{Step};
 
-use iox_describe_base::ZeroCopySend;
-use iox_hub_commands::{PublisherHandlers, SubscriberHandler};
-use iox_queues_base::Words;
+pub use iox_hub_alone::{PublisherHandlers, SubscriberHandler, Words, ZeroCopySend};
 
 /// A run alone in which numbers of factories, ports, loans and samples are passed over is a run in which none is, with the same replies, if
 /// what commands name goes by the numbers that are counted anew, and replies tell these. So it is with the commands of a service in any run

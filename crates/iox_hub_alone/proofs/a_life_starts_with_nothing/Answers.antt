@@ -1,6 +1,6 @@
-use Rattle.iox_hub_commands.specs.DescribeBase.Detail.{detail}
-use Rattle.iox_hub_commands.specs.DescribeBase.declared.type_detail.TypeVariant.TheVariants.{FixedSize}
-use Rattle.iox_hub_factories.specs.HubRequests.Asked.{types_of}
+use Rattle.iox_hub_locality.specs.HubCommands.DescribeBase.Detail.{detail}
+use Rattle.iox_hub_locality.specs.HubCommands.DescribeBase.declared.type_detail.TypeVariant.TheVariants.{FixedSize}
+use Rattle.iox_hub_locality.specs.HubFactories.HubRequests.Asked.{types_of}
 use Rattle.iox_hub_alone.proofs.Beginning.{domains_start_empty, lives_begin_anew, nothing_ahead}
 use Rattle.iox_hub_alone.proofs.a_life_starts_with_nothing.Goals as goal
 

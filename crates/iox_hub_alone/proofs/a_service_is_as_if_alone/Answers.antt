@@ -1,6 +1,6 @@
-use Rattle.iox_hub_commands.specs.DescribeBase.Detail.{detail}
-use Rattle.iox_hub_commands.specs.DescribeBase.declared.type_detail.TypeVariant.TheVariants.{FixedSize}
-use Rattle.iox_hub_factories.specs.HubRequests.Asked.{types_of}
+use Rattle.iox_hub_locality.specs.HubCommands.DescribeBase.Detail.{detail}
+use Rattle.iox_hub_locality.specs.HubCommands.DescribeBase.declared.type_detail.TypeVariant.TheVariants.{FixedSize}
+use Rattle.iox_hub_locality.specs.HubFactories.HubRequests.Asked.{types_of}
 use Rattle.iox_hub_alone.proofs.Runs.{is_as_if_alone}
 use Rattle.iox_hub_alone.proofs.Telling.{each_run_can_be_told}
 use Rattle.iox_hub_alone.proofs.a_service_is_as_if_alone.Goals as goal

@@ -1,6 +1,6 @@
-use Rattle.iox_hub_commands.specs.DescribeBase.Detail.{detail}
-use Rattle.iox_hub_commands.specs.DescribeBase.declared.type_detail.TypeVariant.TheVariants.{FixedSize}
-use Rattle.iox_hub_factories.specs.HubRequests.Asked.{types_of}
+use Rattle.iox_hub_independence.specs.HubCommands.DescribeBase.Detail.{detail}
+use Rattle.iox_hub_independence.specs.HubCommands.DescribeBase.declared.type_detail.TypeVariant.TheVariants.{FixedSize}
+use Rattle.iox_hub_independence.specs.HubFactories.HubRequests.Asked.{types_of}
 use Rattle.iox_hub_locality.proofs.Closing.{close_answers_alike}
 use Rattle.iox_hub_locality.proofs.Foreign.{foreign_answers_alike}
 use Rattle.iox_hub_locality.proofs.Opening.{opens_answer_alike}

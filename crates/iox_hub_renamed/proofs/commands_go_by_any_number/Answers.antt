@@ -1,7 +1,7 @@
 use Rattle.iox_hub_renamed.proofs.Commands.{each_goes_by_other_numbers}
-use Rattle.iox_hub_commands.specs.DescribeBase.Detail.{detail}
-use Rattle.iox_hub_commands.specs.DescribeBase.declared.type_detail.TypeVariant.TheVariants.{FixedSize}
-use Rattle.iox_hub_factories.specs.HubRequests.Asked.{types_of}
+use Rattle.iox_hub_renumbered.specs.HubCommands.DescribeBase.Detail.{detail}
+use Rattle.iox_hub_renumbered.specs.HubCommands.DescribeBase.declared.type_detail.TypeVariant.TheVariants.{FixedSize}
+use Rattle.iox_hub_renumbered.specs.HubFactories.HubRequests.Asked.{types_of}
 use Rattle.iox_hub_renamed.proofs.Steps.{goes_by_any_number, run_goes_by_any_number}
 use Rattle.iox_hub_renamed.proofs.commands_go_by_any_number.Goals as goal
 

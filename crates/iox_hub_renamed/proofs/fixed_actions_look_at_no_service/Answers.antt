@@ -1,6 +1,6 @@
-use Rattle.iox_hub_commands.specs.DescribeBase.Detail.{detail}
-use Rattle.iox_hub_commands.specs.DescribeBase.declared.type_detail.TypeVariant.TheVariants.{FixedSize}
-use Rattle.iox_hub_factories.specs.HubRequests.Asked.{types_of}
+use Rattle.iox_hub_renumbered.specs.HubCommands.DescribeBase.Detail.{detail}
+use Rattle.iox_hub_renumbered.specs.HubCommands.DescribeBase.declared.type_detail.TypeVariant.TheVariants.{FixedSize}
+use Rattle.iox_hub_renumbered.specs.HubFactories.HubRequests.Asked.{types_of}
 use Rattle.iox_hub_renamed.proofs.Runs.{each_service_is_alone_by_fixed_actions}
 use Rattle.iox_hub_renamed.proofs.fixed_actions_look_at_no_service.Goals as goal
 

@@ -1,6 +1,6 @@
-use Rattle.iox_hub_commands.specs.DescribeBase.Detail.{detail}
-use Rattle.iox_hub_commands.specs.DescribeBase.declared.type_detail.TypeVariant.TheVariants.{FixedSize}
-use Rattle.iox_hub_factories.specs.HubRequests.Asked.{types_of}
+use Rattle.iox_hub_alone.specs.HubCommands.DescribeBase.Detail.{detail}
+use Rattle.iox_hub_alone.specs.HubCommands.DescribeBase.declared.type_detail.TypeVariant.TheVariants.{FixedSize}
+use Rattle.iox_hub_alone.specs.HubFactories.HubRequests.Asked.{types_of}
 use Rattle.iox_hub_renumbered.proofs.Runs.{are_counted_anew, each_service_is_alone_anew, is_alone_anew}
 use Rattle.iox_hub_renumbered.proofs.numbers_are_counted_anew.Goals as goal
 
