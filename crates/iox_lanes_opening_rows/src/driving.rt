@@ -6,13 +6,13 @@ use iox_describe_settings::publish_subscribe::StaticConfig;
 use iox_describe_settings::{Description, Settings};
 use iox_domain::{Domain, DomainId};
 use iox_domain_ports::{PublisherConfig, SubscriberConfig};
-use iox_domain_publisher::Sent;
+use iox_domain_publisher::{Member, Sent, Ties};
 use iox_domain_subscriber::Taken;
 use iox_domain_values::{
     AllocationStrategy, BackpressureAction, BackpressureFn, BackpressureHandler, BackpressureInfo,
     BackpressureStrategy, ConnectionFailure, DegradationAction, DegradationCause, DegradationFn,
-    DegradationHandler, DegradationInfo, Handlers, PortOwner, PreallocatedSamplesOverride,
-    ReceiveError, SendError,
+    DegradationHandler, DegradationInfo, Handlers, LoanError, PortOwner,
+    PreallocatedSamplesOverride, ReceiveError, SendError,
 };
 use iox_lanes::IntoLanesError;
 use iox_lanes_refusals::refusal;
@@ -193,6 +193,39 @@ fn overriding(slots: Option<usize>) -> PreallocatedSamplesOverride {
     }
 }
 
+// Whether each place that lists somebody is tied to a connection: a port that comes where memory for one was refused has none there.
+fn ties_all<V>(ties: &Ties, listed: &[Option<Member<V>>]) -> bool {
+    for place in 0..listed.len() {
+        if listed[place].is_some() && ties.get(place).is_none() {
+            return false;
+        }
+    }
+    true
+}
+
+fn publisher_ties_all(domain: &Numbers, number: u64) -> bool {
+    match domain.ports.publishers.get(number) {
+        Some(port) => ties_all(&port.ties, domain.ports.subscriber_list.listed()),
+        None => false,
+    }
+}
+
+fn subscriber_ties_all(domain: &Numbers, number: u64) -> bool {
+    match domain.ports.subscribers.get(number) {
+        Some(port) => ties_all(&port.places, domain.ports.publisher_list.listed()),
+        None => false,
+    }
+}
+
+// Whether a port that came has this number; it came without memory for all its connections, where it doesn't tie all.
+fn comes_as(made: u64, number: u64, ties_all: bool) -> Result<bool, AllocError> {
+    if ties_all {
+        Ok(made == number)
+    } else {
+        Err(AllocError)
+    }
+}
+
 // Whether a publisher is made, with user header 6, that gets this number.
 fn publishes(
     domain: &mut Numbers,
@@ -209,7 +242,7 @@ fn publishes(
         allocation: plan.allocation,
     };
     match domain.create_publisher(alloc, config, 6, &overriding(plan.slots), by) {
-        Ok(made) => Ok(made == number),
+        Ok(made) => comes_as(made, number, publisher_ties_all(domain, made)),
         Err(_) => Err(AllocError),
     }
 }
@@ -239,7 +272,7 @@ fn subscribes(
         buffer_size,
     };
     match domain.create_subscriber(alloc, config, by) {
-        Ok(made) => Ok(made == number),
+        Ok(made) => comes_as(made, number, subscriber_ties_all(domain, made)),
         Err(_) => Err(AllocError),
     }
 }
@@ -269,14 +302,35 @@ fn watch(domain: &mut Numbers, alloc: Global, number: u64) -> Result<bool, Alloc
     }
 }
 
-// Lends, writes and keeps; whether that went well.
-fn lend(domain: &mut Numbers, kept: &mut Kept, alloc: Global, number: u64, values: usize) -> bool {
+// The slot that a publisher lends for so many values, if it does.
+fn lent(
+    domain: &mut Numbers,
+    alloc: Global,
+    number: u64,
+    values: usize,
+) -> Result<Option<usize>, AllocError> {
     match domain.loan(alloc, number, values, values as u64) {
-        Some(Ok(slot)) => {
+        Some(Ok(slot)) => Ok(Some(slot)),
+        Some(Err(LoanError::OutOfMemory)) => Err(AllocError),
+        _ => Ok(None),
+    }
+}
+
+// Lends, writes and keeps; whether that went well.
+fn lend(
+    domain: &mut Numbers,
+    kept: &mut Kept,
+    alloc: Global,
+    number: u64,
+    values: usize,
+) -> Result<bool, AllocError> {
+    match lent(domain, alloc, number, values) {
+        Ok(Some(slot)) => {
             kept.loan = slot;
-            values == 0 || domain.ports.write_payload(number, slot, 5)
+            Ok(values == 0 || domain.ports.write_payload(number, slot, 5))
         }
-        _ => false,
+        Ok(None) => Ok(false),
+        Err(error) => Err(error),
     }
 }
 
@@ -303,12 +357,13 @@ fn puts(
     value: u64,
     sent: Sent,
 ) -> Result<bool, AllocError> {
-    match domain.loan(alloc, number, 1, 1) {
-        Some(Ok(slot)) => {
+    match lent(domain, alloc, number, 1) {
+        Ok(Some(slot)) => {
             domain.ports.write_payload(number, slot, value);
             sends(domain, alloc, number, slot, sent)
         }
-        _ => Ok(false),
+        Ok(None) => Ok(false),
+        Err(error) => Err(error),
     }
 }
 
@@ -360,9 +415,8 @@ fn follows(answer: Option<Result<(), ConnectionFailure>>) -> Result<bool, AllocE
 }
 
 // Whether a step goes so of those that take no memory.
-fn stands(domain: &mut Numbers, kept: &mut Kept, alloc: Global, step: &Step) -> bool {
+fn stands(domain: &mut Numbers, kept: &mut Kept, step: &Step) -> bool {
     match *step {
-        Step::Lend(number, values) => lend(domain, kept, alloc, number, values),
         Step::Drop(number) => domain.ports.drop_loan(number, kept.loan),
         Step::Release(number) => release(domain, kept, number),
         Step::Leave(number) => domain.leave_publisher(number),
@@ -381,6 +435,7 @@ fn hands_on(
     step: &Step,
 ) -> Result<bool, AllocError> {
     match *step {
+        Step::Lend(number, values) => lend(domain, kept, alloc, number, values),
         Step::Put(number, value, sent) => puts(domain, alloc, number, value, sent),
         Step::Send(number, sent) => sends(domain, alloc, number, kept.loan, sent),
         Step::Hold(number, value) => holds(domain, kept, alloc, number, value),
@@ -390,7 +445,7 @@ fn hands_on(
         Step::Nothing(number) => Ok(receive(domain, alloc, number)? == Some(None)),
         Step::Update(number) => follows(domain.update_publisher(alloc, number)),
         Step::Follow(number) => follows(domain.update_subscriber(alloc, number)),
-        _ => Ok(stands(domain, kept, alloc, step)),
+        _ => Ok(stands(domain, kept, step)),
     }
 }
 

@@ -25,13 +25,21 @@ pub(crate) enum Lane {
     Begins(Party),
 }
 
+// Makes a step, and once more where it found no memory, by which nothing has changed.
+fn step(lanes: &mut Lanes, party: Party, entry: &Move) -> Stepped {
+    match lanes.step(party, entry) {
+        Stepped::NoMemory => lanes.step(party, entry),
+        stepped => stepped,
+    }
+}
+
 // Makes a whole call, and gives its answer.
 fn whole(lanes: &mut Lanes, party: Party, call: Call) -> Option<Answer> {
-    if lanes.step(party, &Move::Begin(call)) != Stepped::Went {
+    if step(lanes, party, &Move::Begin(call)) != Stepped::Went {
         return None;
     }
     for _ in 0..1000 {
-        if lanes.step(party, &Move::GoOn) == Stepped::Finished {
+        if step(lanes, party, &Move::GoOn) == Stepped::Finished {
             return lanes.finished().last().map(|call| call.answer);
         }
     }
@@ -127,7 +135,7 @@ fn begins(lanes: &mut Lanes, party: Party) -> bool {
         Party::Publisher(_) => Call::LoanUninit,
         Party::Subscriber(_) => Call::Receive,
     };
-    lanes.step(party, &Move::Begin(call)) == Stepped::Went
+    step(lanes, party, &Move::Begin(call)) == Stepped::Went
 }
 
 // Whether a step of the lanes goes so.

@@ -21,14 +21,22 @@ const SIZES: LaneSizes = LaneSizes {
     payload_words: 2,
 };
 
+// Makes a step, and once more where it found no memory, by which nothing has changed.
+fn step(lanes: &mut RecordedLanes, party: Party, entry: &Move) -> Stepped {
+    match lanes.step(party, entry) {
+        Stepped::NoMemory => lanes.step(party, entry),
+        stepped => stepped,
+    }
+}
+
 // A whole call of a party, if it fits and ends.
 fn is_called(lanes: &mut RecordedLanes, party: Party, call: Call) -> bool {
-    let mut stepped = lanes.step(party, &Move::Begin(call));
+    let mut stepped = step(lanes, party, &Move::Begin(call));
     for _ in 0..100 {
         if stepped != Stepped::Went {
             break;
         }
-        stepped = lanes.step(party, &Move::GoOn);
+        stepped = step(lanes, party, &Move::GoOn);
     }
     stepped == Stepped::Finished
 }

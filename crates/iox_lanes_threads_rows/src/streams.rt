@@ -1,5 +1,6 @@
 //! Numbers through four threads: two publishers and two subscribers.
 use crate::service::lanes;
+use crate::start::Start;
 use iox_lanes_calls::{Delivery, Receipt};
 use iox_lanes_publisher::LoanAnswer;
 use iox_lanes_threads::{LanePublisher, LaneSubscriber, LaneThreads, end, open_threads};
@@ -44,9 +45,9 @@ fn send(port: &mut LanePublisher, publisher: u64, number: u64) -> Option<Deliver
     port.send(loan)
 }
 
-// Sends 0 up to COUNT, and the last one again until both took it at once; then one publisher more is done.
-fn send_all(port: &mut LanePublisher, publisher: u64, done: &AtomicU64) -> bool {
-    let well = send_numbers(port, publisher);
+// Once all run, sends 0 up to COUNT, and the last one again until both took it at once; then one publisher more is done.
+fn send_all(port: &mut LanePublisher, publisher: u64, start: &Start, done: &AtomicU64) -> bool {
+    let well = start.all_begin(4) && send_numbers(port, publisher);
     done.fetch_add(1, Ordering::SeqCst);
     well
 }
@@ -125,8 +126,13 @@ fn read(port: &mut LaneSubscriber, slot: u64) -> Option<&[u64]> {
     }
 }
 
-// Receives until both publishers are done and nothing waits; whether all that came was well, and the last number of each came.
-fn receive_all(rt: &impl Wait, port: &mut LaneSubscriber, done: &AtomicU64) -> bool {
+// Once all run, receives until both publishers are done and nothing waits; whether all that came was well, and the last number of
+// each came.
+fn receive_all(rt: &impl Wait, port: &mut LaneSubscriber, start: &Start, done: &AtomicU64) -> bool {
+    start.all_begin(4) && receive_numbers(rt, port, done)
+}
+
+fn receive_numbers(rt: &impl Wait, port: &mut LaneSubscriber, done: &AtomicU64) -> bool {
     let mut seen = Seen {
         first: 0,
         second: 0,
@@ -152,6 +158,7 @@ fn all_run<R: Threads + Wait + Sync>(
     rt: &R,
     publishers: &mut [LanePublisher],
     subscribers: &mut [LaneSubscriber],
+    start: &Start,
 ) -> bool {
     let Some((first, others)) = publishers.split_first_mut() else {
         return false;
@@ -170,13 +177,13 @@ fn all_run<R: Threads + Wait + Sync>(
         rt,
         || thread::join(
             rt,
-            || send_all(first, 0, &done),
-            || send_all(second, 1, &done),
+            || send_all(first, 0, start, &done),
+            || send_all(second, 1, start, &done),
         ),
         || thread::join(
             rt,
-            || receive_all(rt, here, &done),
-            || receive_all(rt, there, &done),
+            || receive_all(rt, here, start, &done),
+            || receive_all(rt, there, start, &done),
         ),
     );
     sent.0 && sent.1 && got.0 && got.1
@@ -196,8 +203,9 @@ fn goes<R: Threads + Wait + Sync>(
         mut publishers,
         mut subscribers,
     } = threads;
-    let well = all_run(rt, &mut publishers, &mut subscribers);
-    Ok(well && end(board, publishers, subscribers).is_ok())
+    let start = Start::new();
+    let well = all_run(rt, &mut publishers, &mut subscribers, &start);
+    start.judge(well && end(board, publishers, subscribers).is_ok())
 }
 
 #[test]

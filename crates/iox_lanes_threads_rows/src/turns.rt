@@ -1,5 +1,6 @@
 //! Two threads that answer each other, each with a publisher and a subscriber.
 use crate::service::{narrow_lanes, read_back, sent};
+use crate::start::Start;
 use iox_lanes_calls::Receipt;
 use iox_lanes_threads::{LanePublisher, LaneSubscriber, LaneThreads, end, open_threads};
 use iox_queues_rings::RingKind;
@@ -27,26 +28,41 @@ fn comes(rt: &impl Wait, port: &mut LaneSubscriber, value: u64) -> bool {
     false
 }
 
-// Sends 1, and receives until 2 comes.
-fn asks(rt: &impl Wait, sender: &mut LanePublisher, receiver: &mut LaneSubscriber) -> bool {
-    sent(sender, 1).is_some() && comes(rt, receiver, 2)
+// Once both run, sends 1, and receives until 2 comes.
+fn asks(
+    rt: &impl Wait,
+    sender: &mut LanePublisher,
+    receiver: &mut LaneSubscriber,
+    start: &Start,
+) -> bool {
+    start.all_begin(2) && sent(sender, 1).is_some() && comes(rt, receiver, 2)
 }
 
-// Receives until 1 comes, and sends 2.
-fn answers(rt: &impl Wait, sender: &mut LanePublisher, receiver: &mut LaneSubscriber) -> bool {
-    comes(rt, receiver, 1) && sent(sender, 2).is_some()
+// Once both run, receives until 1 comes, and sends 2.
+fn answers(
+    rt: &impl Wait,
+    sender: &mut LanePublisher,
+    receiver: &mut LaneSubscriber,
+    start: &Start,
+) -> bool {
+    start.all_begin(2) && comes(rt, receiver, 1) && sent(sender, 2).is_some()
 }
 
 fn both_run<R: Threads + Wait + Sync>(
     rt: &R,
     publishers: &mut [LanePublisher],
     subscribers: &mut [LaneSubscriber],
+    start: &Start,
 ) -> Option<(bool, bool)> {
     let (first, others) = publishers.split_first_mut()?;
     let second = others.first_mut()?;
     let (here, elsewhere) = subscribers.split_first_mut()?;
     let there = elsewhere.first_mut()?;
-    Some(thread::join(rt, || asks(rt, first, here), || answers(rt, second, there)))
+    Some(thread::join(
+        rt,
+        || asks(rt, first, here, start),
+        || answers(rt, second, there, start),
+    ))
 }
 
 // Opens, runs and ends; whether both threads ended well.
@@ -63,8 +79,9 @@ fn goes<R: Threads + Wait + Sync>(
         mut publishers,
         mut subscribers,
     } = threads;
-    let well = both_run(rt, &mut publishers, &mut subscribers) == Some((true, true));
-    Ok(well && end(board, publishers, subscribers).is_ok())
+    let start = Start::new();
+    let well = both_run(rt, &mut publishers, &mut subscribers, &start) == Some((true, true));
+    start.judge(well && end(board, publishers, subscribers).is_ok())
 }
 
 #[test]
