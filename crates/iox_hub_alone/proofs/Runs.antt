@@ -18,11 +18,14 @@ use Rattle.iox_hub_locality.specs.HubFactories.HubBase.Hubs.{factories_of, one_m
 use Rattle.iox_hub_locality.specs.HubFactories.HubServices.Open.{presence_of}
 use Rattle.iox_hub_locality.specs.HubFactories.Numbered.NumberTable.{value_at}
 use Rattle.iox_hub_locality.specs.HubFactories.HubBase.declared.hub.HubConfig.{HubConfig}
+use Rattle.std.specs.Map.{lookup}
+use Rattle.std.specs.Prelude.{nat_eq}
 use Rattle.iox_hub_locality.specs.HubRun.AgreementLaws.{service_of}
 use Rattle.iox_hub_locality.specs.HubRun.Lives.{NumbersGoOn}
 use Rattle.iox_hub_locality.specs.HubRun.Numbers.{IsNew}
 use Rattle.iox_hub_locality.specs.HubRun.Steps.{Step}
 use Rattle.iox_hub_locality.specs.HubRun.declared.numbered_hub.NumberedHub.{NumberedHub}
+use Rattle.iox_hub_locality.proofs.HubRun.Rooms.{new_rises}
 use Rattle.iox_hub_locality.proofs.HubRun.StepChanges.{step_changes, numbers_go_on}
 use Rattle.iox_hub_locality.specs.HubIndependence.Asking.{hash_asked, number_asked, service_at, publisher_service, loan_service, sample_service}
 use Rattle.iox_hub_locality.specs.HubIndependence.Left.{if_of, IsLeft}
@@ -286,7 +289,7 @@ module _ {T U B D : Type 0} (hash : ServiceHash) (mine : ℕ → Bool) (payload 
 module _ {T U B D : Type 0} (config : HubConfig) (mine : ℕ → Bool) where
   new_stands : (first : NumberedHub T U B D) → IsNew config first → Stands first
   new_stands first is = record {
-    rises = rw (is.no_factory, is.nothing_made) (omega arith, omega arith, omega arith, omega arith, omega arith);
+    rises = new_rises config first is;
     table = subst (λ table. IsTable table) (sym is.hub_is_new.table) (new-table config.id);
     domains = subst (λ services. Rising nat_cmp services.domains) (sym is.hub_is_new.services) tt;
     counts = subst (λ counts. Rising nat_cmp counts) (sym is.hub_is_new.factory_counts) tt;
@@ -305,10 +308,10 @@ module _ {T U B D : Type 0} (config : HubConfig) (mine : ℕ → Bool) where
     stands = new_stands first is;
     all = record {
       factories = all_of_none service_of mine first.factories.made (ap (λ table. table.entries) is.no_factory);
-      publishers = all_of_none publisher_service mine first.made.publishers (ap (λ made. made.publishers.entries) is.nothing_made);
-      subscribers = all_of_none service_at mine first.made.subscribers (ap (λ made. made.subscribers.entries) is.nothing_made);
-      loans = all_of_none loan_service mine first.made.loans (ap (λ made. made.loans.entries) is.nothing_made);
-      samples = all_of_none sample_service mine first.made.samples (ap (λ made. made.samples.entries) is.nothing_made);
+      publishers = all_of_none publisher_service mine first.made.publishers is.nothing_made.0.0;
+      subscribers = all_of_none service_at mine first.made.subscribers is.nothing_made.1.0;
+      loans = all_of_none loan_service mine first.made.loans is.nothing_made.2.0;
+      samples = all_of_none sample_service mine first.made.samples is.nothing_made.3.0;
     };
   }
 
@@ -318,7 +321,8 @@ module _ {T U B D : Type 0} (config : HubConfig) (mine : ℕ → Bool) where
       let services : other.hub.services ≡ one.hub.services = second.hub_is_new.services ∙ sym first.hub_is_new.services in
       let counts : other.hub.factory_counts ≡ one.hub.factory_counts = second.hub_is_new.factory_counts ∙ sym first.hub_is_new.factory_counts in
       let factories : other.factories.made ≡ one.factories.made = second.no_factory ∙ sym first.no_factory in
-      let made : other.made ≡ one.made = second.nothing_made ∙ sym first.nothing_made in
+      let ((p_first, p_next), (s_first, s_next), (l_first, l_next), (m_first, m_next)) = first.nothing_made in
+      let ((p_second, p_after), (s_second, s_after), (l_second, l_after), (m_second, m_after)) = second.nothing_made in
       record {
         hubs = record {
           named = record { entry = ap (λ t. entry_at hash t) table; segments = λ n. ap (λ t. segment_at hash n t) table };
@@ -333,10 +337,10 @@ module _ {T U B D : Type 0} (config : HubConfig) (mine : ℕ → Bool) where
         };
         factories = (λ n own k. ap (λ t. if_of service_of n (value_at t k)) factories, ap (λ t. t.next) factories);
         made = record {
-          publishers = (λ n own k. ap (λ m. if_of publisher_service n (value_at m.publishers k)) made, ap (λ m. m.publishers.next) made);
-          subscribers = (λ n own k. ap (λ m. if_of service_at n (value_at m.subscribers k)) made, ap (λ m. m.subscribers.next) made);
-          loans = (λ n own k. ap (λ m. if_of loan_service n (value_at m.loans k)) made, ap (λ m. m.loans.next) made);
-          samples = (λ n own k. ap (λ m. if_of sample_service n (value_at m.samples k)) made, ap (λ m. m.samples.next) made);
+          publishers = (λ n own k. ap (λ entries. if_of publisher_service n (lookup (nat_eq k) entries)) (p_second ∙ sym p_first), p_after ∙ sym p_next);
+          subscribers = (λ n own k. ap (λ entries. if_of service_at n (lookup (nat_eq k) entries)) (s_second ∙ sym s_first), s_after ∙ sym s_next);
+          loans = (λ n own k. ap (λ entries. if_of loan_service n (lookup (nat_eq k) entries)) (l_second ∙ sym l_first), l_after ∙ sym l_next);
+          samples = (λ n own k. ap (λ entries. if_of sample_service n (lookup (nat_eq k) entries)) (m_second ∙ sym m_first), m_after ∙ sym m_next);
         };
       }
 

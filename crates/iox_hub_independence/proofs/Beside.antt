@@ -31,6 +31,7 @@ use Rattle.iox_hub_independence.proofs.Ports.{made_on}
 use Rattle.iox_hub_independence.proofs.Steps.{step_left, by_same}
 use Rattle.iox_hub_independence.proofs.Tables.{found_as_before}
 use Rattle.iox_hub_independence.specs.Asking.{service_at, publisher_service, loan_service, sample_service}
+use Rattle.iox_hub_run.proofs.Rooms.{new_rises}
 use Rattle.iox_hub_run.specs.AgreementLaws.{service_of}
 
 module _ {T U B D : Type 0} where
@@ -41,7 +42,7 @@ module _ {T U B D : Type 0} where
 
   new_holds : (config : HubConfig) (first : NumberedHub T U B D) → IsNew config first → Holds first
   new_holds config first is = record {
-    rise = rw (is.no_factory, is.nothing_made) (omega arith, omega arith, omega arith, omega arith, omega arith);
+    rise = new_rises config first is;
     agree = nothing_agrees first.factories.made first.hub config.id (ap (λ table. table.entries) is.no_factory) (ap (λ services. services.domains) is.hub_is_new.services) is.hub_is_new.table;
   }
 

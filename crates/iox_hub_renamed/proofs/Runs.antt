@@ -218,7 +218,7 @@ module _ {T U B D : Type 0} (config : HubConfig) (alone : NumberedHub T U B D) (
       ap (λ hub. record (renamed_numbered by alone.hub.table.next alone.hub.factories alone) { hub = hub }) (new_hub by)
       ∙ ap (λ made. record alone { factories = record alone.factories { made = made }; made = renamed_made by alone.made }) (mapped_none (renamed_factory by) alone.factories.made (ap (λ table. table.entries) is.no_factory))
       ∙ ap (λ made. record alone { made = made })
-      (made_none by alone.made (ap (λ made. made.publishers.entries) is.nothing_made) (ap (λ made. made.subscribers.entries) is.nothing_made) (ap (λ made. made.loans.entries) is.nothing_made) (ap (λ made. made.samples.entries) is.nothing_made))
+      (made_none by alone.made is.nothing_made.0.0 is.nothing_made.1.0 is.nothing_made.2.0 is.nothing_made.3.0)
 
   new_stands : (by : Renaming) → Stands by 0 alone.hub.table.next 0 alone.hub.factories alone
   new_stands by = record {

@@ -16,6 +16,7 @@ use Rattle.iox_hub_alone.specs.HubCommands.DomainValues.declared.degradation.Deg
 use Rattle.iox_hub_alone.specs.HubCommands.DomainValues.declared.degradation.DegradationInfo.{DegradationInfo}
 use Rattle.iox_hub_alone.specs.HubFactories.HubBase.declared.hub.HubConfig.{HubConfig}
 use Rattle.iox_hub_alone.specs.HubFactories.Numbered.NumberTable.{NumberTable, Rises, value_at}
+use Rattle.iox_hub_alone.proofs.HubRun.Rooms.{new_rises}
 use Rattle.iox_hub_alone.specs.HubRun.Lives.{NumbersRise, NumbersGoOn}
 use Rattle.iox_hub_alone.specs.HubRun.Numbers.{IsNew}
 use Rattle.iox_hub_alone.specs.HubRun.Steps.{Step}
@@ -418,16 +419,13 @@ first_below : (next : ℕ) → next ≡ 1 → Below (λ n. 0) next 1
 first_below next is = (omega arith, λ n low. omega arith)
 
 module _ {T U B D : Type 0} (config : HubConfig) (alone : NumberedHub T U B D) (is : IsNew config alone) where
-  new_rises : NumbersRise alone
-  new_rises = rw (is.no_factory, is.nothing_made) (omega arith, omega arith, omega arith, omega arith, omega arith)
-
   new_below : AllBelow unnamed alone first_counts
   new_below = record {
     factories = first_below alone.factories.made.next (ap (λ table. table.next) is.no_factory);
-    publishers = first_below alone.made.publishers.next (ap (λ made. made.publishers.next) is.nothing_made);
-    subscribers = first_below alone.made.subscribers.next (ap (λ made. made.subscribers.next) is.nothing_made);
-    loans = first_below alone.made.loans.next (ap (λ made. made.loans.next) is.nothing_made);
-    samples = first_below alone.made.samples.next (ap (λ made. made.samples.next) is.nothing_made);
+    publishers = first_below alone.made.publishers.next is.nothing_made.0.1;
+    subscribers = first_below alone.made.subscribers.next is.nothing_made.1.1;
+    loans = first_below alone.made.loans.next is.nothing_made.2.1;
+    samples = first_below alone.made.samples.next is.nothing_made.3.1;
   }
 
   new_follows : (by : Renaming) → Follows by alone alone first_counts
@@ -435,18 +433,18 @@ module _ {T U B D : Type 0} (config : HubConfig) (alone : NumberedHub T U B D) (
     renamed_in = record {
       factories = new_renamed by.factories alone.factories.made (ap (λ table. table.entries) is.no_factory);
       made = record {
-        publishers = new_renamed by.publishers alone.made.publishers (ap (λ made. made.publishers.entries) is.nothing_made);
-        subscribers = new_renamed by.subscribers alone.made.subscribers (ap (λ made. made.subscribers.entries) is.nothing_made);
-        loans = new_renamed by.loans alone.made.loans (ap (λ made. made.loans.entries) is.nothing_made);
-        samples = new_renamed by.samples alone.made.samples (ap (λ made. made.samples.entries) is.nothing_made);
+        publishers = new_renamed by.publishers alone.made.publishers is.nothing_made.0.0;
+        subscribers = new_renamed by.subscribers alone.made.subscribers is.nothing_made.1.0;
+        loans = new_renamed by.loans alone.made.loans is.nothing_made.2.0;
+        samples = new_renamed by.samples alone.made.samples is.nothing_made.3.0;
       };
     };
-    rises = new_rises;
+    rises = new_rises config alone is;
     factories = ap (λ table. table.next) is.no_factory;
-    publishers = ap (λ made. made.publishers.next) is.nothing_made;
-    subscribers = ap (λ made. made.subscribers.next) is.nothing_made;
-    loans = ap (λ made. made.loans.next) is.nothing_made;
-    samples = ap (λ made. made.samples.next) is.nothing_made;
+    publishers = is.nothing_made.0.1;
+    subscribers = is.nothing_made.1.1;
+    loans = is.nothing_made.2.1;
+    samples = is.nothing_made.3.1;
   }
 
 module _ {T U B D : Type 0} (payload user_header : Detail) (types : MessageTypeDetails) (is_default : T → Type 0) (is_default_header : U → Type 0)

@@ -11,5 +11,6 @@ pub mod ServicesMove
 pub mod ServicesAgree
 pub mod StepMoves
 pub mod RunLemmas
+pub mod Rooms
 pub mod AsAgreed
 pub mod OneAgreement

@@ -3,6 +3,8 @@ pub mod Numbers
 pub mod Services
 pub mod Steps
 pub mod Runs
+pub mod Room
+pub mod RoomLaws
 pub mod Lives
 pub mod Grown
 pub mod Agreements

@@ -6,6 +6,7 @@
 //! | `services` | the commands on nodes and services |
 //! | `step` | one command, and its reply |
 //! | `port_step` | one command of a port, and its reply |
+//! | `room` | room for the numbers of what a list of commands may make |
 //! | `run` | a list of commands |
 //! | `laws` | what it comes to that each service has one agreement |
 //!
@@ -21,6 +22,7 @@
 pub mod laws;
 pub mod numbered_hub;
 mod port_step;
+mod room;
 pub mod run;
 mod services;
 mod step;

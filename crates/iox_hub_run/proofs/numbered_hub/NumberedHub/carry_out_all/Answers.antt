@@ -5,6 +5,8 @@ use Rattle.iox_hub_commands.specs.DescribeBase.Detail.{detail}
 use Rattle.iox_hub_commands.specs.DescribeBase.declared.type_detail.TypeVariant.TheVariants.{FixedSize}
 use Rattle.iox_hub_factories.specs.HubRequests.Asked.{types_of}
 use Rattle.iox_hub_run.specs.Steps.{Step}
+use Rattle.iox_hub_run.specs.Room.{loans_in, samples_in}
+use Rattle.iox_hub_run.proofs.Rooms.{step_leaves_room}
 use Rattle.iox_hub_run.proofs.RunLemmas.{runs_more}
 use Rattle.iox_hub_run.proofs.numbered_hub.NumberedHub.carry_out_all.Goals as goal
 
@@ -21,4 +23,5 @@ loop-command-preserved g c =
       counts = omega (arith, at.invariant.counts, c.step.ensures.counts, longer);
       answered = omega (arith, at.invariant.answered, c.push_reserved.ensures.len, longer);
       room = omega (arith, at.invariant.room, c.push_reserved.ensures.capacity);
+      fits = step_leaves_room (detail FixedSize g.T.ZeroCopySend.name g.T.ZeroCopySend.size g.T.ZeroCopySend.alignment) (detail FixedSize g.U.ZeroCopySend.name g.U.ZeroCopySend.size g.U.ZeroCopySend.alignment) (types_of g.T.ZeroCopySend.name g.T.ZeroCopySend.size g.T.ZeroCopySend.alignment g.U.ZeroCopySend.name g.U.ZeroCopySend.size g.U.ZeroCopySend.alignment) (λ value. g.T.Default.is_default value) (λ value. g.U.Default.is_default value) g.B.PublisherHandlers.fixed (λ handlers. g.B.Degrades.degrades handlers) (λ handlers. g.B.Decides.decides handlers) g.D.SubscriberHandler.fixed (λ handler. g.D.Degrades.degrades handler) (loans_in (into_iter_items c.next.new.self)) (samples_in (into_iter_items c.next.new.self)) command at.self c.step.new.self _ c.in-Ok-step.ensures.steps (rw (← steps) at.invariant.fits);
     }

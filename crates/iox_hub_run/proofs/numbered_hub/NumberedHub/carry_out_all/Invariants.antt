@@ -4,6 +4,7 @@ use Rattle.iox_hub_commands.specs.DescribeBase.Detail.{detail}
 use Rattle.iox_hub_commands.specs.DescribeBase.declared.type_detail.TypeVariant.TheVariants.{FixedSize}
 use Rattle.iox_hub_factories.specs.HubRequests.Asked.{types_of}
 use Rattle.iox_hub_run.specs.Numbers.{numbers_used}
+use Rattle.iox_hub_run.specs.Room.{loans_in, samples_in, FitsAll}
 use Rattle.iox_hub_run.specs.Runs.{Runs}
 use Rattle.iox_hub_run.specs.Steps.{Step}
 use Rattle.iox_hub_run.proofs.numbered_hub.NumberedHub.carry_out_all.Given as goal
@@ -17,4 +18,5 @@ invariant-loop-command g l = record {
   counts : numbers_used l.self ≤ numbers_used l.initial.self + length l.yielded;
   answered : vec_len l.replies ≡ length l.yielded;
   room : length (into_iter_items l.initial.command-iterator) ≤ vec_capacity l.replies;
+  fits : FitsAll (loans_in (into_iter_items l.command-iterator)) (samples_in (into_iter_items l.command-iterator)) l.self.made;
 }

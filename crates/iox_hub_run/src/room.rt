@@ -1,0 +1,80 @@
+//! Room for the numbers of loans and samples, which a run makes before its first command.
+ghost use Rattle.std.specs.Prelude.{◌≡◌, ◌≤◌, ◌<◌, length, OnOk, OnErr};
+ghost use Rattle.iox_hub_commands.specs.HubPorts.Tables.{SameNumbers};
+ghost use Rattle.iox_hub_run.specs.Room.{loans_of, samples_of, loans_in, samples_in, FitsMore, FitsAll, OnlyRoomier};
+
+use crate::numbered_hub::NumberedHub;
+use iox_command::Command;
+use iox_numbered::Numbered;
+use std::alloc::AllocError;
+
+fn loans_of<T>(command: &Command<T>) -> usize
+    ensures { result ≡ loans_of command.now }
+{
+    match command {
+        Command::Loan { .. } | Command::LoanUninit { .. } => 1,
+        _ => 0,
+    }
+}
+
+fn samples_of<T>(command: &Command<T>) -> usize
+    ensures { result ≡ samples_of command.now }
+{
+    match command {
+        Command::Receive { .. } => 1,
+        _ => 0,
+    }
+}
+
+// How many loans get a number by some commands, at most.
+fn loans_in<T>(commands: &[Command<T>]) -> usize
+    ensures value { result ≡ loans_in commands.now }
+    ensures bound { result ≤ length commands.now }
+{
+    let mut count = 0;
+    let mut rest = commands;
+    while let Some((command, others)) = rest.split_first() {
+        count += loans_of(command);
+        rest = others;
+    }
+    count
+}
+
+// How many samples do.
+fn samples_in<T>(commands: &[Command<T>]) -> usize
+    ensures value { result ≡ samples_in commands.now }
+    ensures bound { result ≤ length commands.now }
+{
+    let mut count = 0;
+    let mut rest = commands;
+    while let Some((command, others)) = rest.split_first() {
+        count += samples_of(command);
+        rest = others;
+    }
+    count
+}
+
+// Makes room in a table for so many values more.
+fn room_for<V>(numbers: &mut Numbered<V>, more: usize) -> Result<(), AllocError>
+    ensures same { SameNumbers numbers.old numbers.new }
+    ensures room { OnOk result (FitsMore more numbers.new) }
+    ensures some { OnErr result (0 < more) }
+{
+    let room = numbers.len().checked_add(more).ok_or(AllocError)?;
+    numbers.reserve(room)
+}
+
+impl<T, U, B, D> NumberedHub<T, U, B, D> {
+    /// Makes room for the numbers of all loans and samples that some commands may make. Fails only where an allocation fails; then there may
+    /// be more room than before.
+    pub fn make_room(&mut self, commands: &[Command<T>]) -> Result<(), AllocError>
+        ensures same { OnlyRoomier self.old self.new }
+        ensures room { OnOk result (FitsAll (loans_in commands.now) (samples_in commands.now) self.new.made) }
+        ensures some { OnErr result (0 < length commands.now) }
+    {
+        let loans = loans_in(commands);
+        let samples = samples_in(commands);
+        room_for(&mut self.made.loans, loans)?;
+        room_for(&mut self.made.samples, samples)
+    }
+}
