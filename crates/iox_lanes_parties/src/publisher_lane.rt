@@ -3,6 +3,7 @@ ghost use Rattle.std.specs.Prelude.{◌≡◌, ◌+◌, ◌<◌, ◌&&◌, ◌==
 ghost use Rattle.std.specs.List.{All};
 ghost use Rattle.iox_lanes_subscriber.specs.LanesCalls.Publishing.{publisher_next, publisher_is_idle, publisher_is_over};
 ghost use Rattle.iox_lanes_publisher.specs.Keeping.{may_have, may_remember, may_resize};
+ghost use Rattle.iox_lanes_publisher.specs.Publishers.{words_of};
 ghost use Rattle.iox_lanes_parties.specs.Parties.{lane_found, lane_meets, lane_named, lane_remembers, lane_resized, name_of, is_out, is_written, publisher_may, publisher_fits, publisher_begun, publisher_after, publisher_answer, lent, index_of, head_of, kept, send_begun};
 
 use crate::call::{Answer, Call, CallName, Move};
@@ -150,6 +151,20 @@ impl PublisherLane {
         let call = self.port.call();
         self.port.take(given);
         answer_of(call, self.port.answer())
+    }
+
+    /// Goes on as from where a call stands, after the answer of the access that comes next there.
+    pub fn go_on_from(&mut self, call: PublisherCall, given: u64)
+        ensures { self.new ≡ publisher_after given (record self.old { port = record self.old.port { call = call } }) }
+    {
+        self.port.take_from(call, given);
+    }
+
+    /// The words that the call in hand stores.
+    pub fn stored(&self) -> &[u64]
+        ensures { result.now ≡ words_of self.now.port }
+    {
+        self.port.stored()
     }
 
     /// The number of its first slot.

@@ -1,6 +1,8 @@
 //! A subscriber and its call in hand.
 ghost use Rattle.std.specs.Prelude.{◌≡◌, ◌<◌, ◌&&◌, true, false, length, is_some};
 ghost use Rattle.iox_lanes_subscriber.specs.LanesCalls.Subscribing.{subscriber_next, subscriber_is_idle, subscriber_is_over};
+ghost use Rattle.iox_lanes_subscriber.specs.LanesCalls.declared.subscriber.SubscriberChange.TheVariants as SubscriberChange;
+ghost use Rattle.iox_lanes_subscriber.specs.Keeping.{changed};
 ghost use Rattle.iox_lanes_parties.specs.Parties.{receiver_meets, receiver_swapped, subscriber_may, subscriber_fits, subscriber_begun, subscriber_after, subscriber_answer, words_read, place_of, route_at, is_route, is_borrowed, release_begun};
 
 use crate::call::{Answer, Call, CallName, Move};
@@ -175,6 +177,20 @@ impl SubscriberLane {
         let call = self.port.call();
         self.port.take(given);
         answer_of(call, from)
+    }
+
+    /// Goes on as from where a call stands, after the answer of the access that comes next there.
+    pub fn go_on_from(&mut self, call: SubscriberCall, given: u64)
+        ensures { self.new ≡ subscriber_after given (record self.old { port = record self.old.port { call = call } }) }
+    {
+        self.port.take_from(call, given);
+    }
+
+    /// Keeps a word that was read; beyond the last one nothing happens.
+    pub fn note(&mut self, word: u64, value: u64)
+        ensures { self.new ≡ record self.old { port = changed (SubscriberChange.Note word value) self.old.port } }
+    {
+        self.port.note(word, value);
     }
 
     /// Where its call stands.

@@ -2,7 +2,7 @@
 ghost use Rattle.std.specs.Prelude.{◌≡◌, true, length, replicate, slice_get, IfOk};
 ghost use Rattle.iox_lanes_calls.specs.Publishing.{publisher_next, publisher_is_idle, publisher_is_over};
 ghost use Rattle.iox_lanes_publisher.specs.Keeping.{loan_of, may_have, may_remember, may_resize};
-ghost use Rattle.iox_lanes_publisher.specs.Publishers.{after_answer, found_at, found_last, with_slots, met_anew, begun_loan, begun_write, begun_send, begun_drop, new_publisher};
+ghost use Rattle.iox_lanes_publisher.specs.Publishers.{after_answer, found_at, found_last, with_slots, met_anew, begun_loan, begun_write, begun_send, begun_drop, new_publisher, words_of};
 
 use crate::slot_book::{LoanAnswer, LoanMark, SlotBook};
 use iox_lanes_calls::{PublisherCall, PublisherChange, Route, reroute};
@@ -251,6 +251,25 @@ impl LanePublisher {
             self.call = self.call.take(answer, &self.routes, &self.payload);
         }
         self.book.change(change);
+    }
+
+    /// Goes on as from where a call stands, after the answer of the access that comes next there.
+    pub fn take_from(&mut self, call: PublisherCall, answer: u64)
+        ensures { self.new ≡ after_answer answer (record self.old { call = call }) }
+    {
+        self.call = call;
+        self.take(answer);
+    }
+
+    /// The words that the call in hand stores.
+    pub fn stored(&self) -> &[u64]
+        ensures { result.now ≡ words_of self.now }
+    {
+        if self.sends {
+            &self.head
+        } else {
+            &self.payload
+        }
     }
 
     /// No call is under way.

@@ -178,6 +178,21 @@ impl LaneSubscriber {
         self.change(change);
     }
 
+    /// Goes on as from where a call stands, after the answer of the access that comes next there.
+    pub fn take_from(&mut self, call: SubscriberCall, answer: u64)
+        ensures { self.new ≡ after_answer answer (record self.old { call = call }) }
+    {
+        self.call = call;
+        self.take(answer);
+    }
+
+    /// Keeps a word that was read; beyond the last one nothing happens.
+    pub fn note(&mut self, word: u64, value: u64)
+        ensures { self.new ≡ changed (SubscriberChange.Note word value) self.old }
+    {
+        put(&mut self.words, word, value);
+    }
+
     fn change(&mut self, change: SubscriberChange)
         ensures { self.new ≡ changed change self.old }
     {

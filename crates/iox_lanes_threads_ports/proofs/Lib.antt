@@ -6,6 +6,8 @@ pub mod Connections
 pub mod Pacing
 pub mod Starting
 pub mod Running
+pub mod Striding
+pub mod SubscriberStriding
 pub mod Between
 pub mod KnownWrites
 pub mod KnownLoans

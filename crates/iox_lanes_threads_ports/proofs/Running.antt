@@ -89,7 +89,7 @@ paced p lane sizes most same start =
 more_taken : (most : ℕ) (routes : List Route) (taken more : ℕ → ℕ) → TooMany most routes taken → TooMany most routes (λ place. taken place + more place)
 more_taken most routes taken more many = let m = many.more in record { place = many.place; route = many.route; found = many.found; more = omega (arith, m) }
 
-step_paced : (most made : ℕ) (p : Port) (lane : PublisherLaneState) (q : Port) (now : PublisherLaneState) (n : ℕ) → IsSmall p.service.sizes → q.service ≡ p.service → PublisherStands q now → Paced most made p lane q now
+pub step_paced : (most made : ℕ) (p : Port) (lane : PublisherLaneState) (q : Port) (now : PublisherLaneState) (n : ℕ) → IsSmall p.service.sizes → q.service ≡ p.service → PublisherStands q now → Paced most made p lane q now
     → publisher_is_over now.port.call ≡ false → ToldBy q (publisher_next now.port.call) n → Paced most (made + 1) p lane (publisher_stepped q now n) (publisher_after n now)
 step_paced most made p lane q now n small service stands run busy told =
     let within : IsPublisher p.service.sizes now = subst (λ (s : Service). IsPublisher s.sizes now) service stands.within in

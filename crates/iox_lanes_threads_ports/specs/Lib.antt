@@ -4,6 +4,7 @@ pub mod Ports
 pub mod Known
 pub mod Values
 pub mod Courses
+pub mod Strides
 pub mod Pace
 pub mod Paces
 pub use Rattle.iox_lanes_threads_rule.specs as LanesThreadsRule

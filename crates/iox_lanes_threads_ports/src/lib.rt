@@ -15,10 +15,14 @@
 //! ```
 #![tactic(auto)]
 
+mod ahead;
 pub mod laws;
 pub mod publisher;
 mod publishing;
+mod strides;
 pub mod subscriber;
+mod subscriber_ahead;
+mod subscriber_strides;
 mod subscribing;
 
 pub use publisher::{ThreadedPublisher, write_room};

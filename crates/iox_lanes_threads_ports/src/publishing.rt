@@ -9,6 +9,7 @@ ghost use Rattle.iox_lanes_threads_ports.specs.Pace.{StartsWithin};
 ghost use Rattle.iox_lanes_threads_ports.specs.Paces.{PublisherRuns};
 ghost use Rattle.iox_lanes_threads_ports.specs.Ports.{PublisherStands};
 
+use crate::strides::stride;
 use iox_lanes_parties::{Answer, PublisherLane};
 use iox_lanes_threads_rule::{Doing, Opening, WordSeat, Words, act};
 use iox_lanes_words::TableSizes;
@@ -68,11 +69,12 @@ pub(crate) fn run<K: Opening>(
     ensures stands { PublisherStands (port_of seat.new.me) lane.new }
     ensures runs { PublisherRuns most (port_of seat.old.me) lane.old (port_of seat.new.me) lane.new result }
 {
-    for _made in 0..most {
-        let answer = step(words, seat, sizes, lane);
-        if answer.is_some() {
-            return answer;
+    let mut made = 0;
+    while made < most {
+        if lane.is_over() {
+            return step(words, seat, sizes, lane);
         }
+        made += stride(words, seat, sizes, lane, most - made);
     }
     None
 }

@@ -7,6 +7,7 @@ ghost use Rattle.iox_lanes_threads_ports.specs.Courses.{subscriber_party, Subscr
 ghost use Rattle.iox_lanes_threads_ports.specs.Ports.{SubscriberStands};
 ghost use Rattle.iox_lanes_threads_ports.specs.Values.{IsShort};
 
+use crate::subscriber_strides::stride_on;
 use iox_lanes_parties::SubscriberLane;
 use iox_lanes_threads_rule::{Doing, Opening, WordSeat, Words, act};
 use iox_lanes_words::TableSizes;
@@ -64,6 +65,7 @@ pub(crate) fn finish<K: Opening>(
     ensures short { IsShort lane.new.port.call }
     ensures over { subscriber_is_over lane.new.port.call ≡ true }
 {
+    stride_on(words, seat, sizes, lane);
     while !lane.is_over() {
         step(words, seat, sizes, lane);
     }

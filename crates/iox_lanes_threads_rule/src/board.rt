@@ -86,8 +86,8 @@ impl<M: Doing> Play<u8, View> for Exchanges<M> {
     ghost then = { exchanged M.port M.after };
 }
 
-// Each of the three takes the access of its kind.
-fn load<K: Opening, M: Doing>(
+/// Loads a word that the port may load.
+pub fn load<K: Opening, M: Doing>(
     words: &Words<K>,
     seat: &mut WordSeat,
     sizes: &TableSizes,
@@ -103,7 +103,8 @@ fn load<K: Opening, M: Doing>(
     words.load::<Loads<M>>(seat, sizes.number(word) as usize)
 }
 
-fn store<K: Opening, M: Doing>(
+/// Stores into a word that the port may store.
+pub fn store<K: Opening, M: Doing>(
     words: &Words<K>,
     seat: &mut WordSeat,
     sizes: &TableSizes,
@@ -119,7 +120,8 @@ fn store<K: Opening, M: Doing>(
     words.store::<Stores<M>>(seat, sizes.number(word) as usize, new);
 }
 
-fn exchange<K: Opening, M: Doing>(
+/// Makes an exchange that the port may make, and gives what the word held.
+pub fn exchange<K: Opening, M: Doing>(
     words: &Words<K>,
     seat: &mut WordSeat,
     sizes: &TableSizes,

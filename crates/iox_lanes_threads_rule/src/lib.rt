@@ -17,6 +17,6 @@ pub mod laws;
 pub mod service;
 pub mod view;
 
-pub use board::{Doing, Opening, WordRule, WordSeat, Words, act};
+pub use board::{Doing, Opening, WordRule, WordSeat, Words, act, exchange, load, store};
 pub use service::{Line, Service, SlotRange};
 pub use view::{Port, PortParty, View};

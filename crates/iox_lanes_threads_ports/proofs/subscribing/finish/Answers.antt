@@ -1,15 +1,21 @@
-use Rattle.std.proofs.Common.{refl, sym, ap, subst, ◌∙◌, ◌≡◌}
+use Rattle.std.proofs.Common.{sym, ap, subst, ◌∙◌, ◌≡◌}
 use Rattle.iox_lanes_ledger.specs.LanesWords.Numbers.{IsSmall}
 use Rattle.iox_lanes_ledger.specs.LanesParties.Parties.{SubscriberLaneState}
 use Rattle.iox_lanes_threads_rule.specs.Acts.{port_of}
 use Rattle.iox_lanes_threads_rule.specs.declared.service.Service.{Service}
 use Rattle.iox_lanes_threads_ports.specs.Values.{IsShort}
 use Rattle.iox_lanes_threads_ports.proofs.Between.{nearer}
-use Rattle.iox_lanes_threads_ports.proofs.Running.{subscribes, subscribes_on}
+use Rattle.iox_lanes_threads_ports.proofs.Running.{subscribes_on}
+use Rattle.iox_lanes_threads_ports.proofs.SubscriberStriding.{strode_subscribes}
 use Rattle.iox_lanes_threads_ports.proofs.subscribing.finish.Goals as goal
 
 pub loop-seat-init : goal.loop-seat-init
-loop-seat-init g c = (refl, refl, subscribes (port_of c.args.seat.now.me) c.args.lane.now c.args.seat.now.me c.requires.seat.0 refl c.requires.stands, c.requires.short)
+loop-seat-init g c = (
+  c.stride_on.ensures.table.0,
+  c.stride_on.ensures.table.1,
+  strode_subscribes (port_of c.args.seat.now.me) c.args.lane.now c.stride_on.new.seat.me c.stride_on.new.lane c.stride_on.ensures.strode,
+  c.stride_on.ensures.short,
+)
 
 pub loop-seat-preserved : goal.loop-seat-preserved
 loop-seat-preserved g c =

@@ -1,0 +1,9 @@
+use Rattle.std.proofs.Common.{◌≡◌}
+use Rattle.iox_lanes_ledger.specs.LanesCalls.Subscribing.{read_at}
+use Rattle.iox_lanes_threads_rule.specs.Acts.{port_of}
+use Rattle.iox_lanes_threads_ports.specs.Strides.{subscriber_called, SubscriberStrode}
+use Rattle.iox_lanes_threads_ports.proofs.subscriber_strides.read_words.Given as goal
+
+abbrev pub invariant-loop-word : goal.invariant-loop-word
+invariant-loop-word g l =
+    (l.seat.table_id ≡ l.initial.seat.table_id) × (l.seat.id ≡ l.initial.seat.id) × SubscriberStrode (port_of l.initial.seat.me) l.fn.lane l.seat.me (subscriber_called (read_at l.slot l.extent l.word) l.lane)

@@ -1,0 +1,160 @@
+//! Several steps of a publisher's call at once: its lane makes up for them behind the last one.
+ghost use Rattle.std.specs.Prelude.{◌≡◌, ◌<◌, ◌≤◌, true, false, length, slice_get, Some};
+ghost use Rattle.iox_lanes_ledger.specs.LanesWords.Numbers.{words_of, IsSmall};
+ghost use Rattle.iox_lanes_ledger.specs.LanesCalls.Publishing.{header_word, publisher_is_over};
+ghost use Rattle.iox_lanes_ledger.specs.LanesCalls.declared.publisher.PublisherCall.TheVariants as call;
+ghost use Rattle.iox_lanes_ledger.specs.LanesPublisher.Publishers.{words_of as call_words};
+ghost use Rattle.iox_lanes_threads_rule.specs.Acts.{single, port_of};
+ghost use Rattle.iox_lanes_threads_ports.specs.Ports.{PublisherStands};
+ghost use Rattle.iox_lanes_threads_ports.specs.Strides.{PublisherStrode};
+
+use crate::ahead::store_ahead;
+use crate::publishing::step;
+use iox_lanes_calls::PublisherCall;
+use iox_lanes_parties::PublisherLane;
+use iox_lanes_threads_rule::{Opening, WordSeat, Words};
+use iox_lanes_words::{SharedWord, SlotWord, TableSizes};
+
+// Whether a list begins with a number.
+fn begins_with(list: &[u64], number: u64) -> bool
+    ensures { result ≡ true → slice_get list.now 0 ≡ Some number }
+{
+    match list.first() {
+        Some(first) => *first == number,
+        None => false,
+    }
+}
+
+// A word of header and user header, which lie one behind the other.
+fn header_word(word: u64) -> SlotWord
+    ensures { result ≡ header_word word }
+{
+    if word < 3 {
+        SlotWord::Header(word)
+    } else {
+        SlotWord::UserHeader(word - 3)
+    }
+}
+
+// Stores all words of a payload: so many steps.
+fn write_words<K: Opening>(
+    words: &Words<K>,
+    seat: &mut WordSeat,
+    sizes: &TableSizes,
+    lane: &mut PublisherLane,
+    slot: u64,
+    first: u64,
+) -> usize
+    requires table { (seat.old.table_id ≡ words.now.table_id) × (words.now.table_id.words ≡ words_of sizes.now) × IsSmall sizes.now }
+    requires seat { (seat.old.me ≡ single (port_of seat.old.me)) × ((port_of seat.old.me).service.sizes ≡ sizes.now) }
+    requires stands { PublisherStands (port_of seat.old.me) lane.old }
+    requires call { lane.old.port.call ≡ call.Writing slot 0 first }
+    requires first { slice_get (call_words lane.old.port) 0 ≡ Some first }
+    ensures table { (seat.new.table_id ≡ seat.old.table_id) × (seat.new.id ≡ seat.old.id) }
+    ensures all { result ≡ length (call_words lane.old.port) }
+    ensures strode { PublisherStrode (port_of seat.old.me) lane.old result seat.new.me lane.new }
+{
+    let sizes = *sizes;
+    let stored = lane.stored();
+    let count = stored.len();
+    for at in 0..count {
+        let (word, value) = (at as u64, stored[at]);
+        let call = PublisherCall::Writing { slot, word, value };
+        let payload = SlotWord::Payload(word);
+        let word = SharedWord::Slot {
+            slot,
+            word: payload,
+        };
+        store_ahead(words, seat, &sizes, lane, call, word, value);
+    }
+    let last = PublisherCall::Writing {
+        slot,
+        word: (count - 1) as u64,
+        value: stored[count - 1],
+    };
+    lane.go_on_from(last, 0);
+    count
+}
+
+// Stores all words of header and user header: so many steps.
+fn head_words<K: Opening>(
+    words: &Words<K>,
+    seat: &mut WordSeat,
+    sizes: &TableSizes,
+    lane: &mut PublisherLane,
+    slot: u64,
+    first: u64,
+) -> usize
+    requires table { (seat.old.table_id ≡ words.now.table_id) × (words.now.table_id.words ≡ words_of sizes.now) × IsSmall sizes.now }
+    requires seat { (seat.old.me ≡ single (port_of seat.old.me)) × ((port_of seat.old.me).service.sizes ≡ sizes.now) }
+    requires stands { PublisherStands (port_of seat.old.me) lane.old }
+    requires call { lane.old.port.call ≡ call.Heading slot 0 first }
+    requires first { slice_get (call_words lane.old.port) 0 ≡ Some first }
+    ensures table { (seat.new.table_id ≡ seat.old.table_id) × (seat.new.id ≡ seat.old.id) }
+    ensures all { result ≡ length (call_words lane.old.port) }
+    ensures strode { PublisherStrode (port_of seat.old.me) lane.old result seat.new.me lane.new }
+{
+    let sizes = *sizes;
+    let stored = lane.stored();
+    let count = stored.len();
+    for at in 0..count {
+        let (word, value) = (at as u64, stored[at]);
+        let call = PublisherCall::Heading { slot, word, value };
+        let head = header_word(word);
+        let word = SharedWord::Slot { slot, word: head };
+        store_ahead(words, seat, &sizes, lane, call, word, value);
+    }
+    let last = PublisherCall::Heading {
+        slot,
+        word: (count - 1) as u64,
+        value: stored[count - 1],
+    };
+    lane.go_on_from(last, 0);
+    count
+}
+
+// Whether a call that stores its first number next may store so many.
+fn may_store_all(stored: &[u64], first: u64, room: u128) -> bool
+    ensures { result ≡ true → (slice_get stored.now 0 ≡ Some first) × (length stored.now ≤ room) }
+{
+    begins_with(stored, first) && stored.len() as u128 <= room
+}
+
+/// Makes some of the next steps of a publisher's call, at most so many, and tells how many.
+pub(crate) fn stride<K: Opening>(
+    words: &Words<K>,
+    seat: &mut WordSeat,
+    sizes: &TableSizes,
+    lane: &mut PublisherLane,
+    room: u128,
+) -> u128
+    requires table { (seat.old.table_id ≡ words.now.table_id) × (words.now.table_id.words ≡ words_of sizes.now) × IsSmall sizes.now }
+    requires seat { (seat.old.me ≡ single (port_of seat.old.me)) × ((port_of seat.old.me).service.sizes ≡ sizes.now) }
+    requires stands { PublisherStands (port_of seat.old.me) lane.old }
+    requires busy { publisher_is_over lane.old.port.call ≡ false }
+    requires room { 0 < room }
+    ensures table { (seat.new.table_id ≡ seat.old.table_id) × (seat.new.id ≡ seat.old.id) }
+    ensures some { (0 < result) × (result ≤ room) }
+    ensures strode { PublisherStrode (port_of seat.old.me) lane.old result seat.new.me lane.new }
+{
+    match lane.stage() {
+        PublisherCall::Writing {
+            slot,
+            word: 0,
+            value,
+        } if may_store_all(lane.stored(), value, room) => {
+            write_words(words, seat, sizes, lane, slot, value) as u128
+        }
+        PublisherCall::Heading {
+            slot,
+            word: 0,
+            value,
+        } if may_store_all(lane.stored(), value, room) => {
+            head_words(words, seat, sizes, lane, slot, value) as u128
+        }
+        _ => {
+            step(words, seat, sizes, lane);
+            1
+        }
+    }
+}

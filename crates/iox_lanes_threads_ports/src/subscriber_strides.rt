@@ -1,0 +1,103 @@
+//! Several steps of a subscriber's call at once: its lane makes up for them behind the last one.
+ghost use Rattle.std.specs.Prelude.{◌≡◌};
+ghost use Rattle.iox_lanes_ledger.specs.LanesWords.Numbers.{words_of, IsSmall};
+ghost use Rattle.iox_lanes_ledger.specs.LanesCalls.Subscribing.{word_at};
+ghost use Rattle.iox_lanes_ledger.specs.LanesCalls.declared.subscriber.SubscriberCall.TheVariants as call;
+ghost use Rattle.iox_lanes_threads_rule.specs.Acts.{single, port_of};
+ghost use Rattle.iox_lanes_threads_ports.specs.Ports.{SubscriberStands};
+ghost use Rattle.iox_lanes_threads_ports.specs.Strides.{SubscriberStrode};
+ghost use Rattle.iox_lanes_threads_ports.specs.Values.{IsShort};
+
+use crate::subscriber_ahead::load_ahead;
+use iox_lanes_calls::SubscriberCall;
+use iox_lanes_calls::subscriber::SlotExtent;
+use iox_lanes_parties::SubscriberLane;
+use iox_lanes_threads_rule::{Opening, WordSeat, Words};
+use iox_lanes_words::{SharedWord, SlotWord, TableSizes};
+
+// A word of header, user header and payload, which lie one behind the other.
+fn word_at(extent: SlotExtent, word: u64) -> SlotWord
+    ensures { result ≡ word_at extent word }
+{
+    if word < 3 {
+        SlotWord::Header(word)
+    } else if word - 3 < extent.user_header_words {
+        SlotWord::UserHeader(word - 3)
+    } else {
+        SlotWord::Payload(word - 3 - extent.user_header_words)
+    }
+}
+
+// Loads all words of a sample.
+fn read_words<K: Opening>(
+    words: &Words<K>,
+    seat: &mut WordSeat,
+    sizes: &TableSizes,
+    lane: &mut SubscriberLane,
+    slot: u64,
+    extent: SlotExtent,
+)
+    requires table { (seat.old.table_id ≡ words.now.table_id) × (words.now.table_id.words ≡ words_of sizes.now) × IsSmall sizes.now }
+    requires seat { (seat.old.me ≡ single (port_of seat.old.me)) × ((port_of seat.old.me).service.sizes ≡ sizes.now) }
+    requires stands { SubscriberStands (port_of seat.old.me) lane.old }
+    requires call { lane.old.port.call ≡ call.Reading slot 0 extent }
+    ensures table { (seat.new.table_id ≡ seat.old.table_id) × (seat.new.id ≡ seat.old.id) }
+    ensures call { lane.new.port.call ≡ call.WasRead slot }
+    ensures strode { SubscriberStrode (port_of seat.old.me) lane.old seat.new.me lane.new }
+{
+    let sizes = *sizes;
+    let last = 2 + extent.user_header_words + extent.payload_words;
+    for word in 0..last {
+        let call = SubscriberCall::Reading { slot, word, extent };
+        let own = word_at(extent, word);
+        let value = load_ahead(
+            words,
+            seat,
+            &sizes,
+            lane,
+            call,
+            SharedWord::Slot { slot, word: own },
+        );
+        lane.note(word, value);
+    }
+    let call = SubscriberCall::Reading {
+        slot,
+        word: last,
+        extent,
+    };
+    let own = word_at(extent, last);
+    let value = load_ahead(
+        words,
+        seat,
+        &sizes,
+        lane,
+        call,
+        SharedWord::Slot { slot, word: own },
+    );
+    lane.go_on_from(call, value);
+}
+
+/// Makes some of the next steps of a read or a release.
+pub(crate) fn stride_on<K: Opening>(
+    words: &Words<K>,
+    seat: &mut WordSeat,
+    sizes: &TableSizes,
+    lane: &mut SubscriberLane,
+)
+    requires table { (seat.old.table_id ≡ words.now.table_id) × (words.now.table_id.words ≡ words_of sizes.now) × IsSmall sizes.now }
+    requires seat { (seat.old.me ≡ single (port_of seat.old.me)) × ((port_of seat.old.me).service.sizes ≡ sizes.now) }
+    requires stands { SubscriberStands (port_of seat.old.me) lane.old }
+    requires short { IsShort lane.old.port.call }
+    ensures table { (seat.new.table_id ≡ seat.old.table_id) × (seat.new.id ≡ seat.old.id) }
+    ensures short { IsShort lane.new.port.call }
+    ensures strode { SubscriberStrode (port_of seat.old.me) lane.old seat.new.me lane.new }
+{
+    if let SubscriberCall::Reading {
+        slot,
+        word: 0,
+        extent,
+    } = lane.stage()
+    {
+        read_words(words, seat, sizes, lane, slot, extent);
+    }
+}
