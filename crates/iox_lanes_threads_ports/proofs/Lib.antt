@@ -7,7 +7,9 @@ pub mod Pacing
 pub mod Starting
 pub mod Running
 pub mod Striding
+pub mod RingStriding
 pub mod SubscriberStriding
+pub mod SubscriberRingStriding
 pub mod Between
 pub mod KnownWrites
 pub mod KnownLoans

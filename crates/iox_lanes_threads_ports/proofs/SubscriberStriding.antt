@@ -18,7 +18,7 @@ use Rattle.iox_lanes_ledger.specs.LanesParties.Within.{IsSubscribing}
 use Rattle.iox_lanes_threads_rule.specs.Acts.{single, port_of, stepped, ToldBy}
 use Rattle.iox_lanes_threads_rule.specs.declared.view.Port.{Port}
 use Rattle.iox_lanes_threads_rule.specs.declared.view.View.{View}
-use Rattle.iox_lanes_threads_ports.specs.Courses.{subscriber_party, subscriber_stepped, SubscriberGoes}
+use Rattle.iox_lanes_threads_ports.specs.Courses.{subscriber_party, subscriber_stepped, SubscriberGoes, SubscriberSteps}
 use Rattle.iox_lanes_threads_ports.specs.Courses.SubscriberGoes.{stays, goes}
 use Rattle.iox_lanes_threads_ports.specs.Ports.{SubscriberStands}
 use Rattle.iox_lanes_threads_ports.specs.Strides.{subscriber_called, SubscriberStrode}
@@ -97,3 +97,20 @@ few_words p lane slot k extent stands small is =
     let header = at.2.user_header in
     let payload = at.2.payload in
     omega (arith, all, header, payload)
+
+-- one step
+pub strode_once : (me me' : Me ℕ View) (lane lane' : SubscriberLaneState) → me ≡ single (port_of me) → SubscriberStands (port_of me) lane → SubscriberSteps (port_of me) lane me' lane' → SubscriberStrode (port_of me) lane me' lane'
+strode_once me me' lane lane' alone stands step =
+    subst (SubscriberStrode (port_of me) lane me') (sym step.3) (strode_on (port_of me) lane me me' lane step.0 (strode_none me lane alone stands) step.1 step.2)
+
+-- steps behind steps
+goes_along : (p : Port) (lane : SubscriberLaneState) (q : Port) (now : SubscriberLaneState) (q' : Port) (now' : SubscriberLaneState) → SubscriberGoes p lane q now → SubscriberGoes q now q' now' → SubscriberGoes p lane q' now'
+goes_along p lane q now q' now' before stays = before
+goes_along p lane q now q' now' before (goes r mid answer more told) = goes r mid answer (goes_along p lane q now r mid before more) told
+
+pub subscribes_along : (p : Port) (lane : SubscriberLaneState) (me : Me ℕ View) (now : SubscriberLaneState) (me' : Me ℕ View) (now' : SubscriberLaneState) → Subscribes p lane me now → SubscriberStrode (port_of me) now me' now' → Subscribes p lane me' now'
+subscribes_along p lane me now me' now' run strode = record {
+  seat = record { alone = strode.alone; service = strode.service ∙ run.seat.service; name = strode.name ∙ run.seat.name };
+  stands = strode.stands;
+  goes = goes_along p lane (port_of me) now (port_of me') now' run.goes strode.goes;
+}

@@ -10,10 +10,14 @@ ghost use Rattle.iox_lanes_threads_ports.specs.Strides.{PublisherStrode};
 
 use crate::ahead::store_ahead;
 use crate::publishing::step;
+use crate::ring_strides::{push, push_over, sweep, take_back};
 use iox_lanes_calls::PublisherCall;
 use iox_lanes_parties::PublisherLane;
 use iox_lanes_threads_rule::{Opening, WordSeat, Words};
 use iox_lanes_words::{SharedWord, SlotWord, TableSizes};
+use iox_queues_overflowing::Push as OverflowingPush;
+use iox_queues_refusing::{Pop as RefusingPop, Push as RefusingPush};
+use iox_queues_rings::Push;
 
 // Whether a list begins with a number.
 fn begins_with(list: &[u64], number: u64) -> bool
@@ -152,6 +156,35 @@ pub(crate) fn stride<K: Opening>(
         } if may_store_all(lane.stored(), value, room) => {
             head_words(words, seat, sizes, lane, slot, value) as u128
         }
+        PublisherCall::LoanReclaims {
+            place,
+            route,
+            pop: RefusingPop::Begun,
+        } if room >= 4 => take_back(words, seat, sizes, lane, place, route),
+        PublisherCall::SendReclaims {
+            slot,
+            place,
+            route,
+            pop: RefusingPop::Begun,
+        } if room >= 4 => sweep(words, seat, sizes, lane, slot, place, route),
+        PublisherCall::Pushing {
+            slot,
+            place,
+            route,
+            push: Push::Refusing(RefusingPush::Begun { limit, value }),
+            delivery,
+        } if room >= 4 => push(
+            words, seat, sizes, lane, slot, place, route, limit, value, delivery,
+        ),
+        PublisherCall::Pushing {
+            slot,
+            place,
+            route,
+            push: Push::Overflowing(OverflowingPush::Begun { limit, value }),
+            delivery,
+        } if room >= 4 => push_over(
+            words, seat, sizes, lane, slot, place, route, limit, value, delivery,
+        ),
         _ => {
             step(words, seat, sizes, lane);
             1

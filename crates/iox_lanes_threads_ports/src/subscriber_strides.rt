@@ -9,11 +9,16 @@ ghost use Rattle.iox_lanes_threads_ports.specs.Strides.{SubscriberStrode};
 ghost use Rattle.iox_lanes_threads_ports.specs.Values.{IsShort};
 
 use crate::subscriber_ahead::load_ahead;
+use crate::subscriber_ring_strides::{give_back, pop, pop_over};
+use crate::subscribing::step;
 use iox_lanes_calls::SubscriberCall;
 use iox_lanes_calls::subscriber::SlotExtent;
 use iox_lanes_parties::SubscriberLane;
 use iox_lanes_threads_rule::{Opening, WordSeat, Words};
 use iox_lanes_words::{SharedWord, SlotWord, TableSizes};
+use iox_queues_overflowing::Pop as OverflowingPop;
+use iox_queues_refusing::{Pop as RefusingPop, Push as RefusingPush};
+use iox_queues_rings::Pop;
 
 // A word of header, user header and payload, which lie one behind the other.
 fn word_at(extent: SlotExtent, word: u64) -> SlotWord
@@ -92,12 +97,47 @@ pub(crate) fn stride_on<K: Opening>(
     ensures short { IsShort lane.new.port.call }
     ensures strode { SubscriberStrode (port_of seat.old.me) lane.old seat.new.me lane.new }
 {
-    if let SubscriberCall::Reading {
-        slot,
-        word: 0,
-        extent,
-    } = lane.stage()
-    {
-        read_words(words, seat, sizes, lane, slot, extent);
+    match lane.stage() {
+        SubscriberCall::Reading {
+            slot,
+            word: 0,
+            extent,
+        } => read_words(words, seat, sizes, lane, slot, extent),
+        SubscriberCall::Releasing {
+            place,
+            route,
+            push: RefusingPush::Begun { limit, value },
+        } => give_back(words, seat, sizes, lane, place, route, limit, value),
+        _ => {}
+    }
+}
+
+/// Makes some of the next steps of a receive.
+pub(crate) fn receive_on<K: Opening>(
+    words: &Words<K>,
+    seat: &mut WordSeat,
+    sizes: &TableSizes,
+    lane: &mut SubscriberLane,
+)
+    requires table { (seat.old.table_id ≡ words.now.table_id) × (words.now.table_id.words ≡ words_of sizes.now) × IsSmall sizes.now }
+    requires seat { (seat.old.me ≡ single (port_of seat.old.me)) × ((port_of seat.old.me).service.sizes ≡ sizes.now) }
+    requires stands { SubscriberStands (port_of seat.old.me) lane.old }
+    ensures table { (seat.new.table_id ≡ seat.old.table_id) × (seat.new.id ≡ seat.old.id) }
+    ensures strode { SubscriberStrode (port_of seat.old.me) lane.old seat.new.me lane.new }
+{
+    match lane.stage() {
+        SubscriberCall::Receiving {
+            place,
+            route,
+            pop: Pop::Refusing(RefusingPop::Begun),
+            waits,
+        } => pop(words, seat, sizes, lane, place, route, waits),
+        SubscriberCall::Receiving {
+            place,
+            route,
+            pop: Pop::Overflowing(OverflowingPop::Begun),
+            waits,
+        } => pop_over(words, seat, sizes, lane, place, route, waits),
+        _ => step(words, seat, sizes, lane),
     }
 }

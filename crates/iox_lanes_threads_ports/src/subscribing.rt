@@ -7,7 +7,7 @@ ghost use Rattle.iox_lanes_threads_ports.specs.Courses.{subscriber_party, Subscr
 ghost use Rattle.iox_lanes_threads_ports.specs.Ports.{SubscriberStands};
 ghost use Rattle.iox_lanes_threads_ports.specs.Values.{IsShort};
 
-use crate::subscriber_strides::stride_on;
+use crate::subscriber_strides::{receive_on, stride_on};
 use iox_lanes_parties::SubscriberLane;
 use iox_lanes_threads_rule::{Doing, Opening, WordSeat, Words, act};
 use iox_lanes_words::TableSizes;
@@ -92,7 +92,7 @@ pub(crate) fn run_on<R: Wait, K: Opening>(
         if lane.is_over() {
             return;
         }
-        step(words, seat, sizes, lane);
+        receive_on(words, seat, sizes, lane);
     }
     unreachable!()
 }

@@ -7,3 +7,6 @@ returns-clause-strode g c = strode_none c.args.seat.now.me c.args.lane.now c.req
 
 pub returns-2 : goal.returns-2
 returns-2 g c = record { table = (refl, refl); short = c.requires.short; strode = strode_none c.args.seat.now.me c.args.lane.now c.requires.seat.0 c.requires.stands }
+
+pub returns-3 : goal.returns-3
+returns-3 g c = record { table = (refl, refl); short = c.requires.short; strode = strode_none c.args.seat.now.me c.args.lane.now c.requires.seat.0 c.requires.stands }
