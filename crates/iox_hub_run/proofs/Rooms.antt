@@ -1,10 +1,10 @@
 -- What each command leaves of the room for numbers of loans and samples, and which commands may lack memory where there is room.
 use Rattle.std.proofs.Common.{arith, ◌≡◌, ◌∙◌, sym, subst, ◌≤◌, ◌+◌, ◌⊎◌, inl, inr, ℕ, Bool, true, false, List, [], ◌∷◌, ◌++◌, length, Option, None, Some, Result, Ok, Err, refl, ap}
 use Rattle.std.proofs.Math.Seq.{get_or-append_seam}
-use Rattle.std.proofs.lemmas.List.{length-append}
+use Rattle.std.proofs.lemmas.List.{length-append, take_more}
 use Rattle.std.proofs.lemmas.Option.{slice_get_read}
 use Rattle.std.specs.Map.{remove_entry}
-use Rattle.std.specs.Prelude.{nat_eq, slice_get}
+use Rattle.std.specs.Prelude.{OnErr, is_err, nat_eq, slice_get, get_or, take, ◌<◌}
 use Rattle.std.specs.declared.alloc.AllocError.{AllocError}
 use Rattle.iox_hub_commands.specs.Command.declared.command.Command.{Command}
 use Rattle.iox_hub_commands.specs.Command.declared.command.Command.TheVariants as command
@@ -41,11 +41,12 @@ use Rattle.iox_hub_factories.proofs.Numbered.Joined.{length-removed}
 use Rattle.iox_hub_factories.specs.HubBase.Opening.{Made as Opened}
 use Rattle.iox_hub_factories.specs.Numbered.NumberTable.{NumberTable, Rises, value_at}
 use Rattle.iox_hub_run.proofs.GoingOn.{stays_on}
+use Rattle.iox_hub_factories.specs.HubBase.AsHome.{hub_ports, with_hub_ports}
 use Rattle.iox_hub_factories.specs.HubBase.Hubs.{IsNewHub}
 use Rattle.iox_hub_factories.specs.HubBase.declared.hub.HubConfig.{HubConfig}
 use Rattle.iox_hub_run.specs.Lives.{NumbersGoOn, NumbersRise}
 use Rattle.iox_hub_run.specs.Numbers.{HasNone, IsNew, numbers_used}
-use Rattle.iox_hub_run.specs.Room.{loans_of, samples_of, RepliesValues, FitsMore, FitsAll, OnlyRoomier, StopsInTime}
+use Rattle.iox_hub_run.specs.Room.{loans_of, samples_of, loans_in, samples_in, RepliesValues, FitsMore, FitsAll, OnlyRoomier, StopsInTime}
 use Rattle.iox_hub_run.specs.Services.{PublisherComes, SubscriberComes, domain_of_factory}
 use Rattle.iox_hub_run.specs.Steps.{IsReplied, Step}
 use Rattle.iox_hub_run.specs.declared.numbered_hub.NumberedHub.{NumberedHub}
@@ -161,14 +162,18 @@ leaves ports_of with_ports without without_reader (port.Publisher number) made a
 leaves ports_of with_ports without without_reader (port.Subscriber number) made after old new answer (done, at, is, is_answer) = subscriber_spent done number made after is
 
 -- a loan that isn't replied to found its table full
-full : {T H : Type 0} (is_full : Type 0) (call : Made → H → Option (Result ℕ LoanError) → Made → H → Type 0) (made after : Made) (old new : H) (lacking : AllocError) (lent : Result (Option (Result ℕ LoanError)) AllocError)
+lacking_is_full : {T H : Type 0} (is_full : Type 0) (call : Made → H → Option (Result ℕ LoanError) → Made → H → Type 0) (made after : Made) (old new : H) (lacking : AllocError) (lent : Result (Option (Result ℕ LoanError)) AllocError)
     → Err lacking ≡ lent_reply {T = T} lent → GrowsFirst is_full call made old lent after new → is_full
-full is_full call made after old new lacking (Ok lent) is grows = cc is
-full is_full call made after old new lacking (Err wanting) is (full, same, here) = full
+lacking_is_full is_full call made after old new lacking (Ok lent) is grows = cc is
+lacking_is_full is_full call made after old new lacking (Err wanting) is (so, same, here) = so
 
 -- where there is room for one more, no table is full
 not_full : {V : Type 0} (more : ℕ) (table : NumberTable V) → FitsMore (1 + more) table → IsFull table → ⊥
 not_full more table fits full = omega (arith, fits, full)
+
+-- the numbers of a table with none rise
+none_rise : {V : Type 0} (table : NumberTable V) → HasNone table → Rises 1 table.entries table.next
+none_rise table (none, one) = rw (none, one) (omega arith)
 
 module _ {T U B D : Type 0} where
   replied : (loans samples : ℕ) (does : Reply T → Type 0) (old new : NumberedHub T U B D) (answer : Result (Reply T) AllocError) → ((reply : Reply T) → does reply → AllGrowBy loans samples old.made new.made) → IsReplied does answer → AllGrowBy loans samples old.made new.made
@@ -243,9 +248,11 @@ module _ {T U B D : Type 0} where
     lacks_values loans samples (command.Publisher factory options) old new lacking step fits = absurd step
     lacks_values loans samples (command.Subscriber factory options) old new lacking step fits = absurd step
     lacks_values loans samples (command.Loan publisher elements) old new lacking ((value, is_value, lent, grows, is_answer), same) fits =
-        absurd (not_full loans old.made.loans fits.0 (full {T = T} _ _ old.made new.made old.hub new.hub lacking lent is_answer grows))
+        let port = ready hub_ports (lender elements (value_at old.made.publishers publisher)) old.hub in
+        absurd (not_full loans old.made.loans fits.0 (lacking_is_full {T = T} (IsFull old.made.loans) (LendsWrittenNumbered hub_ports with_hub_ports elements value port) old.made new.made old.hub new.hub lacking lent is_answer grows))
     lacks_values loans samples (command.LoanUninit publisher elements) old new lacking ((lent, grows, is_answer), same) fits =
-        absurd (not_full loans old.made.loans fits.0 (full {T = T} _ _ old.made new.made old.hub new.hub lacking lent is_answer grows))
+        let port = lender elements (value_at old.made.publishers publisher) in
+        absurd (not_full loans old.made.loans fits.0 (lacking_is_full {T = T} (IsFull old.made.loans) (LendsNumbered hub_ports with_hub_ports elements port) old.made new.made old.hub new.hub lacking lent is_answer grows))
     lacks_values loans samples (command.Set loan place value) old new lacking step fits = absurd step
     lacks_values loans samples (command.Fill loan values) old new lacking step fits = absurd step
     lacks_values loans samples (command.Drop loan) old new lacking step fits = absurd step
@@ -273,9 +280,10 @@ module _ {T U B D : Type 0} where
   is_roomier hub = (((refl, refl, omega arith), (refl, refl, omega arith), (refl, refl, omega arith), (refl, refl, omega arith)), refl)
 
   roomier_and_roomier : (old mid new : NumberedHub T U B D) → OnlyRoomier old mid → OnlyRoomier mid new → OnlyRoomier old new
-  roomier_and_roomier old mid new (((p, p_next, p_room), (s, s_next, s_room), (l, l_next, l_room), (m, m_next, m_room)), same) (((q, q_next, q_room), (r, r_next, r_room), (k, k_next, k_room), (n, n_next, n_room)), same_new) = (
+  roomier_and_roomier old mid new (((p, p_next, p_room), (s, s_next, s_room), (l, l_next, l_room), (m, m_next, m_room)), same) (((q, q_next, q_room), (r, r_next, r_room), (k, k_next, k_room), (n, n_next, n_room)), same_new) =
+      let with_made : NumberedHub T U B D → NumberedHub T U B D = λ hub. record hub { made = new.made } in (
     ((q ∙ p, q_next ∙ p_next, omega (arith, p_room, q_room)), (r ∙ s, r_next ∙ s_next, omega (arith, s_room, r_room)), (k ∙ l, k_next ∙ l_next, omega (arith, l_room, k_room)), (n ∙ m, n_next ∙ m_next, omega (arith, m_room, n_room))),
-    same_new ∙ ap (λ hub. record hub { made = new.made }) same,
+    same_new ∙ ap with_made same,
   )
 
   -- a run that stops in time after room was made stops in time
@@ -291,11 +299,7 @@ module _ {T U B D : Type 0} where
     nothing_made = let ((q, q_next), (r, r_next), (k, k_next), (n, n_next)) = is.nothing_made in ((p ∙ q, p_next ∙ q_next), (s ∙ r, s_next ∙ r_next), (l ∙ k, l_next ∙ k_next), (m ∙ n, m_next ∙ n_next));
   }
 
-  -- the numbers of a table with none rise
-  none_rise : {V : Type 0} (table : NumberTable V) → HasNone table → Rises 1 table.entries table.next
-  none_rise table (none, one) = rw (none, one) (omega arith)
-
-  -- and so do those of a new hub
+  -- the numbers of a new hub rise
   pub new_rises : (config : HubConfig) (hub : NumberedHub T U B D) → IsNew config hub → NumbersRise hub
   new_rises config hub is = let (publishers, subscribers, loans, samples) = is.nothing_made in
       (rw is.no_factory (omega arith), none_rise hub.made.publishers publishers, none_rise hub.made.subscribers subscribers, none_rise hub.made.loans loans, none_rise hub.made.samples samples)
@@ -304,3 +308,33 @@ module _ {T U B D : Type 0} where
 pub at_seam : {A : Type 0} (xs : List A) (y : A) (ys : List A) → slice_get (xs ++ y ∷ ys) (length xs) ≡ Some y
 at_seam xs y ys =
     let long = length-append xs (y ∷ ys) in slice_get_read (xs ++ y ∷ ys) (length (xs ++ y ∷ ys)) (length xs) y refl (omega (arith, long)) (sym (get_or-append_seam xs y ys y))
+
+module _ {T : Type 0} where
+  loans_append : (first second : List (Command T)) → loans_in (first ++ second) ≡ loans_in first + loans_in second
+  loans_append [] second = omega arith
+  loans_append (asked ∷ first) second = let rest = loans_append first second in omega (arith, rest)
+
+  -- one command more
+  pub loans_more : (commands : List (Command T)) (at : ℕ) (last : Command T) → at < length commands → last ≡ get_or commands at last → loans_in (take (at + 1) commands) ≡ loans_in (take at commands) + loans_of last
+  loans_more commands at last within is =
+      let more = ap loans_in (take_more commands at last within) in
+      let split = loans_append (take at commands) (get_or commands at last ∷ []) in
+      let same = ap loans_of is in
+      omega (arith, more, split, same)
+
+  samples_append : (first second : List (Command T)) → samples_in (first ++ second) ≡ samples_in first + samples_in second
+  samples_append [] second = omega arith
+  samples_append (asked ∷ first) second = let rest = samples_append first second in omega (arith, rest)
+
+  -- one command more
+  pub samples_more : (commands : List (Command T)) (at : ℕ) (last : Command T) → at < length commands → last ≡ get_or commands at last → samples_in (take (at + 1) commands) ≡ samples_in (take at commands) + samples_of last
+  samples_more commands at last within is =
+      let more = ap samples_in (take_more commands at last within) in
+      let split = samples_append (take at commands) (get_or commands at last ∷ []) in
+      let same = ap samples_of is in
+      omega (arith, more, split, same)
+
+-- what holds where a call failed holds where its test says so
+pub when_err : {A E : Type 0} {P : Type 0} (result : Result A E) → OnErr result P → is_err result ≡ true → P
+when_err (Ok value) holds failed = cc failed
+when_err (Err error) holds failed = holds

@@ -9,7 +9,8 @@ use iox_numbered::Numbered;
 use std::alloc::AllocError;
 
 fn loans_of<T>(command: &Command<T>) -> usize
-    ensures { result ≡ loans_of command.now }
+    ensures value { result ≡ loans_of command.now }
+    ensures small { result ≤ 1 }
 {
     match command {
         Command::Loan { .. } | Command::LoanUninit { .. } => 1,
@@ -18,7 +19,8 @@ fn loans_of<T>(command: &Command<T>) -> usize
 }
 
 fn samples_of<T>(command: &Command<T>) -> usize
-    ensures { result ≡ samples_of command.now }
+    ensures value { result ≡ samples_of command.now }
+    ensures small { result ≤ 1 }
 {
     match command {
         Command::Receive { .. } => 1,
@@ -32,10 +34,8 @@ fn loans_in<T>(commands: &[Command<T>]) -> usize
     ensures bound { result ≤ length commands.now }
 {
     let mut count = 0;
-    let mut rest = commands;
-    while let Some((command, others)) = rest.split_first() {
-        count += loans_of(command);
-        rest = others;
+    for at in 0..commands.len() {
+        count += loans_of(&commands[at]);
     }
     count
 }
@@ -46,10 +46,8 @@ fn samples_in<T>(commands: &[Command<T>]) -> usize
     ensures bound { result ≤ length commands.now }
 {
     let mut count = 0;
-    let mut rest = commands;
-    while let Some((command, others)) = rest.split_first() {
-        count += samples_of(command);
-        rest = others;
+    for at in 0..commands.len() {
+        count += samples_of(&commands[at]);
     }
     count
 }

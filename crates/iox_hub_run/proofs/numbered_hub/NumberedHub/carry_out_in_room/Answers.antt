@@ -1,0 +1,21 @@
+use Rattle.std.proofs.Common.{arith, ◌∙◌, ◌<◌, ap, subst, sym, inl, length, refl}
+use Rattle.iox_hub_run.proofs.Rooms.{roomier_counts, stops_in_room, when_err}
+use Rattle.iox_hub_run.proofs.numbered_hub.NumberedHub.carry_out_in_room.Goals as goal
+
+pub returns-then-is_err-clause-ran : goal.returns-then-is_err-clause-ran
+returns-then-is_err-clause-ran g c = (c.make_room.new.self, c.make_room.ensures.same, inl (subst (λ items. 0 < length items) c.as_slice.ensures.value (when_err c.make_room.result c.make_room.ensures.some (sym c.is_err.ensures.value ∙ c.if-is_err.true)), c.new.ensures.items, refl))
+
+pub returns-then-is_err-clause-stops : goal.returns-then-is_err-clause-stops
+returns-then-is_err-clause-stops g c = λ stopped. inl (ap length c.new.ensures.items, c.make_room.ensures.same)
+
+pub returns-then-is_err-clause-counts : goal.returns-then-is_err-clause-counts
+returns-then-is_err-clause-counts g c = let same = roomier_counts c.args.self.now c.make_room.new.self c.make_room.ensures.same in omega (arith, same)
+
+pub returns-clause-ran : goal.returns-clause-ran
+returns-clause-ran g c = (c.make_room.new.self, c.make_room.ensures.same, c.carry_out_all.ensures.ran)
+
+pub returns-clause-stops : goal.returns-clause-stops
+returns-clause-stops g c = λ stopped. stops_in_room _ c.args.self.now c.make_room.new.self c.carry_out_all.new.self _ c.make_room.ensures.same (c.carry_out_all.ensures.stops stopped)
+
+pub returns-clause-counts : goal.returns-clause-counts
+returns-clause-counts g c = let same = roomier_counts c.args.self.now c.make_room.new.self c.make_room.ensures.same in omega (arith, same, c.carry_out_all.ensures.counts)
