@@ -1,10 +1,9 @@
 -- A publisher's pops and pushes on its rings, each at once.
-use Rattle.std.proofs.Common.{ℕ, ◌≡◌, ◌-◌, ◌<◌, ◌==◌, Bool, true, false, if◌then◌else◌, nat_lt, ap, subst}
+use Rattle.std.proofs.Common.{ℕ, ◌≡◌, ◌-◌, ◌<◌, ◌==◌, Bool, true, false, if◌then◌else◌, nat_lt, ap}
 use Rattle.std.proofs.lemmas.Bool.{false_from_ne_true, eqb-true, lt-ltb}
 use Rattle.iox_lanes_ledger.specs.QueuesSteps.Access.{successor}
 use Rattle.iox_lanes_ledger.specs.QueuesSteps.declared.order.PushAnswer.TheVariants.{Refused}
 use Rattle.iox_lanes_ledger.specs.QueuesRefusing.Refusing as refusing
-use Rattle.iox_lanes_ledger.specs.QueuesRefusing.declared.pop.Pop as refusing_pop_type
 use Rattle.iox_lanes_ledger.specs.QueuesRefusing.declared.pop.Pop.TheVariants as refusing_pop
 use Rattle.iox_lanes_ledger.specs.QueuesRefusing.declared.push.Push.TheVariants as refusing_push
 use Rattle.iox_lanes_ledger.specs.QueuesRings.declared.ends.Push.{Push}
@@ -15,13 +14,8 @@ use Rattle.iox_lanes_ledger.specs.LanesCalls.declared.publisher.Delivery.{Delive
 use Rattle.iox_lanes_ledger.specs.LanesCalls.declared.publisher.PublisherCall.TheVariants as publishing
 use Rattle.iox_lanes_ledger.specs.LanesCalls.declared.route.Route.{Route}
 use Rattle.iox_lanes_ledger.specs.LanesPublisher.Keeping.{changed}
-use Rattle.iox_lanes_ledger.specs.LanesPublisher.Publishers.{words_of as call_words}
 use Rattle.iox_lanes_ledger.specs.LanesParties.Parties.{PublisherLaneState, publisher_after}
-use Rattle.iox_lanes_ledger.specs.LanesParties.Within.{IsPublishing}
-use Rattle.iox_lanes_threads_rule.specs.declared.view.Port.{Port}
-use Rattle.iox_lanes_threads_ports.specs.Ports.{PublisherStands}
 use Rattle.iox_lanes_threads_ports.specs.Strides.{called}
-use Rattle.iox_lanes_threads_ports.proofs.PublisherSteps.{route_at}
 
 pub unequal : (a b : ℕ) → (a ≡ b → ⊥) → (a == b) ≡ false
 unequal a b off = false_from_ne_true (a == b) (λ t. off (eqb-true a b t))
@@ -63,16 +57,3 @@ push_finds lane slot place route delivery limit value write next read room =
     let e : nat_lt (write - read) limit ≡ true = lt-ltb (write - read) limit room in
     let measured : Bool → Push = λ b. ring_push.Refusing (if b then refusing_push.SawRoom value write next else refusing_push.Pushed value Refused) in
     ap (λ (b : Bool). record lane { port = record lane.port { call = pushed lane.port.routes slot place route (measured b) delivery (push_answer (measured b)) } }) e
-
--- the rings of a connection have cells
-pub loan_cells : (p : Port) (lane : PublisherLaneState) (place : ℕ) (route : Route) (pop : refusing_pop_type.Pop) → PublisherStands p lane → lane.port.call ≡ publishing.LoanReclaims place route pop → 0 < route.completion_cells
-loan_cells p lane place route pop stands is =
-    (route_at p lane stands place route (subst (IsPublishing p.service.sizes lane.port.routes (call_words lane.port)) is stands.within.call)).gives_back
-
-pub send_cells : (p : Port) (lane : PublisherLaneState) (slot place : ℕ) (route : Route) (pop : refusing_pop_type.Pop) → PublisherStands p lane → lane.port.call ≡ publishing.SendReclaims slot place route pop → 0 < route.completion_cells
-send_cells p lane slot place route pop stands is =
-    (route_at p lane stands place route (subst (IsPublishing p.service.sizes lane.port.routes (call_words lane.port)) is stands.within.call)).gives_back
-
-pub push_cells : (p : Port) (lane : PublisherLaneState) (slot place : ℕ) (route : Route) (push : Push) (delivery : Delivery) → PublisherStands p lane → lane.port.call ≡ publishing.Pushing slot place route push delivery → 0 < route.submission_cells
-push_cells p lane slot place route push delivery stands is =
-    (route_at p lane stands place route (subst (IsPublishing p.service.sizes lane.port.routes (call_words lane.port)) is stands.within.call)).sends

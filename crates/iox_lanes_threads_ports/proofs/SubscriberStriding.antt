@@ -1,9 +1,7 @@
 -- Several steps of a subscriber, which its lane makes up for at once.
-use Rattle.std.proofs.Common.{ℕ, ◌≡◌, ◌+◌, ◌<◌, ◌≤◌, ◌^◌, Bool, true, false, if◌then◌else◌, nat_lt, refl, sym, ◌∙◌, ap, subst, arith}
-use Rattle.std.proofs.lemmas.Bool.{lt-ltb, le-ltb}
+use Rattle.std.proofs.Common.{ℕ, ◌≡◌, ◌+◌, ◌<◌, Bool, true, false, if◌then◌else◌, nat_lt, refl, sym, ◌∙◌, ap, subst}
+use Rattle.std.proofs.lemmas.Bool.{lt-ltb}
 use Rattle.atomic_table.specs.Table.{Me}
-use Rattle.iox_lanes_ledger.specs.QueuesSteps.Access.{successor}
-use Rattle.iox_lanes_ledger.specs.LanesWords.Numbers.{IsSmall}
 use Rattle.iox_lanes_ledger.specs.LanesWords.declared.access.SharedAccess.{SharedAccess}
 use Rattle.iox_lanes_ledger.specs.LanesWords.declared.access.SharedAccess.TheVariants.{Load, Store}
 use Rattle.iox_lanes_ledger.specs.LanesWords.declared.word.SharedWord.{SharedWord}
@@ -11,10 +9,7 @@ use Rattle.iox_lanes_ledger.specs.LanesCalls.Subscribing.{subscriber_next, read_
 use Rattle.iox_lanes_ledger.specs.LanesCalls.declared.subscriber.SlotExtent.{SlotExtent}
 use Rattle.iox_lanes_ledger.specs.LanesCalls.declared.subscriber.SubscriberCall.{SubscriberCall}
 use Rattle.iox_lanes_ledger.specs.LanesCalls.declared.subscriber.SubscriberCall.TheVariants as subscribing
-use Rattle.iox_lanes_ledger.specs.LanesCalls.declared.subscriber.SubscriberChange.TheVariants as change
-use Rattle.iox_lanes_ledger.specs.LanesSubscriber.Keeping.{changed}
 use Rattle.iox_lanes_ledger.specs.LanesParties.Parties.{SubscriberLaneState, subscriber_after}
-use Rattle.iox_lanes_ledger.specs.LanesParties.Within.{IsSubscribing}
 use Rattle.iox_lanes_threads_rule.specs.Acts.{single, port_of, stepped, ToldBy}
 use Rattle.iox_lanes_threads_rule.specs.declared.view.Port.{Port}
 use Rattle.iox_lanes_threads_rule.specs.declared.view.View.{View}
@@ -68,35 +63,9 @@ read_by : (slot k : ℕ) (extent : SlotExtent) (b : Bool) → b ≡ true → (if
 read_by slot k extent true e = refl
 read_by slot k extent false e = absurd (cc e)
 
-ends_by : (slot k : ℕ) (extent : SlotExtent) (b : Bool) → b ≡ false → (if b then subscribing.Reading slot k extent else subscribing.WasRead slot) ≡ subscribing.WasRead slot
-ends_by slot k extent true e = absurd (cc e)
-ends_by slot k extent false e = refl
-
--- a read goes from word to word, up to its last
+-- a read stands at a word of its sample
 pub reads_at : (slot k : ℕ) (extent : SlotExtent) → k < 3 + extent.user_header_words + extent.payload_words → read_at slot extent k ≡ subscribing.Reading slot k extent
 reads_at slot k extent less = read_by slot k extent (nat_lt k (3 + extent.user_header_words + extent.payload_words)) (lt-ltb k (3 + extent.user_header_words + extent.payload_words) less)
-
-pub was_read_at : (slot k : ℕ) (extent : SlotExtent) → 3 + extent.user_header_words + extent.payload_words ≤ k → read_at slot extent k ≡ subscribing.WasRead slot
-was_read_at slot k extent past = ends_by slot k extent (nat_lt k (3 + extent.user_header_words + extent.payload_words)) (le-ltb k (3 + extent.user_header_words + extent.payload_words) past)
-
-pub read_here : (lane : SubscriberLaneState) (slot k : ℕ) (extent : SlotExtent) → k < 3 + extent.user_header_words + extent.payload_words
-    → subscriber_called (read_at slot extent k) lane ≡ subscriber_called (subscribing.Reading slot k extent) lane
-read_here lane slot k extent less = ap (λ (c : SubscriberCall). subscriber_called c lane) (reads_at slot k extent less)
-
-pub read_next : (lane : SubscriberLaneState) (slot k value : ℕ) (extent : SlotExtent) → k + 1 < 2 ^ 64
-    → subscriber_after value (subscriber_called (subscribing.Reading slot k extent) lane) ≡ subscriber_called (read_at slot extent (k + 1)) (record lane { port = changed (change.Note k value) lane.port })
-read_next lane slot k value extent less =
-    let one : successor k ≡ k + 1 = omega (arith, less) in
-    ap (λ (n : ℕ). subscriber_called (read_at slot extent n) (record lane { port = changed (change.Note k value) lane.port })) one
-
--- the words of a sample are few
-pub few_words : (p : Port) (lane : SubscriberLaneState) (slot k : ℕ) (extent : SlotExtent) → SubscriberStands p lane → IsSmall p.service.sizes → lane.port.call ≡ subscribing.Reading slot k extent → 3 + extent.user_header_words + extent.payload_words < 2 ^ 64
-few_words p lane slot k extent stands small is =
-    let at = subst (IsSubscribing p.service.sizes lane.port.routes) is stands.within.call in
-    let all = small.slot in
-    let header = at.2.user_header in
-    let payload = at.2.payload in
-    omega (arith, all, header, payload)
 
 -- one step
 pub strode_once : (me me' : Me ℕ View) (lane lane' : SubscriberLaneState) → me ≡ single (port_of me) → SubscriberStands (port_of me) lane → SubscriberSteps (port_of me) lane me' lane' → SubscriberStrode (port_of me) lane me' lane'

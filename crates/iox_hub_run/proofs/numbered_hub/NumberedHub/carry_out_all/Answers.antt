@@ -34,5 +34,9 @@ returns-in_default-step-clause-stops g c = λ stopped.
     let given : into_iter_items c.into_iter-command-iterator.result ≡ c.args.commands.items = search rules in
     let all : at.yielded ++ command ∷ into_iter_items c.next.new.self ≡ c.args.commands.items = rw (← steps) (at.invariant.all ∙ given) in
     let count : length at.replies.items ≡ length at.yielded = omega (arith, at.invariant.answered, at.replies.ok) in
-    inr (command, rw (← all, count) (at_seam at.yielded command (into_iter_items c.next.new.self)), lacks_values (detail FixedSize g.T.ZeroCopySend.name g.T.ZeroCopySend.size g.T.ZeroCopySend.alignment) (detail FixedSize g.U.ZeroCopySend.name g.U.ZeroCopySend.size g.U.ZeroCopySend.alignment) (types_of g.T.ZeroCopySend.name g.T.ZeroCopySend.size g.T.ZeroCopySend.alignment g.U.ZeroCopySend.name g.U.ZeroCopySend.size g.U.ZeroCopySend.alignment) (λ value. g.T.Default.is_default value) (λ value. g.U.Default.is_default value) g.B.PublisherHandlers.fixed (λ handlers. g.B.Degrades.degrades handlers) (λ handlers. g.B.Decides.decides handlers) g.D.SubscriberHandler.fixed (λ handler. g.D.Degrades.degrades handler) (loans_in (into_iter_items c.next.new.self)) (samples_in (into_iter_items c.next.new.self)) command at.self c.step.new.self c.in_default-step.field-0 c.in_default-step.ensures.steps
-    (subst (λ items. FitsAll (loans_in items) (samples_in items) at.self.made) steps at.invariant.fits))
+    inr (
+      command,
+      rw (← all, count) (at_seam at.yielded command (into_iter_items c.next.new.self)),
+      lacks_values (detail FixedSize g.T.ZeroCopySend.name g.T.ZeroCopySend.size g.T.ZeroCopySend.alignment) (detail FixedSize g.U.ZeroCopySend.name g.U.ZeroCopySend.size g.U.ZeroCopySend.alignment) (types_of g.T.ZeroCopySend.name g.T.ZeroCopySend.size g.T.ZeroCopySend.alignment g.U.ZeroCopySend.name g.U.ZeroCopySend.size g.U.ZeroCopySend.alignment) (λ value. g.T.Default.is_default value) (λ value. g.U.Default.is_default value) g.B.PublisherHandlers.fixed (λ handlers. g.B.Degrades.degrades handlers) (λ handlers. g.B.Decides.decides handlers) g.D.SubscriberHandler.fixed (λ handler. g.D.Degrades.degrades handler) (loans_in (into_iter_items c.next.new.self)) (samples_in (into_iter_items c.next.new.self)) command at.self c.step.new.self c.in_default-step.field-0 c.in_default-step.ensures.steps
+          (subst (λ items. FitsAll (loans_in items) (samples_in items) at.self.made) steps at.invariant.fits),
+    )
