@@ -11,7 +11,8 @@ ghost use Rattle.iox_line_attributes.specs.Reading.{specifier_of, verifier_of};
 ghost use Rattle.iox_line_services.specs.Reading.{service_of};
 ghost use Rattle.iox_line_steps.specs.Reading.{lists_of, steps_of};
 
-use iox_command::Reply;
+use iox_command::{Command, Reply};
+use iox_command_ports::PortCommand;
 use iox_command_text::Words;
 use iox_describe_base::MessagingPattern;
 use iox_line::{Scratch, print_reply, read_command};
@@ -82,6 +83,22 @@ fn are_steps(alloc: Global, pattern: MessagingPattern, words: Words) -> Result<b
     Ok(steps.is_some())
 }
 
+/// `iox_command_ports`: the command by which a subscriber receives, as one among all commands.
+fn receive<'a>(subscriber: u64) -> Command<'a, u64>
+    ensures { result ≡ Command.Receive subscriber }
+{
+    let command = PortCommand::Receive { subscriber };
+    command.into_command()
+}
+
+/// Whose command it is to receive, if it is that.
+fn receiver(command: &Command<u64>) -> Option<u64> {
+    match command {
+        Command::Receive { subscriber } => Some(*subscriber),
+        _ => None,
+    }
+}
+
 /// What words of attributes and of steps are.
 fn print_words(rt: &impl Print, alloc: Global) -> io::Result<()> {
     let defined = are_defined(alloc, Words::new(b"@a=1 @b=2"))?;
@@ -101,6 +118,7 @@ fn main(rt: HostRuntime) -> io::Result<()> {
     }
     println!(rt; "iox_line_services: {:?}", node_of(b"n4 ps A buffer=2"))?;
     print_words(&rt, rt.alloc())?;
+    println!(rt; "iox_command_ports: {:?}", receiver(&receive(3)))?;
     let line = line_of(rt.alloc(), &Reply::NodeMade(1))?;
     if let Ok(text) = str::from_utf8(line.as_slice()) {
         println!(rt; "iox_line: {text}")?;
