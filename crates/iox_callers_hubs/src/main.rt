@@ -3,6 +3,7 @@
 #![tactic(auto)]
 
 ghost use Rattle.std.specs.Prelude.{◌≡◌, Ok, None, true, false, codes, IfSome};
+ghost use Rattle.iox_hub_base.specs.Hubs.{one_more};
 ghost use Rattle.iox_hub_requests.specs.Asked.{asked_publish_subscribe, types_of};
 
 use iox_command::{HubError, PublishSubscribeOptions, Reply};
@@ -13,8 +14,8 @@ use iox_describe::{
 };
 use iox_domain::{DomainId, Nobody};
 use iox_domain_home::Home;
-use iox_domain_values::DomainError;
-use iox_hub_base::{Hub, HubBuilder, HubConfig};
+use iox_domain_values::{DomainError, PortOwner};
+use iox_hub_base::{Hub, HubBuilder, HubConfig, NodeHandle};
 use iox_hub_commands::{Made, messages};
 use iox_hub_factories::Factories;
 use iox_hub_requests::{message_types, publish_subscribe};
@@ -49,6 +50,28 @@ fn first_node(alloc: Global, config: HubConfig, name: ServiceName) -> Result<(u6
     let node = hub.new_node()?;
     let builder = hub.service_builder(&node, name).publish_subscribe::<u64>();
     Ok((node.number(), builder.holds(&hub)))
+}
+
+/// `iox_hub_base`: creates a service of numbers for a node, and says whose its publishers would be: of the factory that the hub counts
+/// next. None where the service is refused.
+fn owner_in_new(
+    alloc: Global,
+    hub: &mut Hub<u64, (), Nobody, Nobody>,
+    node: &NodeHandle,
+    name: ServiceName,
+) -> Option<PortOwner>
+    requires { node.now.hub ≡ hub.old.table.id }
+    ensures { IfSome result (λ owner. owner.number ≡ one_more hub.old.factories) }
+{
+    let builder = hub.service_builder(node, name).publish_subscribe::<u64>();
+    let Ok(factory) = builder.create_in(alloc, hub, Vec::new(alloc)) else {
+        return None;
+    };
+    if !hub.holds(&factory) {
+        return None;
+    }
+    let publishers = hub.publisher_builder(&factory)?;
+    Some(publishers.owner)
 }
 
 /// `iox_hub_factories`: closes a factory by its number, of a hub in which commands opened none: nothing happens.
@@ -116,6 +139,13 @@ fn taken_once(alloc: Global, description: &Description) -> Result<Option<DomainI
     Ok(taken(&mut services, 2))
 }
 
+/// Whose the publishers of a new hub's first service would be.
+fn first_owner(alloc: Global, name: ServiceName) -> Option<PortOwner> {
+    let mut hub = Hub::<u64, (), Nobody, Nobody>::new(alloc, CONFIG);
+    let node = hub.new_node().ok()?;
+    owner_in_new(alloc, &mut hub, &node, name)
+}
+
 /// What becomes of commands in a hub in which nothing was made.
 fn print_commands(rt: &impl Print, alloc: Global) -> io::Result<()> {
     let mut hub = Hub::<u64, (), Nobody, Nobody>::new(alloc, CONFIG);
@@ -140,5 +170,6 @@ fn main(rt: HostRuntime) -> io::Result<()> {
         taken_once(rt.alloc(), &of_numbers(name))
     )?;
     println!(rt; "iox_hub_base: {:?}", first_node(rt.alloc(), CONFIG, name))?;
+    println!(rt; "iox_hub_base: {:?}", first_owner(rt.alloc(), name))?;
     print_commands(&rt, rt.alloc())
 }
