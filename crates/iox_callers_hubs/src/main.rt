@@ -1,27 +1,30 @@
-//! First calls of hubs: of their services, and of what commands make in them; each as a function whose contract follows from the
-//! contracts of that crate alone. Each is run, and what it returns is printed.
+//! First calls of hubs: of their services, of what commands make in them, and of a hub that commands drive; each as a function whose
+//! contract follows from the contracts of that crate alone. Each is run, and what it returns is printed.
 #![tactic(auto)]
 
-ghost use Rattle.std.specs.Prelude.{◌≡◌, Ok, None, true, false, codes, IfSome};
+ghost use Rattle.std.specs.Prelude.{◌≡◌, ◌+◌, ◌<◌, ◌^◌, Ok, None, true, false, codes, length, IfOk, IfSome};
 ghost use Rattle.iox_hub_base.specs.Hubs.{one_more};
 ghost use Rattle.iox_hub_requests.specs.Asked.{asked_publish_subscribe, types_of};
+ghost use Rattle.iox_hub_run.specs.Numbers.{numbers_used};
 
-use iox_command::{HubError, PublishSubscribeOptions, Reply};
+use iox_command::{Command, HubError, PublishSubscribeOptions, Reply};
 use iox_describe::publish_subscribe::StaticConfig;
 use iox_describe::requirement::publish_subscribe::Requirement;
 use iox_describe::{
-    AttributeSpecifier, Description, Header, MessageTypeDetails, ServiceName, Settings, TypeVariant,
+    AttributeSpecifier, Description, Header, MessageTypeDetails, Settings, TypeVariant,
 };
 use iox_domain::{DomainId, Nobody};
 use iox_domain_home::Home;
 use iox_domain_values::{DomainError, PortOwner};
-use iox_hub_base::{Hub, HubBuilder, HubConfig, NodeHandle};
+use iox_facade::prelude::{Hub, ServiceName};
+use iox_hub_base::{HubBuilder, HubConfig, NodeHandle};
 use iox_hub_commands::{Made, messages};
 use iox_hub_factories::Factories;
 use iox_hub_requests::{message_types, publish_subscribe};
+use iox_hub_run::{NumberedHub, RunReport};
 use iox_hub_services::Services;
 use iox_negotiate_errors::CloseError;
-use std::alloc::Global;
+use std::alloc::{AllocError, Global};
 use std::io::{self, Print};
 
 /// `iox_hub_requests`: what is asked of a service of slices of numbers by these options.
@@ -108,6 +111,29 @@ fn release_of_none<H: Home<u64, ()>>(alloc: Global, home: &mut H, sample: u64) -
     reply
 }
 
+/// `iox_hub_run`: what is replied to the first command of a new hub, where that asks for a node.
+fn first_reply(alloc: Global, config: HubConfig) -> Result<Reply<u64>, AllocError>
+    ensures { IfOk result (λ reply. reply ≡ Reply.NodeMade 1) }
+{
+    let mut hub = NumberedHub::<u64, ()>::new(alloc, config);
+    let reply = hub.step(alloc, Command::Node)?;
+    Ok(reply)
+}
+
+/// `iox_hub_run`: what is replied to these commands, one after another: to each of them, unless no memory was found for a reply.
+#[tactic(auto, using(crate::proofs::Replied::replied))]
+fn replies(
+    alloc: Global,
+    hub: &mut NumberedHub<u64, ()>,
+    commands: Vec<Command<u64>>,
+) -> RunReport<u64>
+    requires { numbers_used hub.old + length commands.items < 2 ^ 64 }
+    ensures { result.stopped ≡ false → length result.replies.items ≡ length commands.entry.items }
+{
+    let report = hub.run(alloc, commands);
+    report
+}
+
 /// Which hub it is.
 const CONFIG: HubConfig = HubConfig {
     expired_connection_buffer: 128,
@@ -160,6 +186,19 @@ fn print_commands(rt: &impl Print, alloc: Global) -> io::Result<()> {
     )
 }
 
+/// How many replies there are to a node and to a receive of nobody, in a hub in which nothing was made.
+fn count_replies(alloc: Global) -> Result<usize, AllocError> {
+    let mut hub = NumberedHub::<u64, ()>::new(alloc, CONFIG);
+    let commands = vec![in alloc; Command::Node, Command::Receive { subscriber: 1 }]?;
+    Ok(replies(alloc, &mut hub, commands).replies.len())
+}
+
+/// What a hub that commands drive replies.
+fn print_replies(rt: &impl Print, alloc: Global) -> io::Result<()> {
+    println!(rt; "iox_hub_run: {:?}", first_reply(alloc, CONFIG)?)?;
+    println!(rt; "iox_hub_run: {}", count_replies(alloc)?)
+}
+
 fn main(rt: HostRuntime) -> io::Result<()> {
     let Ok(name) = ServiceName::new(b"numbers") else {
         return Ok(());
@@ -171,5 +210,6 @@ fn main(rt: HostRuntime) -> io::Result<()> {
     )?;
     println!(rt; "iox_hub_base: {:?}", first_node(rt.alloc(), CONFIG, name))?;
     println!(rt; "iox_hub_base: {:?}", first_owner(rt.alloc(), name))?;
-    print_commands(&rt, rt.alloc())
+    print_commands(&rt, rt.alloc())?;
+    print_replies(&rt, rt.alloc())
 }
