@@ -1,26 +1,30 @@
-//! First calls of hubs: of their services, and of what commands make in them; each as a function whose contract follows from the
-//! contracts of that crate alone. Each is run, and what it returns is printed.
+//! First calls of hubs: of their services, of what commands make in them, and of a hub that commands drive; each as a function whose
+//! contract follows from the contracts of that crate alone. Each is run, and what it returns is printed.
 #![tactic(auto)]
 
-ghost use Rattle.std.specs.Prelude.{◌≡◌, Ok, None, true, false, codes, IfSome};
+ghost use Rattle.std.specs.Prelude.{◌≡◌, ◌+◌, ◌<◌, ◌^◌, Ok, None, true, false, codes, length, IfOk, IfSome};
+ghost use Rattle.iox_hub_base.specs.Hubs.{one_more};
 ghost use Rattle.iox_hub_requests.specs.Asked.{asked_publish_subscribe, types_of};
+ghost use Rattle.iox_hub_run.specs.Numbers.{numbers_used};
 
-use iox_command::{HubError, PublishSubscribeOptions, Reply};
+use iox_command::{Command, HubError, PublishSubscribeOptions, Reply};
 use iox_describe::publish_subscribe::StaticConfig;
 use iox_describe::requirement::publish_subscribe::Requirement;
 use iox_describe::{
-    AttributeSpecifier, Description, Header, MessageTypeDetails, ServiceName, Settings, TypeVariant,
+    AttributeSpecifier, Description, Header, MessageTypeDetails, Settings, TypeVariant,
 };
 use iox_domain::{DomainId, Nobody};
 use iox_domain_home::Home;
-use iox_domain_values::DomainError;
-use iox_hub_base::{Hub, HubBuilder, HubConfig};
+use iox_domain_values::{DomainError, PortOwner};
+use iox_facade::prelude::{Hub, ServiceName};
+use iox_hub_base::{HubBuilder, HubConfig, NodeHandle};
 use iox_hub_commands::{Made, messages};
 use iox_hub_factories::Factories;
 use iox_hub_requests::{message_types, publish_subscribe};
+use iox_hub_run::{NumberedHub, RunReport};
 use iox_hub_services::Services;
 use iox_negotiate_errors::CloseError;
-use std::alloc::Global;
+use std::alloc::{AllocError, Global};
 use std::io::{self, Print};
 
 /// `iox_hub_requests`: what is asked of a service of slices of numbers by these options.
@@ -49,6 +53,28 @@ fn first_node(alloc: Global, config: HubConfig, name: ServiceName) -> Result<(u6
     let node = hub.new_node()?;
     let builder = hub.service_builder(&node, name).publish_subscribe::<u64>();
     Ok((node.number(), builder.holds(&hub)))
+}
+
+/// `iox_hub_base`: creates a service of numbers for a node, and says whose its publishers would be: of the factory that the hub counts
+/// next. None where the service is refused.
+fn owner_in_new(
+    alloc: Global,
+    hub: &mut Hub<u64, (), Nobody, Nobody>,
+    node: &NodeHandle,
+    name: ServiceName,
+) -> Option<PortOwner>
+    requires { node.now.hub ≡ hub.old.table.id }
+    ensures { IfSome result (λ owner. owner.number ≡ one_more hub.old.factories) }
+{
+    let builder = hub.service_builder(node, name).publish_subscribe::<u64>();
+    let Ok(factory) = builder.create_in(alloc, hub, Vec::new(alloc)) else {
+        return None;
+    };
+    if !hub.holds(&factory) {
+        return None;
+    }
+    let publishers = hub.publisher_builder(&factory)?;
+    Some(publishers.owner)
 }
 
 /// `iox_hub_factories`: closes a factory by its number, of a hub in which commands opened none: nothing happens.
@@ -85,6 +111,29 @@ fn release_of_none<H: Home<u64, ()>>(alloc: Global, home: &mut H, sample: u64) -
     reply
 }
 
+/// `iox_hub_run`: what is replied to the first command of a new hub, where that asks for a node.
+fn first_reply(alloc: Global, config: HubConfig) -> Result<Reply<u64>, AllocError>
+    ensures { IfOk result (λ reply. reply ≡ Reply.NodeMade 1) }
+{
+    let mut hub = NumberedHub::<u64, ()>::new(alloc, config);
+    let reply = hub.step(alloc, Command::Node)?;
+    Ok(reply)
+}
+
+/// `iox_hub_run`: what is replied to these commands, one after another: to each of them, unless no memory was found for a reply.
+#[tactic(auto, using(crate::proofs::Replied::replied))]
+fn replies(
+    alloc: Global,
+    hub: &mut NumberedHub<u64, ()>,
+    commands: Vec<Command<u64>>,
+) -> RunReport<u64>
+    requires { numbers_used hub.old + length commands.items < 2 ^ 64 }
+    ensures { result.stopped ≡ false → length result.replies.items ≡ length commands.entry.items }
+{
+    let report = hub.run(alloc, commands);
+    report
+}
+
 /// Which hub it is.
 const CONFIG: HubConfig = HubConfig {
     expired_connection_buffer: 128,
@@ -116,6 +165,13 @@ fn taken_once(alloc: Global, description: &Description) -> Result<Option<DomainI
     Ok(taken(&mut services, 2))
 }
 
+/// Whose the publishers of a new hub's first service would be.
+fn first_owner(alloc: Global, name: ServiceName) -> Option<PortOwner> {
+    let mut hub = Hub::<u64, (), Nobody, Nobody>::new(alloc, CONFIG);
+    let node = hub.new_node().ok()?;
+    owner_in_new(alloc, &mut hub, &node, name)
+}
+
 /// What becomes of commands in a hub in which nothing was made.
 fn print_commands(rt: &impl Print, alloc: Global) -> io::Result<()> {
     let mut hub = Hub::<u64, (), Nobody, Nobody>::new(alloc, CONFIG);
@@ -130,6 +186,19 @@ fn print_commands(rt: &impl Print, alloc: Global) -> io::Result<()> {
     )
 }
 
+/// How many replies there are to a node and to a receive of nobody, in a hub in which nothing was made.
+fn count_replies(alloc: Global) -> Result<usize, AllocError> {
+    let mut hub = NumberedHub::<u64, ()>::new(alloc, CONFIG);
+    let commands = vec![in alloc; Command::Node, Command::Receive { subscriber: 1 }]?;
+    Ok(replies(alloc, &mut hub, commands).replies.len())
+}
+
+/// What a hub that commands drive replies.
+fn print_replies(rt: &impl Print, alloc: Global) -> io::Result<()> {
+    println!(rt; "iox_hub_run: {:?}", first_reply(alloc, CONFIG)?)?;
+    println!(rt; "iox_hub_run: {}", count_replies(alloc)?)
+}
+
 fn main(rt: HostRuntime) -> io::Result<()> {
     let Ok(name) = ServiceName::new(b"numbers") else {
         return Ok(());
@@ -140,5 +209,7 @@ fn main(rt: HostRuntime) -> io::Result<()> {
         taken_once(rt.alloc(), &of_numbers(name))
     )?;
     println!(rt; "iox_hub_base: {:?}", first_node(rt.alloc(), CONFIG, name))?;
-    print_commands(&rt, rt.alloc())
+    println!(rt; "iox_hub_base: {:?}", first_owner(rt.alloc(), name))?;
+    print_commands(&rt, rt.alloc())?;
+    print_replies(&rt, rt.alloc())
 }

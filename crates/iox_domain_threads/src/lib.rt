@@ -5,13 +5,15 @@
 //! - [`ending`]: from threads back to the domain, without its messages.
 //! - `emptying`: publishers of a domain without messages.
 //!
-//! First calls. Tests in `iox_lanes_opening_rows` make them.
+//! First calls. Between the two the ports make the calls of `iox_lanes_threads`.
 //!
 //! ```
-//! let DomainThreads { board, mut publishers, mut subscribers } = open_threads(alloc, 1, lanes)?;
-//! let lent = publishers[0].loan_uninit();
-//! let got = subscribers[0].receive(&rt);
-//! let domain = end(board, publishers, subscribers)?;
+//! let DomainThreads {
+//!     board,
+//!     publishers,
+//!     subscribers,
+//! } = open_threads(alloc, 1, lanes).ok()?;
+//! let domain = end(board, publishers, subscribers).ok()?;
 //! ```
 #![tactic(auto)]
 

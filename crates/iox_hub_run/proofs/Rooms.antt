@@ -1,5 +1,5 @@
 -- What each command leaves of the room for numbers of loans and samples, and which commands may lack memory where there is room.
-use Rattle.std.proofs.Common.{arith, ◌≡◌, ◌∙◌, sym, subst, ◌≤◌, ◌+◌, ◌⊎◌, inl, inr, ℕ, Bool, true, false, List, [], ◌∷◌, ◌++◌, length, Option, None, Some, Result, Ok, Err, refl, ap}
+use Rattle.std.proofs.Common.{arith, ◌≡◌, ◌∙◌, sym, subst, ◌≤◌, ◌+◌, inl, inr, ℕ, Bool, true, false, List, [], ◌∷◌, ◌++◌, length, Option, None, Some, Result, Ok, Err, refl, ap}
 use Rattle.std.proofs.Math.Seq.{get_or-append_seam}
 use Rattle.std.proofs.lemmas.List.{length-append, take_more}
 use Rattle.std.proofs.lemmas.Option.{slice_get_read}

@@ -1,4 +1,4 @@
-use Rattle.std.proofs.Common.{arith, ◌∙◌, ap, length}
+use Rattle.std.proofs.Common.{arith, ◌∙◌, ap}
 use Rattle.std.proofs.lemmas.List.{take_all}
 use Rattle.iox_hub_run.specs.Room.{loans_in}
 use Rattle.iox_hub_run.proofs.Rooms.{loans_more}

@@ -1,4 +1,4 @@
-use Rattle.std.proofs.Common.{arith, rules, inr, refl, ◌+◌, ◌≡◌, [], ◌∷◌, ◌++◌, length, ap, subst, ◌∙◌, append_assoc}
+use Rattle.std.proofs.Common.{arith, rules, inr, ◌+◌, ◌≡◌, [], ◌∷◌, ◌++◌, length, ap, subst, ◌∙◌, append_assoc}
 use Rattle.std.specs.Vec.Iter.{into_iter_items}
 use Rattle.std.proofs.lemmas.List.{length-append}
 use Rattle.iox_hub_commands.specs.DescribeBase.Detail.{detail}
