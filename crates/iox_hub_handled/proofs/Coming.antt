@@ -56,7 +56,7 @@ module _ {T U B D P : Type 0} where
   publisher_taken is_default handled degrades at_full at_failure full failing ports factory options fewer old new answer is_full is_failing here makes left =
       subst (λ (o : Option (Option P)). PublisherTakes is_default handled degrades o at_failure ports factory options fewer old answer new) (sym is_full)
       (subst (λ (o : Option (Option D)). PublisherTakes is_default handled degrades (Some full) o ports factory options fewer old answer new) (sym is_failing)
-          (publisher_here is_default handled degrades full failing ports factory options fewer old new answer here makes left))
+      (publisher_here is_default handled degrades full failing ports factory options fewer old new answer here makes left))
 
   pub subscriber_skipped : (degrades : D → DegradationCause → DegradationInfo → DegradationAction → Type 0) (found : Option D) (ports : Option (ServicePorts T U)) (factory : ℕ) (options : SubscriberOptions) (fewer : List (Option (GivenHandler P D)))
       (state : NumberedHub T U B D × List (Option (GivenHandler P D))) → (is_some found ≡ false) ⊎ (is_some ports ≡ false) → SubscriberTakes degrades found ports factory options fewer state reply.Skipped state

@@ -64,7 +64,7 @@ module _ {T U B D P : Type 0} (payload user_header : Detail) (types : MessageTyp
       → IsRun (Step payload user_header types is_default is_default_header fixed degrades decides fixed_reader reader_degrades) commands old.0 replies true new.0 × (new.1 ≡ old.1)
   stops_plain commands first command old mid new replies lacking parts runs does =
       let ran = runs_plain parts.before old mid replies
-          (subst (λ (all : List (HandledCommand T)). Runs (HandledStep payload user_header types is_default is_default_header fixed handled degrades decides fixed_reader reader_degrades) all old replies mid) parts.is_first runs) in
+      (subst (λ (all : List (HandledCommand T)). Runs (HandledStep payload user_header types is_default is_default_header fixed handled degrades decides fixed_reader reader_degrades) all old replies mid) parts.is_first runs) in
       let last : HandledStep payload user_header types is_default is_default_header fixed handled degrades decides fixed_reader reader_degrades (asked.Plain parts.at) mid (Err lacking) new =
       subst (λ (one : HandledCommand T). HandledStep payload user_header types is_default is_default_header fixed handled degrades decides fixed_reader reader_degrades one mid (Err lacking) new) parts.is_one does in
       (inr (parts.before, parts.at, parts.after, mid.0, lacking, parts.is, ran.0, last.0), last.1 ∙ ran.1)
@@ -73,11 +73,10 @@ module _ {T U B D P : Type 0} (payload user_header : Detail) (types : MessageTyp
       → IsRun (HandledStep payload user_header types is_default is_default_header fixed handled degrades decides fixed_reader reader_degrades) (map (λ (command : Command T). asked.Plain command) commands) old replies stopped new
       → IsRun (Step payload user_header types is_default is_default_header fixed degrades decides fixed_reader reader_degrades) commands old.0 replies stopped new.0 × (new.1 ≡ old.1)
   run_plain commands old new replies false runs = runs_plain commands old new replies runs
-  run_plain commands old new replies true (inl (some, none, same)) =
-      (
-        inl (subst (λ n. 0 < n) (length-map commands (λ (command : Command T). asked.Plain command)) some, none, ap (λ (state : NumberedHub T U B D × List (Option (GivenHandler P D))). state.0) same),
-        ap (λ (state : NumberedHub T U B D × List (Option (GivenHandler P D))). state.1) same,
-      )
+  run_plain commands old new replies true (inl (some, none, same)) = (
+    inl (subst (λ n. 0 < n) (length-map commands (λ (command : Command T). asked.Plain command)) some, none, ap (λ (state : NumberedHub T U B D × List (Option (GivenHandler P D))). state.0) same),
+    ap (λ (state : NumberedHub T U B D × List (Option (GivenHandler P D))). state.1) same,
+  )
   run_plain commands old new replies true (inr (first, command, rest, mid, lacking, is, runs, does)) =
       stops_plain commands first command old mid new replies lacking (apart (λ (one : Command T). asked.Plain one) commands first command rest is) runs does
 

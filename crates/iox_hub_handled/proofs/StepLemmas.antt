@@ -31,7 +31,7 @@ module _ {T U B D P : Type 0} (payload user_header : Detail) (types : MessageTyp
     (fixed_reader : DegradationAction → D) (reader_degrades : D → DegradationCause → DegradationInfo → DegradationAction → Type 0)
     (Goes : NumberedHub T U B D → NumberedHub T U B D → Type 0) (still : (hub : NumberedHub T U B D) → Goes hub hub)
     (steps : (by : BackpressureStrategy → Option BackpressureAction → DegradationAction → B) (by_reader : DegradationAction → D) (command : Command T) (old new : NumberedHub T U B D) (answer : Result (Reply T) AllocError)
-        → Step payload user_header types is_default is_default_header by degrades decides by_reader reader_degrades command old answer new → Goes old new) where
+    → Step payload user_header types is_default is_default_header by degrades decides by_reader reader_degrades command old answer new → Goes old new) where
   same_goes : (old new : NumberedHub T U B D × List (Option (GivenHandler P D))) → new ≡ old → Goes old.0 new.0
   same_goes old new is = subst (λ (state : NumberedHub T U B D × List (Option (GivenHandler P D))). Goes old.0 state.0) (sym is) (still old.0)
 

@@ -6,10 +6,12 @@ use Rattle.std.specs.Prelude.{is_some, if◌then◌else◌}
 use Rattle.iox_hub_run.specs.Command.declared.port.PublisherOptions.{PublisherOptions}
 use Rattle.iox_hub_run.specs.Command.declared.port.SubscriberOptions.{SubscriberOptions}
 use Rattle.iox_hub_run.specs.Command.declared.reply.Reply.{Reply}
+use Rattle.iox_hub_run.specs.HubBase.AsHome.{with_hub_ports, with_hub_publisher, with_hub_subscriber}
 use Rattle.iox_hub_run.specs.HubBase.Opening.{Made as Opened}
 use Rattle.iox_hub_run.specs.HubCommands.DescribeBase.Detail.{Detail}
 use Rattle.iox_hub_run.specs.HubCommands.DescribeBase.declared.message_type.MessageTypeDetails.{MessageTypeDetails}
 use Rattle.iox_hub_run.specs.HubCommands.DomainHome.Homes.{MakesAt}
+use Rattle.iox_hub_run.specs.HubCommands.DomainHome.Steps.{why_no_publisher, why_no_subscriber}
 use Rattle.iox_hub_run.specs.HubCommands.DomainPorts.declared.service_ports.ServicePorts.{ServicePorts}
 use Rattle.iox_hub_run.specs.HubCommands.DomainValues.declared.backpressure.BackpressureAction.{BackpressureAction}
 use Rattle.iox_hub_run.specs.HubCommands.DomainValues.declared.backpressure.BackpressureDecision.{BackpressureDecision}
@@ -22,11 +24,12 @@ use Rattle.iox_hub_run.specs.HubCommands.DomainValues.declared.degradation.Degra
 use Rattle.iox_hub_run.specs.HubCommands.DomainValues.declared.degradation.DegradationInfo.{DegradationInfo}
 use Rattle.iox_hub_run.specs.HubCommands.HubPorts.Making.{NumbersPort}
 use Rattle.iox_hub_run.specs.HubCommands.HubPorts.declared.made.Made.{Made}
+use Rattle.iox_hub_run.specs.HubCommands.Naming.{publisher_config, publisher_handlers, subscriber_config, subscriber_handler}
 use Rattle.iox_hub_run.specs.HubCommands.Replies.{publisher_reply, subscriber_reply}
 use Rattle.iox_hub_factories.specs.Numbered.NumberTable.{value_at}
 use Rattle.iox_hub_factories.specs.Tables.{publish_subscribe_in}
 use Rattle.iox_hub_run.specs.Runs.{Runs, IsRun}
-use Rattle.iox_hub_run.specs.Services.{PublisherComes, SubscriberComes}
+use Rattle.iox_hub_run.specs.Services.{PublisherComes, SubscriberComes, domain_of_factory, owner_of_factory}
 use Rattle.iox_hub_run.specs.declared.numbered_hub.NumberedHub.{NumberedHub}
 use Rattle.iox_hub_handled.specs.Places.{named, lies_at, backpressure_of, degradation_of, emptied, emptied_if}
 use Rattle.iox_hub_handled.specs.Steps.{HandledStep, PublisherTakes, SubscriberTakes, ports_of_factory}
@@ -50,28 +53,28 @@ numbered_there numbered next None came made after there numbers = cc
 numbered_there numbered next (Some (Err error)) came made after there numbers = ap (λ o. is_some o) numbers.0
 numbered_there numbered next (Some (Ok number)) came made after there numbers = ap (λ o. is_some o) numbers.0
 
-publisher_replied_to : {T : Type 0} (came : Option (Result ℕ PublisherCreateError)) → is_some came ≡ true → is_skipped {T = T} (publisher_reply came) ≡ false
-publisher_replied_to None there = cc
-publisher_replied_to (Some (Ok number)) there = refl
-publisher_replied_to (Some (Err error)) there = refl
+publisher_replied_to : (T : Type 0) (came : Option (Result ℕ PublisherCreateError)) → is_some came ≡ true → is_skipped {T = T} (publisher_reply came) ≡ false
+publisher_replied_to T None there = cc
+publisher_replied_to T (Some (Ok number)) there = refl
+publisher_replied_to T (Some (Err error)) there = refl
 
-subscriber_replied_to : {T : Type 0} (came : Option (Result ℕ SubscriberCreateError)) → is_some came ≡ true → is_skipped {T = T} (subscriber_reply came) ≡ false
-subscriber_replied_to None there = cc
-subscriber_replied_to (Some (Ok number)) there = refl
-subscriber_replied_to (Some (Err error)) there = refl
+subscriber_replied_to : (T : Type 0) (came : Option (Result ℕ SubscriberCreateError)) → is_some came ≡ true → is_skipped {T = T} (subscriber_reply came) ≡ false
+subscriber_replied_to T None there = cc
+subscriber_replied_to T (Some (Ok number)) there = refl
+subscriber_replied_to T (Some (Err error)) there = refl
 
 module _ {T U B D : Type 0} where
   publisher_replied : (is_default : U → Type 0) (fixed : BackpressureStrategy → Option BackpressureAction → DegradationAction → B) (degrades : B → DegradationCause → DegradationInfo → DegradationAction → Type 0) (opened : Option Opened) (options : PublisherOptions)
       (old new : NumberedHub T U B D) (answer : Reply T) (ports : ServicePorts T U) → ports_of_factory opened old.hub ≡ Some ports → PublisherComes is_default fixed degrades opened options old answer new → is_skipped answer ≡ false
   publisher_replied is_default fixed degrades None options old new answer ports there comes = cc
   publisher_replied is_default fixed degrades (Some opened) options old new answer ports there ((user_header, is_header, came, (roomier, is_roomier, (outcome, comes, numbers)), is_answer), same) =
-      ap (λ (reply : Reply T). is_skipped reply) is_answer ∙ publisher_replied_to came (numbered_there _ _ outcome came roomier new.made (outcome_there _ _ _ _ _ old.hub new.hub outcome ports there comes) numbers)
+      ap (λ (reply : Reply T). is_skipped reply) is_answer ∙ publisher_replied_to T came (numbered_there _ _ outcome came roomier new.made (outcome_there (λ after. with_hub_ports (domain_of_factory opened) after old.hub) (λ number. with_hub_publisher (domain_of_factory opened) number (publisher_handlers fixed options)) _ (why_no_publisher (publisher_config (owner_of_factory opened) options)) _ old.hub new.hub outcome ports there comes) numbers)
 
   subscriber_replied : (fixed : DegradationAction → D) (degrades : D → DegradationCause → DegradationInfo → DegradationAction → Type 0) (opened : Option Opened) (options : SubscriberOptions)
       (old new : NumberedHub T U B D) (answer : Reply T) (ports : ServicePorts T U) → ports_of_factory opened old.hub ≡ Some ports → SubscriberComes fixed degrades opened options old answer new → is_skipped answer ≡ false
   subscriber_replied fixed degrades None options old new answer ports there comes = cc
   subscriber_replied fixed degrades (Some opened) options old new answer ports there ((came, (roomier, is_roomier, (outcome, comes, numbers)), is_answer), same) =
-      ap (λ (reply : Reply T). is_skipped reply) is_answer ∙ subscriber_replied_to came (numbered_there _ _ outcome came roomier new.made (outcome_there _ _ _ _ _ old.hub new.hub outcome ports there comes) numbers)
+      ap (λ (reply : Reply T). is_skipped reply) is_answer ∙ subscriber_replied_to T came (numbered_there _ _ outcome came roomier new.made (outcome_there (λ after. with_hub_ports (domain_of_factory opened) after old.hub) (λ number. with_hub_subscriber (domain_of_factory opened) number (subscriber_handler fixed options)) _ (why_no_subscriber (subscriber_config (owner_of_factory opened) options)) _ old.hub new.hub outcome ports there comes) numbers)
 
 -- ---- what a port takes
 
@@ -121,7 +124,7 @@ module _ {T U B D P : Type 0} (payload user_header : Detail) (types : MessageTyp
   publisher_once at_full at_failure (Some full) (Some failing) None factory options old new answer is_full is_failing there takes = skipped_takes _ old new answer (ap (λ (reply : Reply T). is_skipped reply) takes.0) takes.1
   publisher_once at_full at_failure (Some full) (Some failing) (Some ports) factory options old new answer is_full is_failing there takes =
       replied_takes (listed at_full ++ listed at_failure) old new answer (emptied_if at_failure (emptied_if at_full old.1))
-      (publisher_replied is_default_header _ degrades _ options old.0 new.0 answer ports there takes.0) takes.1
+      (publisher_replied is_default_header (λ strategy action degrading. handled strategy action degrading full failing) degrades _ options old.0 new.0 answer ports there takes.0) takes.1
       (both_taken at_full at_failure old.1 (ap (λ (o : Option (Option P)). is_some o) is_full) (ap (λ (o : Option (Option D)). is_some o) is_failing))
 
   subscriber_once : (at_failure : ℕ) (found : Option D) (ports : Option (ServicePorts T U)) (factory : ℕ) (options : SubscriberOptions) (old new : NumberedHub T U B D × List (Option (GivenHandler P D))) (answer : Reply T)
@@ -131,7 +134,7 @@ module _ {T U B D P : Type 0} (payload user_header : Detail) (types : MessageTyp
   subscriber_once at_failure None ports factory options old new answer is_found there takes = skipped_takes _ old new answer (ap (λ (reply : Reply T). is_skipped reply) takes.0) takes.1
   subscriber_once at_failure (Some handler) None factory options old new answer is_found there takes = skipped_takes _ old new answer (ap (λ (reply : Reply T). is_skipped reply) takes.0) takes.1
   subscriber_once at_failure (Some handler) (Some ports) factory options old new answer is_found there takes =
-      replied_takes (at_failure ∷ []) old new answer (emptied at_failure old.1) (subscriber_replied _ reader_degrades _ options old.0 new.0 answer ports there takes.0) takes.1
+      replied_takes (at_failure ∷ []) old new answer (emptied at_failure old.1) (subscriber_replied (λ action. handler) reader_degrades _ options old.0 new.0 answer ports there takes.0) takes.1
       (one_taken at_failure old.1 (some_degradation_lies (lies_at at_failure old.1) handler is_found))
 
   -- what a command takes that is replied to

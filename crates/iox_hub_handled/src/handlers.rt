@@ -37,9 +37,9 @@ pub trait TakesHandlers<P, D>: PublisherHandlers {
 
 impl TakesHandlers<BackpressureHandler, DegradationHandler> for Handlers {
     ghost handled = { λ strategy action degrading at_full at_failure. record {
-        strategy = strategy;
-        backpressure = option_or at_full (option_map (λ named. full.Fixed named) action);
-        degradation = unwrap_or at_failure (failed.Fixed degrading);
+      strategy = strategy;
+      backpressure = option_or at_full (option_map (λ named. full.Fixed named) action);
+      degradation = unwrap_or at_failure (failed.Fixed degrading);
     } };
 
     ghost unhandled = { λ strategy action degrading. refl };
@@ -52,9 +52,9 @@ impl TakesHandlers<BackpressureHandler, DegradationHandler> for Handlers {
         at_failure: Option<DegradationHandler>,
     ) -> Self
         ensures { result ≡ record {
-            strategy = strategy;
-            backpressure = option_or at_full (option_map (λ named. full.Fixed named) backpressure);
-            degradation = unwrap_or at_failure (failed.Fixed degradation);
+          strategy = strategy;
+          backpressure = option_or at_full (option_map (λ named. full.Fixed named) backpressure);
+          degradation = unwrap_or at_failure (failed.Fixed degradation);
         } }
     {
         let named = match backpressure {

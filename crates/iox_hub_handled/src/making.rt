@@ -159,13 +159,7 @@ fn make_subscriber<T: Copy, U: Copy, B: Decides + Degrades, D: Degrades>(
 /// A publisher of the factory's service comes, and takes the handlers that are named by their places: of one that is asked at a full mailbox
 /// the first, of one that is asked where a connection failed the second. Skipped, and nothing happens, where a handler that is named isn't
 /// there, no factory of publish-subscribe goes by the number, or its domain isn't here.
-pub(crate) fn publisher<
-    T: Copy,
-    U: Copy + Default,
-    B: TakesHandlers<P, D>,
-    D: Degrades,
-    P: Drop,
->(
+pub(crate) fn publisher<T: Copy, U: Copy + Default, B: TakesHandlers<P, D>, D: Degrades, P: Drop>(
     hub: &mut NumberedHub<T, U, B, D>,
     alloc: Global,
     factory: u64,

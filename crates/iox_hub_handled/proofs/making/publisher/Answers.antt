@@ -12,7 +12,7 @@ returns g c =
     let failing = c.take_degradation-at_failure.result in
     let there = other_kind_stays c.args.named.0 c.args.named.1 c.args.given.now.places.items (ap (λ o. is_some o) c.take_backpressure-at_full.ensures.was) in
     let makes = publisher_comes g.U.Default.is_default (λ strategy action degrading. g.B.TakesHandlers.handled strategy action degrading full failing) (λ handlers. g.B.Degrades.degrades handlers) _ c.in-Some.place.0 c.in-Some.place.1 c.args.options.now c.args.hub.now
-        (record c.args.hub.now { hub = c.make_publisher.new.hub; made = c.make_publisher.new.made }) c.make_publisher.result c.in-Some.ensures.found (rw c.publisher_handlers-handlers.ensures at c.make_publisher.ensures) refl in
+    (record c.args.hub.now { hub = c.make_publisher.new.hub; made = c.make_publisher.new.made }) c.make_publisher.result c.in-Some.ensures.found (rw c.publisher_handlers-handlers.ensures at c.make_publisher.ensures) refl in
     publisher_taken g.U.Default.is_default (λ strategy action degrading at_full at_failure. g.B.TakesHandlers.handled strategy action degrading at_full at_failure) (λ handlers. g.B.Degrades.degrades handlers) _ _ full failing _ c.args.factory c.args.options.now _
     (c.args.hub.now, c.args.given.now.places.items) (record c.args.hub.now { hub = c.make_publisher.new.hub; made = c.make_publisher.new.made }, c.take_degradation-at_failure.new.self.places.items) c.make_publisher.result
     c.take_backpressure-at_full.ensures.was

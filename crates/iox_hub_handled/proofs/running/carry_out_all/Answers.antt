@@ -1,4 +1,4 @@
-use Rattle.std.proofs.Common.{arith, ◌+◌, ◌≡◌, [], ◌∷◌, ◌++◌, length, ap, ◌∙◌, append_assoc}
+use Rattle.std.proofs.Common.{arith, ◌+◌, ◌≡◌, [], ◌∷◌, ◌++◌, length, ap, sym, inr, ◌∙◌, append_assoc}
 use Rattle.std.specs.Vec.Iter.{into_iter_items}
 use Rattle.std.proofs.lemmas.List.{length-append}
 use Rattle.iox_hub_run.specs.HubCommands.DescribeBase.Detail.{detail}
@@ -22,3 +22,17 @@ loop-command-preserved g c =
       answered = omega (arith, at.invariant.answered, c.push_reserved.ensures.len, longer);
       room = omega (arith, at.invariant.room, c.push_reserved.ensures.capacity);
     }
+
+pub returns-in_default-step-clause-ran : goal.returns-in_default-step-clause-ran
+returns-in_default-step-clause-ran g c =
+    let at = c.loop-command in
+    inr (
+      at.yielded,
+      c.in-Some.command,
+      into_iter_items c.next.new.self,
+      (at.hub, at.given.places.items),
+      c.in_default-step.field-0,
+      sym c.into_iter-command-iterator.ensures.into_iter_gives.0 ∙ (sym at.invariant.all ∙ ap (λ left. at.yielded ++ left) c.in-Some.ensures.steps.0),
+      at.invariant.ran,
+      c.in_default-step.ensures.steps,
+    )
