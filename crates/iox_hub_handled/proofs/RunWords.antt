@@ -1,5 +1,5 @@
 -- What holds of a hub over each command with handlers, and over a run of them.
-use Rattle.std.proofs.Common.{List, Option, Result, Bool, refl, inl, inr}
+use Rattle.std.proofs.Common.{List, Option, Result, Bool, refl, inl}
 use Rattle.std.specs.declared.alloc.AllocError.{AllocError}
 use Rattle.iox_hub_run.specs.Agreements.{AreOfOneAgreement}
 use Rattle.iox_hub_run.specs.Command.declared.reply.Reply.{Reply}

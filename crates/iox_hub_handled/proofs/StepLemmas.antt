@@ -1,7 +1,6 @@
 -- A command with handlers does what some command without them does, or nothing.
-use Rattle.std.proofs.Common.{◌≡◌, ◌++◌, ℕ, Bool, true, false, List, [], ◌∷◌, Option, None, Some, Result, Ok, Err, refl, sym, ap, subst}
+use Rattle.std.proofs.Common.{◌≡◌, ℕ, List, Option, None, Some, Result, Ok, Err, sym, subst}
 use Rattle.std.specs.declared.alloc.AllocError.{AllocError}
-use Rattle.std.specs.Prelude.{is_some, if◌then◌else◌}
 use Rattle.iox_hub_run.specs.Command.declared.command.Command.{Command}
 use Rattle.iox_hub_run.specs.Command.declared.command.Command.TheVariants as command
 use Rattle.iox_hub_run.specs.Command.declared.port.PublisherOptions.{PublisherOptions}
@@ -19,7 +18,6 @@ use Rattle.iox_hub_run.specs.HubCommands.DomainValues.declared.degradation.Degra
 use Rattle.iox_hub_run.specs.HubCommands.DomainValues.declared.degradation.DegradationInfo.{DegradationInfo}
 use Rattle.iox_hub_run.specs.Steps.{IsReplied, Step}
 use Rattle.iox_hub_run.specs.declared.numbered_hub.NumberedHub.{NumberedHub}
-use Rattle.iox_hub_handled.specs.Places.{named, lies_at, backpressure_of, degradation_of, emptied, emptied_if}
 use Rattle.iox_hub_handled.specs.Steps.{HandledStep, PublisherTakes, SubscriberTakes}
 use Rattle.iox_hub_handled.specs.declared.given.GivenHandler.{GivenHandler}
 use Rattle.iox_hub_handled.specs.declared.handled_command.HandledCommand.{HandledCommand}

@@ -2,7 +2,7 @@
 use Rattle.std.proofs.Common.{◌≡◌, ◌∙◌, ◌-◌, ◌⊎◌, ◌++◌, ℕ, Bool, true, false, List, [], ◌∷◌, length, Option, None, Some, refl, sym, ap, subst, inl, inr}
 use Rattle.std.proofs.lemmas.Bool.{eqb-true, eq-eqb}
 use Rattle.std.proofs.lemmas.List.{length-set}
-use Rattle.std.specs.Prelude.{IsSome, is_some, nat_eq}
+use Rattle.std.specs.Prelude.{IsSome, nat_eq}
 use Rattle.iox_hub_handled.specs.Places.{lies_at, emptied}
 use Rattle.iox_hub_handled.specs.Taking.{IsAmong, NoneTwice, TakesOnce}
 use Rattle.iox_hub_handled.proofs.PlaceLemmas.{gone_there, stays_elsewhere}

@@ -1,5 +1,5 @@
 -- What a run of commands with handlers comes to, where they name none.
-use Rattle.std.specs.Prelude.{◌≡◌, Bool, List, map, Option, Result}
+use Rattle.std.specs.Prelude.{◌≡◌, Bool, List, map, Result}
 use Rattle.std.specs.declared.alloc.AllocError.{AllocError}
 use Rattle.iox_hub_run.specs.Command.declared.command.Command.{Command}
 use Rattle.iox_hub_run.specs.Command.declared.reply.Reply.{Reply}
