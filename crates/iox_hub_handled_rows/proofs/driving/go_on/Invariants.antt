@@ -4,4 +4,4 @@ use Rattle.iox_hub_handled_rows.proofs.driving.go_on.Given as goal
 
 -- each line gave out one number at most
 abbrev pub invariant-loop-place : goal.invariant-loop-place
-invariant-loop-place g l = numbers_used l.hub ≤ numbers_used l.initial.hub + l.place
+invariant-loop-place g l = numbers_used l.hub ≤ numbers_used l.initial.hub + l.place-counter
