@@ -1,0 +1,7 @@
+pub mod PlaceLemmas
+pub mod TakenOnce
+pub mod Coming
+pub mod StepLemmas
+pub mod RunWords
+pub mod TakenRuns
+pub mod PlainRuns

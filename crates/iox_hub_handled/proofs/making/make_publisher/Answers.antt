@@ -1,0 +1,10 @@
+use Rattle.iox_hub_handled.proofs.making.make_publisher.Goals as goal
+
+pub returns : goal.returns
+returns g c = (
+  c.default.result,
+  c.default.ensures,
+  c.make_publisher.result,
+  rw c.publisher_config.ensures at c.make_publisher.ensures,
+  c.publisher_reply.ensures,
+)

@@ -1,0 +1,38 @@
+use Rattle.std.proofs.Common.{arith, ◌+◌, ◌≡◌, [], ◌∷◌, ◌++◌, length, ap, sym, inr, ◌∙◌, append_assoc}
+use Rattle.std.specs.Vec.Iter.{into_iter_items}
+use Rattle.std.proofs.lemmas.List.{length-append}
+use Rattle.iox_hub_run.specs.HubCommands.DescribeBase.Detail.{detail}
+use Rattle.iox_hub_run.specs.HubCommands.DescribeBase.declared.type_detail.TypeVariant.TheVariants.{FixedSize}
+use Rattle.iox_hub_run.specs.HubRequests.Asked.{types_of}
+use Rattle.iox_hub_run.proofs.RunLemmas.{runs_more}
+use Rattle.iox_hub_handled.specs.Steps.{HandledStep}
+use Rattle.iox_hub_handled.proofs.running.carry_out_all.Goals as goal
+
+pub loop-command-preserved : goal.loop-command-preserved
+loop-command-preserved g c =
+    let at = c.loop-command in
+    let command = c.in-Some.command in
+    let steps : into_iter_items at.command-iterator ≡ command ∷ into_iter_items c.next.new.self = c.in-Some.ensures.steps.0 in
+    let longer : length (at.yielded ++ command ∷ []) ≡ length at.yielded + 1 = length-append at.yielded (command ∷ []) in record {
+      all = append_assoc at.yielded (command ∷ []) _ ∙ rw (← steps) at.invariant.all;
+      left = let short = ap length steps in omega (arith, at.invariant.left, c.in-Some.ensures.steps.1, short);
+      ran = rw c.push_reserved.ensures.items (runs_more (HandledStep (detail FixedSize g.T.ZeroCopySend.name g.T.ZeroCopySend.size g.T.ZeroCopySend.alignment) (detail FixedSize g.U.ZeroCopySend.name g.U.ZeroCopySend.size g.U.ZeroCopySend.alignment) (types_of g.T.ZeroCopySend.name g.T.ZeroCopySend.size g.T.ZeroCopySend.alignment g.U.ZeroCopySend.name g.U.ZeroCopySend.size g.U.ZeroCopySend.alignment) (λ value. g.T.Default.is_default value) (λ value. g.U.Default.is_default value) g.B.PublisherHandlers.fixed (λ strategy action degrading at_full at_failure. g.B.TakesHandlers.handled strategy action degrading at_full at_failure) (λ handlers. g.B.Degrades.degrades handlers) (λ handlers. g.B.Decides.decides handlers) g.D.SubscriberHandler.fixed (λ handler. g.D.Degrades.degrades handler))
+          at.yielded command (c.args.hub.now, c.args.given.now.places.items) (at.hub, at.given.places.items) (c.step.new.hub, c.step.new.given.places.items) at.replies.items c.in-Ok-step.reply at.invariant.ran c.in-Ok-step.ensures.steps);
+      counts = omega (arith, at.invariant.counts, c.step.ensures.counts, longer);
+      answered = omega (arith, at.invariant.answered, c.push_reserved.ensures.len, longer);
+      room = omega (arith, at.invariant.room, c.push_reserved.ensures.capacity);
+    }
+
+pub returns-in_default-step-clause-ran : goal.returns-in_default-step-clause-ran
+returns-in_default-step-clause-ran g c =
+    let at = c.loop-command in
+    inr (
+      at.yielded,
+      c.in-Some.command,
+      into_iter_items c.next.new.self,
+      (at.hub, at.given.places.items),
+      c.in_default-step.field-0,
+      sym c.into_iter-command-iterator.ensures.into_iter_gives.0 ∙ (sym at.invariant.all ∙ ap (λ left. at.yielded ++ left) c.in-Some.ensures.steps.0),
+      at.invariant.ran,
+      c.in_default-step.ensures.steps,
+    )

@@ -1,0 +1,22 @@
+use Rattle.iox_hub_run.specs.HubCommands.DescribeBase.Detail.{detail}
+use Rattle.iox_hub_run.specs.HubCommands.DescribeBase.declared.type_detail.TypeVariant.TheVariants.{FixedSize}
+use Rattle.iox_hub_run.specs.HubRequests.Asked.{types_of}
+use Rattle.iox_hub_run.proofs.AsAgreed.{are_as_agreed}
+use Rattle.iox_hub_handled.proofs.RunWords.{goes_on_by_run, grows_by_run, agrees_by_run}
+use Rattle.iox_hub_handled.proofs.TakenRuns.{run_once}
+use Rattle.iox_hub_handled.proofs.running.run.Goals as goal
+
+pub returns-clause-goes_on : goal.returns-clause-goes_on
+returns-clause-goes_on g c = goes_on_by_run (detail FixedSize g.T.ZeroCopySend.name g.T.ZeroCopySend.size g.T.ZeroCopySend.alignment) (detail FixedSize g.U.ZeroCopySend.name g.U.ZeroCopySend.size g.U.ZeroCopySend.alignment) (types_of g.T.ZeroCopySend.name g.T.ZeroCopySend.size g.T.ZeroCopySend.alignment g.U.ZeroCopySend.name g.U.ZeroCopySend.size g.U.ZeroCopySend.alignment) (λ value. g.T.Default.is_default value) (λ value. g.U.Default.is_default value) g.B.PublisherHandlers.fixed (λ strategy action degrading at_full at_failure. g.B.TakesHandlers.handled strategy action degrading at_full at_failure) (λ handlers. g.B.Degrades.degrades handlers) (λ handlers. g.B.Decides.decides handlers) g.D.SubscriberHandler.fixed (λ handler. g.D.Degrades.degrades handler) _ (c.args.hub.now, c.args.given.now.places.items) (c.carry_out_all.new.hub, c.carry_out_all.new.given.places.items) _ _ c.carry_out_all.ensures.ran
+
+pub returns-clause-grows : goal.returns-clause-grows
+returns-clause-grows g c = grows_by_run (detail FixedSize g.T.ZeroCopySend.name g.T.ZeroCopySend.size g.T.ZeroCopySend.alignment) (detail FixedSize g.U.ZeroCopySend.name g.U.ZeroCopySend.size g.U.ZeroCopySend.alignment) (types_of g.T.ZeroCopySend.name g.T.ZeroCopySend.size g.T.ZeroCopySend.alignment g.U.ZeroCopySend.name g.U.ZeroCopySend.size g.U.ZeroCopySend.alignment) (λ value. g.T.Default.is_default value) (λ value. g.U.Default.is_default value) g.B.PublisherHandlers.fixed (λ strategy action degrading at_full at_failure. g.B.TakesHandlers.handled strategy action degrading at_full at_failure) (λ handlers. g.B.Degrades.degrades handlers) (λ handlers. g.B.Decides.decides handlers) g.D.SubscriberHandler.fixed (λ handler. g.D.Degrades.degrades handler) _ (c.args.hub.now, c.args.given.now.places.items) (c.carry_out_all.new.hub, c.carry_out_all.new.given.places.items) _ _ c.carry_out_all.ensures.ran
+
+pub returns-clause-one_agreement : goal.returns-clause-one_agreement
+returns-clause-one_agreement g c = agrees_by_run (detail FixedSize g.T.ZeroCopySend.name g.T.ZeroCopySend.size g.T.ZeroCopySend.alignment) (detail FixedSize g.U.ZeroCopySend.name g.U.ZeroCopySend.size g.U.ZeroCopySend.alignment) (types_of g.T.ZeroCopySend.name g.T.ZeroCopySend.size g.T.ZeroCopySend.alignment g.U.ZeroCopySend.name g.U.ZeroCopySend.size g.U.ZeroCopySend.alignment) (λ value. g.T.Default.is_default value) (λ value. g.U.Default.is_default value) g.B.PublisherHandlers.fixed (λ strategy action degrading at_full at_failure. g.B.TakesHandlers.handled strategy action degrading at_full at_failure) (λ handlers. g.B.Degrades.degrades handlers) (λ handlers. g.B.Decides.decides handlers) g.D.SubscriberHandler.fixed (λ handler. g.D.Degrades.degrades handler) _ (c.args.hub.now, c.args.given.now.places.items) (c.carry_out_all.new.hub, c.carry_out_all.new.given.places.items) _ _ c.carry_out_all.ensures.ran
+
+pub returns-clause-once : goal.returns-clause-once
+returns-clause-once g c = run_once (detail FixedSize g.T.ZeroCopySend.name g.T.ZeroCopySend.size g.T.ZeroCopySend.alignment) (detail FixedSize g.U.ZeroCopySend.name g.U.ZeroCopySend.size g.U.ZeroCopySend.alignment) (types_of g.T.ZeroCopySend.name g.T.ZeroCopySend.size g.T.ZeroCopySend.alignment g.U.ZeroCopySend.name g.U.ZeroCopySend.size g.U.ZeroCopySend.alignment) (λ value. g.T.Default.is_default value) (λ value. g.U.Default.is_default value) g.B.PublisherHandlers.fixed (λ strategy action degrading at_full at_failure. g.B.TakesHandlers.handled strategy action degrading at_full at_failure) (λ handlers. g.B.Degrades.degrades handlers) (λ handlers. g.B.Decides.decides handlers) g.D.SubscriberHandler.fixed (λ handler. g.D.Degrades.degrades handler) _ (c.args.hub.now, c.args.given.now.places.items) (c.carry_out_all.new.hub, c.carry_out_all.new.given.places.items) _ _ c.carry_out_all.ensures.ran
+
+pub returns-clause-agreed : goal.returns-clause-agreed
+returns-clause-agreed g c = λ grown. are_as_agreed c.carry_out_all.new.hub.hub.services.domains (returns-clause-grows g c grown)
