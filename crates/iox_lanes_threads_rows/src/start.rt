@@ -8,6 +8,7 @@ const TRIES: u64 = 1 << 22;
 
 /// How many threads began, and how many of them waited in vain for the others: where memory for a thread is refused, what it was to do is
 /// done by another one, behind its own work.
+#[derive(Drop)]
 pub(crate) struct Start {
     begun: AtomicU64,
     in_vain: AtomicU64,
