@@ -81,4 +81,6 @@ module _ {T U B D P : Type 0} (payload user_header : Detail) (types : MessageTyp
       stops_plain commands first command old mid new replies lacking (apart (λ (one : Command T). asked.Plain one) commands first command rest is) runs does
 
   pub plain_runs : PlainRunsArePlain (HandledStep payload user_header types is_default is_default_header fixed handled degrades decides fixed_reader reader_degrades) (Step payload user_header types is_default is_default_header fixed degrades decides fixed_reader reader_degrades)
-  plain_runs commands old new replies stopped runs = run_plain commands old new replies stopped runs
+  plain_runs commands old new replies stopped (roomier, only, runs) =
+      let (ran, same) = run_plain commands roomier new replies stopped runs in
+      ((roomier.0, only.0, ran), same ∙ only.1)

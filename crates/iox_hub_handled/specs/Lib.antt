@@ -2,4 +2,5 @@
 pub mod Places
 pub mod Steps
 pub mod Taking
+pub mod Room
 pub mod RunLaws

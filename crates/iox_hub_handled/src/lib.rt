@@ -6,6 +6,7 @@
 //! | `handlers` | who decides for a publisher, made of such handlers |
 //! | `handled_command` | what may be asked |
 //! | `making` | ports come, with the handlers that are named |
+//! | `room` | how many numbers commands may want |
 //! | `stepping` | one command, and its reply |
 //! | `running` | a list of commands |
 //! | `laws` | what a run comes to in other words |
@@ -24,6 +25,7 @@ pub mod handled_command;
 pub mod handlers;
 pub mod laws;
 mod making;
+mod room;
 pub mod running;
 pub mod stepping;
 

@@ -279,7 +279,8 @@ module _ {T U B D : Type 0} where
   pub is_roomier : (hub : NumberedHub T U B D) → OnlyRoomier hub hub
   is_roomier hub = (((refl, refl, omega arith), (refl, refl, omega arith), (refl, refl, omega arith), (refl, refl, omega arith)), refl)
 
-  roomier_and_roomier : (old mid new : NumberedHub T U B D) → OnlyRoomier old mid → OnlyRoomier mid new → OnlyRoomier old new
+  -- one after the other
+  pub roomier_and_roomier : (old mid new : NumberedHub T U B D) → OnlyRoomier old mid → OnlyRoomier mid new → OnlyRoomier old new
   roomier_and_roomier old mid new (((p, p_next, p_room), (s, s_next, s_room), (l, l_next, l_room), (m, m_next, m_room)), same) (((q, q_next, q_room), (r, r_next, r_room), (k, k_next, k_room), (n, n_next, n_room)), same_new) =
       let with_made : NumberedHub T U B D → NumberedHub T U B D = λ hub. record hub { made = new.made } in (
         ((q ∙ p, q_next ∙ p_next, omega (arith, p_room, q_room)), (r ∙ s, r_next ∙ s_next, omega (arith, s_room, r_room)), (k ∙ l, k_next ∙ l_next, omega (arith, l_room, k_room)), (n ∙ m, n_next ∙ m_next, omega (arith, m_room, n_room))),

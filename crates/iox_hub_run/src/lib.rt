@@ -22,7 +22,7 @@
 pub mod laws;
 pub mod numbered_hub;
 mod port_step;
-mod room;
+pub mod room;
 pub mod run;
 mod services;
 mod step;

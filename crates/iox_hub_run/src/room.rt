@@ -1,5 +1,5 @@
 //! Room for the numbers of loans and samples, which a run makes before its first command.
-ghost use Rattle.std.specs.Prelude.{◌≡◌, ◌≤◌, ◌<◌, length, OnOk, OnErr};
+ghost use Rattle.std.specs.Prelude.{◌≡◌, ◌+◌, ◌≤◌, ◌<◌, length, IsOk, OnOk, OnErr};
 ghost use Rattle.iox_hub_commands.specs.HubPorts.Tables.{SameNumbers};
 ghost use Rattle.iox_hub_run.specs.Room.{loans_of, samples_of, loans_in, samples_in, FitsMore, FitsAll, OnlyRoomier};
 
@@ -8,7 +8,8 @@ use iox_command::Command;
 use iox_numbered::Numbered;
 use std::alloc::AllocError;
 
-fn loans_of<T>(command: &Command<T>) -> usize
+/// How many loans get a number by a command, at most.
+pub fn loans_of<T>(command: &Command<T>) -> usize
     ensures value { result ≡ loans_of command.now }
     ensures small { result ≤ 1 }
 {
@@ -18,7 +19,8 @@ fn loans_of<T>(command: &Command<T>) -> usize
     }
 }
 
-fn samples_of<T>(command: &Command<T>) -> usize
+/// How many samples do.
+pub fn samples_of<T>(command: &Command<T>) -> usize
     ensures value { result ≡ samples_of command.now }
     ensures small { result ≤ 1 }
 {
@@ -57,21 +59,35 @@ fn room_for<V>(numbers: &mut Numbered<V>, more: usize) -> Result<(), AllocError>
     ensures same { SameNumbers numbers.old numbers.new }
     ensures room { OnOk result (FitsMore more numbers.new) }
     ensures some { OnErr result (0 < more) }
+    ensures enough { FitsMore more numbers.old → IsOk result }
 {
+    if more <= numbers.room() - numbers.len() {
+        return Ok(());
+    }
     let room = numbers.len().checked_add(more).ok_or(AllocError)?;
     numbers.reserve(room)
 }
 
 impl<T, U, B, D> NumberedHub<T, U, B, D> {
-    /// Makes room for the numbers of all loans and samples that some commands may make. Fails only where an allocation fails; then there may
-    /// be more room than before.
+    /// Makes room for the numbers of all loans and samples that some commands may make. Fails only where there isn't as much already, and an
+    /// allocation fails; then there may be more room than before.
     pub fn make_room(&mut self, commands: &[Command<T>]) -> Result<(), AllocError>
         ensures same { OnlyRoomier self.old self.new }
         ensures room { OnOk result (FitsAll (loans_in commands.now) (samples_in commands.now) self.new.made) }
         ensures some { OnErr result (0 < length commands.now) }
+        ensures enough { FitsAll (loans_in commands.now) (samples_in commands.now) self.old.made → IsOk result }
     {
-        let loans = loans_in(commands);
-        let samples = samples_in(commands);
+        self.make_room_for(loans_in(commands), samples_in(commands))
+    }
+
+    /// Makes room for the numbers of so many loans and samples more. Fails only where there isn't as much already, and an allocation fails;
+    /// then there may be more room than before.
+    pub fn make_room_for(&mut self, loans: usize, samples: usize) -> Result<(), AllocError>
+        ensures same { OnlyRoomier self.old self.new }
+        ensures room { OnOk result (FitsAll loans samples self.new.made) }
+        ensures some { OnErr result (0 < loans + samples) }
+        ensures enough { FitsAll loans samples self.old.made → IsOk result }
+    {
         room_for(&mut self.made.loans, loans)?;
         room_for(&mut self.made.samples, samples)
     }

@@ -4,7 +4,9 @@ use Rattle.iox_hub_run.specs.HubCommands.DescribeBase.Detail.{detail}
 use Rattle.iox_hub_run.specs.HubCommands.DescribeBase.declared.type_detail.TypeVariant.TheVariants.{FixedSize}
 use Rattle.iox_hub_run.specs.HubRequests.Asked.{types_of}
 use Rattle.iox_hub_run.specs.Numbers.{numbers_used}
+use Rattle.iox_hub_run.specs.Room.{FitsAll}
 use Rattle.iox_hub_run.specs.Runs.{Runs}
+use Rattle.iox_hub_handled.specs.Room.{loans_in, samples_in}
 use Rattle.iox_hub_handled.specs.Steps.{HandledStep}
 use Rattle.iox_hub_handled.proofs.running.carry_out_all.Given as goal
 
@@ -17,4 +19,5 @@ invariant-loop-command g l = record {
   counts : numbers_used l.hub ≤ numbers_used l.initial.hub + length l.yielded;
   answered : vec_len l.replies ≡ length l.yielded;
   room : length (into_iter_items l.initial.command-iterator) ≤ vec_capacity l.replies;
+  fits : FitsAll (loans_in (into_iter_items l.command-iterator)) (samples_in (into_iter_items l.command-iterator)) l.hub.made;
 }
