@@ -4,8 +4,8 @@ use Rattle.std.specs.List.{sum_by}
 use Rattle.std.specs.declared.alloc.AllocError.{AllocError}
 use Rattle.iox_hub_run.specs.Command.declared.reply.Reply.{Reply}
 use Rattle.iox_hub_run.specs.Room as plain
-use Rattle.iox_hub_run.specs.Room.{OnlyRoomier}
-use Rattle.iox_hub_run.specs.Runs.{IsRun}
+use Rattle.iox_hub_run.specs.Room.{FitsAll, OnlyRoomier}
+use Rattle.iox_hub_run.specs.Runs.{IsRun, NeverBegins}
 use Rattle.iox_hub_run.specs.declared.numbered_hub.NumberedHub.{NumberedHub}
 use Rattle.iox_hub_handled.specs.declared.handled_command.HandledCommand.{HandledCommand}
 use Rattle.iox_hub_handled.specs.declared.handled_command.HandledCommand.TheVariants as asked
@@ -46,9 +46,12 @@ module _ {T U B D X : Type 0} where
   abbrev pub OnlyRoomierHub : NumberedHub T U B D × X → NumberedHub T U B D × X → Type 0
   OnlyRoomierHub old new = OnlyRoomier old.0 new.0 × (new.1 ≡ old.1)
 
-  -- Commands are a run, once there may be more room for numbers.
-  abbrev pub RunsInRoom : {C : Type 0} → (C → NumberedHub T U B D × X → Result (Reply T) AllocError → NumberedHub T U B D × X → Type 0) → List C → NumberedHub T U B D × X → List (Reply T) → Bool → NumberedHub T U B D × X → Type 0
-  RunsInRoom step commands old replies stopped new = (roomier : NumberedHub T U B D × X) × OnlyRoomierHub old roomier × IsRun step commands roomier replies stopped new
+  -- Commands are a run, once there is room for the numbers of all loans and samples that they may make; or no memory was found for the list of
+  -- their replies or for that room, and none is carried out.
+  abbrev pub RunsInRoom : (HandledCommand T → NumberedHub T U B D × X → Result (Reply T) AllocError → NumberedHub T U B D × X → Type 0) → List (HandledCommand T) → NumberedHub T U B D × X → List (Reply T) → Bool → NumberedHub T U B D × X → Type 0
+  RunsInRoom step commands old replies stopped new =
+      (roomier : NumberedHub T U B D × X) × OnlyRoomierHub old roomier × IsRun step commands roomier replies stopped new
+      × (FitsAll (loans_in commands) (samples_in commands) roomier.0.made ⊎ NeverBegins commands roomier replies new)
 
   -- A run that stopped after so many replies never began, and nothing changed; or what it stopped at is a command whose reply has values.
   abbrev pub StopsInTime : List (HandledCommand T) → NumberedHub T U B D × X → ℕ → NumberedHub T U B D × X → Type 0

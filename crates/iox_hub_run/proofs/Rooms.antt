@@ -4,7 +4,7 @@ use Rattle.std.proofs.Math.Seq.{get_or-append_seam}
 use Rattle.std.proofs.lemmas.List.{length-append, take_more}
 use Rattle.std.proofs.lemmas.Option.{slice_get_read}
 use Rattle.std.specs.Map.{remove_entry}
-use Rattle.std.specs.Prelude.{OnErr, is_err, nat_eq, slice_get, get_or, take, ◌<◌}
+use Rattle.std.specs.Prelude.{OnOk, OnErr, is_err, nat_eq, slice_get, get_or, take, ◌<◌}
 use Rattle.std.specs.declared.alloc.AllocError.{AllocError}
 use Rattle.iox_hub_commands.specs.Command.declared.command.Command.{Command}
 use Rattle.iox_hub_commands.specs.Command.declared.command.Command.TheVariants as command
@@ -339,3 +339,8 @@ module _ {T : Type 0} where
 pub when_err : {A E : Type 0} {P : Type 0} (result : Result A E) → OnErr result P → is_err result ≡ true → P
 when_err (Ok value) holds failed = cc failed
 when_err (Err error) holds failed = holds
+
+-- what holds where a call went well holds where its test says so
+pub when_ok : {A E : Type 0} {P : Type 0} (result : Result A E) → OnOk result P → is_err result ≡ false → P
+when_ok (Ok value) holds well = holds
+when_ok (Err error) holds well = cc well

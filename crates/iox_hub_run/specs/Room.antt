@@ -7,7 +7,7 @@ use Rattle.iox_hub_commands.specs.Command.declared.reply.Reply.{Reply}
 use Rattle.iox_hub_commands.specs.HubPorts.Tables.{IsRoomier}
 use Rattle.iox_hub_commands.specs.HubPorts.declared.made.Made.{Made}
 use Rattle.iox_hub_factories.specs.Numbered.NumberTable.{NumberTable}
-use Rattle.iox_hub_run.specs.Runs.{IsRun}
+use Rattle.iox_hub_run.specs.Runs.{IsRun, NeverBegins}
 use Rattle.iox_hub_run.specs.declared.numbered_hub.NumberedHub.{NumberedHub}
 
 module _ {T : Type 0} where
@@ -55,9 +55,12 @@ module _ {T U B D : Type 0} where
   abbrev pub OnlyRoomier : NumberedHub T U B D → NumberedHub T U B D → Type 0
   OnlyRoomier old new = IsRoomier old.made new.made × (new ≡ record old { made = new.made })
 
-  -- Commands are a run of the hub, once there may be more room for numbers.
+  -- Commands are a run of the hub, once there is room for the numbers of all loans and samples that they may make; or no memory was found for
+  -- the list of their replies or for that room, and none is carried out.
   abbrev pub RunsInRoom : (Command T → NumberedHub T U B D → Result (Reply T) AllocError → NumberedHub T U B D → Type 0) → List (Command T) → NumberedHub T U B D → List (Reply T) → Bool → NumberedHub T U B D → Type 0
-  RunsInRoom step commands old replies stopped new = (roomier : NumberedHub T U B D) × OnlyRoomier old roomier × IsRun step commands roomier replies stopped new
+  RunsInRoom step commands old replies stopped new =
+      (roomier : NumberedHub T U B D) × OnlyRoomier old roomier × IsRun step commands roomier replies stopped new
+      × (FitsAll (loans_in commands) (samples_in commands) roomier.made ⊎ NeverBegins commands roomier replies new)
 
   -- A run that stopped after so many replies never began, and nothing changed; or what it stopped at is a command whose reply has values.
   abbrev pub StopsInTime : List (Command T) → NumberedHub T U B D → ℕ → NumberedHub T U B D → Type 0

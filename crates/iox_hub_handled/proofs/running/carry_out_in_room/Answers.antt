@@ -1,14 +1,15 @@
-use Rattle.std.proofs.Common.{arith, ◌∙◌, ◌<◌, ap, subst, sym, inl, length, refl}
-use Rattle.iox_hub_run.proofs.Rooms.{roomier_counts, when_err}
+use Rattle.std.proofs.Common.{arith, ◌∙◌, ◌<◌, ap, subst, sym, inl, inr, length, refl}
+use Rattle.iox_hub_run.proofs.Rooms.{roomier_counts, when_err, when_ok}
+use Rattle.iox_hub_run.specs.Room.{FitsAll}
+use Rattle.iox_hub_handled.specs.Room.{loans_in, samples_in}
 use Rattle.iox_hub_handled.proofs.HandledRooms.{stops_in_room}
 use Rattle.iox_hub_handled.proofs.running.carry_out_in_room.Goals as goal
 
 pub returns-then-is_err-clause-ran : goal.returns-then-is_err-clause-ran
-returns-then-is_err-clause-ran g c = (
-  (c.make_room_for.new.self, c.args.given.now.places.items),
-  (c.make_room_for.ensures.same, refl),
-  inl (subst (λ items. 0 < length items) c.as_slice.ensures.value (let some = when_err c.make_room_for.result c.make_room_for.ensures.some (sym c.is_err.ensures.value ∙ c.if-is_err.true) in omega (arith, some, c.numbers_in.ensures.few.0, c.numbers_in.ensures.few.1)), c.new.ensures.items, refl),
-)
+returns-then-is_err-clause-ran g c =
+    let some = when_err c.make_room_for.result c.make_room_for.ensures.some (sym c.is_err.ensures.value ∙ c.if-is_err.true) in
+    let never = (subst (λ items. 0 < length items) c.as_slice.ensures.value (omega (arith, some, c.numbers_in.ensures.few.0, c.numbers_in.ensures.few.1)), c.new.ensures.items, refl) in
+    ((c.make_room_for.new.self, c.args.given.now.places.items), (c.make_room_for.ensures.same, refl), inl never, inr never)
 
 pub returns-then-is_err-clause-stops : goal.returns-then-is_err-clause-stops
 returns-then-is_err-clause-stops g c = λ stopped. inl (ap length c.new.ensures.items, (c.make_room_for.ensures.same, refl))
@@ -17,7 +18,13 @@ pub returns-then-is_err-clause-counts : goal.returns-then-is_err-clause-counts
 returns-then-is_err-clause-counts g c = let same = roomier_counts c.args.hub.now c.make_room_for.new.self c.make_room_for.ensures.same in omega (arith, same)
 
 pub returns-clause-ran : goal.returns-clause-ran
-returns-clause-ran g c = ((c.make_room_for.new.self, c.args.given.now.places.items), (c.make_room_for.ensures.same, refl), c.carry_out_all.ensures.ran)
+returns-clause-ran g c = (
+  (c.make_room_for.new.self, c.args.given.now.places.items),
+  (c.make_room_for.ensures.same, refl),
+  c.carry_out_all.ensures.ran,
+  inl (subst (λ items. FitsAll (loans_in items) (samples_in items) c.make_room_for.new.self.made) c.as_slice.ensures.value
+      (rw (← c.numbers_in.ensures.loans, ← c.numbers_in.ensures.samples) (when_ok c.make_room_for.result c.make_room_for.ensures.room (sym c.is_err.ensures.value ∙ c.if-is_err.false)))),
+)
 
 pub returns-clause-stops : goal.returns-clause-stops
 returns-clause-stops g c = λ stopped.

@@ -1,9 +1,12 @@
-use Rattle.std.proofs.Common.{arith, ◌∙◌, ◌<◌, ap, subst, sym, inl, length, refl}
-use Rattle.iox_hub_run.proofs.Rooms.{roomier_counts, stops_in_room, when_err}
+use Rattle.std.proofs.Common.{arith, ◌∙◌, ◌<◌, ap, subst, sym, inl, inr, length, refl}
+use Rattle.iox_hub_run.specs.Room.{loans_in, samples_in, FitsAll}
+use Rattle.iox_hub_run.proofs.Rooms.{roomier_counts, stops_in_room, when_err, when_ok}
 use Rattle.iox_hub_run.proofs.numbered_hub.NumberedHub.carry_out_in_room.Goals as goal
 
 pub returns-then-is_err-clause-ran : goal.returns-then-is_err-clause-ran
-returns-then-is_err-clause-ran g c = (c.make_room.new.self, c.make_room.ensures.same, inl (subst (λ items. 0 < length items) c.as_slice.ensures.value (when_err c.make_room.result c.make_room.ensures.some (sym c.is_err.ensures.value ∙ c.if-is_err.true)), c.new.ensures.items, refl))
+returns-then-is_err-clause-ran g c =
+    let never = (subst (λ items. 0 < length items) c.as_slice.ensures.value (when_err c.make_room.result c.make_room.ensures.some (sym c.is_err.ensures.value ∙ c.if-is_err.true)), c.new.ensures.items, refl) in
+    (c.make_room.new.self, c.make_room.ensures.same, inl never, inr never)
 
 pub returns-then-is_err-clause-stops : goal.returns-then-is_err-clause-stops
 returns-then-is_err-clause-stops g c = λ stopped. inl (ap length c.new.ensures.items, c.make_room.ensures.same)
@@ -12,7 +15,12 @@ pub returns-then-is_err-clause-counts : goal.returns-then-is_err-clause-counts
 returns-then-is_err-clause-counts g c = let same = roomier_counts c.args.self.now c.make_room.new.self c.make_room.ensures.same in omega (arith, same)
 
 pub returns-clause-ran : goal.returns-clause-ran
-returns-clause-ran g c = (c.make_room.new.self, c.make_room.ensures.same, c.carry_out_all.ensures.ran)
+returns-clause-ran g c = (
+  c.make_room.new.self,
+  c.make_room.ensures.same,
+  c.carry_out_all.ensures.ran,
+  inl (subst (λ items. FitsAll (loans_in items) (samples_in items) c.make_room.new.self.made) c.as_slice.ensures.value (when_ok c.make_room.result c.make_room.ensures.room (sym c.is_err.ensures.value ∙ c.if-is_err.false))),
+)
 
 pub returns-clause-stops : goal.returns-clause-stops
 returns-clause-stops g c = λ stopped. stops_in_room _ c.args.self.now c.make_room.new.self c.carry_out_all.new.self _ c.make_room.ensures.same (c.carry_out_all.ensures.stops stopped)

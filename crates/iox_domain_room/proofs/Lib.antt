@@ -1,0 +1,5 @@
+pub mod Sums
+pub mod Allowing
+pub mod Lending
+pub mod Walking
+pub mod Calling

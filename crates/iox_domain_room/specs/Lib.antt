@@ -1,0 +1,2 @@
+-- The definitions that the contracts about loans that may still be made cite.
+pub mod Loans
