@@ -99,8 +99,8 @@ module _ {T U B D P : Type 0} (payload user_header : Detail) (types : MessageTyp
       stops_plain commands first command old mid new replies lacking (apart (λ (one : Command T). asked.Plain one) commands first command rest is) runs does
 
   plain_room : (commands : List (Command T)) (old new : NumberedHub T U B D × List (Option (GivenHandler P D))) (replies : List (Reply T))
-      → FitsAll (handled_room.loans_in (map (λ (command : Command T). asked.Plain command) commands)) (handled_room.samples_in (map (λ (command : Command T). asked.Plain command) commands)) old.0.made ⊎ NeverBegins (map (λ (command : Command T). asked.Plain command) commands) old replies new
-      → FitsAll (loans_in commands) (samples_in commands) old.0.made ⊎ NeverBegins commands old.0 replies new.0
+      → FitsAll (handled_room.loans_in (map (λ (command : Command T). asked.Plain command) commands)) (handled_room.samples_in (map (λ (command : Command T). asked.Plain command) commands)) old.0.made ⊎ NeverBegins (HandledStep payload user_header types is_default is_default_header fixed handled degrades decides fixed_reader reader_degrades) (map (λ (command : Command T). asked.Plain command) commands) old replies new
+      → FitsAll (loans_in commands) (samples_in commands) old.0.made ⊎ NeverBegins (Step payload user_header types is_default is_default_header fixed degrades decides fixed_reader reader_degrades) commands old.0 replies new.0
   plain_room commands old new replies (inl (fit_loans, fit_samples)) =
       let loans = same_loans commands in let samples = same_samples commands in
       inl (omega (arith, fit_loans, loans), omega (arith, fit_samples, samples))

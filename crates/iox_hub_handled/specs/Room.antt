@@ -51,7 +51,7 @@ module _ {T U B D X : Type 0} where
   abbrev pub RunsInRoom : (HandledCommand T → NumberedHub T U B D × X → Result (Reply T) AllocError → NumberedHub T U B D × X → Type 0) → List (HandledCommand T) → NumberedHub T U B D × X → List (Reply T) → Bool → NumberedHub T U B D × X → Type 0
   RunsInRoom step commands old replies stopped new =
       (roomier : NumberedHub T U B D × X) × OnlyRoomierHub old roomier × IsRun step commands roomier replies stopped new
-      × (FitsAll (loans_in commands) (samples_in commands) roomier.0.made ⊎ NeverBegins commands roomier replies new)
+      × (FitsAll (loans_in commands) (samples_in commands) roomier.0.made ⊎ NeverBegins step commands roomier replies new)
 
   -- A run that stopped after so many replies never began, and nothing changed; or what it stopped at is a command whose reply has values.
   abbrev pub StopsInTime : List (HandledCommand T) → NumberedHub T U B D × X → ℕ → NumberedHub T U B D × X → Type 0

@@ -60,7 +60,7 @@ module _ {T U B D : Type 0} where
   abbrev pub RunsInRoom : (Command T → NumberedHub T U B D → Result (Reply T) AllocError → NumberedHub T U B D → Type 0) → List (Command T) → NumberedHub T U B D → List (Reply T) → Bool → NumberedHub T U B D → Type 0
   RunsInRoom step commands old replies stopped new =
       (roomier : NumberedHub T U B D) × OnlyRoomier old roomier × IsRun step commands roomier replies stopped new
-      × (FitsAll (loans_in commands) (samples_in commands) roomier.made ⊎ NeverBegins commands roomier replies new)
+      × (FitsAll (loans_in commands) (samples_in commands) roomier.made ⊎ NeverBegins step commands roomier replies new)
 
   -- A run that stopped after so many replies never began, and nothing changed; or what it stopped at is a command whose reply has values.
   abbrev pub StopsInTime : List (Command T) → NumberedHub T U B D → ℕ → NumberedHub T U B D → Type 0

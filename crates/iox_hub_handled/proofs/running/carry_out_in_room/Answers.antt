@@ -7,9 +7,9 @@ use Rattle.iox_hub_handled.proofs.running.carry_out_in_room.Goals as goal
 
 pub returns-then-is_err-clause-ran : goal.returns-then-is_err-clause-ran
 returns-then-is_err-clause-ran g c =
-    let some = when_err c.make_room_for.result c.make_room_for.ensures.some (sym c.is_err.ensures.value ∙ c.if-is_err.true) in
-    let never = (subst (λ items. 0 < length items) c.as_slice.ensures.value (omega (arith, some, c.numbers_in.ensures.few.0, c.numbers_in.ensures.few.1)), c.new.ensures.items, refl) in
-    ((c.make_room_for.new.self, c.args.given.now.places.items), (c.make_room_for.ensures.same, refl), inl never, inr never)
+    let wanting = when_err c.make_room_for.result c.make_room_for.ensures.some (sym c.is_err.ensures.value ∙ c.if-is_err.true) in
+    let some : 0 < length c.args.commands.items = subst (λ items. 0 < length items) c.as_slice.ensures.value (omega (arith, wanting, c.numbers_in.ensures.few.0, c.numbers_in.ensures.few.1)) in
+    ((c.make_room_for.new.self, c.args.given.now.places.items), (c.make_room_for.ensures.same, refl), inl (some, c.new.ensures.items, refl), inr (some, c.new.ensures.items, refl))
 
 pub returns-then-is_err-clause-stops : goal.returns-then-is_err-clause-stops
 returns-then-is_err-clause-stops g c = λ stopped. inl (ap length c.new.ensures.items, (c.make_room_for.ensures.same, refl))

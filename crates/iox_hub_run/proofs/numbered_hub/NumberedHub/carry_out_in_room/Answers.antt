@@ -5,8 +5,8 @@ use Rattle.iox_hub_run.proofs.numbered_hub.NumberedHub.carry_out_in_room.Goals a
 
 pub returns-then-is_err-clause-ran : goal.returns-then-is_err-clause-ran
 returns-then-is_err-clause-ran g c =
-    let never = (subst (λ items. 0 < length items) c.as_slice.ensures.value (when_err c.make_room.result c.make_room.ensures.some (sym c.is_err.ensures.value ∙ c.if-is_err.true)), c.new.ensures.items, refl) in
-    (c.make_room.new.self, c.make_room.ensures.same, inl never, inr never)
+    let some : 0 < length c.args.commands.items = subst (λ items. 0 < length items) c.as_slice.ensures.value (when_err c.make_room.result c.make_room.ensures.some (sym c.is_err.ensures.value ∙ c.if-is_err.true)) in
+    (c.make_room.new.self, c.make_room.ensures.same, inl (some, c.new.ensures.items, refl), inr (some, c.new.ensures.items, refl))
 
 pub returns-then-is_err-clause-stops : goal.returns-then-is_err-clause-stops
 returns-then-is_err-clause-stops g c = λ stopped. inl (ap length c.new.ensures.items, c.make_room.ensures.same)
