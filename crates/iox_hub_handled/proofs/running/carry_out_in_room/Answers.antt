@@ -8,7 +8,7 @@ use Rattle.iox_hub_handled.proofs.running.carry_out_in_room.Goals as goal
 pub returns-then-is_err-clause-ran : goal.returns-then-is_err-clause-ran
 returns-then-is_err-clause-ran g c =
     let wanting = when_err c.make_room_for.result c.make_room_for.ensures.some (sym c.is_err.ensures.value ∙ c.if-is_err.true) in
-    let some : 0 < length c.args.commands.items = subst (λ items. 0 < length items) c.as_slice.ensures.value (omega (arith, wanting, c.numbers_in.ensures.few.0, c.numbers_in.ensures.few.1)) in
+    let some : 0 < length c.args.commands.items = subst (λ items. 0 < length items) c.as_slice.ensures.value (omega (arith, wanting, c.numbers_in-loans.ensures.few.0, c.numbers_in-loans.ensures.few.1)) in
     ((c.make_room_for.new.self, c.args.given.now.places.items), (c.make_room_for.ensures.same, refl), inl (some, c.new.ensures.items, refl), inr (some, c.new.ensures.items, refl))
 
 pub returns-then-is_err-clause-stops : goal.returns-then-is_err-clause-stops
@@ -23,7 +23,7 @@ returns-clause-ran g c = (
   (c.make_room_for.ensures.same, refl),
   c.carry_out_all.ensures.ran,
   inl (subst (λ items. FitsAll (loans_in items) (samples_in items) c.make_room_for.new.self.made) c.as_slice.ensures.value
-      (rw (← c.numbers_in.ensures.loans, ← c.numbers_in.ensures.samples) (when_ok c.make_room_for.result c.make_room_for.ensures.room (sym c.is_err.ensures.value ∙ c.if-is_err.false)))),
+      (rw (← c.numbers_in-loans.ensures.loans, ← c.numbers_in-loans.ensures.samples) (when_ok c.make_room_for.result c.make_room_for.ensures.room (sym c.is_err.ensures.value ∙ c.if-is_err.false)))),
 )
 
 pub returns-clause-stops : goal.returns-clause-stops
