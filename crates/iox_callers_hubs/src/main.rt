@@ -15,11 +15,14 @@ use iox_describe::{
 };
 use iox_domain::{DomainId, Nobody};
 use iox_domain_home::Home;
-use iox_domain_values::{DomainError, PortOwner};
+use iox_domain_values::{
+    BackpressureAction, BackpressureHandler, DegradationHandler, DomainError, Handlers, PortOwner,
+};
 use iox_facade::prelude::{Hub, ServiceName};
 use iox_hub_base::{HubBuilder, HubConfig, NodeHandle};
 use iox_hub_commands::{Made, messages};
 use iox_hub_factories::Factories;
+use iox_hub_handled::{GivenHandler, GivenHandlers, HandledCommand, run};
 use iox_hub_requests::{message_types, publish_subscribe};
 use iox_hub_run::{NumberedHub, RunReport};
 use iox_hub_services::Services;
@@ -134,6 +137,23 @@ fn replies(
     report
 }
 
+/// `iox_hub_handled`: at which place a handler lies that is the first that is handed in, and how many of these commands, which may name it,
+/// are replied to.
+fn handled(
+    alloc: Global,
+    mut hub: NumberedHub<u64, (), Handlers, DegradationHandler>,
+    handler: BackpressureHandler,
+    commands: Vec<HandledCommand<u64>>,
+) -> Result<(u64, usize), AllocError>
+    requires { numbers_used hub + length commands.items < 2 ^ 64 }
+    ensures { IfOk result (λ done. done.0 ≡ 1) }
+{
+    let mut given = GivenHandlers::new(alloc);
+    let place = given.hand_in(GivenHandler::Backpressure(handler))?;
+    let report = run(&mut hub, alloc, commands, &mut given);
+    Ok((place, report.replies.len()))
+}
+
 /// Which hub it is.
 const CONFIG: HubConfig = HubConfig {
     expired_connection_buffer: 128,
@@ -193,10 +213,20 @@ fn count_replies(alloc: Global) -> Result<usize, AllocError> {
     Ok(replies(alloc, &mut hub, commands).replies.len())
 }
 
+/// The same with one handler handed in: its place, and how many replies there are.
+fn count_handled(alloc: Global) -> Result<(u64, usize), AllocError> {
+    let hub = NumberedHub::<u64, (), Handlers, DegradationHandler>::new(alloc, CONFIG);
+    let node = HandledCommand::Plain(Command::Node);
+    let receive = HandledCommand::Plain(Command::Receive { subscriber: 1 });
+    let handler = BackpressureHandler::new_with(BackpressureAction::DiscardData);
+    handled(alloc, hub, handler, vec![in alloc; node, receive]?)
+}
+
 /// What a hub that commands drive replies.
 fn print_replies(rt: &impl Print, alloc: Global) -> io::Result<()> {
     println!(rt; "iox_hub_run: {:?}", first_reply(alloc, CONFIG)?)?;
-    println!(rt; "iox_hub_run: {}", count_replies(alloc)?)
+    println!(rt; "iox_hub_run: {}", count_replies(alloc)?)?;
+    println!(rt; "iox_hub_handled: {:?}", count_handled(alloc)?)
 }
 
 fn main(rt: HostRuntime) -> io::Result<()> {
