@@ -1,6 +1,7 @@
 //! A hub.
-ghost use Rattle.std.specs.Prelude.{◌≡◌, Ok, nat_eq};
+ghost use Rattle.std.specs.Prelude.{◌≡◌, ◌-◌, ◌^◌, Ok, min, nat_eq};
 ghost use Rattle.iox_hub_base.specs.Hubs.{IsNewHub, one_more, is_node};
+ghost use Rattle.iox_hub_services.specs.Room.{loans_left_in};
 
 use crate::factory::PortFactory;
 use crate::node::NodeHandle;
@@ -99,6 +100,15 @@ impl<T: Copy, U: Copy, B: Drop, D: Drop> Hub<T, U, B, D> {
         ensures { result ≡ nat_eq factory.now.service.membership.storage self.now.table.id }
     {
         factory.service.storage() == self.id()
+    }
+
+    /// How many loans the publishers of all domains that are here may still make, beside those that are out. Past 2^64 - 1 it is that.
+    ///
+    /// This port's own.
+    pub fn loans_left(&self) -> u64
+        ensures { result ≡ min (loans_left_in self.now.services.domains) (2 ^ 64 - 1) }
+    {
+        self.services.loans_left()
     }
 
     /// A builder of the service of this name, for a node of this hub.

@@ -1,5 +1,5 @@
 -- What a command names of a port, with the defaults for what it doesn't name.
-use Rattle.std.specs.Prelude.{Option}
+use Rattle.std.specs.Prelude.{ℕ, Option}
 use Rattle.std.specs.Option.{unwrap_or}
 use Rattle.iox_command.specs.declared.port.PublisherOptions.{PublisherOptions}
 use Rattle.iox_command.specs.declared.port.SubscriberOptions.{SubscriberOptions}
@@ -13,11 +13,15 @@ use Rattle.iox_command.specs.DomainValues.declared.degradation.DegradationAction
 use Rattle.iox_command.specs.DomainValues.declared.port_owner.PortOwner.{PortOwner}
 use Rattle.iox_hub_commands.specs.declared.handlers.NamedSlots.{NamedSlots}
 
+-- how many loans may be out at once of a publisher that is named so
+abbrev pub most_loans : PublisherOptions → ℕ
+most_loans options = unwrap_or options.max_loaned_samples publisher_defaults.max_loaned_samples
+
 -- what a publisher of slices is made with: a value is an element, and a slot holds as many as a loan may have at first
 abbrev pub publisher_config : PortOwner → PublisherOptions → PublisherConfig
 publisher_config owner options = record {
   owner = owner;
-  max_loaned_samples = unwrap_or options.max_loaned_samples publisher_defaults.max_loaned_samples;
+  max_loaned_samples = most_loans options;
   values = unwrap_or options.initial_max_slice_len publisher_defaults.initial_max_slice_len;
   unit = 1;
   allocation = unwrap_or options.allocation_strategy publisher_defaults.allocation;

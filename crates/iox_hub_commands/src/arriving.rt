@@ -1,5 +1,7 @@
 //! The commands by which ports come, over the tables of what goes by numbers and any home of ports.
-ghost use Rattle.std.specs.Prelude.{◌+◌, ◌<◌, ◌^◌};
+ghost use Rattle.std.specs.Prelude.{◌≡◌, ◌+◌, ◌<◌, ◌^◌, Err, option_map};
+ghost use Rattle.iox_hub_ports.specs.DomainHome.Steps.{why_no_publisher};
+ghost use Rattle.iox_hub_ports.specs.declared.made.Made.{Made};
 ghost use Rattle.iox_hub_commands.specs.Arriving.{PublisherStep, SubscriberStep};
 ghost use Rattle.iox_hub_commands.specs.Naming.{publisher_config, publisher_handlers, subscriber_config, subscriber_handler};
 
@@ -7,8 +9,9 @@ use crate::handlers::{PublisherHandlers, SubscriberHandler};
 use crate::naming;
 use crate::replies::{publisher_reply, subscriber_reply};
 use iox_command::{PublisherOptions, Reply, SubscriberOptions};
-use iox_domain_home::{DomainId, MakesPorts};
-use iox_domain_values::{Degrades, PortOwner};
+use iox_domain_home::{DomainId, Home, MakesPorts};
+use iox_domain_ports::PublisherConfig;
+use iox_domain_values::{Degrades, PortOwner, PublisherCreateError};
 use iox_hub_ports::{Made, PublisherParts};
 use std::alloc::Global;
 
@@ -40,6 +43,34 @@ pub fn publisher<
         holds_slices: true,
     };
     publisher_reply(made.make_publisher(alloc, home, domain, parts))
+}
+
+/// What is replied of a publisher that doesn't come for want of memory: it is refused as `Made::make_publisher` refuses it, and skipped where
+/// the domain isn't here. Nothing changes.
+pub fn publisher_refused<
+    T: Copy,
+    U: Copy + Default,
+    B: PublisherHandlers,
+    D: Degrades,
+    H: MakesPorts<T, U, B, D>,
+>(home: &H, domain: DomainId, owner: PortOwner, options: &PublisherOptions) -> Reply<T>
+    ensures { (made : Made) → PublisherStep H.ports_of H.with_ports H.with_publisher (λ handlers. B.degrades handlers) U.is_default domain (publisher_config owner options.now) options.now.preallocated_samples (publisher_handlers B.fixed options.now) made home.now result made home.now }
+{
+    let _user_header = U::default();
+    let config = naming::publisher_config(owner, options);
+    publisher_reply(why_no_publisher(home, domain, &config))
+}
+
+// Why a publisher of this config doesn't come to a domain, if that is here.
+fn why_no_publisher<T: Copy, U: Copy, H: Home<T, U>>(
+    home: &H,
+    domain: DomainId,
+    config: &PublisherConfig,
+) -> Option<Result<u64, PublisherCreateError>>
+    ensures { result ≡ option_map (λ ports. Err (why_no_publisher config.now ports)) (H.ports_of domain home.now) }
+{
+    let ports = home.ports(domain)?;
+    Some(Err(ports.publisher_refusal(config)))
 }
 
 /// A subscriber comes to a domain, with what is named, and gets the next number. Skipped where the domain isn't here; refused as

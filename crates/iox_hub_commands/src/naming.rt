@@ -1,13 +1,21 @@
 //! What a command names of a port.
 ghost use Rattle.std.specs.Prelude.{◌≡◌};
 ghost use Rattle.std.specs.Option.{unwrap_or};
-ghost use Rattle.iox_hub_commands.specs.Naming.{publisher_config, publisher_handlers, named_slots, subscriber_config, subscriber_handler};
+ghost use Rattle.iox_hub_commands.specs.Naming.{most_loans, publisher_config, publisher_handlers, named_slots, subscriber_config, subscriber_handler};
 
 use crate::handlers::{NamedSlots, PublisherHandlers, SubscriberHandler};
 use iox_command::{PublisherOptions, SubscriberOptions};
 use iox_domain_ports::{PublisherConfig, SubscriberConfig};
 use iox_domain_settings::PublisherSettings;
 use iox_domain_values::{DegradationAction, PortOwner};
+
+/// How many loans may be out at once of a publisher that is named so.
+pub fn most_loans(options: &PublisherOptions) -> usize
+    ensures { result ≡ most_loans options.now }
+{
+    let defaults = PublisherSettings::default();
+    length(options.max_loaned_samples, defaults.max_loaned_samples)
+}
 
 // What a publisher of slices is made with.
 pub(crate) fn publisher_config(owner: PortOwner, options: &PublisherOptions) -> PublisherConfig
@@ -16,7 +24,7 @@ pub(crate) fn publisher_config(owner: PortOwner, options: &PublisherOptions) -> 
     let defaults = PublisherSettings::default();
     PublisherConfig {
         owner,
-        max_loaned_samples: length(options.max_loaned_samples, defaults.max_loaned_samples),
+        max_loaned_samples: most_loans(options),
         values: length(
             options.initial_max_slice_len,
             defaults.initial_max_slice_len,

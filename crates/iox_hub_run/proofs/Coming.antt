@@ -1,5 +1,5 @@
--- A port comes to the domain of the factory that was found.
-use Rattle.std.proofs.Common.{◌≡◌, Option, None, Some, option_map, sym, subst}
+-- A port comes to the domain of the factory that was found, and room may be made before.
+use Rattle.std.proofs.Common.{arith, ◌≡◌, ◌∙◌, ℕ, true, Option, None, Some, option_map, ap, sym, subst}
 use Rattle.iox_hub_commands.specs.Command.declared.port.PublisherOptions.{PublisherOptions}
 use Rattle.iox_hub_commands.specs.Command.declared.port.SubscriberOptions.{SubscriberOptions}
 use Rattle.iox_hub_commands.specs.Command.declared.reply.Reply.{Reply}
@@ -13,7 +13,12 @@ use Rattle.iox_hub_commands.specs.DomainValues.declared.port_owner.PortOwner.{Po
 use Rattle.iox_hub_factories.specs.HubBase.AsHome.{hub_ports, with_hub_ports, with_hub_publisher, with_hub_subscriber}
 use Rattle.iox_hub_factories.specs.HubBase.Opening.{Made as Opened}
 use Rattle.iox_hub_commands.specs.Arriving.{PublisherStep, SubscriberStep}
+use Rattle.iox_hub_commands.specs.DomainPorts.declared.making.PublisherConfig.{PublisherConfig}
+use Rattle.iox_hub_commands.specs.HubPorts.Making.{NumbersPort, with_publisher}
+use Rattle.iox_hub_commands.specs.HubPorts.Tables.{IsRoomier}
+use Rattle.iox_hub_commands.specs.HubPorts.declared.made.Made.{Made}
 use Rattle.iox_hub_commands.specs.Naming.{publisher_config, publisher_handlers, subscriber_config, subscriber_handler}
+use Rattle.iox_hub_run.specs.Room.{OnlyRoomier}
 use Rattle.iox_hub_run.specs.Services.{PublisherComes, SubscriberComes, domain_of_factory, owner_of_factory}
 use Rattle.iox_hub_run.specs.declared.numbered_hub.NumberedHub.{NumberedHub}
 
@@ -21,7 +26,20 @@ use Rattle.iox_hub_run.specs.declared.numbered_hub.NumberedHub.{NumberedHub}
 abbrev place_of : Opened → DomainId × PortOwner
 place_of opened = (domain_of_factory opened, owner_of_factory opened)
 
+-- room that is made twice is more room
+roomier_twice : (made mid after : Made) → IsRoomier made mid → IsRoomier mid after → IsRoomier made after
+roomier_twice made mid after ((p, p_next, p_room), (s, s_next, s_room), (l, l_next, l_room), (m, m_next, m_room)) ((q, q_next, q_room), (r, r_next, r_room), (k, k_next, k_room), (n, n_next, n_room)) =
+    ((q ∙ p, q_next ∙ p_next, omega (arith, p_room, q_room)), (r ∙ s, r_next ∙ s_next, omega (arith, s_room, r_room)), (k ∙ l, k_next ∙ l_next, omega (arith, l_room, k_room)), (n ∙ m, n_next ∙ m_next, omega (arith, m_room, n_room)))
+
 module _ {T U B D : Type 0} where
+  -- a publisher that comes once there is more room
+  pub publisher_in_room : (is_default : U → Type 0) (degrades : B → DegradationCause → DegradationInfo → DegradationAction → Type 0) (domain : DomainId) (config : PublisherConfig) (slots : Option ℕ) (handlers : B) (old mid new : NumberedHub T U B D) (answer : Reply T)
+      → OnlyRoomier old mid → PublisherStep hub_ports with_hub_ports with_hub_publisher degrades is_default domain config slots handlers mid.made mid.hub answer new.made new.hub
+      → PublisherStep hub_ports with_hub_ports with_hub_publisher degrades is_default domain config slots handlers old.made old.hub answer new.made new.hub
+  publisher_in_room is_default degrades domain config slots handlers old mid new answer (first, same) (user_header, is_header, came, (roomier, is_roomier, (outcome, comes, numbers)), is) =
+      subst (λ home. PublisherStep hub_ports with_hub_ports with_hub_publisher degrades is_default domain config slots handlers old.made home answer new.made new.hub) (ap (λ hub. hub.hub) same)
+      (user_header, is_header, came, (roomier, roomier_twice old.made mid.made roomier first is_roomier, (outcome, comes, subst (λ next. NumbersPort (with_publisher domain true) next outcome roomier came new.made) first.0.1 numbers)), is)
+
   pub publisher_comes : (is_default : U → Type 0) (fixed : BackpressureStrategy → Option BackpressureAction → DegradationAction → B) (degrades : B → DegradationCause → DegradationInfo → DegradationAction → Type 0) (found : Option Opened)
       (domain : DomainId) (owner : PortOwner) (options : PublisherOptions) (old new : NumberedHub T U B D) (answer : Reply T) → option_map place_of found ≡ Some (domain, owner)
       → PublisherStep hub_ports with_hub_ports with_hub_publisher degrades is_default domain (publisher_config owner options) options.preallocated_samples (publisher_handlers fixed options) old.made old.hub answer new.made new.hub

@@ -21,10 +21,11 @@ use Rattle.iox_hub_commands.specs.DomainHome.Homes.{AtDomain, LeavesDomain, Make
 use Rattle.iox_hub_commands.specs.DomainHome.declared.domain_id.DomainId.{DomainId}
 use Rattle.iox_hub_commands.specs.DomainLaws.Calls.{PortCall, Writes, Happens}
 use Rattle.iox_hub_commands.specs.DomainLaws.Order.{Happen}
+use Rattle.iox_hub_commands.specs.DomainPorts.Lending.{written_in}
 use Rattle.iox_hub_commands.specs.DomainPorts.declared.service_ports.ServicePorts.{ServicePorts}
 use Rattle.iox_hub_commands.specs.DomainPublisher.Writing.{changed_if}
 use Rattle.iox_hub_commands.specs.DomainPublisher.declared.publisher_port.PublisherPort.{PublisherPort}
-use Rattle.iox_hub_commands.specs.DomainSender.Messages.{write_value}
+use Rattle.iox_hub_commands.specs.DomainSender.Messages.{Loan, write_value}
 use Rattle.iox_hub_commands.specs.DomainSender.Sending.{has_place}
 use Rattle.iox_hub_commands.specs.DomainSubscriber.Publishers.{port_of, changed, changed_at_port, with_port}
 use Rattle.iox_hub_commands.specs.DomainValues.declared.backpressure.BackpressureDecision.{BackpressureDecision}
@@ -71,15 +72,21 @@ module _ {T U : Type 0} (number : ℕ) where
   unchanged_at slot place ports None is = refl
   unchanged_at slot place ports (Some port) is = same_unchanged number ports port is
 
+  -- values that are written one after the other, by what goes on with each
+  module _ (Goes : ServicePorts T U → ServicePorts T U → Type 0) (still : (ports : ServicePorts T U) → Goes ports ports) (on : (old mid new : ServicePorts T U) → Goes old mid → Goes mid new → Goes old new)
+      (writes : (slot : ℕ) (test : PublisherPort T U → Bool) (change : Loan T U → Loan T U) (ports : ServicePorts T U) → Goes ports (written_in number test slot change ports)) where
+    pub each_goes : (slot place : ℕ) (values : List T) (ports : ServicePorts T U) → Goes ports (record ports { publishers = changed number (each_written slot place values) ports.publishers })
+    each_goes slot place [] ports =
+        subst (λ publishers. Goes ports (record ports { publishers = publishers })) (sym (unchanged_at slot place ports.publishers (port_of number ports.publishers) refl)) (still ports)
+    each_goes slot place (value ∷ values) ports =
+        let write : PublisherPort T U → PublisherPort T U = λ port. changed_if (has_place slot place port.sender.uses) slot (write_value place value) port in
+        let next : ServicePorts T U = record ports { publishers = changed number write ports.publishers } in
+        on ports next _ (writes slot (λ port. has_place slot place port.sender.uses) (write_value place value) ports)
+        (subst (λ publishers. Goes next (record ports { publishers = publishers })) (changed_again write (each_written slot (place + 1) values) ports.publishers) (each_goes slot (place + 1) values next))
+
   -- values that are written one after the other
   pub each_leads : (slot place : ℕ) (values : List T) (ports : ServicePorts T U) → LeadsTo ports (record ports { publishers = changed number (each_written slot place values) ports.publishers })
-  each_leads slot place [] ports =
-      subst (λ publishers. LeadsTo ports (record ports { publishers = publishers })) (sym (unchanged_at slot place ports.publishers (port_of number ports.publishers) refl)) (leads_nowhere ports)
-  each_leads slot place (value ∷ values) ports =
-      let write : PublisherPort T U → PublisherPort T U = λ port. changed_if (has_place slot place port.sender.uses) slot (write_value place value) port in
-      let next : ServicePorts T U = record ports { publishers = changed number write ports.publishers } in
-      leads_on ports next _ (by_call (Writes number slot (λ port. has_place slot place port.sender.uses) (write_value place value)) ports next refl)
-      (subst (λ publishers. LeadsTo next (record ports { publishers = publishers })) (changed_again write (each_written slot (place + 1) values) ports.publishers) (each_leads slot (place + 1) values next))
+  each_leads slot place values ports = each_goes LeadsTo leads_nowhere leads_on (λ slot test change ports. by_call (Writes number slot test change) ports (written_in number test slot change ports) refl) slot place values ports
 
 module _ {T U B D : Type 0} where
   found_here : (number key : ℕ) (x presence : Presence T U B D) (rest : List (ℕ × Presence T U B D)) (is : Bool) → is_at (nat_cmp number) key ≡ is → (lookup (is_at (nat_cmp number)) rest ≡ Some presence → HasGrown number presence)

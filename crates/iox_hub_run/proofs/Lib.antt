@@ -7,6 +7,7 @@ pub mod Loosening
 pub mod Agreeing
 pub mod Grown
 pub mod PortsMove
+pub mod ServicesGo
 pub mod ServicesMove
 pub mod ServicesAgree
 pub mod StepMoves
@@ -14,3 +15,8 @@ pub mod RunLemmas
 pub mod Rooms
 pub mod AsAgreed
 pub mod OneAgreement
+pub mod Measures
+pub mod PortsCount
+pub mod LoanMeasure
+pub mod StepKeeps
+pub mod LoanRoom

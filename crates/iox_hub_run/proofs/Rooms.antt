@@ -199,7 +199,7 @@ module _ {T U B D : Type 0} where
       (fixed : BackpressureStrategy → Option BackpressureAction → DegradationAction → B) (degrades : B → DegradationCause → DegradationInfo → DegradationAction → Type 0) (decides : B → BackpressureInfo → BackpressureDecision → Type 0)
       (fixed_reader : DegradationAction → D) (reader_degrades : D → DegradationCause → DegradationInfo → DegradationAction → Type 0) where
     -- by a command no more loans and samples get numbers than are told of it, and no room goes
-    step_grows : (asked : Command T) (old new : NumberedHub T U B D) (answer : Result (Reply T) AllocError)
+    pub step_grows : (asked : Command T) (old new : NumberedHub T U B D) (answer : Result (Reply T) AllocError)
         → Step payload user_header types is_default is_default_header fixed degrades decides fixed_reader reader_degrades asked old answer new → AllGrowBy (loans_of asked) (samples_of asked) old.made new.made
     step_grows command.Node old new answer step = replied 0 0 _ old new answer (λ reply makes. same_grows 0 0 old.made new.made (ap (λ hub. hub.made) makes.1)) step
     step_grows (command.Create node name options attributes steps) old new answer step = replied 0 0 _ old new answer (λ reply creates. let (made, does, same, is) = creates in same_grows 0 0 old.made new.made same) step
@@ -235,37 +235,43 @@ module _ {T U B D : Type 0} where
         let ((more_loans, loan_room), (more_samples, sample_room)) = step_grows asked old new answer step in
         (omega (arith, fit_loans, more_loans, loan_room), omega (arith, fit_samples, more_samples, sample_room))
 
-    -- a command that isn't replied to, though there was room, is one whose reply has values
+    -- a command that isn't replied to, though there was room if it lends, is one whose reply has values
+    pub replies_values : (asked : Command T) (old new : NumberedHub T U B D) (lacking : AllocError)
+        → Step payload user_header types is_default is_default_header fixed degrades decides fixed_reader reader_degrades asked old (Err lacking) new
+        → (0 < loans_of asked → FitsMore 1 old.made.loans) → RepliesValues asked
+    replies_values command.Node old new lacking step fits = absurd step
+    replies_values (command.Create node name options attributes steps) old new lacking step fits = absurd step
+    replies_values (command.Open node name options requirements steps) old new lacking step fits = absurd step
+    replies_values (command.OpenOrCreate node name options requirements steps) old new lacking step fits = absurd step
+    replies_values (command.Foreign pattern name steps) old new lacking step fits = absurd step
+    replies_values (command.Close factory) old new lacking step fits = absurd step
+    replies_values (command.Publisher factory options) old new lacking step fits = absurd step
+    replies_values (command.Subscriber factory options) old new lacking step fits = absurd step
+    replies_values (command.Loan publisher elements) old new lacking ((value, is_value, lent, grows, is_answer), same) fits =
+        let port = ready hub_ports (lender elements (value_at old.made.publishers publisher)) old.hub in
+        absurd (not_full 0 old.made.loans (fits (omega arith)) (lacking_is_full {T = T} (IsFull old.made.loans) (LendsWrittenNumbered hub_ports with_hub_ports elements value port) old.made new.made old.hub new.hub lacking lent is_answer grows))
+    replies_values (command.LoanUninit publisher elements) old new lacking ((lent, grows, is_answer), same) fits =
+        let port = lender elements (value_at old.made.publishers publisher) in
+        absurd (not_full 0 old.made.loans (fits (omega arith)) (lacking_is_full {T = T} (IsFull old.made.loans) (LendsNumbered hub_ports with_hub_ports elements port) old.made new.made old.hub new.hub lacking lent is_answer grows))
+    replies_values (command.Set loan place value) old new lacking step fits = absurd step
+    replies_values (command.Fill loan values) old new lacking step fits = absurd step
+    replies_values (command.Drop loan) old new lacking step fits = absurd step
+    replies_values (command.Send loan) old new lacking step fits = absurd step
+    replies_values (command.Put publisher values) old new lacking step fits = absurd step
+    replies_values (command.Retry publisher nanoseconds) old new lacking step fits = absurd step
+    replies_values (command.GiveUp publisher) old new lacking step fits = absurd step
+    replies_values (command.Receive subscriber) old new lacking step fits = tt
+    replies_values (command.Read sample) old new lacking step fits = tt
+    replies_values (command.Release sample) old new lacking step fits = absurd step
+    replies_values (command.Update number) old new lacking step fits = absurd step
+    replies_values (command.Leave number) old new lacking step fits = absurd step
+    replies_values (command.Has subscriber) old new lacking step fits = absurd step
+
+    -- and so it is where there was room for more
     pub lacks_values : (loans samples : ℕ) (asked : Command T) (old new : NumberedHub T U B D) (lacking : AllocError)
         → Step payload user_header types is_default is_default_header fixed degrades decides fixed_reader reader_degrades asked old (Err lacking) new
         → FitsAll (loans_of asked + loans) (samples_of asked + samples) old.made → RepliesValues asked
-    lacks_values loans samples command.Node old new lacking step fits = absurd step
-    lacks_values loans samples (command.Create node name options attributes steps) old new lacking step fits = absurd step
-    lacks_values loans samples (command.Open node name options requirements steps) old new lacking step fits = absurd step
-    lacks_values loans samples (command.OpenOrCreate node name options requirements steps) old new lacking step fits = absurd step
-    lacks_values loans samples (command.Foreign pattern name steps) old new lacking step fits = absurd step
-    lacks_values loans samples (command.Close factory) old new lacking step fits = absurd step
-    lacks_values loans samples (command.Publisher factory options) old new lacking step fits = absurd step
-    lacks_values loans samples (command.Subscriber factory options) old new lacking step fits = absurd step
-    lacks_values loans samples (command.Loan publisher elements) old new lacking ((value, is_value, lent, grows, is_answer), same) fits =
-        let port = ready hub_ports (lender elements (value_at old.made.publishers publisher)) old.hub in
-        absurd (not_full loans old.made.loans fits.0 (lacking_is_full {T = T} (IsFull old.made.loans) (LendsWrittenNumbered hub_ports with_hub_ports elements value port) old.made new.made old.hub new.hub lacking lent is_answer grows))
-    lacks_values loans samples (command.LoanUninit publisher elements) old new lacking ((lent, grows, is_answer), same) fits =
-        let port = lender elements (value_at old.made.publishers publisher) in
-        absurd (not_full loans old.made.loans fits.0 (lacking_is_full {T = T} (IsFull old.made.loans) (LendsNumbered hub_ports with_hub_ports elements port) old.made new.made old.hub new.hub lacking lent is_answer grows))
-    lacks_values loans samples (command.Set loan place value) old new lacking step fits = absurd step
-    lacks_values loans samples (command.Fill loan values) old new lacking step fits = absurd step
-    lacks_values loans samples (command.Drop loan) old new lacking step fits = absurd step
-    lacks_values loans samples (command.Send loan) old new lacking step fits = absurd step
-    lacks_values loans samples (command.Put publisher values) old new lacking step fits = absurd step
-    lacks_values loans samples (command.Retry publisher nanoseconds) old new lacking step fits = absurd step
-    lacks_values loans samples (command.GiveUp publisher) old new lacking step fits = absurd step
-    lacks_values loans samples (command.Receive subscriber) old new lacking step fits = tt
-    lacks_values loans samples (command.Read sample) old new lacking step fits = tt
-    lacks_values loans samples (command.Release sample) old new lacking step fits = absurd step
-    lacks_values loans samples (command.Update number) old new lacking step fits = absurd step
-    lacks_values loans samples (command.Leave number) old new lacking step fits = absurd step
-    lacks_values loans samples (command.Has subscriber) old new lacking step fits = absurd step
+    lacks_values loans samples asked old new lacking step (fit_loans, fit_samples) = replies_values asked old new lacking step (λ one. omega (arith, one, fit_loans))
 
   -- a hub that is only roomier has the same numbers
   pub roomier_goes_on : (old roomier : NumberedHub T U B D) → OnlyRoomier old roomier → NumbersGoOn old roomier

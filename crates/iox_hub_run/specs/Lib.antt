@@ -4,6 +4,7 @@ pub mod Services
 pub mod Steps
 pub mod Runs
 pub mod Room
+pub mod PortRoom
 pub mod RoomLaws
 pub mod Lives
 pub mod Grown

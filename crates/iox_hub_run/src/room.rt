@@ -1,6 +1,7 @@
-//! Room for the numbers of loans and samples, which a run makes before its first command.
+//! Room for the numbers of loans and samples, which a run makes before its first command, and a port that comes.
 ghost use Rattle.std.specs.Prelude.{◌≡◌, ◌+◌, ◌≤◌, ◌<◌, length, IsOk, OnOk, OnErr};
 ghost use Rattle.iox_hub_commands.specs.HubPorts.Tables.{SameNumbers};
+ghost use Rattle.iox_hub_factories.specs.HubServices.Room.{loans_left_in};
 ghost use Rattle.iox_hub_run.specs.Room.{loans_of, samples_of, loans_in, samples_in, FitsMore, FitsAll, OnlyRoomier};
 
 use crate::numbered_hub::NumberedHub;
@@ -90,5 +91,23 @@ impl<T, U, B, D> NumberedHub<T, U, B, D> {
     {
         room_for(&mut self.made.loans, loans)?;
         room_for(&mut self.made.samples, samples)
+    }
+}
+
+impl<T: Copy, U: Copy, B: Drop, D: Drop> NumberedHub<T, U, B, D> {
+    // Makes room for the numbers of the loans that are out, of all that the publishers may still make, of so many more, and of one beside
+    // them: so the table isn't full when they are made, and no loan looks for room. Fails only where there isn't as much already, and an
+    // allocation fails.
+    pub(crate) fn room_for_loans(&mut self, more: usize) -> Result<(), AllocError>
+        ensures same { OnlyRoomier self.old self.new }
+        ensures room { OnOk result (length self.old.made.loans.entries + loans_left_in self.old.hub.services.domains + more < self.new.made.loans.room) }
+    {
+        let left = self
+            .hub
+            .loans_left()
+            .checked_add(more as u64)
+            .ok_or(AllocError)?;
+        let wanted = left.checked_add(1).ok_or(AllocError)?;
+        room_for(&mut self.made.loans, wanted as usize)
     }
 }

@@ -3,6 +3,7 @@ ghost use Rattle.std.specs.Prelude.{◌≡◌, ◌+◌, ◌<◌, ◌^◌, option
 ghost use Rattle.iox_hub_commands.specs.DescribeBase.Detail.{detail};
 ghost use Rattle.iox_hub_commands.specs.DescribeBase.declared.type_detail.TypeVariant.TheVariants.{FixedSize};
 ghost use Rattle.iox_hub_factories.specs.HubRequests.Asked.{types_of};
+ghost use Rattle.iox_hub_run.specs.PortRoom.{HasLoanRoom};
 ghost use Rattle.iox_hub_run.specs.Services.{NodeMakes, Creates, Opens, OpensOrCreates, Acts, Closes, MakesPublisher, MakesSubscriber, domain_of_factory, owner_of_factory};
 ghost use Rattle.iox_hub_factories.specs.Tables.{publish_subscribe_in};
 ghost use Rattle.iox_hub_factories.specs.Numbered.NumberTable.{value_at};
@@ -15,7 +16,7 @@ use iox_describe_base::{
 use iox_domain_home::DomainId;
 use iox_domain_values::{Decides, Degrades, PortOwner};
 use iox_hub_commands::replies::{closed_reply, factory_reply, foreign_reply};
-use iox_hub_commands::{PublisherHandlers, SubscriberHandler, arriving};
+use iox_hub_commands::{PublisherHandlers, SubscriberHandler, arriving, most_loans};
 use iox_hub_factories::{ServiceAsked, foreign};
 use iox_queues_base::Words;
 use std::alloc::Global;
@@ -123,11 +124,15 @@ impl<T: Copy, U: Copy + Default, B: PublisherHandlers, D: Degrades> NumberedHub<
         options: &PublisherOptions,
     ) -> Reply<T>
         requires { self.old.made.publishers.next + 1 < 2 ^ 64 }
-        ensures { MakesPublisher U.is_default B.fixed (λ handlers. B.degrades handlers) factory options.now self.old result self.new }
+        ensures room { HasLoanRoom self.old → HasLoanRoom self.new }
+        ensures comes { MakesPublisher U.is_default B.fixed (λ handlers. B.degrades handlers) factory options.now self.old result self.new }
     {
         let Some((domain, owner)) = self.place(factory) else {
             return Reply::Skipped;
         };
+        if self.room_for_loans(most_loans(options)).is_err() {
+            return arriving::publisher_refused(&self.hub, domain, owner, options);
+        }
         arriving::publisher(alloc, &mut self.made, &mut self.hub, domain, owner, options)
     }
 }
@@ -140,7 +145,8 @@ impl<T: Copy, U: Copy, B: Decides + Degrades, D: SubscriberHandler> NumberedHub<
         options: &SubscriberOptions,
     ) -> Reply<T>
         requires { self.old.made.subscribers.next + 1 < 2 ^ 64 }
-        ensures { MakesSubscriber D.fixed (λ handler. D.degrades handler) factory options.now self.old result self.new }
+        ensures room { HasLoanRoom self.old → HasLoanRoom self.new }
+        ensures comes { MakesSubscriber D.fixed (λ handler. D.degrades handler) factory options.now self.old result self.new }
     {
         let Some((domain, owner)) = self.place(factory) else {
             return Reply::Skipped;

@@ -3,3 +3,4 @@ pub mod Takings
 pub mod Same
 pub mod Homely
 pub mod Lawful
+mod Counted

@@ -8,4 +8,6 @@ pub mod Taking
 pub mod AsHome
 pub mod HomeLaws
 pub mod Within
+pub mod Room
 pub mod Laws
+pub use Rattle.iox_domain_room.specs as DomainRoom

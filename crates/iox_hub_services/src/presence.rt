@@ -1,13 +1,16 @@
 //! A domain that is here, or what is agreed while it is out.
-ghost use Rattle.std.specs.Prelude.{◌≡◌, ◌↔◌, IsTrue, option_copied};
+ghost use Rattle.std.specs.Prelude.{◌≡◌, ◌↔◌, ◌-◌, ◌^◌, IsTrue, min, option_copied};
 ghost use Rattle.std.specs.Borrow.{sem};
 ghost use Rattle.std.specs.Option.{option_copied_mut};
 ghost use Rattle.iox_hub_services.specs.Open.{here, taken_out};
 ghost use Rattle.iox_hub_services.specs.Agreeing.{same_agreement};
+ghost use Rattle.iox_hub_services.specs.Room.{counted_at};
+ghost use Rattle.iox_domain_room.specs.Loans.{loans_left};
 ghost use Rattle.iox_hub_services.specs.declared.presence.Presence.TheVariants.{Out};
 
 use iox_describe_settings::publish_subscribe::StaticConfig;
 use iox_domain::Domain;
+use iox_domain_room::loans;
 use iox_domain_values::{DegradationHandler, Handlers};
 use std::mem;
 
@@ -66,6 +69,18 @@ impl<T, U, B, D> Presence<T, U, B, D> {
         match mem::replace(self, Presence::Out(agreed)) {
             Presence::Here(domain) => Some(domain),
             Presence::Out(_) => None,
+        }
+    }
+}
+
+impl<T: Copy, U: Copy, B, D> Presence<T, U, B, D> {
+    /// How many loans the publishers of the domain may still make; none where it is out. Past 2^64 - 1 it is that.
+    pub fn loans_left(&self) -> u64
+        ensures { result ≡ min (counted_at (λ ports. loans_left ports) self.now) (2 ^ 64 - 1) }
+    {
+        match self {
+            Presence::Here(domain) => loans::loans_left(&domain.ports),
+            Presence::Out(_) => 0,
         }
     }
 }

@@ -1,11 +1,13 @@
 //! What is open, by numbers.
-ghost use Rattle.std.specs.Prelude.{◌≡◌, ℕ, option_copied, OnOk, OnErr, [], None};
+ghost use Rattle.std.specs.Prelude.{◌≡◌, ◌-◌, ◌^◌, ℕ, min, option_copied, OnOk, OnErr, [], None};
 ghost use Rattle.std.specs.Borrow.{sem};
 ghost use Rattle.std.specs.Option.{option_copied_mut};
 ghost use Rattle.iox_hub_services.specs.Open.{presence_of, domain_of, with_presence, opened, closed};
+ghost use Rattle.iox_hub_services.specs.Room.{loans_left_in};
 
 use crate::presence::Presence;
 use iox_domain::Domain;
+use iox_domain_subscriber::living::add;
 use std::alloc::{AllocError, Global};
 use std::collections::BTreeMap;
 use std::marker::Model;
@@ -70,6 +72,17 @@ impl<T: Copy, U: Copy, B: Drop, D: Drop> Presences<T, U, B, D> {
             Some(presence) => presence.domain_mut(),
             None => None,
         }
+    }
+
+    /// How many loans the publishers of all domains that are here may still make. Past 2^64 - 1 it is that.
+    pub fn loans_left(&self) -> u64
+        ensures { result ≡ min (loans_left_in self.now) (2 ^ 64 - 1) }
+    {
+        let mut left = 0;
+        for (_number, presence) in self.entries.iter() {
+            left = add(left, presence.loans_left());
+        }
+        left
     }
 
     /// Something else is under a number, if something is open under it. It takes no memory.

@@ -1,9 +1,10 @@
 //! The services of a hub.
-ghost use Rattle.std.specs.Prelude.{◌≡◌, ℕ, option_copied, IfSome, [], None};
+ghost use Rattle.std.specs.Prelude.{◌≡◌, ◌-◌, ◌^◌, ℕ, min, option_copied, IfSome, [], None};
 ghost use Rattle.iox_domain.specs.DescribeBase.Detail.{detail};
 ghost use Rattle.iox_domain.specs.DescribeBase.declared.type_detail.TypeVariant.TheVariants.{FixedSize};
 ghost use Rattle.iox_hub_services.specs.Open.{presence_of, domain_of};
 ghost use Rattle.iox_hub_services.specs.Opening.{is_open, Opens, without_service};
+ghost use Rattle.iox_hub_services.specs.Room.{loans_left_in};
 
 use crate::presence::Presence;
 use crate::presences::Presences;
@@ -60,6 +61,13 @@ impl<T: Copy, U: Copy, B: Drop, D: Drop> Services<T, U, B, D> {
         ensures own { IfSome result (λ domain. domain.now.id ≡ record { hub = self.now.hub; service = number }) }
     {
         self.presences.domain(number)
+    }
+
+    /// How many loans the publishers of all domains that are here may still make, beside those that are out. Past 2^64 - 1 it is that.
+    pub fn loans_left(&self) -> u64
+        ensures { result ≡ min (loans_left_in self.now.domains) (2 ^ 64 - 1) }
+    {
+        self.presences.loans_left()
     }
 
     /// Nothing is open under a number any longer: a domain that was here is dropped with its ports. The other services stay as they were.

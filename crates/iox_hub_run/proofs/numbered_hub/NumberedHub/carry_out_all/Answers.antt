@@ -24,6 +24,7 @@ loop-command-preserved g c =
       answered = omega (arith, at.invariant.answered, c.push_reserved.ensures.len, longer);
       room = omega (arith, at.invariant.room, c.push_reserved.ensures.capacity);
       fits = step_leaves_room (detail FixedSize g.T.ZeroCopySend.name g.T.ZeroCopySend.size g.T.ZeroCopySend.alignment) (detail FixedSize g.U.ZeroCopySend.name g.U.ZeroCopySend.size g.U.ZeroCopySend.alignment) (types_of g.T.ZeroCopySend.name g.T.ZeroCopySend.size g.T.ZeroCopySend.alignment g.U.ZeroCopySend.name g.U.ZeroCopySend.size g.U.ZeroCopySend.alignment) (λ value. g.T.Default.is_default value) (λ value. g.U.Default.is_default value) g.B.PublisherHandlers.fixed (λ handlers. g.B.Degrades.degrades handlers) (λ handlers. g.B.Decides.decides handlers) g.D.SubscriberHandler.fixed (λ handler. g.D.Degrades.degrades handler) (loans_in (into_iter_items c.next.new.self)) (samples_in (into_iter_items c.next.new.self)) command at.self c.step.new.self _ c.in-Ok-step.ensures.steps (subst (λ items. FitsAll (loans_in items) (samples_in items) at.self.made) steps at.invariant.fits);
+      kept = λ room. c.step.ensures.room (at.invariant.kept room);
     }
 
 pub returns-in_default-step-clause-stops : goal.returns-in_default-step-clause-stops
@@ -40,3 +41,6 @@ returns-in_default-step-clause-stops g c = λ stopped.
       lacks_values (detail FixedSize g.T.ZeroCopySend.name g.T.ZeroCopySend.size g.T.ZeroCopySend.alignment) (detail FixedSize g.U.ZeroCopySend.name g.U.ZeroCopySend.size g.U.ZeroCopySend.alignment) (types_of g.T.ZeroCopySend.name g.T.ZeroCopySend.size g.T.ZeroCopySend.alignment g.U.ZeroCopySend.name g.U.ZeroCopySend.size g.U.ZeroCopySend.alignment) (λ value. g.T.Default.is_default value) (λ value. g.U.Default.is_default value) g.B.PublisherHandlers.fixed (λ handlers. g.B.Degrades.degrades handlers) (λ handlers. g.B.Decides.decides handlers) g.D.SubscriberHandler.fixed (λ handler. g.D.Degrades.degrades handler) (loans_in (into_iter_items c.next.new.self)) (samples_in (into_iter_items c.next.new.self)) command at.self c.step.new.self c.in_default-step.field-0 c.in_default-step.ensures.steps
           (subst (λ items. FitsAll (loans_in items) (samples_in items) at.self.made) steps at.invariant.fits),
     )
+
+pub returns-in_default-step-clause-room : goal.returns-in_default-step-clause-room
+returns-in_default-step-clause-room g c = λ room. c.step.ensures.room (c.loop-command.invariant.kept room)
