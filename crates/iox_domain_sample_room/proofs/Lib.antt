@@ -13,3 +13,4 @@ mod Attached
 mod Entries
 mod Listed
 pub mod StayRoomy
+pub mod Bounds

@@ -29,6 +29,18 @@ spare_samples most port ports = if port.stands then spare_of most port.connectio
 abbrev pub samples_left : {T U : Type 0} → ServicePorts T U → ℕ
 samples_left ports = sum_by (λ port. spare_samples ports.sizes.subscriber_max_borrowed_samples port ports.publishers) (values_of ports.subscribers)
 
+-- how many samples a subscriber may hold at once: so many of each connection that it has room for; none once it left
+abbrev pub most_held : ℕ → SubscriberPort → ℕ
+most_held most port = if port.stands then length port.connections.values * most else 0
+
+-- how many all subscribers of a service may
+abbrev pub samples_at_most : {T U : Type 0} → ServicePorts T U → ℕ
+samples_at_most ports = sum_by (λ port. most_held ports.sizes.subscriber_max_borrowed_samples port) (values_of ports.subscribers)
+
+-- how many a subscriber of a service of these sizes may
+abbrev pub held_by_one : ServiceSizes → ℕ
+held_by_one sizes = (sizes.max_publishers + sizes.expired_connections) * sizes.subscriber_max_borrowed_samples
+
 -- how many samples the answer of a receive names
 abbrev pub received_in : Option (Result (Option Taken) ReceiveError) → ℕ
 received_in None = 0
@@ -48,7 +60,7 @@ released_by call = 0
 
 -- how many a subscriber that came may hold; none, if none came
 abbrev pub brought_in : Result ℕ SubscriberCreateError → ServiceSizes → ℕ
-brought_in (Ok number) sizes = (sizes.max_publishers + sizes.expired_connections) * sizes.subscriber_max_borrowed_samples
+brought_in (Ok number) sizes = held_by_one sizes
 brought_in (Err error) sizes = 0
 
 -- how many a subscriber that comes by a call may hold

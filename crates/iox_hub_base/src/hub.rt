@@ -1,7 +1,7 @@
 //! A hub.
 ghost use Rattle.std.specs.Prelude.{◌≡◌, ◌-◌, ◌^◌, Ok, min, nat_eq};
 ghost use Rattle.iox_hub_base.specs.Hubs.{IsNewHub, one_more, is_node};
-ghost use Rattle.iox_hub_services.specs.Room.{loans_left_in};
+ghost use Rattle.iox_hub_services.specs.Room.{loans_left_in, samples_at_most_in};
 
 use crate::factory::PortFactory;
 use crate::node::NodeHandle;
@@ -109,6 +109,16 @@ impl<T: Copy, U: Copy, B: Drop, D: Drop> Hub<T, U, B, D> {
         ensures { result ≡ min (loans_left_in self.now.services.domains) (2 ^ 64 - 1) }
     {
         self.services.loans_left()
+    }
+
+    /// How many samples the subscribers of all domains that are here may hold at once: each as many as may be borrowed of a connection, for each
+    /// connection that it has room for. Past 2^64 - 1 it is that.
+    ///
+    /// This port's own.
+    pub fn samples_at_most(&self) -> u64
+        ensures { result ≡ min (samples_at_most_in self.now.services.domains) (2 ^ 64 - 1) }
+    {
+        self.services.samples_at_most()
     }
 
     /// A builder of the service of this name, for a node of this hub.

@@ -1,6 +1,6 @@
 //! The commands by which ports come, over the tables of what goes by numbers and any home of ports.
 ghost use Rattle.std.specs.Prelude.{◌≡◌, ◌+◌, ◌<◌, ◌^◌, Err, option_map};
-ghost use Rattle.iox_hub_ports.specs.DomainHome.Steps.{why_no_publisher};
+ghost use Rattle.iox_hub_ports.specs.DomainHome.Steps.{why_no_publisher, why_no_subscriber};
 ghost use Rattle.iox_hub_ports.specs.declared.made.Made.{Made};
 ghost use Rattle.iox_hub_commands.specs.Arriving.{PublisherStep, SubscriberStep};
 ghost use Rattle.iox_hub_commands.specs.Naming.{publisher_config, publisher_handlers, subscriber_config, subscriber_handler};
@@ -10,8 +10,8 @@ use crate::naming;
 use crate::replies::{publisher_reply, subscriber_reply};
 use iox_command::{PublisherOptions, Reply, SubscriberOptions};
 use iox_domain_home::{DomainId, Home, MakesPorts};
-use iox_domain_ports::PublisherConfig;
-use iox_domain_values::{Degrades, PortOwner, PublisherCreateError};
+use iox_domain_ports::{PublisherConfig, SubscriberConfig};
+use iox_domain_values::{Degrades, PortOwner, PublisherCreateError, SubscriberCreateError};
 use iox_hub_ports::{Made, PublisherParts};
 use std::alloc::Global;
 
@@ -50,11 +50,11 @@ pub fn publisher<
 pub fn publisher_refused<
     T: Copy,
     U: Copy + Default,
-    B: PublisherHandlers,
+    B: Degrades,
     D: Degrades,
     H: MakesPorts<T, U, B, D>,
 >(home: &H, domain: DomainId, owner: PortOwner, options: &PublisherOptions) -> Reply<T>
-    ensures { (made : Made) → PublisherStep H.ports_of H.with_ports H.with_publisher (λ handlers. B.degrades handlers) U.is_default domain (publisher_config owner options.now) options.now.preallocated_samples (publisher_handlers B.fixed options.now) made home.now result made home.now }
+    ensures { (made : Made) (handlers : B) → PublisherStep H.ports_of H.with_ports H.with_publisher (λ handlers. B.degrades handlers) U.is_default domain (publisher_config owner options.now) options.now.preallocated_samples handlers made home.now result made home.now }
 {
     let _user_header = U::default();
     let config = naming::publisher_config(owner, options);
@@ -89,4 +89,30 @@ pub fn subscriber<T: Copy, U: Copy, B: Degrades, D: SubscriberHandler, H: MakesP
     let config = naming::subscriber_config(owner, options);
     let handler = naming::subscriber_handler(options);
     subscriber_reply(made.make_subscriber(alloc, home, domain, config, handler))
+}
+
+/// What is replied of a subscriber that doesn't come for want of memory: it is refused as `Made::make_subscriber` refuses it, and skipped where
+/// the domain isn't here. Nothing changes.
+pub fn subscriber_refused<T: Copy, U: Copy, B: Degrades, D: Degrades, H: MakesPorts<T, U, B, D>>(
+    home: &H,
+    domain: DomainId,
+    owner: PortOwner,
+    options: &SubscriberOptions,
+) -> Reply<T>
+    ensures { (made : Made) (handler : D) → SubscriberStep H.ports_of H.with_ports H.with_subscriber (λ handler. D.degrades handler) domain (subscriber_config owner options.now) handler made home.now result made home.now }
+{
+    let config = naming::subscriber_config(owner, options);
+    subscriber_reply(why_no_subscriber(home, domain, &config))
+}
+
+// Why a subscriber of this config doesn't come to a domain, if that is here.
+fn why_no_subscriber<T: Copy, U: Copy, H: Home<T, U>>(
+    home: &H,
+    domain: DomainId,
+    config: &SubscriberConfig,
+) -> Option<Result<u64, SubscriberCreateError>>
+    ensures { result ≡ option_map (λ ports. Err (why_no_subscriber config.now ports)) (H.ports_of domain home.now) }
+{
+    let ports = home.ports(domain)?;
+    Some(Err(ports.subscriber_refusal(config.buffer_size)))
 }

@@ -14,7 +14,8 @@ use Rattle.iox_hub_factories.specs.HubBase.AsHome.{hub_ports, with_hub_ports, wi
 use Rattle.iox_hub_factories.specs.HubBase.Opening.{Made as Opened}
 use Rattle.iox_hub_commands.specs.Arriving.{PublisherStep, SubscriberStep}
 use Rattle.iox_hub_commands.specs.DomainPorts.declared.making.PublisherConfig.{PublisherConfig}
-use Rattle.iox_hub_commands.specs.HubPorts.Making.{NumbersPort, with_publisher}
+use Rattle.iox_hub_commands.specs.DomainPorts.declared.making.SubscriberConfig.{SubscriberConfig}
+use Rattle.iox_hub_commands.specs.HubPorts.Making.{NumbersPort, with_publisher, with_subscriber}
 use Rattle.iox_hub_commands.specs.HubPorts.Tables.{IsRoomier}
 use Rattle.iox_hub_commands.specs.HubPorts.declared.made.Made.{Made}
 use Rattle.iox_hub_commands.specs.Naming.{publisher_config, publisher_handlers, subscriber_config, subscriber_handler}
@@ -39,6 +40,14 @@ module _ {T U B D : Type 0} where
   publisher_in_room is_default degrades domain config slots handlers old mid new answer (first, same) (user_header, is_header, came, (roomier, is_roomier, (outcome, comes, numbers)), is) =
       subst (λ home. PublisherStep hub_ports with_hub_ports with_hub_publisher degrades is_default domain config slots handlers old.made home answer new.made new.hub) (ap (λ hub. hub.hub) same)
       (user_header, is_header, came, (roomier, roomier_twice old.made mid.made roomier first is_roomier, (outcome, comes, subst (λ next. NumbersPort (with_publisher domain true) next outcome roomier came new.made) first.0.1 numbers)), is)
+
+  -- a subscriber
+  pub subscriber_in_room : (degrades : D → DegradationCause → DegradationInfo → DegradationAction → Type 0) (domain : DomainId) (config : SubscriberConfig) (handler : D) (old mid new : NumberedHub T U B D) (answer : Reply T)
+      → OnlyRoomier old mid → SubscriberStep hub_ports with_hub_ports with_hub_subscriber degrades domain config handler mid.made mid.hub answer new.made new.hub
+      → SubscriberStep hub_ports with_hub_ports with_hub_subscriber degrades domain config handler old.made old.hub answer new.made new.hub
+  subscriber_in_room degrades domain config handler old mid new answer (first, same) (came, (roomier, is_roomier, (outcome, comes, numbers)), is) =
+      subst (λ home. SubscriberStep hub_ports with_hub_ports with_hub_subscriber degrades domain config handler old.made home answer new.made new.hub) (ap (λ hub. hub.hub) same)
+      (came, (roomier, roomier_twice old.made mid.made roomier first is_roomier, (outcome, comes, subst (λ next. NumbersPort (with_subscriber domain) next outcome roomier came new.made) first.1.0.1 numbers)), is)
 
   pub publisher_comes : (is_default : U → Type 0) (fixed : BackpressureStrategy → Option BackpressureAction → DegradationAction → B) (degrades : B → DegradationCause → DegradationInfo → DegradationAction → Type 0) (found : Option Opened)
       (domain : DomainId) (owner : PortOwner) (options : PublisherOptions) (old new : NumberedHub T U B D) (answer : Reply T) → option_map place_of found ≡ Some (domain, owner)

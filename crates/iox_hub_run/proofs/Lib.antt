@@ -18,5 +18,6 @@ pub mod OneAgreement
 pub mod Measures
 pub mod PortsCount
 pub mod LoanMeasure
+pub mod SampleMeasure
 pub mod StepKeeps
-pub mod LoanRoom
+pub mod PortRooms

@@ -162,7 +162,7 @@ leaves ports_of with_ports without without_reader (port.Publisher number) made a
 leaves ports_of with_ports without without_reader (port.Subscriber number) made after old new answer (done, at, is, is_answer) = subscriber_spent done number made after is
 
 -- a loan that isn't replied to found its table full
-lacking_is_full : {T H : Type 0} (is_full : Type 0) (call : Made → H → Option (Result ℕ LoanError) → Made → H → Type 0) (made after : Made) (old new : H) (lacking : AllocError) (lent : Result (Option (Result ℕ LoanError)) AllocError)
+pub lacking_is_full : {T H : Type 0} (is_full : Type 0) (call : Made → H → Option (Result ℕ LoanError) → Made → H → Type 0) (made after : Made) (old new : H) (lacking : AllocError) (lent : Result (Option (Result ℕ LoanError)) AllocError)
     → Err lacking ≡ lent_reply {T = T} lent → GrowsFirst is_full call made old lent after new → is_full
 lacking_is_full is_full call made after old new lacking (Ok lent) is grows = cc is
 lacking_is_full is_full call made after old new lacking (Err wanting) is (so, same, here) = so

@@ -6,7 +6,7 @@
 //! | `services` | the commands on nodes and services |
 //! | `step` | one command, and its reply |
 //! | `port_step` | one command of a port, and its reply |
-//! | `room` | room for the numbers of what a list of commands may make, and the loans of a publisher that comes |
+//! | `room` | room for the numbers of what a list of commands may make, and of the loans and samples that ports may have |
 //! | `run` | a list of commands |
 //! | `laws` | what it comes to that each service has one agreement |
 //!

@@ -4,7 +4,7 @@ ghost use Rattle.iox_hub_run.specs.Agreements.{AreOfOneAgreement};
 ghost use Rattle.iox_hub_run.specs.Grown.{HaveGrown};
 ghost use Rattle.iox_hub_run.specs.Lives.{NumbersRise};
 ghost use Rattle.iox_hub_run.specs.Numbers.{IsNew, numbers_used};
-ghost use Rattle.iox_hub_run.specs.PortRoom.{HasLoanRoom};
+ghost use Rattle.iox_hub_run.specs.PortRoom.{HasRoom};
 
 use iox_hub_commands::{FixedDegradation, FixedHandlers, Made};
 use iox_hub_factories::{Factories, Hub, HubConfig};
@@ -32,7 +32,7 @@ impl<T: Copy, U: Copy, B: Drop, D: Drop> NumberedHub<T, U, B, D> {
         ensures rise { NumbersRise result }
         ensures grown { HaveGrown result.hub.services.domains }
         ensures one_agreement { AreOfOneAgreement result.factories.made result.hub }
-        ensures room { HasLoanRoom result }
+        ensures room { HasRoom result }
     {
         NumberedHub {
             hub: Hub::new(alloc, config),

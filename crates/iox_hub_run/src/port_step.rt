@@ -1,5 +1,5 @@
 //! One command of a port, and its reply.
-ghost use Rattle.std.specs.Prelude.{◌+◌, ◌<◌, ◌≤◌, ◌^◌, length, OnErr};
+ghost use Rattle.std.specs.Prelude.{◌+◌, ◌<◌, ◌≤◌, ◌^◌, OnErr};
 ghost use Rattle.iox_command_ports.specs.Ports.{command_of};
 ghost use Rattle.iox_hub_commands.specs.DescribeBase.Detail.{detail};
 ghost use Rattle.iox_hub_commands.specs.DescribeBase.declared.type_detail.TypeVariant.TheVariants.{FixedSize};
@@ -8,8 +8,7 @@ ghost use Rattle.iox_hub_run.specs.Agreements.{AreOfOneAgreement};
 ghost use Rattle.iox_hub_run.specs.Grown.{GrowsOn, HaveGrown, AreAsAgreed, OneDomainMoves};
 ghost use Rattle.iox_hub_run.specs.Lives.{ChangesOneThing};
 ghost use Rattle.iox_hub_run.specs.Numbers.{numbers_used};
-ghost use Rattle.iox_hub_run.specs.PortRoom.{HasLoanRoom};
-ghost use Rattle.iox_hub_run.specs.Room.{RepliesValues};
+ghost use Rattle.iox_hub_run.specs.PortRoom.{HasRoom, KeepsRoom, LacksInRoom};
 ghost use Rattle.iox_hub_run.specs.Steps.{Step};
 
 use crate::numbered_hub::NumberedHub;
@@ -42,8 +41,8 @@ impl<
         ensures agreed { HaveGrown self.old.hub.services.domains → AreAsAgreed self.new.hub.services.domains }
         ensures one_agreement { AreOfOneAgreement self.old.factories.made self.old.hub → AreOfOneAgreement self.new.factories.made self.new.hub }
         ensures apart { OneDomainMoves self.old.hub self.new.hub }
-        ensures room { HasLoanRoom self.old → HasLoanRoom self.new }
-        ensures lends { HasLoanRoom self.old → 0 < length self.old.made.publishers.entries → OnErr result (RepliesValues (command_of command.entry)) }
+        ensures room { KeepsRoom self.old self.new }
+        ensures lacks { HasRoom self.old → OnErr result (LacksInRoom (command_of command.entry) self.old self.new) }
     {
         self.carry_out_port(alloc, command)
     }

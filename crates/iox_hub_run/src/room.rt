@@ -1,11 +1,16 @@
 //! Room for the numbers of loans and samples, which a run makes before its first command, and a port that comes.
-ghost use Rattle.std.specs.Prelude.{◌≡◌, ◌+◌, ◌≤◌, ◌<◌, length, IsOk, OnOk, OnErr};
+ghost use Rattle.std.specs.Prelude.{◌≡◌, ◌+◌, ◌-◌, ◌^◌, ◌≤◌, ◌<◌, length, min, IsOk, OnOk, OnErr};
 ghost use Rattle.iox_hub_commands.specs.HubPorts.Tables.{SameNumbers};
-ghost use Rattle.iox_hub_factories.specs.HubServices.Room.{loans_left_in};
+ghost use Rattle.iox_hub_factories.specs.HubBase.AsHome.{hub_ports};
+ghost use Rattle.iox_hub_factories.specs.HubServices.Room.{loans_left_in, samples_left_in, samples_at_most_in};
+ghost use Rattle.iox_hub_run.specs.PortRoom.{FitsBeside, most_samples};
 ghost use Rattle.iox_hub_run.specs.Room.{loans_of, samples_of, loans_in, samples_in, FitsMore, FitsAll, OnlyRoomier};
 
 use crate::numbered_hub::NumberedHub;
 use iox_command::Command;
+use iox_domain_home::{DomainId, Home};
+use iox_domain_sample_room::samples::held_by_one;
+use iox_domain_values::{Decides, Degrades};
 use iox_numbered::Numbered;
 use std::alloc::AllocError;
 
@@ -94,20 +99,56 @@ impl<T, U, B, D> NumberedHub<T, U, B, D> {
     }
 }
 
+// Makes room in a table for so many values more, and for one beside them: so it isn't full when they come, and none of them looks for room.
+// Fails only where there isn't as much already, and an allocation fails.
+fn room_beside<V>(numbers: &mut Numbered<V>, left: u64, more: u64) -> Result<(), AllocError>
+    ensures same { SameNumbers numbers.old numbers.new }
+    ensures room { OnOk result (FitsBeside (left + more) numbers.new) }
+    ensures small { OnOk result (left + more + 1 < 2 ^ 64) }
+    ensures enough { FitsBeside (left + more) numbers.old → IsOk result }
+{
+    let spare = (numbers.room() - numbers.len()) as u64;
+    if left < spare && more < spare - left {
+        return Ok(());
+    }
+    let wanted = left.checked_add(more).ok_or(AllocError)?;
+    let beside = wanted.checked_add(1).ok_or(AllocError)?;
+    room_for(numbers, beside as usize)
+}
+
 impl<T: Copy, U: Copy, B: Drop, D: Drop> NumberedHub<T, U, B, D> {
-    // Makes room for the numbers of the loans that are out, of all that the publishers may still make, of so many more, and of one beside
-    // them: so the table isn't full when they are made, and no loan looks for room. Fails only where there isn't as much already, and an
-    // allocation fails.
-    pub(crate) fn room_for_loans(&mut self, more: usize) -> Result<(), AllocError>
+    /// Makes room for the numbers of the loans that are out, of all that the publishers may still make, of so many more, and of one beside them.
+    /// Fails only where there isn't as much already, and an allocation fails.
+    pub fn room_for_loans(&mut self, more: u64) -> Result<(), AllocError>
         ensures same { OnlyRoomier self.old self.new }
-        ensures room { OnOk result (length self.old.made.loans.entries + loans_left_in self.old.hub.services.domains + more < self.new.made.loans.room) }
+        ensures room { OnOk result (FitsBeside (loans_left_in self.old.hub.services.domains + more) self.new.made.loans) }
+        ensures enough { FitsBeside (loans_left_in self.old.hub.services.domains + more) self.old.made.loans → IsOk result }
     {
-        let left = self
-            .hub
-            .loans_left()
-            .checked_add(more as u64)
-            .ok_or(AllocError)?;
-        let wanted = left.checked_add(1).ok_or(AllocError)?;
-        room_for(&mut self.made.loans, wanted as usize)
+        let left = self.hub.loans_left();
+        room_beside(&mut self.made.loans, left, more)
+    }
+
+    /// Makes room for the numbers of the samples that are held, of as many as the subscribers that are there may hold at once, of so many more,
+    /// and of one beside them: so also for all that may still come. Fails only where there isn't as much already, and an allocation fails.
+    pub fn room_for_samples(&mut self, more: u64) -> Result<(), AllocError>
+        ensures same { OnlyRoomier self.old self.new }
+        ensures room { OnOk result (FitsBeside (samples_left_in self.old.hub.services.domains + more) self.new.made.samples) }
+        ensures small { OnOk result (more + 1 < 2 ^ 64) }
+        ensures enough { FitsBeside (samples_at_most_in self.old.hub.services.domains + more) self.old.made.samples → IsOk result }
+    {
+        let most = self.hub.samples_at_most();
+        room_beside(&mut self.made.samples, most, more)
+    }
+}
+
+impl<T: Copy, U: Copy, B: Decides + Degrades, D: Degrades> NumberedHub<T, U, B, D> {
+    /// How many samples a subscriber of a domain may hold at once; none where it isn't here. Past 2^64 - 1 it is that.
+    pub fn most_samples(&self, domain: DomainId) -> u64
+        ensures { result ≡ min (most_samples (hub_ports domain self.now.hub)) (2 ^ 64 - 1) }
+    {
+        match self.hub.ports(domain) {
+            Some(ports) => held_by_one(&ports.sizes),
+            None => 0,
+        }
     }
 }

@@ -7,7 +7,7 @@ ghost use Rattle.iox_hub_run.specs.Agreements.{AreOfOneAgreement};
 ghost use Rattle.iox_hub_run.specs.Grown.{GrowsOn, HaveGrown, AreAsAgreed};
 ghost use Rattle.iox_hub_run.specs.Lives.{NumbersGoOn};
 ghost use Rattle.iox_hub_run.specs.Numbers.{numbers_used};
-ghost use Rattle.iox_hub_run.specs.PortRoom.{HasLoanRoom};
+ghost use Rattle.iox_hub_run.specs.PortRoom.{KeepsRoom};
 ghost use Rattle.iox_hub_run.specs.Room.{loans_in, samples_in, FitsAll, RunsInRoom, StopsInTime};
 ghost use Rattle.iox_hub_run.specs.Runs.{IsRun};
 ghost use Rattle.iox_hub_run.specs.Steps.{Step};
@@ -47,7 +47,7 @@ impl<
         ensures ran { RunsInRoom (Step (detail FixedSize T.name T.size T.alignment) (detail FixedSize U.name U.size U.alignment) (types_of T.name T.size T.alignment U.name U.size U.alignment) T.is_default U.is_default B.fixed (λ handlers. B.degrades handlers) (λ handlers. B.decides handlers) D.fixed (λ handler. D.degrades handler)) commands.entry.items self.old result.replies.items result.stopped self.new }
         ensures stops { result.stopped ≡ true → StopsInTime commands.entry.items self.old (length result.replies.items) self.new }
         ensures counts { numbers_used self.new ≤ numbers_used self.old + length commands.entry.items }
-        ensures room { HasLoanRoom self.old → HasLoanRoom self.new }
+        ensures room { KeepsRoom self.old self.new }
         ensures goes_on { NumbersGoOn self.old self.new }
         ensures grows { GrowsOn self.old.hub self.new.hub }
         ensures agreed { HaveGrown self.old.hub.services.domains → AreAsAgreed self.new.hub.services.domains }
@@ -62,7 +62,7 @@ impl<
         ensures ran { RunsInRoom (Step (detail FixedSize T.name T.size T.alignment) (detail FixedSize U.name U.size U.alignment) (types_of T.name T.size T.alignment U.name U.size U.alignment) T.is_default U.is_default B.fixed (λ handlers. B.degrades handlers) (λ handlers. B.decides handlers) D.fixed (λ handler. D.degrades handler)) commands.entry.items self.old result.replies.items result.stopped self.new }
         ensures stops { result.stopped ≡ true → StopsInTime commands.entry.items self.old (length result.replies.items) self.new }
         ensures counts { numbers_used self.new ≤ numbers_used self.old + length commands.entry.items }
-        ensures room { HasLoanRoom self.old → HasLoanRoom self.new }
+        ensures room { KeepsRoom self.old self.new }
     {
         if self.make_room(commands.as_slice()).is_err() {
             return RunReport {
@@ -80,7 +80,7 @@ impl<
         ensures ran { IsRun (Step (detail FixedSize T.name T.size T.alignment) (detail FixedSize U.name U.size U.alignment) (types_of T.name T.size T.alignment U.name U.size U.alignment) T.is_default U.is_default B.fixed (λ handlers. B.degrades handlers) (λ handlers. B.decides handlers) D.fixed (λ handler. D.degrades handler)) commands.entry.items self.old result.replies.items result.stopped self.new }
         ensures stops { result.stopped ≡ true → StopsInTime commands.entry.items self.old (length result.replies.items) self.new }
         ensures counts { numbers_used self.new ≤ numbers_used self.old + length commands.entry.items }
-        ensures room { HasLoanRoom self.old → HasLoanRoom self.new }
+        ensures room { KeepsRoom self.old self.new }
     {
         let Ok(mut replies) = Vec::with_capacity(alloc, commands.len()) else {
             return RunReport {

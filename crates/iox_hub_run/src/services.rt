@@ -3,7 +3,7 @@ ghost use Rattle.std.specs.Prelude.{◌≡◌, ◌+◌, ◌<◌, ◌^◌, option
 ghost use Rattle.iox_hub_commands.specs.DescribeBase.Detail.{detail};
 ghost use Rattle.iox_hub_commands.specs.DescribeBase.declared.type_detail.TypeVariant.TheVariants.{FixedSize};
 ghost use Rattle.iox_hub_factories.specs.HubRequests.Asked.{types_of};
-ghost use Rattle.iox_hub_run.specs.PortRoom.{HasLoanRoom};
+ghost use Rattle.iox_hub_run.specs.PortRoom.{KeepsRoom};
 ghost use Rattle.iox_hub_run.specs.Services.{NodeMakes, Creates, Opens, OpensOrCreates, Acts, Closes, MakesPublisher, MakesSubscriber, domain_of_factory, owner_of_factory};
 ghost use Rattle.iox_hub_factories.specs.Tables.{publish_subscribe_in};
 ghost use Rattle.iox_hub_factories.specs.Numbered.NumberTable.{value_at};
@@ -124,13 +124,13 @@ impl<T: Copy, U: Copy + Default, B: PublisherHandlers, D: Degrades> NumberedHub<
         options: &PublisherOptions,
     ) -> Reply<T>
         requires { self.old.made.publishers.next + 1 < 2 ^ 64 }
-        ensures room { HasLoanRoom self.old → HasLoanRoom self.new }
+        ensures room { KeepsRoom self.old self.new }
         ensures comes { MakesPublisher U.is_default B.fixed (λ handlers. B.degrades handlers) factory options.now self.old result self.new }
     {
         let Some((domain, owner)) = self.place(factory) else {
             return Reply::Skipped;
         };
-        if self.room_for_loans(most_loans(options)).is_err() {
+        if self.room_for_loans(most_loans(options) as u64).is_err() {
             return arriving::publisher_refused(&self.hub, domain, owner, options);
         }
         arriving::publisher(alloc, &mut self.made, &mut self.hub, domain, owner, options)
@@ -145,12 +145,15 @@ impl<T: Copy, U: Copy, B: Decides + Degrades, D: SubscriberHandler> NumberedHub<
         options: &SubscriberOptions,
     ) -> Reply<T>
         requires { self.old.made.subscribers.next + 1 < 2 ^ 64 }
-        ensures room { HasLoanRoom self.old → HasLoanRoom self.new }
+        ensures room { KeepsRoom self.old self.new }
         ensures comes { MakesSubscriber D.fixed (λ handler. D.degrades handler) factory options.now self.old result self.new }
     {
         let Some((domain, owner)) = self.place(factory) else {
             return Reply::Skipped;
         };
+        if self.room_for_samples(self.most_samples(domain)).is_err() {
+            return arriving::subscriber_refused(&self.hub, domain, owner, options);
+        }
         arriving::subscriber(alloc, &mut self.made, &mut self.hub, domain, owner, options)
     }
 }

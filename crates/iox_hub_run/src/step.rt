@@ -1,5 +1,5 @@
 //! One command, and its reply.
-ghost use Rattle.std.specs.Prelude.{◌+◌, ◌<◌, ◌≤◌, ◌^◌, length, OnErr};
+ghost use Rattle.std.specs.Prelude.{◌+◌, ◌<◌, ◌≤◌, ◌^◌, OnErr};
 ghost use Rattle.iox_hub_commands.specs.DescribeBase.Detail.{detail};
 ghost use Rattle.iox_hub_commands.specs.DescribeBase.declared.type_detail.TypeVariant.TheVariants.{FixedSize};
 ghost use Rattle.iox_hub_factories.specs.HubRequests.Asked.{types_of};
@@ -7,8 +7,7 @@ ghost use Rattle.iox_hub_run.specs.Agreements.{AreOfOneAgreement};
 ghost use Rattle.iox_hub_run.specs.Grown.{GrowsOn, HaveGrown, AreAsAgreed, OneDomainMoves};
 ghost use Rattle.iox_hub_run.specs.Lives.{ChangesOneThing};
 ghost use Rattle.iox_hub_run.specs.Numbers.{numbers_used};
-ghost use Rattle.iox_hub_run.specs.PortRoom.{HasLoanRoom, OfPorts};
-ghost use Rattle.iox_hub_run.specs.Room.{RepliesValues};
+ghost use Rattle.iox_hub_run.specs.PortRoom.{HasRoom, KeepsRoom, LacksInRoom, OfPorts};
 ghost use Rattle.iox_hub_run.specs.Steps.{Step};
 
 use crate::numbered_hub::NumberedHub;
@@ -33,11 +32,12 @@ impl<
     /// pattern than publish-subscribe, where a publisher waits with a send (or none waits, for `Retry` and `GiveUp`), where a loan isn't
     /// written, or has other values or places than are named. A call that is refused is replied to with its error.
     ///
-    /// A publisher comes once there is room for the numbers of all loans that it may make, beside those of all others: so no loan of it lacks
-    /// memory for its number. Where an allocation fails for that room it is refused.
+    /// A publisher comes once there is room for the numbers of all loans that it may make, and a subscriber once there is room for those of all
+    /// samples that it may hold, beside those of all others: so no loan and no sample lacks memory for its number. Where an allocation fails for
+    /// that room the port is refused.
     ///
-    /// Fails only where an allocation fails for one more number of a sample, for the values of the reply, or, where no publisher is there, for
-    /// one more number of a loan: then nothing has changed but that a sample that came is held, and that there may be more room.
+    /// Fails only where an allocation fails for the values of the reply; or for one more number of a loan where no publisher is there, or of a
+    /// sample where no subscriber is. Then nothing has changed but that a sample that came is held, and that there may be more room.
     pub fn step(&mut self, alloc: Global, command: Command<T>) -> Result<Reply<T>, AllocError>
         requires { numbers_used self.old + 1 < 2 ^ 64 }
         ensures steps { Step (detail FixedSize T.name T.size T.alignment) (detail FixedSize U.name U.size U.alignment) (types_of T.name T.size T.alignment U.name U.size U.alignment) T.is_default U.is_default B.fixed (λ handlers. B.degrades handlers) (λ handlers. B.decides handlers) D.fixed (λ handler. D.degrades handler) command.entry self.old result self.new }
@@ -47,8 +47,8 @@ impl<
         ensures agreed { HaveGrown self.old.hub.services.domains → AreAsAgreed self.new.hub.services.domains }
         ensures one_agreement { AreOfOneAgreement self.old.factories.made self.old.hub → AreOfOneAgreement self.new.factories.made self.new.hub }
         ensures apart { OneDomainMoves self.old.hub self.new.hub }
-        ensures room { HasLoanRoom self.old → HasLoanRoom self.new }
-        ensures lends { HasLoanRoom self.old → 0 < length self.old.made.publishers.entries → OnErr result (RepliesValues command.entry) }
+        ensures room { KeepsRoom self.old self.new }
+        ensures lacks { HasRoom self.old → OnErr result (LacksInRoom command.entry self.old self.new) }
     {
         self.carry_out(alloc, command)
     }
@@ -56,7 +56,7 @@ impl<
     // The same, without what that comes to in other words.
     fn carry_out(&mut self, alloc: Global, command: Command<T>) -> Result<Reply<T>, AllocError>
         requires { numbers_used self.old + 1 < 2 ^ 64 }
-        ensures comes { OfPorts (HasLoanRoom self.old → HasLoanRoom self.new) command.entry }
+        ensures comes { OfPorts (KeepsRoom self.old self.new) command.entry }
         ensures steps { Step (detail FixedSize T.name T.size T.alignment) (detail FixedSize U.name U.size U.alignment) (types_of T.name T.size T.alignment U.name U.size U.alignment) T.is_default U.is_default B.fixed (λ handlers. B.degrades handlers) (λ handlers. B.decides handlers) D.fixed (λ handler. D.degrades handler) command.entry self.old result self.new }
     {
         match command {

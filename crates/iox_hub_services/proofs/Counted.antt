@@ -2,13 +2,13 @@
 use Rattle.std.proofs.Common.{◌≡◌, ◌+◌, ◌∷◌, [], ℕ, List, ap, ◌∙◌}
 use Rattle.std.proofs.lemmas.List.Sums.{sum_by-cons}
 use Rattle.std.specs.Map.{values_of}
-use Rattle.iox_domain_room.specs.Loans.{loans_left}
-use Rattle.iox_hub_services.specs.Room.{counted_at, loans_left_in}
+use Rattle.iox_domain.specs.DomainPorts.declared.service_ports.ServicePorts.{ServicePorts}
+use Rattle.iox_hub_services.specs.Room.{counted_at, counted_in}
 use Rattle.iox_hub_services.specs.declared.presence.Presence.{Presence}
 
-module _ {T U B D : Type 0} where
-  pub first_counted : (domains rest : List (ℕ × Presence T U B D)) (first : ℕ × Presence T U B D) → domains ≡ first ∷ rest → loans_left_in domains ≡ counted_at (λ ports. loans_left ports) first.1 + loans_left_in rest
-  first_counted domains rest first is = ap loans_left_in is ∙ sum_by-cons (λ presence. counted_at (λ ports. loans_left ports) presence) first.1 (values_of rest)
+module _ {T U B D : Type 0} (count : ServicePorts T U → ℕ) where
+  pub first_counted : (domains rest : List (ℕ × Presence T U B D)) (first : ℕ × Presence T U B D) → domains ≡ first ∷ rest → counted_in count domains ≡ counted_at count first.1 + counted_in count rest
+  first_counted domains rest first is = ap (counted_in count) is ∙ sum_by-cons (λ presence. counted_at count presence) first.1 (values_of rest)
 
-  pub none_counted : (domains : List (ℕ × Presence T U B D)) → domains ≡ [] → loans_left_in domains ≡ 0
-  none_counted domains is = ap loans_left_in is
+  pub none_counted : (domains : List (ℕ × Presence T U B D)) → domains ≡ [] → counted_in count domains ≡ 0
+  none_counted domains is = ap (counted_in count) is

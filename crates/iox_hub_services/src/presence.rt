@@ -6,11 +6,13 @@ ghost use Rattle.iox_hub_services.specs.Open.{here, taken_out};
 ghost use Rattle.iox_hub_services.specs.Agreeing.{same_agreement};
 ghost use Rattle.iox_hub_services.specs.Room.{counted_at};
 ghost use Rattle.iox_domain_room.specs.Loans.{loans_left};
+ghost use Rattle.iox_domain_sample_room.specs.Samples.{samples_at_most};
 ghost use Rattle.iox_hub_services.specs.declared.presence.Presence.TheVariants.{Out};
 
 use iox_describe_settings::publish_subscribe::StaticConfig;
 use iox_domain::Domain;
 use iox_domain_room::loans;
+use iox_domain_sample_room::samples;
 use iox_domain_values::{DegradationHandler, Handlers};
 use std::mem;
 
@@ -80,6 +82,16 @@ impl<T: Copy, U: Copy, B, D> Presence<T, U, B, D> {
     {
         match self {
             Presence::Here(domain) => loans::loans_left(&domain.ports),
+            Presence::Out(_) => 0,
+        }
+    }
+
+    /// How many samples the subscribers of the domain may hold at once; none where it is out. Past 2^64 - 1 it is that.
+    pub fn samples_at_most(&self) -> u64
+        ensures { result ≡ min (counted_at (λ ports. samples_at_most ports) self.now) (2 ^ 64 - 1) }
+    {
+        match self {
+            Presence::Here(domain) => samples::samples_at_most(&domain.ports),
             Presence::Out(_) => 0,
         }
     }

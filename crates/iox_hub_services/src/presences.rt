@@ -3,7 +3,7 @@ ghost use Rattle.std.specs.Prelude.{◌≡◌, ◌-◌, ◌^◌, ℕ, min, optio
 ghost use Rattle.std.specs.Borrow.{sem};
 ghost use Rattle.std.specs.Option.{option_copied_mut};
 ghost use Rattle.iox_hub_services.specs.Open.{presence_of, domain_of, with_presence, opened, closed};
-ghost use Rattle.iox_hub_services.specs.Room.{loans_left_in};
+ghost use Rattle.iox_hub_services.specs.Room.{loans_left_in, samples_at_most_in};
 
 use crate::presence::Presence;
 use iox_domain::Domain;
@@ -83,6 +83,17 @@ impl<T: Copy, U: Copy, B: Drop, D: Drop> Presences<T, U, B, D> {
             left = add(left, presence.loans_left());
         }
         left
+    }
+
+    /// How many samples the subscribers of all domains that are here may hold at once. Past 2^64 - 1 it is that.
+    pub fn samples_at_most(&self) -> u64
+        ensures { result ≡ min (samples_at_most_in self.now) (2 ^ 64 - 1) }
+    {
+        let mut count = 0;
+        for (_number, presence) in self.entries.iter() {
+            count = add(count, presence.samples_at_most());
+        }
+        count
     }
 
     /// Something else is under a number, if something is open under it. It takes no memory.

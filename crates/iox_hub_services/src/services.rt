@@ -4,7 +4,7 @@ ghost use Rattle.iox_domain.specs.DescribeBase.Detail.{detail};
 ghost use Rattle.iox_domain.specs.DescribeBase.declared.type_detail.TypeVariant.TheVariants.{FixedSize};
 ghost use Rattle.iox_hub_services.specs.Open.{presence_of, domain_of};
 ghost use Rattle.iox_hub_services.specs.Opening.{is_open, Opens, without_service};
-ghost use Rattle.iox_hub_services.specs.Room.{loans_left_in};
+ghost use Rattle.iox_hub_services.specs.Room.{loans_left_in, samples_at_most_in};
 
 use crate::presence::Presence;
 use crate::presences::Presences;
@@ -68,6 +68,13 @@ impl<T: Copy, U: Copy, B: Drop, D: Drop> Services<T, U, B, D> {
         ensures { result ≡ min (loans_left_in self.now.domains) (2 ^ 64 - 1) }
     {
         self.presences.loans_left()
+    }
+
+    /// How many samples the subscribers of all domains that are here may hold at once. Past 2^64 - 1 it is that.
+    pub fn samples_at_most(&self) -> u64
+        ensures { result ≡ min (samples_at_most_in self.now.domains) (2 ^ 64 - 1) }
+    {
+        self.presences.samples_at_most()
     }
 
     /// Nothing is open under a number any longer: a domain that was here is dropped with its ports. The other services stay as they were.

@@ -6,6 +6,7 @@ use Rattle.iox_hub_commands.specs.DescribeBase.declared.type_detail.TypeVariant.
 use Rattle.iox_hub_factories.specs.HubRequests.Asked.{types_of}
 use Rattle.iox_hub_run.specs.Steps.{Step}
 use Rattle.iox_hub_run.specs.Room.{loans_in, samples_in, FitsAll}
+use Rattle.iox_hub_run.proofs.PortRooms.{keeps_on}
 use Rattle.iox_hub_run.proofs.Rooms.{at_seam, lacks_values, step_leaves_room}
 use Rattle.iox_hub_run.proofs.RunLemmas.{runs_more}
 use Rattle.iox_hub_run.proofs.numbered_hub.NumberedHub.carry_out_all.Goals as goal
@@ -24,7 +25,8 @@ loop-command-preserved g c =
       answered = omega (arith, at.invariant.answered, c.push_reserved.ensures.len, longer);
       room = omega (arith, at.invariant.room, c.push_reserved.ensures.capacity);
       fits = step_leaves_room (detail FixedSize g.T.ZeroCopySend.name g.T.ZeroCopySend.size g.T.ZeroCopySend.alignment) (detail FixedSize g.U.ZeroCopySend.name g.U.ZeroCopySend.size g.U.ZeroCopySend.alignment) (types_of g.T.ZeroCopySend.name g.T.ZeroCopySend.size g.T.ZeroCopySend.alignment g.U.ZeroCopySend.name g.U.ZeroCopySend.size g.U.ZeroCopySend.alignment) (λ value. g.T.Default.is_default value) (λ value. g.U.Default.is_default value) g.B.PublisherHandlers.fixed (λ handlers. g.B.Degrades.degrades handlers) (λ handlers. g.B.Decides.decides handlers) g.D.SubscriberHandler.fixed (λ handler. g.D.Degrades.degrades handler) (loans_in (into_iter_items c.next.new.self)) (samples_in (into_iter_items c.next.new.self)) command at.self c.step.new.self _ c.in-Ok-step.ensures.steps (subst (λ items. FitsAll (loans_in items) (samples_in items) at.self.made) steps at.invariant.fits);
-      kept = λ room. c.step.ensures.room (at.invariant.kept room);
+      grows = λ grown. c.step.ensures.grows (at.invariant.grows grown);
+      kept = keeps_on c.args.self.now at.self c.step.new.self at.invariant.grows at.invariant.kept c.step.ensures.room;
     }
 
 pub returns-in_default-step-clause-stops : goal.returns-in_default-step-clause-stops
@@ -43,4 +45,4 @@ returns-in_default-step-clause-stops g c = λ stopped.
     )
 
 pub returns-in_default-step-clause-room : goal.returns-in_default-step-clause-room
-returns-in_default-step-clause-room g c = λ room. c.step.ensures.room (c.loop-command.invariant.kept room)
+returns-in_default-step-clause-room g c = keeps_on c.args.self.now c.loop-command.self c.step.new.self c.loop-command.invariant.grows c.loop-command.invariant.kept c.step.ensures.room

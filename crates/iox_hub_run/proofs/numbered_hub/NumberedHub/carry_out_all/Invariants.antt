@@ -3,8 +3,9 @@ use Rattle.std.specs.Vec.Iter.{into_iter_items, into_iter_len}
 use Rattle.iox_hub_commands.specs.DescribeBase.Detail.{detail}
 use Rattle.iox_hub_commands.specs.DescribeBase.declared.type_detail.TypeVariant.TheVariants.{FixedSize}
 use Rattle.iox_hub_factories.specs.HubRequests.Asked.{types_of}
+use Rattle.iox_hub_run.specs.Grown.{GrowsOn}
 use Rattle.iox_hub_run.specs.Numbers.{numbers_used}
-use Rattle.iox_hub_run.specs.PortRoom.{HasLoanRoom}
+use Rattle.iox_hub_run.specs.PortRoom.{KeepsRoom}
 use Rattle.iox_hub_run.specs.Room.{loans_in, samples_in, FitsAll}
 use Rattle.iox_hub_run.specs.Runs.{Runs}
 use Rattle.iox_hub_run.specs.Steps.{Step}
@@ -20,5 +21,6 @@ invariant-loop-command g l = record {
   answered : vec_len l.replies ≡ length l.yielded;
   room : length (into_iter_items l.initial.command-iterator) ≤ vec_capacity l.replies;
   fits : FitsAll (loans_in (into_iter_items l.command-iterator)) (samples_in (into_iter_items l.command-iterator)) l.self.made;
-  kept : HasLoanRoom l.initial.self → HasLoanRoom l.self;
+  grows : GrowsOn l.initial.self.hub l.self.hub;
+  kept : KeepsRoom l.initial.self l.self;
 }

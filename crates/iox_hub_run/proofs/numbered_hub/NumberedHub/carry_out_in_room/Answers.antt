@@ -1,6 +1,6 @@
 use Rattle.std.proofs.Common.{arith, ◌∙◌, ◌<◌, ap, subst, sym, inl, inr, length, refl}
 use Rattle.iox_hub_run.specs.Room.{loans_in, samples_in, FitsAll}
-use Rattle.iox_hub_run.proofs.LoanRoom.{roomier_room}
+use Rattle.iox_hub_run.proofs.PortRooms.{keeps_on, roomier_grows_on, roomier_keeps}
 use Rattle.iox_hub_run.proofs.Rooms.{roomier_counts, stops_in_room, when_err, when_ok}
 use Rattle.iox_hub_run.proofs.numbered_hub.NumberedHub.carry_out_in_room.Goals as goal
 
@@ -30,7 +30,7 @@ pub returns-clause-counts : goal.returns-clause-counts
 returns-clause-counts g c = let same = roomier_counts c.args.self.now c.make_room.new.self c.make_room.ensures.same in omega (arith, same, c.carry_out_all.ensures.counts)
 
 pub returns-then-is_err-clause-room : goal.returns-then-is_err-clause-room
-returns-then-is_err-clause-room g c = roomier_room c.args.self.now c.make_room.new.self c.make_room.ensures.same
+returns-then-is_err-clause-room g c = roomier_keeps c.args.self.now c.make_room.new.self c.make_room.ensures.same
 
 pub returns-clause-room : goal.returns-clause-room
-returns-clause-room g c = λ room. c.carry_out_all.ensures.room (roomier_room c.args.self.now c.make_room.new.self c.make_room.ensures.same room)
+returns-clause-room g c = keeps_on c.args.self.now c.make_room.new.self c.carry_out_all.new.self (roomier_grows_on c.args.self.now c.make_room.new.self c.make_room.ensures.same) (roomier_keeps c.args.self.now c.make_room.new.self c.make_room.ensures.same) c.carry_out_all.ensures.room

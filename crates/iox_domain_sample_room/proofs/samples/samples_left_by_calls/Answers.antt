@@ -2,7 +2,7 @@ use Rattle.std.proofs.Common.{refl}
 use Rattle.iox_domain_laws.specs.DomainValues.declared.degradation.DegradationCause.TheVariants.{FailedToEstablishConnection}
 use Rattle.iox_domain_sample_room.proofs.StayRoomy.{new_roomy, stay_roomy}
 use Rattle.iox_domain_sample_room.proofs.LessLeft.{less_left}
-use Rattle.iox_domain_sample_room.proofs.samples_left_by_calls.Goals as goal
+use Rattle.iox_domain_sample_room.proofs.samples.samples_left_by_calls.Goals as goal
 
 pub returns : goal.returns
 returns g c = record {
