@@ -3,9 +3,8 @@ ghost use Rattle.std.specs.Prelude.{◌≡◌, ◌+◌, ◌<◌, ◌^◌, Err, o
 ghost use Rattle.iox_hub_ports.specs.DomainHome.Steps.{why_no_publisher, why_no_subscriber};
 ghost use Rattle.iox_hub_ports.specs.declared.made.Made.{Made};
 ghost use Rattle.iox_hub_commands.specs.Arriving.{PublisherStep, SubscriberStep};
-ghost use Rattle.iox_hub_commands.specs.Naming.{publisher_config, publisher_handlers, subscriber_config, subscriber_handler};
+ghost use Rattle.iox_hub_commands.specs.Naming.{publisher_config, subscriber_config};
 
-use crate::handlers::{PublisherHandlers, SubscriberHandler};
 use crate::naming;
 use crate::replies::{publisher_reply, subscriber_reply};
 use iox_command::{PublisherOptions, Reply, SubscriberOptions};
@@ -15,31 +14,26 @@ use iox_domain_values::{Degrades, PortOwner, PublisherCreateError, SubscriberCre
 use iox_hub_ports::{Made, PublisherParts};
 use std::alloc::Global;
 
-/// A publisher of slices comes to a domain, with what is named, and gets the next number. Skipped where the domain isn't here; refused as
-/// `Made::make_publisher` refuses it.
-pub fn publisher<
-    T: Copy,
-    U: Copy + Default,
-    B: PublisherHandlers,
-    D: Degrades,
-    H: MakesPorts<T, U, B, D>,
->(
+/// A publisher of slices comes to a domain, with what is named, and gets the next number; `handlers` decide for it. Skipped where the domain
+/// isn't here; refused as `Made::make_publisher` refuses it.
+pub fn publisher<T: Copy, U: Copy + Default, B: Degrades, D: Degrades, H: MakesPorts<T, U, B, D>>(
     alloc: Global,
     made: &mut Made,
     home: &mut H,
     domain: DomainId,
     owner: PortOwner,
     options: &PublisherOptions,
+    handlers: B,
 ) -> Reply<T>
     requires { made.old.publishers.next + 1 < 2 ^ 64 }
-    ensures { PublisherStep H.ports_of H.with_ports H.with_publisher (λ handlers. B.degrades handlers) U.is_default domain (publisher_config owner options.now) options.now.preallocated_samples (publisher_handlers B.fixed options.now) made.old home.old result made.new home.new }
+    ensures { PublisherStep H.ports_of H.with_ports H.with_publisher (λ handlers. B.degrades handlers) U.is_default domain (publisher_config owner options.now) options.now.preallocated_samples handlers made.old home.old result made.new home.new }
 {
     let slots = naming::named_slots(options);
     let parts = PublisherParts {
         config: naming::publisher_config(owner, options),
         user_header: U::default(),
         overriding: &slots,
-        handlers: naming::publisher_handlers(options),
+        handlers,
         holds_slices: true,
     };
     publisher_reply(made.make_publisher(alloc, home, domain, parts))
@@ -73,21 +67,21 @@ fn why_no_publisher<T: Copy, U: Copy, H: Home<T, U>>(
     Some(Err(ports.publisher_refusal(config)))
 }
 
-/// A subscriber comes to a domain, with what is named, and gets the next number. Skipped where the domain isn't here; refused as
-/// `Made::make_subscriber` refuses it.
-pub fn subscriber<T: Copy, U: Copy, B: Degrades, D: SubscriberHandler, H: MakesPorts<T, U, B, D>>(
+/// A subscriber comes to a domain, with what is named, and gets the next number; `handler` decides for it. Skipped where the domain isn't here;
+/// refused as `Made::make_subscriber` refuses it.
+pub fn subscriber<T: Copy, U: Copy, B: Degrades, D: Degrades, H: MakesPorts<T, U, B, D>>(
     alloc: Global,
     made: &mut Made,
     home: &mut H,
     domain: DomainId,
     owner: PortOwner,
     options: &SubscriberOptions,
+    handler: D,
 ) -> Reply<T>
     requires { made.old.subscribers.next + 1 < 2 ^ 64 }
-    ensures { SubscriberStep H.ports_of H.with_ports H.with_subscriber (λ handler. D.degrades handler) domain (subscriber_config owner options.now) (subscriber_handler D.fixed options.now) made.old home.old result made.new home.new }
+    ensures { SubscriberStep H.ports_of H.with_ports H.with_subscriber (λ handler. D.degrades handler) domain (subscriber_config owner options.now) handler made.old home.old result made.new home.new }
 {
     let config = naming::subscriber_config(owner, options);
-    let handler = naming::subscriber_handler(options);
     subscriber_reply(made.make_subscriber(alloc, home, domain, config, handler))
 }
 

@@ -34,4 +34,4 @@ pub use handlers::{
     FixedDegradation, FixedHandlers, NamedSlots, PublisherHandlers, SubscriberHandler,
 };
 pub use iox_hub_ports::Made;
-pub use naming::most_loans;
+pub use naming::{most_loans, publisher_handlers, subscriber_handler};

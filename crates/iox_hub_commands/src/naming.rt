@@ -34,8 +34,8 @@ pub(crate) fn publisher_config(owner: PortOwner, options: &PublisherOptions) -> 
     }
 }
 
-// Who decides for a publisher.
-pub(crate) fn publisher_handlers<B: PublisherHandlers>(options: &PublisherOptions) -> B
+/// Who decides for a publisher that is named so: what its type makes of the strategy and of the actions that are named, and of the defaults.
+pub fn publisher_handlers<B: PublisherHandlers>(options: &PublisherOptions) -> B
     ensures { result ≡ publisher_handlers B.fixed options.now }
 {
     let defaults = PublisherSettings::default();
@@ -70,8 +70,8 @@ pub(crate) fn subscriber_config(owner: PortOwner, options: &SubscriberOptions) -
     }
 }
 
-// Who decides for a subscriber.
-pub(crate) fn subscriber_handler<D: SubscriberHandler>(options: &SubscriberOptions) -> D
+/// Who decides for a subscriber that is named so: what its type makes of the action that is named, or of the default.
+pub fn subscriber_handler<D: SubscriberHandler>(options: &SubscriberOptions) -> D
     ensures { result ≡ subscriber_handler D.fixed options.now }
 {
     D::with_action(

@@ -3,6 +3,7 @@ use Rattle.std.specs.Prelude.{ℕ, ◌≡◌, ◌⊎◌, Bool, List, slice_get, 
 use Rattle.std.specs.List.{sum_by}
 use Rattle.std.specs.declared.alloc.AllocError.{AllocError}
 use Rattle.iox_hub_run.specs.Command.declared.reply.Reply.{Reply}
+use Rattle.iox_hub_run.specs.PortRoom.{LacksInRoom}
 use Rattle.iox_hub_run.specs.Room as plain
 use Rattle.iox_hub_run.specs.Room.{FitsAll, OnlyRoomier}
 use Rattle.iox_hub_run.specs.Runs.{IsRun, NeverBegins}
@@ -56,3 +57,10 @@ module _ {T U B D X : Type 0} where
   -- A run that stopped after so many replies never began, and nothing changed; or what it stopped at is a command whose reply has values.
   abbrev pub StopsInTime : List (HandledCommand T) → NumberedHub T U B D × X → ℕ → NumberedHub T U B D × X → Type 0
   StopsInTime commands old replied new = ((replied ≡ 0) × OnlyRoomierHub old new) ⊎ LacksValues commands replied
+
+-- What a command that isn't replied to lacked memory for, where the ports that are there have room: what the command without handlers lacks. One
+-- that names handlers is replied to.
+abbrev pub HandledLacks : {T U B D : Type 0} → HandledCommand T → NumberedHub T U B D → NumberedHub T U B D → Type 0
+HandledLacks (asked.Plain command) old new = LacksInRoom command old new
+HandledLacks (asked.Publisher factory options at_full at_failure) old new = ⊥
+HandledLacks (asked.Subscriber factory options at_failure) old new = ⊥

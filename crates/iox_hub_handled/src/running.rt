@@ -7,6 +7,7 @@ ghost use Rattle.iox_hub_run.specs.HubCommands.DescribeBase.declared.type_detail
 ghost use Rattle.iox_hub_run.specs.HubRequests.Asked.{types_of};
 ghost use Rattle.iox_hub_run.specs.Lives.{NumbersGoOn};
 ghost use Rattle.iox_hub_run.specs.Numbers.{numbers_used};
+ghost use Rattle.iox_hub_run.specs.PortRoom.{KeepsRoom};
 ghost use Rattle.iox_hub_run.specs.Room.{FitsAll};
 ghost use Rattle.iox_hub_run.specs.Runs.{IsRun};
 ghost use Rattle.iox_hub_handled.specs.Room.{loans_in, samples_in, RunsInRoom, StopsInTime};
@@ -46,6 +47,7 @@ pub fn run<
     ensures ran { RunsInRoom (HandledStep (detail FixedSize T.name T.size T.alignment) (detail FixedSize U.name U.size U.alignment) (types_of T.name T.size T.alignment U.name U.size U.alignment) T.is_default U.is_default B.fixed (λ strategy action degrading at_full at_failure. B.handled strategy action degrading at_full at_failure) (λ handlers. B.degrades handlers) (λ handlers. B.decides handlers) D.fixed (λ handler. D.degrades handler)) commands.entry.items (hub.old, given.old.places.items) result.replies.items result.stopped (hub.new, given.new.places.items) }
     ensures stops { result.stopped ≡ true → StopsInTime commands.entry.items (hub.old, given.old.places.items) (length result.replies.items) (hub.new, given.new.places.items) }
     ensures counts { numbers_used hub.new ≤ numbers_used hub.old + length commands.entry.items }
+    ensures room { KeepsRoom hub.old hub.new }
     ensures goes_on { NumbersGoOn hub.old hub.new }
     ensures grows { GrowsOn hub.old.hub hub.new.hub }
     ensures agreed { HaveGrown hub.old.hub.services.domains → AreAsAgreed hub.new.hub.services.domains }
@@ -73,6 +75,7 @@ fn carry_out_in_room<
     ensures ran { RunsInRoom (HandledStep (detail FixedSize T.name T.size T.alignment) (detail FixedSize U.name U.size U.alignment) (types_of T.name T.size T.alignment U.name U.size U.alignment) T.is_default U.is_default B.fixed (λ strategy action degrading at_full at_failure. B.handled strategy action degrading at_full at_failure) (λ handlers. B.degrades handlers) (λ handlers. B.decides handlers) D.fixed (λ handler. D.degrades handler)) commands.entry.items (hub.old, given.old.places.items) result.replies.items result.stopped (hub.new, given.new.places.items) }
     ensures stops { result.stopped ≡ true → StopsInTime commands.entry.items (hub.old, given.old.places.items) (length result.replies.items) (hub.new, given.new.places.items) }
     ensures counts { numbers_used hub.new ≤ numbers_used hub.old + length commands.entry.items }
+    ensures room { KeepsRoom hub.old hub.new }
 {
     let (loans, samples) = numbers_in(commands.as_slice());
     if hub.make_room_for(loans, samples).is_err() {
@@ -102,6 +105,7 @@ fn carry_out_all<
     ensures ran { IsRun (HandledStep (detail FixedSize T.name T.size T.alignment) (detail FixedSize U.name U.size U.alignment) (types_of T.name T.size T.alignment U.name U.size U.alignment) T.is_default U.is_default B.fixed (λ strategy action degrading at_full at_failure. B.handled strategy action degrading at_full at_failure) (λ handlers. B.degrades handlers) (λ handlers. B.decides handlers) D.fixed (λ handler. D.degrades handler)) commands.entry.items (hub.old, given.old.places.items) result.replies.items result.stopped (hub.new, given.new.places.items) }
     ensures stops { result.stopped ≡ true → StopsInTime commands.entry.items (hub.old, given.old.places.items) (length result.replies.items) (hub.new, given.new.places.items) }
     ensures counts { numbers_used hub.new ≤ numbers_used hub.old + length commands.entry.items }
+    ensures room { KeepsRoom hub.old hub.new }
 {
     let Ok(mut replies) = Vec::with_capacity(alloc, commands.len()) else {
         return RunReport {

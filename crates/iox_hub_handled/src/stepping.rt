@@ -1,5 +1,5 @@
 //! One command, and its reply.
-ghost use Rattle.std.specs.Prelude.{◌+◌, ◌<◌, ◌≤◌, ◌^◌};
+ghost use Rattle.std.specs.Prelude.{◌+◌, ◌<◌, ◌≤◌, ◌^◌, OnErr};
 ghost use Rattle.iox_hub_run.specs.Agreements.{AreOfOneAgreement};
 ghost use Rattle.iox_hub_run.specs.Grown.{GrowsOn, HaveGrown, AreAsAgreed, OneDomainMoves};
 ghost use Rattle.iox_hub_run.specs.HubCommands.DescribeBase.Detail.{detail};
@@ -7,6 +7,8 @@ ghost use Rattle.iox_hub_run.specs.HubCommands.DescribeBase.declared.type_detail
 ghost use Rattle.iox_hub_run.specs.HubRequests.Asked.{types_of};
 ghost use Rattle.iox_hub_run.specs.Lives.{ChangesOneThing};
 ghost use Rattle.iox_hub_run.specs.Numbers.{numbers_used};
+ghost use Rattle.iox_hub_run.specs.PortRoom.{HasRoom, KeepsRoom};
+ghost use Rattle.iox_hub_handled.specs.Room.{HandledLacks};
 ghost use Rattle.iox_hub_handled.specs.Steps.{HandledStep};
 
 use crate::given::GivenHandlers;
@@ -47,6 +49,8 @@ pub fn step<
     ensures agreed { HaveGrown hub.old.hub.services.domains → AreAsAgreed hub.new.hub.services.domains }
     ensures one_agreement { AreOfOneAgreement hub.old.factories.made hub.old.hub → AreOfOneAgreement hub.new.factories.made hub.new.hub }
     ensures apart { OneDomainMoves hub.old.hub hub.new.hub }
+    ensures room { KeepsRoom hub.old hub.new }
+    ensures lacks { HasRoom hub.old → OnErr result (HandledLacks command.entry hub.old hub.new) }
 {
     carry_out(hub, alloc, command, given)
 }
@@ -65,7 +69,9 @@ fn carry_out<
     given: &mut GivenHandlers<P, D>,
 ) -> Result<Reply<T>, AllocError>
     requires { numbers_used hub.old + 1 < 2 ^ 64 }
-    ensures { HandledStep (detail FixedSize T.name T.size T.alignment) (detail FixedSize U.name U.size U.alignment) (types_of T.name T.size T.alignment U.name U.size U.alignment) T.is_default U.is_default B.fixed (λ strategy action degrading at_full at_failure. B.handled strategy action degrading at_full at_failure) (λ handlers. B.degrades handlers) (λ handlers. B.decides handlers) D.fixed (λ handler. D.degrades handler) command.entry (hub.old, given.old.places.items) result (hub.new, given.new.places.items) }
+    ensures room { KeepsRoom hub.old hub.new }
+    ensures lacks { HasRoom hub.old → OnErr result (HandledLacks command.entry hub.old hub.new) }
+    ensures steps { HandledStep (detail FixedSize T.name T.size T.alignment) (detail FixedSize U.name U.size U.alignment) (types_of T.name T.size T.alignment U.name U.size U.alignment) T.is_default U.is_default B.fixed (λ strategy action degrading at_full at_failure. B.handled strategy action degrading at_full at_failure) (λ handlers. B.degrades handlers) (λ handlers. B.decides handlers) D.fixed (λ handler. D.degrades handler) command.entry (hub.old, given.old.places.items) result (hub.new, given.new.places.items) }
 {
     match command {
         HandledCommand::Plain(command) => hub.step(alloc, command),

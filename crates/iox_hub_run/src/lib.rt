@@ -4,6 +4,7 @@
 //! |---|---|
 //! | `numbered_hub` | the hub with what was made in it |
 //! | `services` | the commands on nodes and services |
+//! | `arriving` | ports come, once there is room for the numbers of their loans and samples |
 //! | `step` | one command, and its reply |
 //! | `port_step` | one command of a port, and its reply |
 //! | `room` | room for the numbers of what a list of commands may make, and of the loans and samples that ports may have |
@@ -19,6 +20,7 @@
 //! ```
 #![tactic(auto)]
 
+mod arriving;
 pub mod laws;
 pub mod numbered_hub;
 mod port_step;

@@ -16,7 +16,10 @@ use iox_describe_base::{
 use iox_domain_home::DomainId;
 use iox_domain_values::{Decides, Degrades, PortOwner};
 use iox_hub_commands::replies::{closed_reply, factory_reply, foreign_reply};
-use iox_hub_commands::{PublisherHandlers, SubscriberHandler, arriving, most_loans};
+use iox_hub_commands::{
+    PublisherHandlers, SubscriberHandler, arriving, most_loans, publisher_handlers,
+    subscriber_handler,
+};
 use iox_hub_factories::{ServiceAsked, foreign};
 use iox_queues_base::Words;
 use std::alloc::Global;
@@ -130,10 +133,7 @@ impl<T: Copy, U: Copy + Default, B: PublisherHandlers, D: Degrades> NumberedHub<
         let Some((domain, owner)) = self.place(factory) else {
             return Reply::Skipped;
         };
-        if self.room_for_loans(most_loans(options) as u64).is_err() {
-            return arriving::publisher_refused(&self.hub, domain, owner, options);
-        }
-        arriving::publisher(alloc, &mut self.made, &mut self.hub, domain, owner, options)
+        self.publisher_with(alloc, domain, owner, options, publisher_handlers(options))
     }
 }
 
@@ -151,9 +151,6 @@ impl<T: Copy, U: Copy, B: Decides + Degrades, D: SubscriberHandler> NumberedHub<
         let Some((domain, owner)) = self.place(factory) else {
             return Reply::Skipped;
         };
-        if self.room_for_samples(self.most_samples(domain)).is_err() {
-            return arriving::subscriber_refused(&self.hub, domain, owner, options);
-        }
-        arriving::subscriber(alloc, &mut self.made, &mut self.hub, domain, owner, options)
+        self.subscriber_with(alloc, domain, owner, options, subscriber_handler(options))
     }
 }

@@ -5,6 +5,6 @@ returns g c = (
   c.default.result,
   c.default.ensures,
   c.make_publisher.result,
-  rw (c.publisher_config.ensures, c.publisher_handlers.ensures, c.named_slots-slots.ensures) at c.make_publisher.ensures,
+  rw (c.publisher_config.ensures, c.named_slots-slots.ensures) at c.make_publisher.ensures,
   c.publisher_reply.ensures,
 )

@@ -4,6 +4,7 @@ use Rattle.std.proofs.lemmas.List.{length-append}
 use Rattle.iox_hub_run.specs.HubCommands.DescribeBase.Detail.{detail}
 use Rattle.iox_hub_run.specs.HubCommands.DescribeBase.declared.type_detail.TypeVariant.TheVariants.{FixedSize}
 use Rattle.iox_hub_run.specs.HubRequests.Asked.{types_of}
+use Rattle.iox_hub_run.proofs.PortRooms.{keeps_on}
 use Rattle.iox_hub_run.proofs.Rooms.{at_seam}
 use Rattle.iox_hub_run.proofs.RunLemmas.{runs_more}
 use Rattle.iox_hub_handled.proofs.HandledRooms.{fits_first, lacks_for_values, leaves_room}
@@ -26,6 +27,8 @@ loop-command-preserved g c =
       room = omega (arith, at.invariant.room, c.push_reserved.ensures.capacity);
       fits = leaves_room (detail FixedSize g.T.ZeroCopySend.name g.T.ZeroCopySend.size g.T.ZeroCopySend.alignment) (detail FixedSize g.U.ZeroCopySend.name g.U.ZeroCopySend.size g.U.ZeroCopySend.alignment) (types_of g.T.ZeroCopySend.name g.T.ZeroCopySend.size g.T.ZeroCopySend.alignment g.U.ZeroCopySend.name g.U.ZeroCopySend.size g.U.ZeroCopySend.alignment) (λ value. g.T.Default.is_default value) (λ value. g.U.Default.is_default value) g.B.PublisherHandlers.fixed (λ strategy action degrading at_full at_failure. g.B.TakesHandlers.handled strategy action degrading at_full at_failure) (λ handlers. g.B.Degrades.degrades handlers) (λ handlers. g.B.Decides.decides handlers) g.D.SubscriberHandler.fixed (λ handler. g.D.Degrades.degrades handler) (loans_in (into_iter_items c.next.new.self)) (samples_in (into_iter_items c.next.new.self)) command (at.hub, at.given.places.items) (c.step.new.hub, c.step.new.given.places.items) _ c.in-Ok-step.ensures.steps
           (fits_first at.hub.made (into_iter_items at.command-iterator) command (into_iter_items c.next.new.self) steps at.invariant.fits);
+      grows = λ grown. c.step.ensures.grows (at.invariant.grows grown);
+      kept = keeps_on c.args.hub.now at.hub c.step.new.hub at.invariant.grows at.invariant.kept c.step.ensures.room;
     }
 
 pub returns-in_default-step-clause-ran : goal.returns-in_default-step-clause-ran
@@ -56,3 +59,6 @@ returns-in_default-step-clause-stops g c = λ stopped.
       lacks_for_values (detail FixedSize g.T.ZeroCopySend.name g.T.ZeroCopySend.size g.T.ZeroCopySend.alignment) (detail FixedSize g.U.ZeroCopySend.name g.U.ZeroCopySend.size g.U.ZeroCopySend.alignment) (types_of g.T.ZeroCopySend.name g.T.ZeroCopySend.size g.T.ZeroCopySend.alignment g.U.ZeroCopySend.name g.U.ZeroCopySend.size g.U.ZeroCopySend.alignment) (λ value. g.T.Default.is_default value) (λ value. g.U.Default.is_default value) g.B.PublisherHandlers.fixed (λ strategy action degrading at_full at_failure. g.B.TakesHandlers.handled strategy action degrading at_full at_failure) (λ handlers. g.B.Degrades.degrades handlers) (λ handlers. g.B.Decides.decides handlers) g.D.SubscriberHandler.fixed (λ handler. g.D.Degrades.degrades handler) (loans_in (into_iter_items c.next.new.self)) (samples_in (into_iter_items c.next.new.self)) command (at.hub, at.given.places.items) (c.step.new.hub, c.step.new.given.places.items) c.in_default-step.field-0 c.in_default-step.ensures.steps
           (fits_first at.hub.made (into_iter_items at.command-iterator) command (into_iter_items c.next.new.self) steps at.invariant.fits),
     )
+
+pub returns-in_default-step-clause-room : goal.returns-in_default-step-clause-room
+returns-in_default-step-clause-room g c = keeps_on c.args.hub.now c.loop-command.hub c.step.new.hub c.loop-command.invariant.grows c.loop-command.invariant.kept c.step.ensures.room

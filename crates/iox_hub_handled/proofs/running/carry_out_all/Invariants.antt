@@ -1,9 +1,11 @@
 use Rattle.std.proofs.Common.{◌≡◌, ◌+◌, ◌≤◌, ◌++◌, length, vec_len, vec_capacity}
 use Rattle.std.specs.Vec.Iter.{into_iter_items, into_iter_len}
+use Rattle.iox_hub_run.specs.Grown.{GrowsOn}
 use Rattle.iox_hub_run.specs.HubCommands.DescribeBase.Detail.{detail}
 use Rattle.iox_hub_run.specs.HubCommands.DescribeBase.declared.type_detail.TypeVariant.TheVariants.{FixedSize}
 use Rattle.iox_hub_run.specs.HubRequests.Asked.{types_of}
 use Rattle.iox_hub_run.specs.Numbers.{numbers_used}
+use Rattle.iox_hub_run.specs.PortRoom.{KeepsRoom}
 use Rattle.iox_hub_run.specs.Room.{FitsAll}
 use Rattle.iox_hub_run.specs.Runs.{Runs}
 use Rattle.iox_hub_handled.specs.Room.{loans_in, samples_in}
@@ -20,4 +22,6 @@ invariant-loop-command g l = record {
   answered : vec_len l.replies ≡ length l.yielded;
   room : length (into_iter_items l.initial.command-iterator) ≤ vec_capacity l.replies;
   fits : FitsAll (loans_in (into_iter_items l.command-iterator)) (samples_in (into_iter_items l.command-iterator)) l.hub.made;
+  grows : GrowsOn l.initial.hub.hub l.hub.hub;
+  kept : KeepsRoom l.initial.hub l.hub;
 }

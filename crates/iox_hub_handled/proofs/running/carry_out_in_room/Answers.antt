@@ -1,4 +1,5 @@
 use Rattle.std.proofs.Common.{arith, ◌∙◌, ◌<◌, ap, subst, sym, inl, inr, length, refl}
+use Rattle.iox_hub_run.proofs.PortRooms.{keeps_on, roomier_grows_on, roomier_keeps}
 use Rattle.iox_hub_run.proofs.Rooms.{roomier_counts, when_err, when_ok}
 use Rattle.iox_hub_run.specs.Room.{FitsAll}
 use Rattle.iox_hub_handled.specs.Room.{loans_in, samples_in}
@@ -32,3 +33,9 @@ returns-clause-stops g c = λ stopped.
 
 pub returns-clause-counts : goal.returns-clause-counts
 returns-clause-counts g c = let same = roomier_counts c.args.hub.now c.make_room_for.new.self c.make_room_for.ensures.same in omega (arith, same, c.carry_out_all.ensures.counts)
+
+pub returns-then-is_err-clause-room : goal.returns-then-is_err-clause-room
+returns-then-is_err-clause-room g c = roomier_keeps c.args.hub.now c.make_room_for.new.self c.make_room_for.ensures.same
+
+pub returns-clause-room : goal.returns-clause-room
+returns-clause-room g c = keeps_on c.args.hub.now c.make_room_for.new.self c.carry_out_all.new.hub (roomier_grows_on c.args.hub.now c.make_room_for.new.self c.make_room_for.ensures.same) (roomier_keeps c.args.hub.now c.make_room_for.new.self c.make_room_for.ensures.same) c.carry_out_all.ensures.room
