@@ -47,7 +47,7 @@ module _ {T U B D : Type 0} where
       → SubscriberStep hub_ports with_hub_ports with_hub_subscriber degrades domain config handler old.made old.hub answer new.made new.hub
   subscriber_in_room degrades domain config handler old mid new answer (first, same) (came, (roomier, is_roomier, (outcome, comes, numbers)), is) =
       subst (λ home. SubscriberStep hub_ports with_hub_ports with_hub_subscriber degrades domain config handler old.made home answer new.made new.hub) (ap (λ hub. hub.hub) same)
-      (came, (roomier, roomier_twice old.made mid.made roomier first is_roomier, (outcome, comes, subst (λ next. NumbersPort (with_subscriber domain) next outcome roomier came new.made) first.1.0.1 numbers)), is)
+      (came, (roomier, roomier_twice old.made mid.made roomier first is_roomier, (outcome, comes, subst (λ next. NumbersPort (with_subscriber domain) next outcome roomier came new.made) first.1.1 numbers)), is)
 
   pub publisher_comes : (is_default : U → Type 0) (fixed : BackpressureStrategy → Option BackpressureAction → DegradationAction → B) (degrades : B → DegradationCause → DegradationInfo → DegradationAction → Type 0) (found : Option Opened)
       (domain : DomainId) (owner : PortOwner) (options : PublisherOptions) (old new : NumberedHub T U B D) (answer : Reply T) → option_map place_of found ≡ Some (domain, owner)

@@ -173,7 +173,7 @@ module _ {T U B D : Type 0} where
   all_fine domains = λ k d within. fine_any _
 
   fine_grown : (number : ℕ) (presence : Presence T U B D) → HasGrown number presence → IsFineAt sample_measure presence
-  fine_grown number (Here domain) (buffer, calls, happen) = roomy_on calls (no_ports number (sizes buffer domain.agreed)) domain.ports happen (new_roomy AnySlots AnyAction AnyDecision number (sizes buffer domain.agreed))
+  fine_grown number (Here domain) (buffer, (calls, happen)) = roomy_on calls (no_ports number (sizes buffer domain.agreed)) domain.ports happen (new_roomy AnySlots AnyAction AnyDecision number (sizes buffer domain.agreed))
   fine_grown number (Out agreed) grown = tt
 
   -- domains that grew by calls of ports are roomy
@@ -250,8 +250,8 @@ module _ {T U B D : Type 0} where
       let steady = ap (λ table. table.room) samples in
       let stay = ap (λ table. length table.entries) subscribers in
       let remain = ap length is_roomier.1.0 in
-      let more = is_roomier.2.2.0.2 in
-      let more_samples = is_roomier.2.2.1.2 in
+      let more = is_roomier.2.2 in
+      let more_samples = is_roomier.3.2 in
       let keeps : KeepsRoom mid new = (λ room. inr (omega (arith, fits, few, left, even, more)), samples_kept mid new (omega (arith, steady, more_samples)) (omega (arith, stay, remain)) balances) in
       keeps_on old mid new (roomier_grows_on old mid only) (roomier_keeps old mid only) keeps
 
@@ -272,8 +272,8 @@ module _ {T U B D : Type 0} where
       let steady = ap (λ table. table.room) samples in
       let stay = ap (λ table. length table.entries) publishers in
       let remain = ap length is_roomier.0.0 in
-      let more = is_roomier.2.2.0.2 in
-      let more_samples = is_roomier.2.2.1.2 in
+      let more = is_roomier.2.2 in
+      let more_samples = is_roomier.3.2 in
       let keeps : KeepsRoom mid new = (
         loans_kept mid new (omega (arith, even, more)) (omega (arith, stay, remain)) (rw nothing at balances),
         λ grown room. let few = samples_over (held_at sample_measure (hub_ports domain mid.hub)) mid.made new.made mid.hub new.hub grown arrives in inr (omega (arith, fits, few, left, held, steady, more_samples)),
@@ -305,7 +305,7 @@ module _ {T U B D : Type 0} where
     received_in_room subscriber old new lacking (Ok (Some (Ok None))) grows told room = absurd told
     received_in_room subscriber old new lacking (Ok (Some (Ok (Some sample)))) (roomier, is_roomier, (outcome, at, numbers)) told room =
         let (named, next) = numbered_next (value_at old.made.subscribers subscriber) outcome roomier new.made sample numbers in
-        let same = is_roomier.2.2.1.1 in
+        let same = is_roomier.3.1 in
         inr (next ∙ ap (λ n. n + 1) same, subst (λ number. SomeValues (values_under hub_ports (value_at new.made.samples number) new.hub)) (named ∙ same) told)
 
     -- where there is room a command that isn't replied to lacked memory for values, or no port is there

@@ -3,6 +3,7 @@ use Rattle.std.specs.Prelude.{ℕ, ◌≡◌, ◌+◌, ◌<◌, ◌⊎◌, [], l
 use Rattle.iox_hub_commands.specs.Command.declared.command.Command.{Command}
 use Rattle.iox_hub_commands.specs.Command.declared.command.Command.TheVariants as command
 use Rattle.iox_domain_sample_room.specs.Samples.{held_by_one}
+use Rattle.iox_hub_commands.specs.DomainHome.declared.domain_id.DomainId.{DomainId}
 use Rattle.iox_hub_commands.specs.DomainPorts.declared.service_ports.ServicePorts.{ServicePorts}
 use Rattle.iox_hub_commands.specs.HubPorts.Reading.{values_under}
 use Rattle.iox_hub_commands.specs.Messages.{SomeValues}
@@ -32,6 +33,10 @@ most_samples None = 0
 most_samples (Some ports) = held_by_one ports.sizes
 
 module _ {T U B D : Type 0} where
+  -- how many samples a subscriber of a domain may hold at once
+  abbrev pub most_samples_at : DomainId → NumberedHub T U B D → ℕ
+  most_samples_at domain hub = most_samples (hub_ports domain hub.hub)
+
   -- Where publishers are there, there is room for the numbers of the loans that are out, of all that they may still make, and of one more.
   abbrev pub HasLoanRoom : NumberedHub T U B D → Type 0
   HasLoanRoom hub = FitsIfSome hub.made.publishers (loans_left_in hub.hub.services.domains) hub.made.loans

@@ -85,27 +85,35 @@ module _ {T U B D : Type 0} where
       × ClosesNumbered factory (value_at old.factories.made factory) old.factories.made old.hub closed new.factories.made new.hub
       × (new.made ≡ old.made) × (answer ≡ closed_reply closed)
 
+  -- A publisher comes to a domain, with what is named, and these handlers decide for it.
+  abbrev pub PublisherArrives : (U → Type 0) → (B → DegradationCause → DegradationInfo → DegradationAction → Type 0) → DomainId → PortOwner → PublisherOptions → B → NumberedHub T U B D → Reply T → NumberedHub T U B D → Type 0
+  PublisherArrives is_default degrades domain owner options handlers old answer new =
+      PublisherStep hub_ports with_hub_ports with_hub_publisher degrades is_default domain (publisher_config owner options) options.preallocated_samples handlers old.made old.hub answer new.made new.hub
+      × (new.factories ≡ old.factories)
+
   -- A publisher of the service of a factory comes, if that is of publish-subscribe.
   abbrev pub PublisherComes : (U → Type 0) → (BackpressureStrategy → Option BackpressureAction → DegradationAction → B) → (B → DegradationCause → DegradationInfo → DegradationAction → Type 0)
       → Option Opened → PublisherOptions → NumberedHub T U B D → Reply T → NumberedHub T U B D → Type 0
   PublisherComes is_default fixed degrades None options old answer new = (answer ≡ reply.Skipped) × (new ≡ old)
   PublisherComes is_default fixed degrades (Some opened) options old answer new =
-      PublisherStep hub_ports with_hub_ports with_hub_publisher degrades is_default (domain_of_factory opened) (publisher_config (owner_of_factory opened) options) options.preallocated_samples
-      (publisher_handlers fixed options) old.made old.hub answer new.made new.hub
-      × (new.factories ≡ old.factories)
+      PublisherArrives is_default degrades (domain_of_factory opened) (owner_of_factory opened) options (publisher_handlers fixed options) old answer new
 
   -- A publisher of the service of the factory that goes by a number comes.
   abbrev pub MakesPublisher : (U → Type 0) → (BackpressureStrategy → Option BackpressureAction → DegradationAction → B) → (B → DegradationCause → DegradationInfo → DegradationAction → Type 0)
       → ℕ → PublisherOptions → NumberedHub T U B D → Reply T → NumberedHub T U B D → Type 0
   MakesPublisher is_default fixed degrades factory options old answer new = PublisherComes is_default fixed degrades (publish_subscribe_in (value_at old.factories.made factory)) options old answer new
 
+  -- A subscriber comes to a domain, with what is named, and this handler decides for it.
+  abbrev pub SubscriberArrives : (D → DegradationCause → DegradationInfo → DegradationAction → Type 0) → DomainId → PortOwner → SubscriberOptions → D → NumberedHub T U B D → Reply T → NumberedHub T U B D → Type 0
+  SubscriberArrives degrades domain owner options handler old answer new =
+      SubscriberStep hub_ports with_hub_ports with_hub_subscriber degrades domain (subscriber_config owner options) handler old.made old.hub answer new.made new.hub
+      × (new.factories ≡ old.factories)
+
   -- A subscriber of the service of a factory comes, if that is of publish-subscribe.
   abbrev pub SubscriberComes : (DegradationAction → D) → (D → DegradationCause → DegradationInfo → DegradationAction → Type 0) → Option Opened → SubscriberOptions → NumberedHub T U B D → Reply T → NumberedHub T U B D → Type 0
   SubscriberComes fixed degrades None options old answer new = (answer ≡ reply.Skipped) × (new ≡ old)
   SubscriberComes fixed degrades (Some opened) options old answer new =
-      SubscriberStep hub_ports with_hub_ports with_hub_subscriber degrades (domain_of_factory opened) (subscriber_config (owner_of_factory opened) options) (subscriber_handler fixed options)
-      old.made old.hub answer new.made new.hub
-      × (new.factories ≡ old.factories)
+      SubscriberArrives degrades (domain_of_factory opened) (owner_of_factory opened) options (subscriber_handler fixed options) old answer new
 
   -- A subscriber of the service of the factory that goes by a number comes.
   abbrev pub MakesSubscriber : (DegradationAction → D) → (D → DegradationCause → DegradationInfo → DegradationAction → Type 0) → ℕ → SubscriberOptions → NumberedHub T U B D → Reply T → NumberedHub T U B D → Type 0

@@ -1,9 +1,7 @@
 //! Ports come, once there is room for the numbers of the loans and samples that they may have.
-ghost use Rattle.std.specs.Prelude.{◌≡◌, ◌+◌, ◌<◌, ◌^◌};
-ghost use Rattle.iox_hub_commands.specs.Arriving.{PublisherStep, SubscriberStep};
-ghost use Rattle.iox_hub_commands.specs.Naming.{publisher_config, subscriber_config};
-ghost use Rattle.iox_hub_factories.specs.HubBase.AsHome.{hub_ports, with_hub_ports, with_hub_publisher, with_hub_subscriber};
+ghost use Rattle.std.specs.Prelude.{◌+◌, ◌<◌, ◌^◌};
 ghost use Rattle.iox_hub_run.specs.PortRoom.{KeepsRoom};
+ghost use Rattle.iox_hub_run.specs.Services.{PublisherArrives, SubscriberArrives};
 
 use crate::numbered_hub::NumberedHub;
 use iox_command::{PublisherOptions, Reply, SubscriberOptions};
@@ -25,8 +23,7 @@ impl<T: Copy, U: Copy + Default, B: Decides + Degrades, D: Degrades> NumberedHub
     ) -> Reply<T>
         requires { self.old.made.publishers.next + 1 < 2 ^ 64 }
         ensures room { KeepsRoom self.old self.new }
-        ensures comes { PublisherStep hub_ports with_hub_ports with_hub_publisher (λ handlers. B.degrades handlers) U.is_default domain (publisher_config owner options.now) options.now.preallocated_samples handlers self.old.made self.old.hub result self.new.made self.new.hub }
-        ensures same { self.new.factories ≡ self.old.factories }
+        ensures comes { PublisherArrives U.is_default (λ handlers. B.degrades handlers) domain owner options.now handlers self.old result self.new }
     {
         if self.room_for_loans(most_loans(options) as u64).is_err() {
             return arriving::publisher_refused(&self.hub, domain, owner, options);
@@ -56,8 +53,7 @@ impl<T: Copy, U: Copy, B: Decides + Degrades, D: Degrades> NumberedHub<T, U, B, 
     ) -> Reply<T>
         requires { self.old.made.subscribers.next + 1 < 2 ^ 64 }
         ensures room { KeepsRoom self.old self.new }
-        ensures comes { SubscriberStep hub_ports with_hub_ports with_hub_subscriber (λ handler. D.degrades handler) domain (subscriber_config owner options.now) handler self.old.made self.old.hub result self.new.made self.new.hub }
-        ensures same { self.new.factories ≡ self.old.factories }
+        ensures comes { SubscriberArrives (λ handler. D.degrades handler) domain owner options.now handler self.old result self.new }
     {
         if self.room_for_samples(self.most_samples(domain)).is_err() {
             return arriving::subscriber_refused(&self.hub, domain, owner, options);

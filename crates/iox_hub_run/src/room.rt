@@ -1,9 +1,8 @@
 //! Room for the numbers of loans and samples, which a run makes before its first command, and a port that comes.
 ghost use Rattle.std.specs.Prelude.{◌≡◌, ◌+◌, ◌-◌, ◌^◌, ◌≤◌, ◌<◌, length, min, IsOk, OnOk, OnErr};
 ghost use Rattle.iox_hub_commands.specs.HubPorts.Tables.{SameNumbers};
-ghost use Rattle.iox_hub_factories.specs.HubBase.AsHome.{hub_ports};
 ghost use Rattle.iox_hub_factories.specs.HubServices.Room.{loans_left_in, samples_left_in, samples_at_most_in};
-ghost use Rattle.iox_hub_run.specs.PortRoom.{FitsBeside, most_samples};
+ghost use Rattle.iox_hub_run.specs.PortRoom.{FitsBeside, most_samples_at};
 ghost use Rattle.iox_hub_run.specs.Room.{loans_of, samples_of, loans_in, samples_in, FitsMore, FitsAll, OnlyRoomier};
 
 use crate::numbered_hub::NumberedHub;
@@ -144,7 +143,7 @@ impl<T: Copy, U: Copy, B: Drop, D: Drop> NumberedHub<T, U, B, D> {
 impl<T: Copy, U: Copy, B: Decides + Degrades, D: Degrades> NumberedHub<T, U, B, D> {
     /// How many samples a subscriber of a domain may hold at once; none where it isn't here. Past 2^64 - 1 it is that.
     pub fn most_samples(&self, domain: DomainId) -> u64
-        ensures { result ≡ min (most_samples (hub_ports domain self.now.hub)) (2 ^ 64 - 1) }
+        ensures { result ≡ min (most_samples_at domain self.now) (2 ^ 64 - 1) }
     {
         match self.hub.ports(domain) {
             Some(ports) => held_by_one(&ports.sizes),

@@ -10,12 +10,11 @@ returns-then-is_err-clause-room g c = roomier_keeps c.args.self.now c.room_for_l
 
 pub returns-then-is_err-clause-comes : goal.returns-then-is_err-clause-comes
 returns-then-is_err-clause-comes g c =
-    let mid = c.room_for_loans.new.self in
-    publisher_in_room g.U.Default.is_default (λ handlers. g.B.Degrades.degrades handlers) c.args.domain (publisher_config c.args.owner c.args.options.now) c.args.options.now.preallocated_samples c.args.handlers c.args.self.now mid mid c.publisher_refused.result
-    c.room_for_loans.ensures.same (c.publisher_refused.ensures mid.made c.args.handlers)
-
-pub returns-then-is_err-clause-same : goal.returns-then-is_err-clause-same
-returns-then-is_err-clause-same g c = ap (λ hub. hub.factories) c.room_for_loans.ensures.same.1
+    let mid = c.room_for_loans.new.self in (
+      publisher_in_room g.U.Default.is_default (λ handlers. g.B.Degrades.degrades handlers) c.args.domain (publisher_config c.args.owner c.args.options.now) c.args.options.now.preallocated_samples c.args.handlers c.args.self.now mid mid c.publisher_refused.result
+          c.room_for_loans.ensures.same (c.publisher_refused.ensures mid.made c.args.handlers),
+      ap (λ hub. hub.factories) c.room_for_loans.ensures.same.1,
+    )
 
 pub returns-clause-room : goal.returns-clause-room
 returns-clause-room g c =
@@ -26,9 +25,8 @@ returns-clause-room g c =
 
 pub returns-clause-comes : goal.returns-clause-comes
 returns-clause-comes g c =
-    let mid = c.room_for_loans.new.self in
-    publisher_in_room g.U.Default.is_default (λ handlers. g.B.Degrades.degrades handlers) c.args.domain (publisher_config c.args.owner c.args.options.now) c.args.options.now.preallocated_samples c.args.handlers c.args.self.now mid
-    (record mid { hub = c.publisher.new.home; made = c.publisher.new.made }) c.publisher.result c.room_for_loans.ensures.same c.publisher.ensures
-
-pub returns-clause-same : goal.returns-clause-same
-returns-clause-same g c = ap (λ hub. hub.factories) c.room_for_loans.ensures.same.1
+    let mid = c.room_for_loans.new.self in (
+      publisher_in_room g.U.Default.is_default (λ handlers. g.B.Degrades.degrades handlers) c.args.domain (publisher_config c.args.owner c.args.options.now) c.args.options.now.preallocated_samples c.args.handlers c.args.self.now mid
+          (record mid { hub = c.publisher.new.home; made = c.publisher.new.made }) c.publisher.result c.room_for_loans.ensures.same c.publisher.ensures,
+      ap (λ hub. hub.factories) c.room_for_loans.ensures.same.1,
+    )

@@ -10,12 +10,11 @@ returns-then-is_err-clause-room g c = roomier_keeps c.args.self.now c.room_for_s
 
 pub returns-then-is_err-clause-comes : goal.returns-then-is_err-clause-comes
 returns-then-is_err-clause-comes g c =
-    let mid = c.room_for_samples.new.self in
-    subscriber_in_room (λ handler. g.D.Degrades.degrades handler) c.args.domain (subscriber_config c.args.owner c.args.options.now) c.args.handler c.args.self.now mid mid c.subscriber_refused.result
-    c.room_for_samples.ensures.same (c.subscriber_refused.ensures mid.made c.args.handler)
-
-pub returns-then-is_err-clause-same : goal.returns-then-is_err-clause-same
-returns-then-is_err-clause-same g c = ap (λ hub. hub.factories) c.room_for_samples.ensures.same.1
+    let mid = c.room_for_samples.new.self in (
+      subscriber_in_room (λ handler. g.D.Degrades.degrades handler) c.args.domain (subscriber_config c.args.owner c.args.options.now) c.args.handler c.args.self.now mid mid c.subscriber_refused.result
+          c.room_for_samples.ensures.same (c.subscriber_refused.ensures mid.made c.args.handler),
+      ap (λ hub. hub.factories) c.room_for_samples.ensures.same.1,
+    )
 
 pub returns-clause-room : goal.returns-clause-room
 returns-clause-room g c =
@@ -28,9 +27,8 @@ returns-clause-room g c =
 
 pub returns-clause-comes : goal.returns-clause-comes
 returns-clause-comes g c =
-    let mid = c.room_for_samples.new.self in
-    subscriber_in_room (λ handler. g.D.Degrades.degrades handler) c.args.domain (subscriber_config c.args.owner c.args.options.now) c.args.handler c.args.self.now mid
-    (record mid { hub = c.subscriber.new.home; made = c.subscriber.new.made }) c.subscriber.result c.room_for_samples.ensures.same c.subscriber.ensures
-
-pub returns-clause-same : goal.returns-clause-same
-returns-clause-same g c = ap (λ hub. hub.factories) c.room_for_samples.ensures.same.1
+    let mid = c.room_for_samples.new.self in (
+      subscriber_in_room (λ handler. g.D.Degrades.degrades handler) c.args.domain (subscriber_config c.args.owner c.args.options.now) c.args.handler c.args.self.now mid
+          (record mid { hub = c.subscriber.new.home; made = c.subscriber.new.made }) c.subscriber.result c.room_for_samples.ensures.same c.subscriber.ensures,
+      ap (λ hub. hub.factories) c.room_for_samples.ensures.same.1,
+    )
