@@ -23,9 +23,9 @@ fn stored(slot: u64, word: u64) -> (SharedAccess, bool)
     ensures store { result.0 ≡ SharedAccess.Store (SharedWord.Slot slot (SlotWord.Payload 0)) word }
     ensures over { result.1 ≡ true }
 {
-    let call = PublisherCall::write(&[word], slot);
+    let mut call = PublisherCall::write(&[word], slot);
     let access = call.next();
-    let call = call.take(0, &[], &[word]);
+    call.take(0, &[], &[word]);
     (access, call.is_over())
 }
 

@@ -11,9 +11,9 @@
 //! First calls, of a write of one word; `Lanes` of `iox_lanes_machine` makes them with the words of a service.
 //!
 //! ```
-//! let call = PublisherCall::write(&[word], slot);
+//! let mut call = PublisherCall::write(&[word], slot);
 //! let access = call.next();
-//! let call = call.take(0, &[], &[word]);
+//! let change = call.take(0, &[], &[word]);
 //! ```
 #![tactic(auto)]
 

@@ -1,7 +1,7 @@
 //! The calls of a publisher.
 ghost use Rattle.std.specs.Prelude.{◌≡◌};
 ghost use Rattle.iox_lanes_calls.specs.Answers.{push_answer, refusing_pop_answer};
-ghost use Rattle.iox_lanes_calls.specs.Publishing.{publisher_next, publisher_take, publisher_change, publisher_is_idle, publisher_is_over, header_word, loan_at, loan_reclaimed, write_at, head_at, sweep_at, send_reclaimed, push_at, pushed, counted, taken_back, push_change};
+ghost use Rattle.iox_lanes_calls.specs.Publishing.{publisher_next, publisher_take, publisher_change, publisher_is_idle, publisher_is_over, header_word, loan_at, write_at, head_at, sweep_at, push_at, counted, taken_back, push_change};
 
 use crate::answers::{push_answer, refusing_pop_answer};
 use crate::route::Route;
@@ -163,60 +163,93 @@ impl PublisherCall {
         }
     }
 
-    /// Where the call stands after the answer of that access. `routes` are the publisher's connections, `words` those that a write or a send stores.
-    pub fn take(self, answer: u64, routes: &[Route], words: &[u64]) -> PublisherCall
-        ensures { result ≡ publisher_take routes.now words.now self answer }
+    /// Goes on after the answer of that access, and tells what it changes of what the publisher keeps for itself. `routes` are the publisher's connections,
+    /// `words` those that a write or a send stores.
+    #[inline(always)]
+    pub fn take(&mut self, answer: u64, routes: &[Route], words: &[u64]) -> PublisherChange
+        ensures call { self.new ≡ publisher_take routes.now words.now self.old answer }
+        ensures change { result ≡ publisher_change self.old answer }
     {
         match self {
-            PublisherCall::LoanReclaims { place, route, pop } => {
-                loan_reclaimed(routes, place, route, pop.take(answer))
+            PublisherCall::LoanReclaims { place, pop, .. } => {
+                let place = *place;
+                let taken = pop.take(answer);
+                match refusing_pop_answer(&taken) {
+                    None => *pop = taken,
+                    Some(PopAnswer::Got(Some(_))) => *pop = RefusingPop::begin(),
+                    Some(PopAnswer::Got(None) | PopAnswer::Saw(_)) => {
+                        *self = loan_at(routes, place.saturating_add(1));
+                    }
+                }
+                taken_back(place, taken)
+            }
+            PublisherCall::Lending => {
+                *self = PublisherCall::Idle;
+                PublisherChange::Lend
             }
             PublisherCall::Writing { slot, word, .. } => {
-                write_at(words, slot, word.saturating_add(1))
+                *self = write_at(words, *slot, word.saturating_add(1));
+                PublisherChange::Nothing
+            }
+            PublisherCall::Written { slot } => {
+                let slot = *slot;
+                *self = PublisherCall::Idle;
+                PublisherChange::Mark { slot }
             }
             PublisherCall::Heading { slot, word, .. } => {
-                head_at(words, slot, word.saturating_add(1))
+                *self = head_at(words, *slot, word.saturating_add(1));
+                PublisherChange::Nothing
             }
-            PublisherCall::Remembering { slot } => sweep_at(routes, slot, 0),
+            PublisherCall::Remembering { slot } => {
+                let slot = *slot;
+                *self = sweep_at(routes, slot, 0);
+                PublisherChange::Remember { slot }
+            }
             PublisherCall::SendReclaims {
                 slot,
                 place,
-                route,
                 pop,
-            } => send_reclaimed(routes, slot, place, route, pop.take(answer)),
+                ..
+            } => {
+                let (slot, place) = (*slot, *place);
+                let taken = pop.take(answer);
+                match refusing_pop_answer(&taken) {
+                    None => *pop = taken,
+                    Some(PopAnswer::Got(Some(_))) => *pop = RefusingPop::begin(),
+                    Some(PopAnswer::Got(None) | PopAnswer::Saw(_)) => {
+                        *self = sweep_at(routes, slot, place.saturating_add(1));
+                    }
+                }
+                taken_back(place, taken)
+            }
             PublisherCall::Pushing {
                 slot,
                 place,
-                route,
                 push,
                 delivery,
-            } => pushed(routes, slot, place, route, push.take(answer), delivery),
-            PublisherCall::Idle
-            | PublisherCall::Lending
-            | PublisherCall::Written { .. }
-            | PublisherCall::Sent { .. }
-            | PublisherCall::Dropping { .. } => PublisherCall::Idle,
-        }
-    }
-
-    /// What the answer of that access changes of what the publisher keeps for itself.
-    pub fn change(&self, answer: u64) -> PublisherChange
-        ensures { result ≡ publisher_change self.now answer }
-    {
-        match *self {
-            PublisherCall::LoanReclaims { place, pop, .. }
-            | PublisherCall::SendReclaims { place, pop, .. } => {
-                taken_back(place, pop.take(answer))
+                ..
+            } => {
+                let (slot, place, delivery) = (*slot, *place, *delivery);
+                let change = push_change(place, push, answer);
+                let taken = push.take(answer);
+                match push_answer(&taken) {
+                    None => *push = taken,
+                    Some(answer) => {
+                        let place = place.saturating_add(1);
+                        *self = push_at(routes, slot, place, counted(delivery, answer));
+                    }
+                }
+                change
             }
-            PublisherCall::Lending => PublisherChange::Lend,
-            PublisherCall::Written { slot } => PublisherChange::Mark { slot },
-            PublisherCall::Remembering { slot } => PublisherChange::Remember { slot },
-            PublisherCall::Pushing { place, push, .. } => push_change(place, push, answer),
-            PublisherCall::Dropping { slot } => PublisherChange::DropLoan { slot },
-            PublisherCall::Idle
-            | PublisherCall::Writing { .. }
-            | PublisherCall::Heading { .. }
-            | PublisherCall::Sent { .. } => PublisherChange::Nothing,
+            PublisherCall::Dropping { slot } => {
+                let slot = *slot;
+                *self = PublisherCall::Idle;
+                PublisherChange::DropLoan { slot }
+            }
+            PublisherCall::Idle | PublisherCall::Sent { .. } => {
+                *self = PublisherCall::Idle;
+                PublisherChange::Nothing
+            }
         }
     }
 
@@ -263,23 +296,6 @@ fn loan_at(routes: &[Route], place: u64) -> PublisherCall
             pop: RefusingPop::begin(),
         },
         None => PublisherCall::Lending,
-    }
-}
-
-// A loan after a step on the ring of what came back.
-fn loan_reclaimed(routes: &[Route], place: u64, route: Route, pop: RefusingPop) -> PublisherCall
-    ensures { result ≡ loan_reclaimed routes.now place route pop (refusing_pop_answer pop) }
-{
-    match refusing_pop_answer(&pop) {
-        None => PublisherCall::LoanReclaims { place, route, pop },
-        Some(PopAnswer::Got(Some(_))) => PublisherCall::LoanReclaims {
-            place,
-            route,
-            pop: RefusingPop::begin(),
-        },
-        Some(PopAnswer::Got(None) | PopAnswer::Saw(_)) => {
-            loan_at(routes, place.saturating_add(1))
-        }
     }
 }
 
@@ -334,35 +350,6 @@ fn sweep_at(routes: &[Route], slot: u64, place: u64) -> PublisherCall
     }
 }
 
-// A send after a step on the ring of what came back.
-fn send_reclaimed(
-    routes: &[Route],
-    slot: u64,
-    place: u64,
-    route: Route,
-    pop: RefusingPop,
-) -> PublisherCall
-    ensures { result ≡ send_reclaimed routes.now slot place route pop (refusing_pop_answer pop) }
-{
-    match refusing_pop_answer(&pop) {
-        None => PublisherCall::SendReclaims {
-            slot,
-            place,
-            route,
-            pop,
-        },
-        Some(PopAnswer::Got(Some(_))) => PublisherCall::SendReclaims {
-            slot,
-            place,
-            route,
-            pop: RefusingPop::begin(),
-        },
-        Some(PopAnswer::Got(None) | PopAnswer::Saw(_)) => {
-            sweep_at(routes, slot, place.saturating_add(1))
-        }
-    }
-}
-
 // A send that pushes at the connection of a place; behind the last one it ends.
 fn push_at(routes: &[Route], slot: u64, place: u64, delivery: Delivery) -> PublisherCall
     ensures { result ≡ push_at routes.now slot place delivery }
@@ -376,34 +363,6 @@ fn push_at(routes: &[Route], slot: u64, place: u64, delivery: Delivery) -> Publi
             delivery,
         },
         None => PublisherCall::Sent { slot, delivery },
-    }
-}
-
-// A send after a step on the ring of messages.
-fn pushed(
-    routes: &[Route],
-    slot: u64,
-    place: u64,
-    route: Route,
-    push: Push,
-    delivery: Delivery,
-) -> PublisherCall
-    ensures { result ≡ pushed routes.now slot place route push delivery (push_answer push) }
-{
-    match push_answer(&push) {
-        None => PublisherCall::Pushing {
-            slot,
-            place,
-            route,
-            push,
-            delivery,
-        },
-        Some(answer) => push_at(
-            routes,
-            slot,
-            place.saturating_add(1),
-            counted(delivery, answer),
-        ),
     }
 }
 
@@ -434,10 +393,10 @@ fn taken_back(place: u64, pop: RefusingPop) -> PublisherChange
 }
 
 // A push puts at its store of the write position, and hands the oldest out if it wins its exchange.
-fn push_change(place: u64, push: Push, answer: u64) -> PublisherChange
-    ensures { result ≡ push_change place push answer }
+fn push_change(place: u64, push: &Push, answer: u64) -> PublisherChange
+    ensures { result ≡ push_change place push.now answer }
 {
-    match push {
+    match *push {
         Push::Overflowing(OverflowingPush::Filled { value, .. })
         | Push::Refusing(RefusingPush::Filled { value, .. }) => PublisherChange::Put {
             place,

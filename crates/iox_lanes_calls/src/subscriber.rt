@@ -1,7 +1,7 @@
 //! The calls of a subscriber.
 ghost use Rattle.std.specs.Prelude.{◌≡◌, false};
 ghost use Rattle.iox_lanes_calls.specs.Answers.{pop_answer, refusing_push_answer};
-ghost use Rattle.iox_lanes_calls.specs.Subscribing.{subscriber_next, subscriber_take, subscriber_change, subscriber_is_idle, subscriber_is_over, is_full_at, receive_at, received, nothing_received, read_at, word_at, released, borrowed_by, given_back_by};
+ghost use Rattle.iox_lanes_calls.specs.Subscribing.{subscriber_next, subscriber_take, subscriber_change, subscriber_is_idle, subscriber_is_over, is_full_at, receive_at, nothing_received, read_at, word_at, borrowed_by, given_back_by};
 
 use crate::answers::{pop_answer, refusing_push_answer};
 use crate::route::Route;
@@ -134,54 +134,72 @@ impl SubscriberCall {
         }
     }
 
-    /// Where the call stands after the answer of that access. `routes` are the subscriber's connections, `borrowed` how many samples of each are borrowed,
-    /// of at most `most`.
-    pub fn take(self, answer: u64, routes: &[Route], borrowed: &[u64], most: u64) -> SubscriberCall
-        ensures { result ≡ subscriber_take routes.now borrowed.now most self answer }
+    /// Goes on after the answer of that access, and tells what it changes of what the subscriber keeps for itself. `routes` are the subscriber's connections,
+    /// `borrowed` how many samples of each are borrowed, of at most `most`.
+    #[inline(always)]
+    pub fn take(
+        &mut self,
+        answer: u64,
+        routes: &[Route],
+        borrowed: &[u64],
+        most: u64,
+    ) -> SubscriberChange
+        ensures call { self.new ≡ subscriber_take routes.now borrowed.now most self.old answer }
+        ensures change { result ≡ subscriber_change self.old answer }
     {
         match self {
             SubscriberCall::Receiving {
                 place,
-                route,
                 pop,
                 waits,
-            } => received(
-                routes,
-                borrowed,
-                most,
-                place,
-                route,
-                pop.take(answer),
-                waits,
-            ),
+                ..
+            } => {
+                let (place, waits) = (*place, *waits);
+                let taken = pop.take(answer);
+                match pop_answer(&taken) {
+                    None => *pop = taken,
+                    Some(PopAnswer::Got(Some(slot))) => {
+                        let receipt = Receipt::Taken { place, slot };
+                        *self = SubscriberCall::Received { receipt };
+                    }
+                    Some(PopAnswer::Got(None)) => {
+                        let place = place.saturating_add(1);
+                        *self = receive_at(routes, borrowed, most, place, waits);
+                    }
+                    Some(PopAnswer::Saw(some)) => {
+                        let place = place.saturating_add(1);
+                        *self = receive_at(routes, borrowed, most, place, waits || some);
+                    }
+                }
+                borrowed_by(place, &taken)
+            }
             SubscriberCall::Reading { slot, word, extent } => {
-                read_at(slot, extent, word.saturating_add(1))
+                let at = *word;
+                *self = read_at(*slot, *extent, at.saturating_add(1));
+                SubscriberChange::Note {
+                    word: at,
+                    value: answer,
+                }
             }
-            SubscriberCall::Releasing { place, route, push } => {
-                released(place, route, push.take(answer))
+            SubscriberCall::Releasing { place, push, .. } => {
+                let change = given_back_by(*place, push);
+                let taken = push.take(answer);
+                match refusing_push_answer(&taken) {
+                    None => *push = taken,
+                    Some(PushAnswer::Kept | PushAnswer::LeftOut(_)) => {
+                        *self = SubscriberCall::Released { done: true };
+                    }
+                    Some(PushAnswer::Refused) => *self = SubscriberCall::Released { done: false },
+                }
+                change
             }
             SubscriberCall::Idle
             | SubscriberCall::Received { .. }
             | SubscriberCall::WasRead { .. }
-            | SubscriberCall::Released { .. } => SubscriberCall::Idle,
-        }
-    }
-
-    /// What the answer of that access changes of what the subscriber keeps for itself.
-    pub fn change(&self, answer: u64) -> SubscriberChange
-        ensures { result ≡ subscriber_change self.now answer }
-    {
-        match *self {
-            SubscriberCall::Receiving { place, pop, .. } => borrowed_by(place, pop.take(answer)),
-            SubscriberCall::Reading { word, .. } => SubscriberChange::Note {
-                word,
-                value: answer,
-            },
-            SubscriberCall::Releasing { place, push, .. } => given_back_by(place, push),
-            SubscriberCall::Idle
-            | SubscriberCall::Received { .. }
-            | SubscriberCall::WasRead { .. }
-            | SubscriberCall::Released { .. } => SubscriberChange::Nothing,
+            | SubscriberCall::Released { .. } => {
+                *self = SubscriberCall::Idle;
+                SubscriberChange::Nothing
+            }
         }
     }
 
@@ -254,41 +272,6 @@ fn receive_at(
     }
 }
 
-// A receive after a step on the ring of messages: the first slot ends it.
-fn received(
-    routes: &[Route],
-    borrowed: &[u64],
-    most: u64,
-    place: u64,
-    route: Route,
-    pop: Pop,
-    waits: bool,
-) -> SubscriberCall
-    ensures { result ≡ received routes.now borrowed.now most place route pop waits (pop_answer pop) }
-{
-    match pop_answer(&pop) {
-        None => SubscriberCall::Receiving {
-            place,
-            route,
-            pop,
-            waits,
-        },
-        Some(PopAnswer::Got(Some(slot))) => SubscriberCall::Received {
-            receipt: Receipt::Taken { place, slot },
-        },
-        Some(PopAnswer::Got(None)) => {
-            receive_at(routes, borrowed, most, place.saturating_add(1), waits)
-        }
-        Some(PopAnswer::Saw(some)) => receive_at(
-            routes,
-            borrowed,
-            most,
-            place.saturating_add(1),
-            waits || some,
-        ),
-    }
-}
-
 // A word of header, user header and payload, which lie one behind the other.
 fn word_at(extent: SlotExtent, word: u64) -> SlotWord
     ensures { result ≡ word_at extent word }
@@ -316,32 +299,21 @@ fn read_at(slot: u64, extent: SlotExtent, word: u64) -> SubscriberCall
     }
 }
 
-// A release after a step on the ring of what came back.
-fn released(place: u64, route: Route, push: RefusingPush) -> SubscriberCall
-    ensures { result ≡ released place route push (refusing_push_answer push) }
-{
-    match refusing_push_answer(&push) {
-        None => SubscriberCall::Releasing { place, route, push },
-        Some(PushAnswer::Kept | PushAnswer::LeftOut(_)) => SubscriberCall::Released { done: true },
-        Some(PushAnswer::Refused) => SubscriberCall::Released { done: false },
-    }
-}
-
 // A slot that was popped is borrowed.
-fn borrowed_by(place: u64, pop: Pop) -> SubscriberChange
-    ensures { result ≡ borrowed_by place (pop_answer pop) }
+fn borrowed_by(place: u64, pop: &Pop) -> SubscriberChange
+    ensures { result ≡ borrowed_by place (pop_answer pop.now) }
 {
-    match pop_answer(&pop) {
+    match pop_answer(pop) {
         Some(PopAnswer::Got(Some(slot))) => SubscriberChange::Borrow { place, slot },
         _ => SubscriberChange::Nothing,
     }
 }
 
 // A slot is given back at the store of the write position.
-fn given_back_by(place: u64, push: RefusingPush) -> SubscriberChange
-    ensures { result ≡ given_back_by place push }
+fn given_back_by(place: u64, push: &RefusingPush) -> SubscriberChange
+    ensures { result ≡ given_back_by place push.now }
 {
-    match push {
+    match *push {
         RefusingPush::Filled { value, .. } => SubscriberChange::GiveBack { place, slot: value },
         _ => SubscriberChange::Nothing,
     }

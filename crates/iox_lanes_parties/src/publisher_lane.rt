@@ -143,17 +143,44 @@ impl PublisherLane {
     }
 
     /// Goes on after the answer of that access. It tells what the call answers, if that was its last step.
+    #[inline(always)]
     pub fn go_on(&mut self, given: u64) -> Option<Answer>
         ensures lane { self.new ≡ publisher_after given self.old }
         ensures answer { result ≡ publisher_answer self.old.port.call self.new.port.book.answer }
         ensures ends { is_some result ≡ publisher_is_over self.old.port.call }
     {
-        let call = self.port.call();
-        self.port.take(given);
-        answer_of(call, self.port.answer())
+        match *self.port.call() {
+            PublisherCall::Lending => {
+                self.port.take(given);
+                Some(lent(self.port.answer()))
+            }
+            PublisherCall::Written { .. } => {
+                self.port.take(given);
+                Some(Answer::Written)
+            }
+            PublisherCall::Sent { delivery, .. } => {
+                self.port.take(given);
+                Some(Answer::Sent(delivery))
+            }
+            PublisherCall::Dropping { .. } => {
+                self.port.take(given);
+                Some(Answer::Dropped)
+            }
+            PublisherCall::Idle
+            | PublisherCall::LoanReclaims { .. }
+            | PublisherCall::Writing { .. }
+            | PublisherCall::Heading { .. }
+            | PublisherCall::Remembering { .. }
+            | PublisherCall::SendReclaims { .. }
+            | PublisherCall::Pushing { .. } => {
+                self.port.take(given);
+                None
+            }
+        }
     }
 
     /// Goes on as from where a call stands, after the answer of the access that comes next there.
+    #[inline(always)]
     pub fn go_on_from(&mut self, call: PublisherCall, given: u64)
         ensures { self.new ≡ publisher_after given (record self.old { port = record self.old.port { call = call } }) }
     {
@@ -287,7 +314,7 @@ impl PublisherLane {
     pub fn stage(&self) -> PublisherCall
         ensures { result ≡ self.now.port.call }
     {
-        self.port.call()
+        *self.port.call()
     }
 
     /// The next step is the last of its call.
@@ -329,26 +356,6 @@ fn is_head(user_header_words: usize, head_words: usize) -> bool
     ensures { result ≡ (3 + user_header_words == head_words) }
 {
     head_words >= 3 && head_words - 3 == user_header_words
-}
-
-// What a publisher's call answers whose next step is its last.
-fn answer_of(call: PublisherCall, loan: Option<LoanAnswer>) -> Option<Answer>
-    ensures answer { result ≡ publisher_answer call loan }
-    ensures ends { is_some result ≡ publisher_is_over call }
-{
-    match call {
-        PublisherCall::Lending => Some(lent(loan)),
-        PublisherCall::Written { .. } => Some(Answer::Written),
-        PublisherCall::Sent { delivery, .. } => Some(Answer::Sent(delivery)),
-        PublisherCall::Dropping { .. } => Some(Answer::Dropped),
-        PublisherCall::Idle
-        | PublisherCall::LoanReclaims { .. }
-        | PublisherCall::Writing { .. }
-        | PublisherCall::Heading { .. }
-        | PublisherCall::Remembering { .. }
-        | PublisherCall::SendReclaims { .. }
-        | PublisherCall::Pushing { .. } => None,
-    }
 }
 
 // A loan's answer; a loan that ends has one.

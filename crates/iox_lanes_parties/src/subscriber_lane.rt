@@ -162,24 +162,26 @@ impl SubscriberLane {
     pub fn words_read(&self) -> &[u64]
         ensures { result.now ≡ words_read self.now.port.call self.now.port.words }
     {
-        match self.port.call() {
+        match *self.port.call() {
             SubscriberCall::WasRead { .. } => self.port.words(),
             _ => &[],
         }
     }
 
     /// Goes on after the answer of that access. It tells what the call answers, if that was its last step; the words of a read begin at `from`.
+    #[inline(always)]
     pub fn go_on(&mut self, given: u64, from: usize) -> Option<Answer>
         ensures lane { self.new ≡ subscriber_after given self.old }
         ensures answer { result ≡ subscriber_answer self.old.port.call from }
         ensures ends { is_some result ≡ subscriber_is_over self.old.port.call }
     {
-        let call = self.port.call();
+        let answer = answer_of(self.port.call(), from);
         self.port.take(given);
-        answer_of(call, from)
+        answer
     }
 
     /// Goes on as from where a call stands, after the answer of the access that comes next there.
+    #[inline(always)]
     pub fn go_on_from(&mut self, call: SubscriberCall, given: u64)
         ensures { self.new ≡ subscriber_after given (record self.old { port = record self.old.port { call = call } }) }
     {
@@ -197,7 +199,7 @@ impl SubscriberLane {
     pub fn stage(&self) -> SubscriberCall
         ensures { result ≡ self.now.port.call }
     {
-        self.port.call()
+        *self.port.call()
     }
 
     /// The next step is the last of its call.
@@ -223,11 +225,11 @@ impl SubscriberLane {
 }
 
 // What a subscriber's call answers whose next step is its last.
-fn answer_of(call: SubscriberCall, from: usize) -> Option<Answer>
-    ensures answer { result ≡ subscriber_answer call from }
-    ensures ends { is_some result ≡ subscriber_is_over call }
+fn answer_of(call: &SubscriberCall, from: usize) -> Option<Answer>
+    ensures answer { result ≡ subscriber_answer call.now from }
+    ensures ends { is_some result ≡ subscriber_is_over call.now }
 {
-    match call {
+    match *call {
         SubscriberCall::Received { receipt } => Some(Answer::Received(receipt)),
         SubscriberCall::WasRead { .. } => Some(Answer::Read { from }),
         SubscriberCall::Released { done } => Some(Answer::Released(done)),

@@ -1,5 +1,5 @@
 //! A publisher, free of any words.
-ghost use Rattle.std.specs.Prelude.{◌≡◌, true, length, replicate, slice_get, IfOk};
+ghost use Rattle.std.specs.Prelude.{◌≡◌, true, if◌then◌else◌, length, replicate, slice_get, IfOk};
 ghost use Rattle.iox_lanes_calls.specs.Publishing.{publisher_next, publisher_is_idle, publisher_is_over};
 ghost use Rattle.iox_lanes_publisher.specs.Keeping.{loan_of, may_have, may_remember, may_resize};
 ghost use Rattle.iox_lanes_publisher.specs.Publishers.{after_answer, found_at, found_last, with_slots, met_anew, begun_loan, begun_write, begun_send, begun_drop, new_publisher, words_of};
@@ -189,10 +189,10 @@ impl LanePublisher {
     }
 
     /// The call that it is in.
-    pub fn call(&self) -> PublisherCall
-        ensures { result ≡ self.now.call }
+    pub fn call(&self) -> &PublisherCall
+        ensures { result.now ≡ self.now.call }
     {
-        self.call
+        &self.call
     }
 
     /// Begins a loan.
@@ -241,35 +241,32 @@ impl LanePublisher {
     }
 
     /// Goes on after the answer of that access, and keeps what it changes.
+    #[inline(always)]
     pub fn take(&mut self, answer: u64)
         ensures { self.new ≡ after_answer answer self.old }
     {
-        let change = self.call.change(answer);
-        if self.sends {
-            self.call = self.call.take(answer, &self.routes, &self.head);
-        } else {
-            self.call = self.call.take(answer, &self.routes, &self.payload);
-        }
+        let words = stored(self.sends, &self.head, &self.payload);
+        let change = self.call.take(answer, &self.routes, words);
         self.book.change(change);
     }
 
     /// Goes on as from where a call stands, after the answer of the access that comes next there.
+    #[inline(always)]
     pub fn take_from(&mut self, call: PublisherCall, answer: u64)
         ensures { self.new ≡ after_answer answer (record self.old { call = call }) }
     {
+        let mut call = call;
+        let words = stored(self.sends, &self.head, &self.payload);
+        let change = call.take(answer, &self.routes, words);
         self.call = call;
-        self.take(answer);
+        self.book.change(change);
     }
 
     /// The words that the call in hand stores.
     pub fn stored(&self) -> &[u64]
         ensures { result.now ≡ words_of self.now }
     {
-        if self.sends {
-            &self.head
-        } else {
-            &self.payload
-        }
+        stored(self.sends, &self.head, &self.payload)
     }
 
     /// No call is under way.
@@ -285,4 +282,11 @@ impl LanePublisher {
     {
         self.call.is_over()
     }
+}
+
+// The words that a send stores, or a write.
+fn stored<'x>(sends: bool, head: &'x [u64], payload: &'x [u64]) -> &'x [u64]
+    ensures { result.now ≡ (if sends then head.now else payload.now) }
+{
+    if sends { head } else { payload }
 }

@@ -207,6 +207,7 @@ impl SlotBook {
     }
 
     /// Keeps what a step changes.
+    #[inline(always)]
     pub fn change(&mut self, change: PublisherChange)
         ensures { self.new ≡ changed change self.old }
     {

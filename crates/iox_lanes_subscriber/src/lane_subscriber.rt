@@ -130,10 +130,10 @@ impl LaneSubscriber {
     }
 
     /// The call that it is in.
-    pub fn call(&self) -> SubscriberCall
-        ensures { result ≡ self.now.call }
+    pub fn call(&self) -> &SubscriberCall
+        ensures { result.now ≡ self.now.call }
     {
-        self.call
+        &self.call
     }
 
     /// Begins a receive.
@@ -168,22 +168,25 @@ impl LaneSubscriber {
     }
 
     /// Goes on after the answer of that access, and keeps what it changes.
+    #[inline(always)]
     pub fn take(&mut self, answer: u64)
         ensures { self.new ≡ after_answer answer self.old }
     {
-        let change = self.call.change(answer);
-        self.call = self
+        let change = self
             .call
             .take(answer, &self.routes, &self.borrowed, self.most_borrowed);
         self.change(change);
     }
 
     /// Goes on as from where a call stands, after the answer of the access that comes next there.
+    #[inline(always)]
     pub fn take_from(&mut self, call: SubscriberCall, answer: u64)
         ensures { self.new ≡ after_answer answer (record self.old { call = call }) }
     {
+        let mut call = call;
+        let change = call.take(answer, &self.routes, &self.borrowed, self.most_borrowed);
         self.call = call;
-        self.take(answer);
+        self.change(change);
     }
 
     /// Keeps a word that was read; beyond the last one nothing happens.
@@ -193,6 +196,7 @@ impl LaneSubscriber {
         put(&mut self.words, word, value);
     }
 
+    #[inline(always)]
     fn change(&mut self, change: SubscriberChange)
         ensures { self.new ≡ changed change self.old }
     {

@@ -132,6 +132,19 @@ publisher_over (publishing.Pushing slot place route push delivery) h = absurd (c
 publisher_over (publishing.Sent slot delivery) h = refl
 publisher_over (publishing.Dropping slot) h = refl
 
+-- a step that touches no shared word leaves the seat as it is
+pub steps_alone : (me : Me ℕ View) (lane lane' : PublisherLaneState) → me ≡ single (port_of me) → publisher_next lane.port.call ≡ Local → lane' ≡ publisher_after 0 lane → PublisherSteps (port_of me) lane me lane'
+steps_alone me lane lane' alone local after = (
+  0,
+  subst (λ (a : SharedAccess). ToldBy (port_of me) a 0) (sym local) refl,
+  subst (λ (a : SharedAccess). me ≡ single (stepped (port_of me) a 0 (publisher_party lane))) (sym local) alone,
+  after,
+)
+
+-- the last step of a call is such a step
+pub ends_alone : (me : Me ℕ View) (lane lane' : PublisherLaneState) → me ≡ single (port_of me) → publisher_is_over lane.port.call ≡ true → lane' ≡ publisher_after 0 lane → PublisherSteps (port_of me) lane me lane'
+ends_alone me lane lane' alone over after = steps_alone me lane lane' alone (publisher_over lane.port.call over) after
+
 stays_local : (p : Port) (access : SharedAccess) (n : ℕ) (after : ℕ → PortParty) → access ≡ Local → ToldBy p access n → (stepped p access n after ≡ p) × (n ≡ 0)
 stays_local p access n after e told = (subst (λ (a : SharedAccess). stepped p a n after ≡ p) (sym e) refl, subst (λ (a : SharedAccess). ToldBy p a n) e told)
 

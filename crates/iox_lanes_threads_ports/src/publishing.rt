@@ -72,7 +72,7 @@ pub(crate) fn run<K: Opening>(
     let mut made = 0;
     while made < most {
         if lane.is_over() {
-            return step(words, seat, sizes, lane);
+            return lane.go_on(0);
         }
         made += stride(words, seat, sizes, lane, most - made);
     }

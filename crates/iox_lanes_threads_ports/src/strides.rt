@@ -185,6 +185,10 @@ pub(crate) fn stride<K: Opening>(
         } if room >= 4 => push_over(
             words, seat, sizes, lane, slot, place, route, limit, value, delivery,
         ),
+        PublisherCall::Remembering { .. } => {
+            lane.go_on(0);
+            1
+        }
         _ => {
             step(words, seat, sizes, lane);
             1

@@ -1,7 +1,7 @@
 use Rattle.std.proofs.Common.{ℕ, ◌≡◌, refl, sym, subst, ◌∙◌, arith}
 use Rattle.iox_lanes_ledger.specs.LanesWords.Numbers.{IsSmall}
 use Rattle.iox_lanes_threads_rule.specs.Acts.{port_of}
-use Rattle.iox_lanes_threads_ports.proofs.Running.{Paced, publishes, publishes_on, paced, publisher_stops, publisher_stays_inside}
+use Rattle.iox_lanes_threads_ports.proofs.Running.{Paced, publishes, publishes_on, paced, publisher_stops, publisher_stays_inside, ends_alone}
 use Rattle.iox_lanes_threads_ports.proofs.Striding.{paced_along, publishes_along}
 use Rattle.iox_lanes_threads_ports.proofs.publishing.run.Goals as goal
 
@@ -29,17 +29,19 @@ loop-made-preserved g c =
 
 pub returns-then-is_over-clause-stands : goal.returns-then-is_over-clause-stands
 returns-then-is_over-clause-stands g c =
-    (publishes_on (port_of c.args.seat.now.me) c.loop-made.seat.me c.loop-made.lane c.step.new.seat.me c.step.new.lane c.loop-made.invariant.2 c.step.ensures.steps).stands
+    let steps = ends_alone c.loop-made.seat.me c.loop-made.lane c.go_on.new.self c.loop-made.invariant.2.seat.alone (sym c.is_over.ensures ∙ c.if-is_over.true) c.go_on.ensures.lane in
+    (publishes_on (port_of c.args.seat.now.me) c.loop-made.seat.me c.loop-made.lane c.loop-made.seat.me c.go_on.new.self c.loop-made.invariant.2 steps).stands
 
 pub returns-then-is_over-clause-seat : goal.returns-then-is_over-clause-seat
 returns-then-is_over-clause-seat g c =
-    let now = (publishes_on (port_of c.args.seat.now.me) c.loop-made.seat.me c.loop-made.lane c.step.new.seat.me c.step.new.lane c.loop-made.invariant.2 c.step.ensures.steps).seat in
-    (now.alone, now.service, now.name)
+    let seat = c.loop-made.invariant.2.seat in
+    (seat.alone, seat.service, seat.name)
 
 pub returns-then-is_over-clause-runs : goal.returns-then-is_over-clause-runs
 returns-then-is_over-clause-runs g c =
-    publisher_stops c.args.most c.loop-made.made (port_of c.args.seat.now.me) c.args.lane.now c.loop-made.seat.me c.loop-made.lane c.step.new.seat.me c.step.new.lane c.step.result c.loop-made-test.true
-    c.loop-made.invariant.3 c.step.ensures.steps c.step.ensures.answer c.step.ensures.ends (c.step.ensures.ends ∙ sym c.is_over.ensures ∙ c.if-is_over.true)
+    let steps = ends_alone c.loop-made.seat.me c.loop-made.lane c.go_on.new.self c.loop-made.invariant.2.seat.alone (sym c.is_over.ensures ∙ c.if-is_over.true) c.go_on.ensures.lane in
+    publisher_stops c.args.most c.loop-made.made (port_of c.args.seat.now.me) c.args.lane.now c.loop-made.seat.me c.loop-made.lane c.loop-made.seat.me c.go_on.new.self c.go_on.result c.loop-made-test.true
+    c.loop-made.invariant.3 steps c.go_on.ensures.answer c.go_on.ensures.ends (c.go_on.ensures.ends ∙ sym c.is_over.ensures ∙ c.if-is_over.true)
 
 pub returns-clause-runs : goal.returns-clause-runs
 returns-clause-runs g c =
