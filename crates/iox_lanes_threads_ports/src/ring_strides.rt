@@ -37,6 +37,7 @@ pub(crate) fn take_back<K: Opening>(
     ensures some { (0 < result) × (result ≤ 4) }
     ensures strode { PublisherStrode (port_of seat.old.me) lane.old result seat.new.me lane.new }
 {
+    let sizes = *sizes;
     let call = PublisherCall::LoanReclaims {
         place,
         route,
@@ -47,7 +48,7 @@ pub(crate) fn take_back<K: Opening>(
         ring: ConnectionRing::Completion,
         word: Word::Read,
     };
-    let read = load_ahead(words, seat, sizes, lane, call, word);
+    let read = load_ahead(words, seat, &sizes, lane, call, word);
     let call = PublisherCall::LoanReclaims {
         place,
         route,
@@ -58,7 +59,7 @@ pub(crate) fn take_back<K: Opening>(
         ring: ConnectionRing::Completion,
         word: Word::Write,
     };
-    let write = load_ahead(words, seat, sizes, lane, call, word);
+    let write = load_ahead(words, seat, &sizes, lane, call, word);
     if write == read {
         lane.go_on_from(call, write);
         return 2;
@@ -74,7 +75,7 @@ pub(crate) fn take_back<K: Opening>(
         ring: ConnectionRing::Completion,
         word: Word::Cell(read % route.completion_cells),
     };
-    let value = load_ahead(words, seat, sizes, lane, call, word);
+    let value = load_ahead(words, seat, &sizes, lane, call, word);
     let call = PublisherCall::LoanReclaims {
         place,
         route,
@@ -85,7 +86,7 @@ pub(crate) fn take_back<K: Opening>(
         ring: ConnectionRing::Completion,
         word: Word::Read,
     };
-    store_ahead(words, seat, sizes, lane, call, word, next);
+    store_ahead(words, seat, &sizes, lane, call, word, next);
     lane.go_on_from(call, 0);
     4
 }
@@ -108,6 +109,7 @@ pub(crate) fn sweep<K: Opening>(
     ensures some { (0 < result) × (result ≤ 4) }
     ensures strode { PublisherStrode (port_of seat.old.me) lane.old result seat.new.me lane.new }
 {
+    let sizes = *sizes;
     let call = PublisherCall::SendReclaims {
         slot,
         place,
@@ -119,7 +121,7 @@ pub(crate) fn sweep<K: Opening>(
         ring: ConnectionRing::Completion,
         word: Word::Read,
     };
-    let read = load_ahead(words, seat, sizes, lane, call, word);
+    let read = load_ahead(words, seat, &sizes, lane, call, word);
     let call = PublisherCall::SendReclaims {
         slot,
         place,
@@ -131,7 +133,7 @@ pub(crate) fn sweep<K: Opening>(
         ring: ConnectionRing::Completion,
         word: Word::Write,
     };
-    let write = load_ahead(words, seat, sizes, lane, call, word);
+    let write = load_ahead(words, seat, &sizes, lane, call, word);
     if write == read {
         lane.go_on_from(call, write);
         return 2;
@@ -148,7 +150,7 @@ pub(crate) fn sweep<K: Opening>(
         ring: ConnectionRing::Completion,
         word: Word::Cell(read % route.completion_cells),
     };
-    let value = load_ahead(words, seat, sizes, lane, call, word);
+    let value = load_ahead(words, seat, &sizes, lane, call, word);
     let call = PublisherCall::SendReclaims {
         slot,
         place,
@@ -160,7 +162,7 @@ pub(crate) fn sweep<K: Opening>(
         ring: ConnectionRing::Completion,
         word: Word::Read,
     };
-    store_ahead(words, seat, sizes, lane, call, word, next);
+    store_ahead(words, seat, &sizes, lane, call, word, next);
     lane.go_on_from(call, 0);
     4
 }
@@ -186,6 +188,7 @@ pub(crate) fn push<K: Opening>(
     ensures some { (0 < result) × (result ≤ 4) }
     ensures strode { PublisherStrode (port_of seat.old.me) lane.old result seat.new.me lane.new }
 {
+    let sizes = *sizes;
     let call = PublisherCall::Pushing {
         slot,
         place,
@@ -198,7 +201,7 @@ pub(crate) fn push<K: Opening>(
         ring: ConnectionRing::Submission,
         word: Word::Write,
     };
-    let write = load_ahead(words, seat, sizes, lane, call, word);
+    let write = load_ahead(words, seat, &sizes, lane, call, word);
     let next = write.saturating_add(1);
     let call = PublisherCall::Pushing {
         slot,
@@ -217,7 +220,7 @@ pub(crate) fn push<K: Opening>(
         ring: ConnectionRing::Submission,
         word: Word::Read,
     };
-    let read = load_ahead(words, seat, sizes, lane, call, word);
+    let read = load_ahead(words, seat, &sizes, lane, call, word);
     if write.saturating_sub(read) >= limit {
         lane.go_on_from(call, read);
         return 2;
@@ -234,7 +237,7 @@ pub(crate) fn push<K: Opening>(
         ring: ConnectionRing::Submission,
         word: Word::Cell(write % route.submission_cells),
     };
-    store_ahead(words, seat, sizes, lane, call, word, value);
+    store_ahead(words, seat, &sizes, lane, call, word, value);
     let call = PublisherCall::Pushing {
         slot,
         place,
@@ -247,7 +250,7 @@ pub(crate) fn push<K: Opening>(
         ring: ConnectionRing::Submission,
         word: Word::Write,
     };
-    store_ahead(words, seat, sizes, lane, call, word, next);
+    store_ahead(words, seat, &sizes, lane, call, word, next);
     lane.go_on_from(call, 0);
     4
 }
@@ -273,6 +276,7 @@ pub(crate) fn push_over<K: Opening>(
     ensures some { (0 < result) × (result ≤ 4) }
     ensures strode { PublisherStrode (port_of seat.old.me) lane.old result seat.new.me lane.new }
 {
+    let sizes = *sizes;
     let call = PublisherCall::Pushing {
         slot,
         place,
@@ -285,7 +289,7 @@ pub(crate) fn push_over<K: Opening>(
         ring: ConnectionRing::Submission,
         word: Word::Write,
     };
-    let write = load_ahead(words, seat, sizes, lane, call, word);
+    let write = load_ahead(words, seat, &sizes, lane, call, word);
     let next = write.saturating_add(1);
     let call = PublisherCall::Pushing {
         slot,
@@ -304,7 +308,7 @@ pub(crate) fn push_over<K: Opening>(
         ring: ConnectionRing::Submission,
         word: Word::Read,
     };
-    let read = load_ahead(words, seat, sizes, lane, call, word);
+    let read = load_ahead(words, seat, &sizes, lane, call, word);
     let call = PublisherCall::Pushing {
         slot,
         place,
@@ -323,7 +327,7 @@ pub(crate) fn push_over<K: Opening>(
         ring: ConnectionRing::Submission,
         word: Word::Cell(write % route.submission_cells),
     };
-    store_ahead(words, seat, sizes, lane, call, word, value);
+    store_ahead(words, seat, &sizes, lane, call, word, value);
     let call = PublisherCall::Pushing {
         slot,
         place,
@@ -342,7 +346,7 @@ pub(crate) fn push_over<K: Opening>(
         ring: ConnectionRing::Submission,
         word: Word::Write,
     };
-    store_ahead(words, seat, sizes, lane, call, word, next);
+    store_ahead(words, seat, &sizes, lane, call, word, next);
     lane.go_on_from(call, 0);
     4
 }

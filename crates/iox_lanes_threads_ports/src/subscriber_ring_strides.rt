@@ -37,6 +37,7 @@ pub(crate) fn pop<K: Opening>(
     ensures table { (seat.new.table_id ≡ seat.old.table_id) × (seat.new.id ≡ seat.old.id) }
     ensures strode { SubscriberStrode (port_of seat.old.me) lane.old seat.new.me lane.new }
 {
+    let sizes = *sizes;
     let call = SubscriberCall::Receiving {
         place,
         route,
@@ -48,7 +49,7 @@ pub(crate) fn pop<K: Opening>(
         ring: ConnectionRing::Submission,
         word: Word::Read,
     };
-    let read = load_ahead(words, seat, sizes, lane, call, word);
+    let read = load_ahead(words, seat, &sizes, lane, call, word);
     let call = SubscriberCall::Receiving {
         place,
         route,
@@ -60,7 +61,7 @@ pub(crate) fn pop<K: Opening>(
         ring: ConnectionRing::Submission,
         word: Word::Write,
     };
-    let write = load_ahead(words, seat, sizes, lane, call, word);
+    let write = load_ahead(words, seat, &sizes, lane, call, word);
     if write == read {
         lane.go_on_from(call, write);
         return;
@@ -77,7 +78,7 @@ pub(crate) fn pop<K: Opening>(
         ring: ConnectionRing::Submission,
         word: Word::Cell(read % route.submission_cells),
     };
-    let value = load_ahead(words, seat, sizes, lane, call, word);
+    let value = load_ahead(words, seat, &sizes, lane, call, word);
     let call = SubscriberCall::Receiving {
         place,
         route,
@@ -89,7 +90,7 @@ pub(crate) fn pop<K: Opening>(
         ring: ConnectionRing::Submission,
         word: Word::Read,
     };
-    store_ahead(words, seat, sizes, lane, call, word, next);
+    store_ahead(words, seat, &sizes, lane, call, word, next);
     lane.go_on_from(call, 0);
 }
 
@@ -110,6 +111,7 @@ pub(crate) fn pop_over<K: Opening>(
     ensures table { (seat.new.table_id ≡ seat.old.table_id) × (seat.new.id ≡ seat.old.id) }
     ensures strode { SubscriberStrode (port_of seat.old.me) lane.old seat.new.me lane.new }
 {
+    let sizes = *sizes;
     let call = SubscriberCall::Receiving {
         place,
         route,
@@ -121,7 +123,7 @@ pub(crate) fn pop_over<K: Opening>(
         ring: ConnectionRing::Submission,
         word: Word::Read,
     };
-    let read = load_ahead(words, seat, sizes, lane, call, word);
+    let read = load_ahead(words, seat, &sizes, lane, call, word);
     let call = SubscriberCall::Receiving {
         place,
         route,
@@ -133,7 +135,7 @@ pub(crate) fn pop_over<K: Opening>(
         ring: ConnectionRing::Submission,
         word: Word::Write,
     };
-    let write = load_ahead(words, seat, sizes, lane, call, word);
+    let write = load_ahead(words, seat, &sizes, lane, call, word);
     if write == read {
         lane.go_on_from(call, write);
         return;
@@ -150,7 +152,7 @@ pub(crate) fn pop_over<K: Opening>(
         ring: ConnectionRing::Submission,
         word: Word::Cell(read % route.submission_cells),
     };
-    let value = load_ahead(words, seat, sizes, lane, call, word);
+    let value = load_ahead(words, seat, &sizes, lane, call, word);
     lane.go_on_from(call, value);
 }
 
@@ -173,6 +175,7 @@ pub(crate) fn give_back<K: Opening>(
     ensures call { (done : Bool) × (lane.new.port.call ≡ call.Released done) }
     ensures strode { SubscriberStrode (port_of seat.old.me) lane.old seat.new.me lane.new }
 {
+    let sizes = *sizes;
     let call = SubscriberCall::Releasing {
         place,
         route,
@@ -183,7 +186,7 @@ pub(crate) fn give_back<K: Opening>(
         ring: ConnectionRing::Completion,
         word: Word::Write,
     };
-    let write = load_ahead(words, seat, sizes, lane, call, word);
+    let write = load_ahead(words, seat, &sizes, lane, call, word);
     let next = write.saturating_add(1);
     let call = SubscriberCall::Releasing {
         place,
@@ -200,7 +203,7 @@ pub(crate) fn give_back<K: Opening>(
         ring: ConnectionRing::Completion,
         word: Word::Read,
     };
-    let read = load_ahead(words, seat, sizes, lane, call, word);
+    let read = load_ahead(words, seat, &sizes, lane, call, word);
     if write.saturating_sub(read) >= limit {
         lane.go_on_from(call, read);
         return;
@@ -215,7 +218,7 @@ pub(crate) fn give_back<K: Opening>(
         ring: ConnectionRing::Completion,
         word: Word::Cell(write % route.completion_cells),
     };
-    store_ahead(words, seat, sizes, lane, call, word, value);
+    store_ahead(words, seat, &sizes, lane, call, word, value);
     let call = SubscriberCall::Releasing {
         place,
         route,
@@ -226,6 +229,6 @@ pub(crate) fn give_back<K: Opening>(
         ring: ConnectionRing::Completion,
         word: Word::Write,
     };
-    store_ahead(words, seat, sizes, lane, call, word, next);
+    store_ahead(words, seat, &sizes, lane, call, word, next);
     lane.go_on_from(call, 0);
 }
