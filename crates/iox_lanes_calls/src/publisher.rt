@@ -1,6 +1,6 @@
 //! The calls of a publisher.
 ghost use Rattle.std.specs.Prelude.{◌≡◌};
-ghost use Rattle.iox_lanes_calls.specs.Answers.{push_answer, refusing_pop_answer};
+ghost use Rattle.iox_lanes_calls.specs.Answers.{refusing_pop_answer};
 ghost use Rattle.iox_lanes_calls.specs.Publishing.{publisher_next, publisher_take, publisher_change, publisher_is_idle, publisher_is_over, header_word, loan_at, write_at, head_at, sweep_at, push_at, counted, taken_back, push_change};
 
 use crate::answers::{push_answer, refusing_pop_answer};

@@ -1,6 +1,6 @@
 //! The calls of a subscriber.
 ghost use Rattle.std.specs.Prelude.{◌≡◌, false};
-ghost use Rattle.iox_lanes_calls.specs.Answers.{pop_answer, refusing_push_answer};
+ghost use Rattle.iox_lanes_calls.specs.Answers.{pop_answer};
 ghost use Rattle.iox_lanes_calls.specs.Subscribing.{subscriber_next, subscriber_take, subscriber_change, subscriber_is_idle, subscriber_is_over, is_full_at, receive_at, nothing_received, read_at, word_at, borrowed_by, given_back_by};
 
 use crate::answers::{pop_answer, refusing_push_answer};
