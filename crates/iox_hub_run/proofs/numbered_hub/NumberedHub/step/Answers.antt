@@ -2,7 +2,7 @@ use Rattle.iox_hub_commands.specs.DescribeBase.Detail.{detail}
 use Rattle.iox_hub_commands.specs.DescribeBase.declared.type_detail.TypeVariant.TheVariants.{FixedSize}
 use Rattle.iox_hub_factories.specs.HubRequests.Asked.{types_of}
 use Rattle.iox_hub_run.proofs.AsAgreed.{are_as_agreed}
-use Rattle.iox_hub_run.proofs.PortRooms.{step_room, lends_in_room}
+use Rattle.iox_hub_run.proofs.PortRooms.{step_room, lacks_in_room}
 use Rattle.iox_hub_run.proofs.StepChanges.{step_changes, changes_count}
 use Rattle.iox_hub_run.proofs.StepMoves.{step_goes}
 use Rattle.iox_hub_run.proofs.numbered_hub.NumberedHub.step.Goals as goal
@@ -29,4 +29,4 @@ pub returns-clause-room : goal.returns-clause-room
 returns-clause-room g c = step_room (detail FixedSize g.T.ZeroCopySend.name g.T.ZeroCopySend.size g.T.ZeroCopySend.alignment) (detail FixedSize g.U.ZeroCopySend.name g.U.ZeroCopySend.size g.U.ZeroCopySend.alignment) (types_of g.T.ZeroCopySend.name g.T.ZeroCopySend.size g.T.ZeroCopySend.alignment g.U.ZeroCopySend.name g.U.ZeroCopySend.size g.U.ZeroCopySend.alignment) (λ value. g.T.Default.is_default value) (λ value. g.U.Default.is_default value) g.B.PublisherHandlers.fixed (λ handlers. g.B.Degrades.degrades handlers) (λ handlers. g.B.Decides.decides handlers) g.D.SubscriberHandler.fixed (λ handler. g.D.Degrades.degrades handler) _ c.args.self.now c.carry_out.new.self c.carry_out.result c.carry_out.ensures.steps c.carry_out.ensures.comes
 
 pub returns-clause-lacks : goal.returns-clause-lacks
-returns-clause-lacks g c = lends_in_room (detail FixedSize g.T.ZeroCopySend.name g.T.ZeroCopySend.size g.T.ZeroCopySend.alignment) (detail FixedSize g.U.ZeroCopySend.name g.U.ZeroCopySend.size g.U.ZeroCopySend.alignment) (types_of g.T.ZeroCopySend.name g.T.ZeroCopySend.size g.T.ZeroCopySend.alignment g.U.ZeroCopySend.name g.U.ZeroCopySend.size g.U.ZeroCopySend.alignment) (λ value. g.T.Default.is_default value) (λ value. g.U.Default.is_default value) g.B.PublisherHandlers.fixed (λ handlers. g.B.Degrades.degrades handlers) (λ handlers. g.B.Decides.decides handlers) g.D.SubscriberHandler.fixed (λ handler. g.D.Degrades.degrades handler) _ c.args.self.now c.carry_out.new.self c.carry_out.result c.carry_out.ensures.steps
+returns-clause-lacks g c = lacks_in_room (detail FixedSize g.T.ZeroCopySend.name g.T.ZeroCopySend.size g.T.ZeroCopySend.alignment) (detail FixedSize g.U.ZeroCopySend.name g.U.ZeroCopySend.size g.U.ZeroCopySend.alignment) (types_of g.T.ZeroCopySend.name g.T.ZeroCopySend.size g.T.ZeroCopySend.alignment g.U.ZeroCopySend.name g.U.ZeroCopySend.size g.U.ZeroCopySend.alignment) (λ value. g.T.Default.is_default value) (λ value. g.U.Default.is_default value) g.B.PublisherHandlers.fixed (λ handlers. g.B.Degrades.degrades handlers) (λ handlers. g.B.Decides.decides handlers) g.D.SubscriberHandler.fixed (λ handler. g.D.Degrades.degrades handler) _ c.args.self.now c.carry_out.new.self c.carry_out.result c.carry_out.ensures.steps
