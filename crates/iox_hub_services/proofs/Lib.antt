@@ -3,4 +3,6 @@ pub mod Takings
 pub mod Same
 pub mod Homely
 pub mod Lawful
-mod Counted
+mod Rising
+mod Placed
+mod Searched

@@ -1,4 +1,6 @@
 pub mod Numbered
+pub mod Unboxed
+pub mod ByNumberLends
 pub mod Texts
 pub mod Agreeing
 pub mod Open

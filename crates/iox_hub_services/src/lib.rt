@@ -8,6 +8,7 @@
 //! | `home` | the services of a hub as a home of ports |
 //! | `laws` | what holds of these calls, in other words |
 //! | `presences` | what is open, by numbers |
+//! | `by_number` | values by their numbers, of which one is found at once |
 //!
 //! First calls, of a domain that is taken out and put back. `Hub` of `iox_hub_base` makes them.
 //!
@@ -21,6 +22,7 @@
 //! ```
 #![tactic(auto)]
 
+mod by_number;
 pub mod home;
 pub mod laws;
 pub mod presence;

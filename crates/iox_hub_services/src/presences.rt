@@ -5,11 +5,11 @@ ghost use Rattle.std.specs.Option.{option_copied_mut};
 ghost use Rattle.iox_hub_services.specs.Open.{presence_of, domain_of, with_presence, opened, closed};
 ghost use Rattle.iox_hub_services.specs.Room.{loans_left_in, samples_at_most_in};
 
+use crate::by_number::ByNumber;
 use crate::presence::Presence;
 use iox_domain::Domain;
 use iox_domain_subscriber::living::add;
 use std::alloc::{AllocError, Global};
-use std::collections::BTreeMap;
 use std::marker::Model;
 
 /// Open services, by their numbers.
@@ -17,7 +17,7 @@ use std::marker::Model;
 /// Contracts see each with its number, by rising number.
 #[derive(Drop)]
 pub struct Presences<T, U, B, D> {
-    entries: BTreeMap<u64, Presence<T, U, B, D>>,
+    entries: ByNumber<Presence<T, U, B, D>>,
 }
 
 impl<T, U, B, D> Model for Presences<T, U, B, D> {
@@ -26,7 +26,7 @@ impl<T, U, B, D> Model for Presences<T, U, B, D> {
 
     ghost Value = { List (ℕ × Presence T U B D) };
 
-    ghost view = { λ p. p.entries.entries };
+    ghost view = { λ p. p.entries };
 }
 
 impl<T: Copy, U: Copy, B: Drop, D: Drop> Presences<T, U, B, D> {
@@ -37,7 +37,7 @@ impl<T: Copy, U: Copy, B: Drop, D: Drop> Presences<T, U, B, D> {
         ensures { result ≡ [] }
     {
         Presences {
-            entries: BTreeMap::new(alloc),
+            entries: ByNumber::new(alloc),
         }
     }
 
@@ -45,7 +45,7 @@ impl<T: Copy, U: Copy, B: Drop, D: Drop> Presences<T, U, B, D> {
     pub fn get(&self, number: u64) -> Option<&Presence<T, U, B, D>>
         ensures { option_copied result ≡ presence_of number self.now }
     {
-        self.entries.get(&number)
+        self.entries.get(number)
     }
 
     /// What is open under a number, if anything is, to be changed in its place.
@@ -53,7 +53,7 @@ impl<T: Copy, U: Copy, B: Drop, D: Drop> Presences<T, U, B, D> {
         ensures* writes_back { sem 𝓛 (LendsPresence T.row U.row B.row D.row self.entry number result) }
         ensures value { option_copied_mut result ≡ presence_of number self.old }
     {
-        self.entries.get_mut(&number)
+        self.entries.get_mut(number)
     }
 
     /// The domain under a number, if it is here.
@@ -79,8 +79,9 @@ impl<T: Copy, U: Copy, B: Drop, D: Drop> Presences<T, U, B, D> {
         ensures { result ≡ min (loans_left_in self.now) (2 ^ 64 - 1) }
     {
         let mut left = 0;
-        for (_number, presence) in self.entries.iter() {
-            left = add(left, presence.loans_left());
+        let entries = self.entries.entries();
+        for entry in entries {
+            left = add(left, entry.1.loans_left());
         }
         left
     }
@@ -90,8 +91,9 @@ impl<T: Copy, U: Copy, B: Drop, D: Drop> Presences<T, U, B, D> {
         ensures { result ≡ min (samples_at_most_in self.now) (2 ^ 64 - 1) }
     {
         let mut count = 0;
-        for (_number, presence) in self.entries.iter() {
-            count = add(count, presence.samples_at_most());
+        let entries = self.entries.entries();
+        for entry in entries {
+            count = add(count, entry.1.samples_at_most());
         }
         count
     }
@@ -107,12 +109,16 @@ impl<T: Copy, U: Copy, B: Drop, D: Drop> Presences<T, U, B, D> {
 
     /// A service opens under a number, in the place of one that had it. It fails only where an allocation fails, and then nothing has
     /// changed.
-    pub fn insert(&mut self, number: u64, presence: Presence<T, U, B, D>) -> Result<(), AllocError>
+    pub fn insert(
+        &mut self,
+        alloc: Global,
+        number: u64,
+        presence: Presence<T, U, B, D>,
+    ) -> Result<(), AllocError>
         ensures ok { OnOk result (self.new ≡ opened number presence self.old) }
         ensures err { OnErr result (self.new ≡ self.old) }
     {
-        self.entries.insert(number, presence)?;
-        Ok(())
+        self.entries.insert(alloc, number, presence)
     }
 
     /// Nothing is open under a number any longer. The other numbers have what they had.
@@ -121,6 +127,6 @@ impl<T: Copy, U: Copy, B: Drop, D: Drop> Presences<T, U, B, D> {
         ensures gone { presence_of number self.new ≡ None }
         ensures others { (other : ℕ) → (number ≡ other → ⊥) → presence_of other self.new ≡ presence_of other self.old }
     {
-        let _ = self.entries.remove(&number);
+        self.entries.remove(number);
     }
 }

@@ -112,7 +112,7 @@ impl<T: Words + ZeroCopySend, U: Copy + ZeroCopySend, B: Drop, D: Drop> Services
             service: number,
         };
         let domain = Domain::new(alloc, id, description, expired_connection_buffer)?;
-        let Ok(()) = self.presences.insert(number, Presence::Here(domain)) else {
+        let Ok(()) = self.presences.insert(alloc, number, Presence::Here(domain)) else {
             return Err(DomainError::OutOfMemory);
         };
         Ok(())
