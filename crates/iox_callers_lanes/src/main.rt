@@ -7,7 +7,7 @@ ghost use Rattle.iox_lanes_machine.specs.Findings.{FindsTo};
 ghost use Rattle.iox_lanes_machine.specs.Mailboxes.{OrdersFollow};
 
 use iox_lanes_calls::subscriber::SlotExtent;
-use iox_lanes_calls::{PublisherCall, Receipt};
+use iox_lanes_calls::{PublisherCall, PublisherChange, Receipt};
 use iox_lanes_machine::{Found, LaneSizes, Lanes};
 use iox_lanes_parties::{Answer, Call, Entry, Move, Party, SubscriberLane};
 use iox_lanes_publisher::{LanePublisher, LoanAnswer, SlotBook};
@@ -17,16 +17,17 @@ use iox_queues_rings::RingKind;
 use std::alloc::{AllocError, Global};
 use std::io::{self, Print};
 
-/// `iox_lanes_calls`: the access by which a write of one word stores it into the slot of a loan, and whether the write is over but for its
-/// last step then.
-fn stored(slot: u64, word: u64) -> (SharedAccess, bool)
+/// `iox_lanes_calls`: the access by which a write of one word stores it into the slot of a loan, what its answer changes of what the publisher
+/// keeps, and whether the write is over but for its last step then.
+fn stored(slot: u64, word: u64) -> (SharedAccess, PublisherChange, bool)
     ensures store { result.0 ≡ SharedAccess.Store (SharedWord.Slot slot (SlotWord.Payload 0)) word }
-    ensures over { result.1 ≡ true }
+    ensures change { result.1 ≡ PublisherChange.Nothing }
+    ensures over { result.2 ≡ true }
 {
     let mut call = PublisherCall::write(&[word], slot);
     let access = call.next();
-    call.take(0, &[], &[word]);
-    (access, call.is_over())
+    let change = call.take(0, &[], &[word]);
+    (access, change, call.is_over())
 }
 
 /// `iox_lanes_publisher`: what the first loan answers of a publisher that nobody is connected to, and whose two slots are 8 and 9.
