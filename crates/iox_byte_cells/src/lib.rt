@@ -8,7 +8,7 @@
 //! | `maybe_torn` | `MaybeTorn`: bytes that were read one by one, and may be no value's |
 //! | `byte_machine` | `ByteMachine`: the cell one byte step at a time |
 //!
-//! A first call, which `iox_callers_ground` proves and runs:
+//! A first call:
 //!
 //! ```
 //! /// `iox_byte_cells`: a value that is stored byte by byte, and read back.

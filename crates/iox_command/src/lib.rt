@@ -12,7 +12,7 @@
 //! | `reply` | the replies |
 //! | `refusal` | why a command was refused |
 //!
-//! A first call, which `iox_callers_hall` proves and runs:
+//! A first call:
 //!
 //! ```
 //! /// `iox_line`: the line of a reply.

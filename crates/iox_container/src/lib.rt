@@ -11,7 +11,7 @@
 //! Each takes all its memory when it is made. A call that would pass the capacity is refused whole, and a refused call
 //! changes nothing.
 //!
-//! A first call, which `iox_callers_ground` proves and runs:
+//! A first call:
 //!
 //! ```
 //! /// `iox_container`: keeps a number as the newest of three; the oldest leaves where there are three already.

@@ -13,7 +13,7 @@
 //! | `conversation` | all lines of an input |
 //! | `error` | why a conversation ended, and how a program says so |
 //!
-//! A first call, which `iox_callers_street` proves and runs:
+//! A first call:
 //!
 //! ```
 //! #[derive(Drop)]

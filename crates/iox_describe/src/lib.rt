@@ -9,7 +9,7 @@
 //! Names, types and attributes are in `iox_describe_base`, settings and the description in `iox_describe_settings`,
 //! what an opener requires of one in `iox_describe_verdict`; their items are named again here.
 //!
-//! A first call, which `iox_callers_pantry` proves and runs:
+//! A first call:
 //!
 //! ```
 //! /// `iox_describe`: a description that was written as one line, and read back; None where an allocation fails.

@@ -11,7 +11,7 @@
 //! | `attribute`, `verifier` | attributes, and what an opener requires of them |
 //! | `laws` | what holds of compatibility |
 //!
-//! A first call, which `iox_callers_pantry` proves and runs:
+//! A first call:
 //!
 //! ```
 //! /// `iox_describe_base`: under which hash an event service of this name is found; None where no service may have the name.

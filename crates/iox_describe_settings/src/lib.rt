@@ -6,7 +6,7 @@
 //! | `static_config` | the settings of each pattern: defaults, adjusting, limits, and the list of them all |
 //! | `description` | all that is agreed |
 //!
-//! A first call, which `iox_callers_pantry` proves and runs:
+//! A first call:
 //!
 //! ```
 //! /// `iox_describe_settings`: the description of an event service of this name for which nothing else is asked.

@@ -6,7 +6,7 @@
 //! | `pattern` | a messaging pattern, with all that making and opening a service needs of it |
 //! | `laws` | what holds of weaker requirements |
 //!
-//! A first call, which `iox_callers_pantry` proves and runs:
+//! A first call:
 //!
 //! ```
 //! /// `iox_describe_verdict`: the first clause of an opener that a description doesn't meet; None where it may be opened.

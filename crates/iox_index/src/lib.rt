@@ -9,7 +9,7 @@
 //!
 //! All else comes from `iox_index_base`.
 //!
-//! A first call, which `iox_callers_pantry` proves and runs:
+//! A first call:
 //!
 //! ```
 //! /// `iox_index`: takes an index, which is then held; None where each is held already, or the set is locked.

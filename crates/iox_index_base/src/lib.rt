@@ -12,7 +12,7 @@
 //! | `robust` | sets that know their holders, so that all of one can be recovered |
 //! | `container` | members at indices, each with its owner |
 //!
-//! A first call, which `iox_callers_pantry` proves and runs:
+//! A first call:
 //!
 //! ```
 //! /// `iox_index_base`: adds a member, and returns its index; None where the container is full or locked.

@@ -14,7 +14,7 @@
 //! | `print` | from a reply to its line |
 //! | `error` | why a line is no command |
 //!
-//! A first call, which `iox_callers_hall` proves and runs:
+//! A first call:
 //!
 //! ```
 //! /// `iox_line`: whether a line is taken for a command, which it then spells.

@@ -9,7 +9,7 @@
 //!
 //! A map takes all its memory when it is made, and touches it as it is used. A refused call changes nothing.
 //!
-//! A first call, which `iox_callers_ground` proves and runs:
+//! A first call:
 //!
 //! ```
 //! /// `iox_maps`: takes a value into a slot map; the key under which it is found again, or None where the map is full.

@@ -3,7 +3,7 @@
 //! - [`numbered`]: the table.
 //! - [`laws`]: what its calls come to, in other words than theirs.
 //!
-//! A first call, which `iox_callers_ground` proves and runs:
+//! A first call:
 //!
 //! ```
 //! /// `iox_numbered`: puts a value under the next number, and finds it there.

@@ -6,7 +6,7 @@
 //!   [`overflowing`] and [`refusing`]), either of them and their machine from `iox_queues_rings` (here
 //!   [`rings`]), steps of bit sets from `iox_queues_bits` (here [`sets`]).
 //!
-//! A first call, which `iox_callers_steps` proves and runs:
+//! A first call:
 //!
 //! ```
 //! /// `iox_queues`: shares a queue and pushes a number; as many may wait there as before. The queue comes back where no memory is

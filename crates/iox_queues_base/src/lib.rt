@@ -7,7 +7,7 @@
 //! - [`bits`]: sets of numbers, and counts of them.
 //! - [`atomic`]: a single value that is stored and loaded whole.
 //!
-//! A first call, which `iox_callers_ground` proves and runs:
+//! A first call:
 //!
 //! ```
 //! /// `iox_queues_base`: a number that goes through an empty queue.

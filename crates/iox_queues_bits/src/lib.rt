@@ -6,7 +6,7 @@
 //! - [`call`]: what each party does next, free of any set.
 //! - [`machine`]: a set with its parties, which go in any order.
 //!
-//! A first call, which `iox_callers_steps` proves and runs:
+//! A first call:
 //!
 //! ```
 //! /// `iox_queues_bits`: a new set of eight places on which the parties made these steps; what each call that ended answered is

@@ -8,7 +8,7 @@
 //!
 //! No call allocates, and a refused call changes nothing.
 //!
-//! A first call, which `iox_callers_ground` proves and runs:
+//! A first call:
 //!
 //! ```
 //! /// `iox_semantic`: a file's name, with a byte more; None where that is none.

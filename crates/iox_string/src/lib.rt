@@ -13,7 +13,7 @@
 //! Each takes all its memory when it is made. A call that would pass the capacity is refused whole, and a refused call
 //! changes nothing.
 //!
-//! A first call, which `iox_callers_ground` proves and runs:
+//! A first call:
 //!
 //! ```
 //! /// `iox_string`: a greeting of at most 32 bytes; None where the name is too long, or has a byte that no string has.

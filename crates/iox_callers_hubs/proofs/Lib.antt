@@ -1,2 +1,0 @@
-pub mod Created
-pub mod Replied
