@@ -4,7 +4,7 @@ ghost use Rattle.iox_hub_commands.specs.Following.{UpdateStep, HasStep, LeaveSte
 use crate::replies::{done_reply, has_reply, updated_reply};
 use iox_command::{PortNumber, Reply};
 use iox_domain_home::Home;
-use iox_hub_ports::Made;
+use crate::ports::Made;
 use std::alloc::Global;
 
 pub fn update<T: Copy, U: Copy, H: Home<T, U>>(

@@ -1,10 +1,10 @@
 //! Services are created.
 ghost use Rattle.std.specs.Prelude.{◌≡◌, ◌<◌, ◌+◌, ◌^◌, length};
-ghost use Rattle.iox_hub_requests.specs.Command.declared.service.ServiceOptions.TheVariants as service;
+ghost use Rattle.iox_hub_factories.specs.Command.declared.service.ServiceOptions.TheVariants as service;
 ghost use Rattle.iox_hub_base.specs.DescribeBase.Detail.{detail};
 ghost use Rattle.iox_hub_base.specs.DescribeBase.declared.type_detail.TypeVariant.TheVariants.{FixedSize};
 ghost use Rattle.iox_hub_base.specs.Hubs.{is_node};
-ghost use Rattle.iox_hub_requests.specs.Asked.{types_of};
+ghost use Rattle.iox_hub_factories.specs.Asked.{types_of};
 ghost use Rattle.iox_hub_factories.specs.Creating.{CreatesAs, CreatesNumbered, create_lacking};
 
 use crate::asked::ServiceAsked;
@@ -17,7 +17,7 @@ use iox_command::{
 use iox_describe::pattern::{Event, PublishSubscribe, RequestResponse};
 use iox_describe_base::{AttributeSpecifier, MessageTypeDetails, ZeroCopySend};
 use iox_hub_base::{Hub, HubBuilder};
-use iox_hub_requests::{event, message_types, publish_subscribe, request_response};
+use crate::requests::{event, message_types, publish_subscribe, request_response};
 use iox_negotiate::Builder;
 use iox_negotiate_errors::{
     EventCreateError, PublishSubscribeCreateError, RequestResponseCreateError,

@@ -19,7 +19,7 @@ use Rattle.iox_hub_run.specs.HubCommands.DomainValues.declared.backpressure_stra
 use Rattle.iox_hub_run.specs.HubCommands.DomainValues.declared.degradation.DegradationAction.{DegradationAction}
 use Rattle.iox_hub_run.specs.HubCommands.DomainValues.declared.degradation.DegradationCause.{DegradationCause}
 use Rattle.iox_hub_run.specs.HubCommands.DomainValues.declared.degradation.DegradationInfo.{DegradationInfo}
-use Rattle.iox_hub_run.specs.HubCommands.HubPorts.declared.made.Made.{Made}
+use Rattle.iox_hub_run.specs.HubCommands.declared.ports.made.Made.{Made}
 use Rattle.iox_hub_run.specs.Room.{FitsAll}
 use Rattle.iox_hub_run.specs.Steps.{IsReplied}
 use Rattle.iox_hub_run.specs.declared.numbered_hub.NumberedHub.{NumberedHub}

@@ -22,8 +22,8 @@ use Rattle.iox_hub_run.specs.HubCommands.DomainValues.declared.create_error.Subs
 use Rattle.iox_hub_run.specs.HubCommands.DomainValues.declared.degradation.DegradationAction.{DegradationAction}
 use Rattle.iox_hub_run.specs.HubCommands.DomainValues.declared.degradation.DegradationCause.{DegradationCause}
 use Rattle.iox_hub_run.specs.HubCommands.DomainValues.declared.degradation.DegradationInfo.{DegradationInfo}
-use Rattle.iox_hub_run.specs.HubCommands.HubPorts.Making.{NumbersPort}
-use Rattle.iox_hub_run.specs.HubCommands.HubPorts.declared.made.Made.{Made}
+use Rattle.iox_hub_run.specs.HubCommands.Making.{NumbersPort}
+use Rattle.iox_hub_run.specs.HubCommands.declared.ports.made.Made.{Made}
 use Rattle.iox_hub_run.specs.HubCommands.Naming.{publisher_config, publisher_handlers, subscriber_config, subscriber_handler}
 use Rattle.iox_hub_run.specs.HubCommands.Replies.{publisher_reply, subscriber_reply}
 use Rattle.iox_hub_factories.specs.Numbered.NumberTable.{value_at}

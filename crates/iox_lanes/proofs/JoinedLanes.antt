@@ -12,7 +12,7 @@ use Rattle.iox_lanes_machine.specs.LanesParties.Parties.{PublisherLaneState, Sub
 use Rattle.iox_lanes_machine.specs.Resting.{AllBetween}
 use Rattle.iox_lanes_machine.specs.World.{World, publisher_stage, subscriber_stage}
 use Rattle.iox_lanes.specs.Holding.{port_if}
-use Rattle.iox_lanes_leaving.specs.Restored.{place_of}
+use Rattle.iox_lanes_opening.specs.Restored.{place_of}
 use Rattle.iox_lanes.specs.Joined.{HasSlotsIf, IsLinkToIf, IsJoined, JoinedStays, place_if, row_of}
 use Rattle.iox_lanes.specs.Returning.{AllRest, ArePortsLeft, IsLeftAt, IsPortLeftIf, JoinsAt}
 use Rattle.iox_lanes.proofs.PortsLeft.{first_is}

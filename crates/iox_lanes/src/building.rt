@@ -12,7 +12,7 @@ use iox_domain_publisher::{PublisherPort, Stage};
 use iox_domain_subscriber::SubscriberPort;
 use iox_domain_subscriber::reading::waiting_at;
 use iox_lanes_machine::{Found, LaneSizes, Lanes};
-use iox_lanes_words::SlotWord;
+use iox_lanes_base::words::SlotWord;
 use iox_queues_base::Words;
 use iox_queues_rings::RingKind;
 use std::alloc::{AllocError, Global};

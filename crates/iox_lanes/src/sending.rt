@@ -9,7 +9,7 @@ use crate::lying::lies;
 use iox_domain::Domain;
 use iox_domain_publisher::PublisherPort;
 use iox_lanes_parties::{Head, PublisherLane};
-use iox_lanes_words::WordTable;
+use iox_lanes_base::words::WordTable;
 use iox_queues_base::Words;
 
 /// The publisher whose number stands at a place, if there is one.

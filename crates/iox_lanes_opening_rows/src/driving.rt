@@ -15,7 +15,7 @@ use iox_domain_values::{
     PreallocatedSamplesOverride, ReceiveError, SendError,
 };
 use iox_lanes::IntoLanesError;
-use iox_lanes_refusals::refusal;
+use iox_lanes_opening::refusals::refusal;
 use std::alloc::{AllocError, Global};
 use std::process::Abort;
 

@@ -5,7 +5,7 @@ use crate::ways::{Case, Next, Then, go_all};
 use iox_describe_base::TypeVariant;
 use iox_domain_publisher::Sent;
 use iox_lanes::IntoLanesError;
-use iox_lanes_publisher::LoanAnswer;
+use iox_lanes_parties::publisher::LoanAnswer;
 use std::alloc::AllocError;
 
 pub(crate) const OVERFLOWING: Service = Service {

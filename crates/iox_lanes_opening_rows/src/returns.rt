@@ -6,7 +6,7 @@ use crate::ways::{Case, Next, Then, go_all};
 use iox_domain_publisher::Sent;
 use iox_lanes::IntoDomainError;
 use iox_lanes_parties::Party;
-use iox_lanes_publisher::LoanAnswer;
+use iox_lanes_parties::publisher::LoanAnswer;
 use std::alloc::AllocError;
 
 const NO_STEP: [Lane; 0] = [];

@@ -5,9 +5,9 @@ use crate::threads::Turn;
 use crate::ways::{Case, Next, Then, go_all};
 use iox_describe_base::TypeVariant;
 use iox_domain_publisher::Sent;
-use iox_domain_threads::OpenError;
+use iox_lanes::threads::OpenError;
 use iox_lanes_parties::Party;
-use iox_lanes_publisher::LoanAnswer;
+use iox_lanes_parties::publisher::LoanAnswer;
 use std::alloc::AllocError;
 
 // Three messages may wait, and the last one of a publisher is its history.

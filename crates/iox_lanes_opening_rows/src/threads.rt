@@ -1,7 +1,7 @@
 //! What the ports of a domain do in threads.
-use iox_domain_threads::DomainThreads;
-use iox_lanes_calls::{Delivery, Receipt};
-use iox_lanes_publisher::LoanAnswer;
+use iox_lanes::threads::DomainThreads;
+use iox_lanes_base::calls::{Delivery, Receipt};
+use iox_lanes_parties::publisher::LoanAnswer;
 use iox_lanes_threads::{LanePublisher, LaneSubscriber};
 use std::process::Abort;
 use std::sync::Wait;

@@ -2,7 +2,7 @@
 use crate::driving::{self, Numbers, Service, Step};
 use crate::lanes::{self, Lane};
 use crate::threads::{self, Turn};
-use iox_domain_threads::{DomainThreads, EndError, OpenError, end, open_threads};
+use iox_lanes::threads::{DomainThreads, EndError, OpenError, end, open_threads};
 use iox_lanes::{DomainLanes, IntoDomainError, IntoLanesError, Refused, into_lanes};
 use std::alloc::{AllocError, Global};
 use std::process::Abort;

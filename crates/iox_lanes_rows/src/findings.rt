@@ -3,11 +3,11 @@ ghost use Rattle.std.specs.Prelude.{◌≡◌};
 
 use crate::calls::{read, received, sent, whole, written};
 use crate::schedules::{given_back, sizes};
-use iox_lanes_calls::{Delivery, Receipt};
+use iox_lanes_base::calls::{Delivery, Receipt};
 use iox_lanes_machine::{Found, LaneSizes, Lanes};
 use iox_lanes_parties::{Answer, Call, Party};
-use iox_lanes_publisher::LoanAnswer;
-use iox_lanes_words::SlotWord;
+use iox_lanes_parties::publisher::LoanAnswer;
+use iox_lanes_base::words::SlotWord;
 use iox_queues_rings::RingKind;
 use std::alloc::{AllocError, Global};
 use std::test::Fail;

@@ -4,7 +4,7 @@ ghost use Rattle.std.specs.Prelude.{◌≡◌};
 use crate::calls::{
     PUBLISHER, SUBSCRIBER, begin, go_on, last_answer, read, received, released, sent, written,
 };
-use iox_lanes_calls::Delivery;
+use iox_lanes_base::calls::Delivery;
 use iox_lanes_machine::{LaneSizes, Lanes};
 use iox_lanes_parties::{Answer, Call, Move};
 use iox_queues_rings::RingKind;

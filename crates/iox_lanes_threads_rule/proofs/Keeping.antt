@@ -7,7 +7,7 @@ use Rattle.atomic_table.proofs.Lists.{at_set}
 use Rattle.iox_lanes_parties.specs.QueuesRings.declared.ends.RingKind.{RingKind}
 use Rattle.iox_lanes_parties.specs.QueuesRings.declared.ends.RingKind.TheVariants.{Overflowing}
 use Rattle.iox_lanes_parties.specs.LanesWords.Numbers.{number_of, words_of, IsWord}
-use Rattle.iox_lanes_parties.specs.LanesWords.declared.word.SharedWord.{SharedWord}
+use Rattle.iox_lanes_parties.specs.LanesWords.declared.words.word.SharedWord.{SharedWord}
 use Rattle.iox_lanes_parties.proofs.LanesWords.Numbering.{within}
 use Rattle.iox_lanes_parties.specs.declared.call.Party.{Party}
 use Rattle.iox_lanes_parties.specs.declared.call.Party.TheVariants.{Subscriber}

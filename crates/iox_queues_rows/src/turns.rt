@@ -1,7 +1,7 @@
 //! Party values whose memory answers by a script: a lost exchange, and exchanges that are all lost.
 use iox_queues::shared::LOST_TURNS;
-use iox_queues_overflowing::{Pop as OverflowingPop, Push as OverflowingPush};
-use iox_queues_refusing::{Pop as RefusingPop, Push as RefusingPush};
+use iox_queues_rings::overflowing::{Pop as OverflowingPop, Push as OverflowingPush};
+use iox_queues_rings::refusing::{Pop as RefusingPop, Push as RefusingPush};
 use iox_queues_steps::end::run;
 use iox_queues_steps::{Access, Memory, PushAnswer, Word};
 use std::alloc::{AllocError, Global};
