@@ -8,7 +8,7 @@ use iox_domain_subscriber::Publishers;
 use iox_lanes_opening::leaving::forget_messages;
 
 // A publisher forgets its messages.
-#[tactic(auto, using(crate::threads::proofs::Forgetting::is_without))]
+#[tactic(auto, using(crate::proofs::Forgetting::is_without))]
 fn forget<T: Copy, U: Copy>(port: &mut PublisherPort<T, U>)
     ensures { port.new ≡ without_messages port.old }
 {

@@ -58,7 +58,7 @@ fn in_ring(connection: u64, ring: ConnectionRing, cells: u64, word: Word) -> Sha
 }
 
 // The cell of a position; a ring without cells has none, and the position stays.
-#[tactic(auto, using(crate::words::proofs::Rounds::no_cells))]
+#[tactic(auto, using(crate::proofs::Rounds::no_cells))]
 fn round(position: u64, cells: u64) -> u64
     ensures { result ≡ position % cells }
 {

@@ -43,7 +43,7 @@ impl TableSizes {
     }
 
     /// The number of a word in the table.
-    #[tactic(auto, using(crate::words::proofs::Numbering::number_fits))]
+    #[tactic(auto, using(crate::proofs::Numbering::number_fits))]
     pub fn number(&self, word: SharedWord) -> u64
         requires word { IsWord self.now word }
         requires small { IsSmall self.now }

@@ -56,7 +56,7 @@ impl WordTable {
     }
 
     /// What the word holds.
-    #[tactic(auto, using(crate::words::proofs::Numbering::within))]
+    #[tactic(auto, using(crate::proofs::Numbering::within))]
     pub fn word(&self, word: SharedWord) -> u64
         requires { IsWord self.now.sizes word }
         ensures { result ≡ held_by self.now word }
@@ -64,7 +64,7 @@ impl WordTable {
         self.words[self.sizes.number(word) as usize]
     }
 
-    #[tactic(auto, using(crate::words::proofs::Numbering::within))]
+    #[tactic(auto, using(crate::proofs::Numbering::within))]
     fn store(&mut self, word: SharedWord, value: u64)
         requires { IsWord self.old.sizes word }
         ensures { self.new ≡ stored_in self.old word value }

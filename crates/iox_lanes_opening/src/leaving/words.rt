@@ -53,7 +53,7 @@ fn words_from(table: &WordTable, from: u64, count: usize) -> &[u64]
 }
 
 // The number of the first word of a slot's user header.
-#[tactic(auto, using(crate::leaving::proofs::SlotWords::slot_fits))]
+#[tactic(auto, using(crate::proofs::SlotWords::slot_fits))]
 fn header_from(table: &WordTable, slot: u64) -> u64
     requires slot { slot < table.now.sizes.slots }
     requires full { length table.now.words ≡ words_of table.now.sizes }

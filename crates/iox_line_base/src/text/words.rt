@@ -54,7 +54,7 @@ impl<'a> Words<'a> {
     }
 
     /// Whether none is left.
-    #[tactic(auto, using(crate::text::proofs::SpacedLemmas::text_has_words))]
+    #[tactic(auto, using(crate::proofs::SpacedLemmas::text_has_words))]
     pub fn is_empty(&self) -> bool
         ensures { result ≡ no_words self.now }
     {
