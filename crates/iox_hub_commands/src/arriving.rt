@@ -6,12 +6,12 @@ ghost use Rattle.iox_hub_commands.specs.Arriving.{PublisherStep, SubscriberStep}
 ghost use Rattle.iox_hub_commands.specs.Naming.{publisher_config, subscriber_config};
 
 use crate::naming;
+use crate::ports::{Made, PublisherParts};
 use crate::replies::{publisher_reply, subscriber_reply};
 use iox_command::{PublisherOptions, Reply, SubscriberOptions};
 use iox_domain_home::{DomainId, Home, MakesPorts};
 use iox_domain_ports::{PublisherConfig, SubscriberConfig};
 use iox_domain_values::{Degrades, PortOwner, PublisherCreateError, SubscriberCreateError};
-use crate::ports::{Made, PublisherParts};
 use std::alloc::Global;
 
 /// A publisher of slices comes to a domain, with what is named, and gets the next number; `handlers` decide for it. Skipped where the domain

@@ -5,9 +5,9 @@ ghost use Rattle.iox_hub_commands.specs.Reading.{values_under};
 ghost use Rattle.iox_hub_commands.specs.Numbered.NumberTable.{value_at};
 
 use crate::messages::copied;
+use crate::ports::Made;
 use iox_command::{Refusal, Reply};
 use iox_domain_home::Home;
-use crate::ports::Made;
 use std::alloc::{AllocError, Global};
 
 /// A subscriber receives, after an update; a sample that came gets the next number, and is replied with its values. Skipped as

@@ -10,6 +10,7 @@ ghost use Rattle.iox_hub_factories.specs.Creating.{CreatesAs, CreatesNumbered, c
 use crate::asked::ServiceAsked;
 use crate::factories::Factories;
 use crate::made::MadeFactory;
+use crate::requests::{event, message_types, publish_subscribe, request_response};
 use iox_command::{
     EventOptions, PublishSubscribeOptions, Refusal, RequestResponseOptions, ServiceOptions,
     StepBefore,
@@ -17,7 +18,6 @@ use iox_command::{
 use iox_describe::pattern::{Event, PublishSubscribe, RequestResponse};
 use iox_describe_base::{AttributeSpecifier, MessageTypeDetails, ZeroCopySend};
 use iox_hub_base::{Hub, HubBuilder};
-use crate::requests::{event, message_types, publish_subscribe, request_response};
 use iox_negotiate::Builder;
 use iox_negotiate_errors::{
     EventCreateError, PublishSubscribeCreateError, RequestResponseCreateError,

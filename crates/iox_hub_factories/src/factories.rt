@@ -7,11 +7,11 @@ ghost use Rattle.iox_hub_factories.specs.Numbering.{MakesRoom, Prepares};
 ghost use Rattle.iox_hub_factories.specs.Tables.{no_factories, parts_of, publish_subscribe_in};
 
 use crate::made::MadeFactory;
+use crate::requests::step_lists;
 use iox_command::StepBefore;
 use iox_describe::pattern::PublishSubscribe;
 use iox_describe_base::{MessageTypeDetails, ServiceName};
 use iox_hub_base::PortFactory;
-use crate::requests::step_lists;
 use iox_negotiate_table::StepList;
 use iox_numbered::Numbered;
 use std::alloc::{AllocError, Global};

@@ -4,7 +4,7 @@ ghost use Rattle.iox_hub_run.specs.Agreements.{AreOfOneAgreement};
 ghost use Rattle.iox_hub_run.specs.Grown.{GrowsOn, HaveGrown, AreAsAgreed, OneDomainMoves};
 ghost use Rattle.iox_hub_run.specs.HubCommands.DescribeBase.Detail.{detail};
 ghost use Rattle.iox_hub_run.specs.HubCommands.DescribeBase.declared.type_detail.TypeVariant.TheVariants.{FixedSize};
-ghost use Rattle.iox_hub_run.specs.HubRequests.Asked.{types_of};
+ghost use Rattle.iox_hub_run.specs.HubFactories.Asked.{types_of};
 ghost use Rattle.iox_hub_run.specs.Lives.{ChangesOneThing};
 ghost use Rattle.iox_hub_run.specs.Numbers.{numbers_used};
 ghost use Rattle.iox_hub_run.specs.PortRoom.{HasRoom, KeepsRoom};

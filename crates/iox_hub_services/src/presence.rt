@@ -11,8 +11,7 @@ ghost use Rattle.iox_hub_services.specs.declared.presence.Presence.TheVariants.{
 
 use iox_describe_settings::publish_subscribe::StaticConfig;
 use iox_domain::Domain;
-use iox_domain_room::loans;
-use iox_domain_room::samples;
+use iox_domain_room::{loans, samples};
 use iox_domain_values::{DegradationHandler, Handlers};
 use std::mem;
 

@@ -13,8 +13,8 @@ use crate::linking::{leads_from, number_of};
 use crate::sending::publisher_at;
 use iox_domain::Domain;
 use iox_domain_publisher::{PublisherPort, Stage};
-use iox_lanes_opening::leaving::is_rested;
 use iox_lanes_machine::Link;
+use iox_lanes_opening::leaving::is_rested;
 use iox_lanes_parties::PublisherLane;
 use iox_queues_base::Words;
 

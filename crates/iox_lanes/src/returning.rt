@@ -16,8 +16,8 @@ use crate::into_domain_error::IntoDomainError;
 use iox_domain::Domain;
 use iox_domain_publisher::PublisherPort;
 use iox_domain_subscriber::Publishers;
-use iox_lanes_opening::leaving::restore;
 use iox_lanes_machine::{Lanes, Unrest};
+use iox_lanes_opening::leaving::restore;
 use iox_lanes_parties::PublisherLane;
 use iox_queues_base::Words;
 

@@ -2,6 +2,4 @@
 pub mod Rounds
 pub mod Numbering
 pub use Rattle.iox_queues_steps.proofs as QueuesSteps
-pub use Rattle.iox_queues_rings.proofs as QueuesOverflowing
-pub use Rattle.iox_queues_rings.proofs as QueuesRefusing
 pub use Rattle.iox_queues_rings.proofs as QueuesRings

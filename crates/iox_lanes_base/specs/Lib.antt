@@ -7,6 +7,4 @@ pub mod Publishing
 pub mod Routes
 pub mod Subscribing
 pub use Rattle.iox_queues_steps.specs as QueuesSteps
-pub use Rattle.iox_queues_rings.specs as QueuesOverflowing
-pub use Rattle.iox_queues_rings.specs as QueuesRefusing
 pub use Rattle.iox_queues_rings.specs as QueuesRings

@@ -6,24 +6,24 @@ use Rattle.iox_lanes_machine.specs.QueuesSteps.Access.{successor}
 use Rattle.iox_lanes_machine.specs.QueuesSteps.declared.order.PopAnswer.{PopAnswer}
 use Rattle.iox_lanes_machine.specs.QueuesSteps.declared.order.PopAnswer.TheVariants.{Got, Saw}
 use Rattle.iox_lanes_machine.specs.QueuesSteps.declared.order.PushAnswer.{PushAnswer}
-use Rattle.iox_lanes_machine.specs.QueuesOverflowing.declared.overflowing.push.Push.TheVariants as overflowing_push
-use Rattle.iox_lanes_machine.specs.QueuesRefusing.declared.refusing.push.Push.TheVariants as refusing_push
-use Rattle.iox_lanes_machine.specs.QueuesRefusing.declared.refusing.pop.Pop.{Pop}
-use Rattle.iox_lanes_machine.specs.QueuesRefusing.Refusing.{pop_take}
+use Rattle.iox_lanes_machine.specs.QueuesRings.declared.overflowing.push.Push.TheVariants as overflowing_push
+use Rattle.iox_lanes_machine.specs.QueuesRings.declared.refusing.push.Push.TheVariants as refusing_push
+use Rattle.iox_lanes_machine.specs.QueuesRings.declared.refusing.pop.Pop.{Pop}
+use Rattle.iox_lanes_machine.specs.QueuesRings.Refusing.{pop_take}
 use Rattle.iox_lanes_machine.specs.QueuesRings.Ends.{push_take}
 use Rattle.iox_lanes_machine.specs.QueuesRings.declared.ends.Push.{Push}
 use Rattle.iox_lanes_machine.specs.QueuesRings.declared.ends.Push.TheVariants as push
-use Rattle.iox_lanes_machine.specs.LanesCalls.Answers.{refusing_pop_answer, push_answer}
-use Rattle.iox_lanes_machine.specs.LanesCalls.Publishing.{publisher_take, publisher_change, publisher_is_over, publisher_is_idle, taken_back, push_change, loan_from, loan_reclaimed, write_from, head_from, push_from, sweep_from, send_reclaimed, pushed, counted, nothing_sent}
-use Rattle.iox_lanes_machine.specs.LanesCalls.declared.calls.publisher.Delivery.{Delivery}
-use Rattle.iox_lanes_machine.specs.LanesCalls.declared.calls.publisher.PublisherCall.{PublisherCall}
-use Rattle.iox_lanes_machine.specs.LanesCalls.declared.calls.publisher.PublisherCall.TheVariants as publishing
-use Rattle.iox_lanes_machine.specs.LanesCalls.declared.calls.publisher.PublisherChange.{PublisherChange}
-use Rattle.iox_lanes_machine.specs.LanesCalls.declared.calls.publisher.PublisherChange.TheVariants as change
-use Rattle.iox_lanes_machine.specs.LanesCalls.declared.calls.route.Route.{Route}
-use Rattle.iox_lanes_machine.specs.LanesPublisher.PublisherKeeping.{BookState, changed, put_at, loan_of, unlent, dropped, newest_of, remembered, counted_down}
-use Rattle.iox_lanes_machine.specs.LanesPublisher.declared.publisher.slot_book.LoanMark.{LoanMark}
-use Rattle.iox_lanes_machine.specs.LanesPublisher.declared.publisher.slot_book.LoanMark.TheVariants as mark
+use Rattle.iox_lanes_machine.specs.LanesBase.Answers.{refusing_pop_answer, push_answer}
+use Rattle.iox_lanes_machine.specs.LanesBase.Publishing.{publisher_take, publisher_change, publisher_is_over, publisher_is_idle, taken_back, push_change, loan_from, loan_reclaimed, write_from, head_from, push_from, sweep_from, send_reclaimed, pushed, counted, nothing_sent}
+use Rattle.iox_lanes_machine.specs.LanesBase.declared.calls.publisher.Delivery.{Delivery}
+use Rattle.iox_lanes_machine.specs.LanesBase.declared.calls.publisher.PublisherCall.{PublisherCall}
+use Rattle.iox_lanes_machine.specs.LanesBase.declared.calls.publisher.PublisherCall.TheVariants as publishing
+use Rattle.iox_lanes_machine.specs.LanesBase.declared.calls.publisher.PublisherChange.{PublisherChange}
+use Rattle.iox_lanes_machine.specs.LanesBase.declared.calls.publisher.PublisherChange.TheVariants as change
+use Rattle.iox_lanes_machine.specs.LanesBase.declared.calls.route.Route.{Route}
+use Rattle.iox_lanes_machine.specs.LanesParties.PublisherKeeping.{BookState, changed, put_at, loan_of, unlent, dropped, newest_of, remembered, counted_down}
+use Rattle.iox_lanes_machine.specs.LanesParties.declared.publisher.slot_book.LoanMark.{LoanMark}
+use Rattle.iox_lanes_machine.specs.LanesParties.declared.publisher.slot_book.LoanMark.TheVariants as mark
 use Rattle.iox_lanes_machine.specs.LanesParties.Parties.{PublisherLaneState, publisher_fits, publisher_may, publisher_begun, head_of, is_out}
 use Rattle.iox_lanes_machine.specs.LanesParties.declared.call.Call.{Call}
 use Rattle.iox_lanes_machine.specs.LanesParties.declared.call.Call.TheVariants as call

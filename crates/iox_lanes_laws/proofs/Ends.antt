@@ -2,8 +2,8 @@
 use Rattle.std.proofs.Common.{ℕ, ◌≡◌, true, List, slice_get, Option, Some, None, refl, sym, ◌∙◌, ap, subst, inl, inr}
 use Rattle.std.specs.List.{All}
 use Rattle.std.proofs.lemmas.Bool.Decides.{eqb_tells}
-use Rattle.iox_lanes_machine.specs.LanesCalls.Publishing.{publisher_is_idle}
-use Rattle.iox_lanes_machine.specs.LanesCalls.Subscribing.{subscriber_is_idle}
+use Rattle.iox_lanes_machine.specs.LanesBase.Publishing.{publisher_is_idle}
+use Rattle.iox_lanes_machine.specs.LanesBase.Subscribing.{subscriber_is_idle}
 use Rattle.iox_lanes_machine.specs.LanesParties.Parties.{PublisherLaneState, SubscriberLaneState}
 use Rattle.iox_lanes_machine.specs.LanesParties.declared.call.Call.{Call}
 use Rattle.iox_lanes_machine.specs.LanesParties.declared.call.Move.TheVariants.{Begin}

@@ -3,10 +3,10 @@ use Rattle.std.proofs.Common.{ℕ, ◌≡◌, ◌+◌, ◌-◌, ◌*◌, ◌<◌
 use Rattle.std.proofs.lemmas.Bool.{cases_lt, le-ltb}
 use Rattle.std.proofs.lemmas.Bool.Decides.{eqb_tells}
 use Rattle.iox_lanes_machine.specs.QueuesSteps.Access.{successor}
-use Rattle.iox_lanes_machine.specs.LanesCalls.declared.calls.publisher.PublisherChange.{PublisherChange}
-use Rattle.iox_lanes_machine.specs.LanesCalls.declared.calls.publisher.PublisherChange.TheVariants as change
-use Rattle.iox_lanes_machine.specs.LanesPublisher.PublisherKeeping.{BookState, changed, lent, lent_from, first_free, put_at, referred_at, unreferred_at, remembered, unlent, newest_of, dropped, counted_down}
-use Rattle.iox_lanes_machine.specs.LanesPublisher.declared.publisher.slot_book.LoanAnswer.TheVariants as answer
+use Rattle.iox_lanes_machine.specs.LanesBase.declared.calls.publisher.PublisherChange.{PublisherChange}
+use Rattle.iox_lanes_machine.specs.LanesBase.declared.calls.publisher.PublisherChange.TheVariants as change
+use Rattle.iox_lanes_machine.specs.LanesParties.PublisherKeeping.{BookState, changed, lent, lent_from, first_free, put_at, referred_at, unreferred_at, remembered, unlent, newest_of, dropped, counted_down}
+use Rattle.iox_lanes_machine.specs.LanesParties.declared.publisher.slot_book.LoanAnswer.TheVariants as answer
 use Rattle.iox_lanes_machine.specs.LedgerUses.{one_if, count, refers, refers_to, IsOwn}
 use Rattle.iox_lanes_machine.proofs.Entries.{choose_other, count_append, put_at_length, put_at_other, put_at_same, refers_is, refers_own, refers_other}
 use Rattle.iox_lanes_machine.proofs.Changes.{else_refers}

@@ -13,18 +13,18 @@ use Rattle.iox_lanes_machine.proofs.QueuesSteps.Orders.{acts_more}
 use Rattle.iox_lanes_machine.specs.QueuesRings.Ends.{overflows, push_idle, pop_take, pop_looks}
 use Rattle.iox_lanes_machine.specs.QueuesRings.declared.ends.RingKind.{RingKind}
 use Rattle.iox_lanes_machine.specs.QueuesRings.declared.ends.Pop.{Pop}
-use Rattle.iox_lanes_machine.specs.LanesWords.Table.{shared_answer}
-use Rattle.iox_lanes_machine.specs.LanesCalls.Answers.{pop_answer}
-use Rattle.iox_lanes_machine.specs.LanesCalls.Publishing.{publisher_is_idle}
-use Rattle.iox_lanes_machine.specs.LanesCalls.Subscribing.{subscriber_is_over, subscriber_next, subscriber_take, subscriber_change, borrowed_by, is_full, is_full_at, receive_at, receive_from, received, nothing_received}
-use Rattle.iox_lanes_machine.specs.LanesCalls.declared.calls.publisher.PublisherCall.{PublisherCall}
-use Rattle.iox_lanes_machine.specs.LanesCalls.declared.calls.route.Route.{Route}
-use Rattle.iox_lanes_machine.specs.LanesCalls.declared.calls.subscriber.Receipt.{Receipt}
-use Rattle.iox_lanes_machine.specs.LanesCalls.declared.calls.subscriber.Receipt.TheVariants as receipt
-use Rattle.iox_lanes_machine.specs.LanesCalls.declared.calls.subscriber.SubscriberChange.{SubscriberChange}
-use Rattle.iox_lanes_machine.specs.LanesCalls.declared.calls.subscriber.SubscriberChange.TheVariants as change
-use Rattle.iox_lanes_machine.specs.LanesCalls.declared.calls.subscriber.SubscriberCall.{SubscriberCall}
-use Rattle.iox_lanes_machine.specs.LanesCalls.declared.calls.subscriber.SubscriberCall.TheVariants as subscribing
+use Rattle.iox_lanes_machine.specs.LanesBase.Table.{shared_answer}
+use Rattle.iox_lanes_machine.specs.LanesBase.Answers.{pop_answer}
+use Rattle.iox_lanes_machine.specs.LanesBase.Publishing.{publisher_is_idle}
+use Rattle.iox_lanes_machine.specs.LanesBase.Subscribing.{subscriber_is_over, subscriber_next, subscriber_take, subscriber_change, borrowed_by, is_full, is_full_at, receive_at, receive_from, received, nothing_received}
+use Rattle.iox_lanes_machine.specs.LanesBase.declared.calls.publisher.PublisherCall.{PublisherCall}
+use Rattle.iox_lanes_machine.specs.LanesBase.declared.calls.route.Route.{Route}
+use Rattle.iox_lanes_machine.specs.LanesBase.declared.calls.subscriber.Receipt.{Receipt}
+use Rattle.iox_lanes_machine.specs.LanesBase.declared.calls.subscriber.Receipt.TheVariants as receipt
+use Rattle.iox_lanes_machine.specs.LanesBase.declared.calls.subscriber.SubscriberChange.{SubscriberChange}
+use Rattle.iox_lanes_machine.specs.LanesBase.declared.calls.subscriber.SubscriberChange.TheVariants as change
+use Rattle.iox_lanes_machine.specs.LanesBase.declared.calls.subscriber.SubscriberCall.{SubscriberCall}
+use Rattle.iox_lanes_machine.specs.LanesBase.declared.calls.subscriber.SubscriberCall.TheVariants as subscribing
 use Rattle.iox_lanes_machine.specs.LanesParties.Parties.{SubscriberLaneState, subscriber_begun, subscriber_answer}
 use Rattle.iox_lanes_machine.specs.LanesParties.Within.{IsPublisher}
 use Rattle.iox_lanes_machine.specs.LanesParties.declared.call.Answer.TheVariants as answer

@@ -5,16 +5,16 @@ use Rattle.std.proofs.lemmas.List.{get_or_past, get_or-set_same}
 use Rattle.iox_lanes_machine.specs.QueuesSteps.Access.{successor}
 use Rattle.iox_lanes_machine.specs.QueuesSteps.declared.order.PushAnswer.TheVariants.{Refused}
 use Rattle.iox_lanes_machine.specs.QueuesSteps.declared.schedule.Stepped.TheVariants as stepped
-use Rattle.iox_lanes_machine.specs.QueuesRefusing.Refusing as refusing
-use Rattle.iox_lanes_machine.specs.QueuesRefusing.declared.refusing.push.Push.{Push}
-use Rattle.iox_lanes_machine.specs.QueuesRefusing.declared.refusing.push.Push.TheVariants as push
-use Rattle.iox_lanes_machine.specs.LanesWords.Table.{TableWords, shared_answer, after_shared}
-use Rattle.iox_lanes_machine.specs.LanesCalls.Answers.{refusing_push_answer}
-use Rattle.iox_lanes_machine.specs.LanesCalls.Subscribing.{subscriber_is_idle, subscriber_is_over, subscriber_next, subscriber_take, subscriber_change, given_back_by, read_at, released}
-use Rattle.iox_lanes_machine.specs.LanesCalls.declared.calls.route.Route.{Route}
-use Rattle.iox_lanes_machine.specs.LanesCalls.declared.calls.subscriber.SlotExtent.{SlotExtent}
-use Rattle.iox_lanes_machine.specs.LanesCalls.declared.calls.subscriber.SubscriberCall.{SubscriberCall}
-use Rattle.iox_lanes_machine.specs.LanesCalls.declared.calls.subscriber.SubscriberCall.TheVariants as subscribing
+use Rattle.iox_lanes_machine.specs.QueuesRings.Refusing as refusing
+use Rattle.iox_lanes_machine.specs.QueuesRings.declared.refusing.push.Push.{Push}
+use Rattle.iox_lanes_machine.specs.QueuesRings.declared.refusing.push.Push.TheVariants as push
+use Rattle.iox_lanes_machine.specs.LanesBase.Table.{TableWords, shared_answer, after_shared}
+use Rattle.iox_lanes_machine.specs.LanesBase.Answers.{refusing_push_answer}
+use Rattle.iox_lanes_machine.specs.LanesBase.Subscribing.{subscriber_is_idle, subscriber_is_over, subscriber_next, subscriber_take, subscriber_change, given_back_by, read_at, released}
+use Rattle.iox_lanes_machine.specs.LanesBase.declared.calls.route.Route.{Route}
+use Rattle.iox_lanes_machine.specs.LanesBase.declared.calls.subscriber.SlotExtent.{SlotExtent}
+use Rattle.iox_lanes_machine.specs.LanesBase.declared.calls.subscriber.SubscriberCall.{SubscriberCall}
+use Rattle.iox_lanes_machine.specs.LanesBase.declared.calls.subscriber.SubscriberCall.TheVariants as subscribing
 use Rattle.iox_lanes_machine.specs.LanesParties.Parties.{SubscriberLaneState, subscriber_may, subscriber_answer, release_begun, is_route, place_of, route_at, words_read}
 use Rattle.iox_lanes_machine.specs.LanesParties.declared.call.Answer.TheVariants as answer
 use Rattle.iox_lanes_machine.specs.LanesParties.declared.call.Call.TheVariants as call
@@ -23,7 +23,7 @@ use Rattle.iox_lanes_machine.specs.LanesParties.declared.call.FinishedCall.{Fini
 use Rattle.iox_lanes_machine.specs.LanesParties.declared.call.Move.TheVariants.{GoOn}
 use Rattle.iox_lanes_machine.specs.LanesParties.declared.call.Party.TheVariants.{Subscriber}
 use Rattle.iox_lanes_machine.proofs.LanesParties.Rings.{and_right}
-use Rattle.iox_lanes_machine.specs.LanesPublisher.PublisherKeeping.{put_at}
+use Rattle.iox_lanes_machine.specs.LanesParties.PublisherKeeping.{put_at}
 use Rattle.iox_lanes_machine.specs.LedgerRooms.{ReleasesOk}
 use Rattle.iox_lanes_machine.proofs.Entries.{put_at_other}
 use Rattle.iox_lanes_machine.proofs.Samples.{samples_after}

@@ -1,14 +1,14 @@
 -- Every step keeps that what is used holds the message that was sent there.
 use Rattle.std.proofs.Common.{ℕ, ◌≡◌, ◌≤◌, ◌^◌, true, List, length, set, slice_get, Option, Some, None, refl, sym, ◌∙◌, ap, subst, inl, inr}
 use Rattle.std.proofs.lemmas.Bool.Decides.{eqb_tells}
-use Rattle.iox_lanes_machine.specs.LanesWords.Numbers.{IsWord}
-use Rattle.iox_lanes_machine.specs.LanesWords.Table.{TableWords, held_by}
-use Rattle.iox_lanes_machine.specs.LanesWords.declared.words.word.SharedWord.TheVariants.{Slot}
-use Rattle.iox_lanes_machine.specs.LanesWords.declared.words.word.SlotWord.{SlotWord}
-use Rattle.iox_lanes_machine.specs.LanesWords.declared.words.word.SlotWord.TheVariants.{Payload}
-use Rattle.iox_lanes_machine.specs.LanesCalls.Publishing.{publisher_next, publisher_change}
-use Rattle.iox_lanes_machine.specs.LanesPublisher.PublisherKeeping.{loan_of}
-use Rattle.iox_lanes_machine.specs.LanesPublisher.Publishers.{words_of}
+use Rattle.iox_lanes_machine.specs.LanesBase.Numbers.{IsWord}
+use Rattle.iox_lanes_machine.specs.LanesBase.Table.{TableWords, held_by}
+use Rattle.iox_lanes_machine.specs.LanesBase.declared.words.word.SharedWord.TheVariants.{Slot}
+use Rattle.iox_lanes_machine.specs.LanesBase.declared.words.word.SlotWord.{SlotWord}
+use Rattle.iox_lanes_machine.specs.LanesBase.declared.words.word.SlotWord.TheVariants.{Payload}
+use Rattle.iox_lanes_machine.specs.LanesBase.Publishing.{publisher_next, publisher_change}
+use Rattle.iox_lanes_machine.specs.LanesParties.PublisherKeeping.{loan_of}
+use Rattle.iox_lanes_machine.specs.LanesParties.Publishers.{words_of}
 use Rattle.iox_lanes_machine.specs.LanesParties.Parties.{PublisherLaneState, is_out, publisher_begun, publisher_after}
 use Rattle.iox_lanes_machine.specs.LanesParties.Within.{IsPublisher}
 use Rattle.iox_lanes_machine.specs.LanesParties.declared.call.Call.{Call}

@@ -2,10 +2,10 @@
 use Rattle.std.proofs.Common.{ℕ, zero, suc, ◌≡◌, ◌+◌, ◌<◌, ◌≤◌, ◌^◌, Bool, true, false, List, [], ◌++◌, length, get_or, slice_get, Option, Some, None, refl, sym, ◌∙◌, ap, subst, arith, append-nil}
 use Rattle.iox_lanes_machine.specs.QueuesSteps.Access.{successor}
 use Rattle.iox_lanes_machine.specs.QueuesSteps.declared.order.Placed.{Placed}
-use Rattle.iox_lanes_machine.specs.LanesCalls.Subscribing.{subscriber_next, subscriber_change, subscriber_is_idle, subscriber_is_over, subscriber_take}
-use Rattle.iox_lanes_machine.specs.LanesCalls.declared.calls.route.Route.{Route}
-use Rattle.iox_lanes_machine.specs.LanesCalls.declared.calls.subscriber.SubscriberCall.{SubscriberCall}
-use Rattle.iox_lanes_machine.specs.LanesCalls.declared.calls.subscriber.SubscriberCall.TheVariants as subscribing
+use Rattle.iox_lanes_machine.specs.LanesBase.Subscribing.{subscriber_next, subscriber_change, subscriber_is_idle, subscriber_is_over, subscriber_take}
+use Rattle.iox_lanes_machine.specs.LanesBase.declared.calls.route.Route.{Route}
+use Rattle.iox_lanes_machine.specs.LanesBase.declared.calls.subscriber.SubscriberCall.{SubscriberCall}
+use Rattle.iox_lanes_machine.specs.LanesBase.declared.calls.subscriber.SubscriberCall.TheVariants as subscribing
 use Rattle.iox_lanes_machine.specs.LanesParties.Parties.{SubscriberLaneState, name_of, subscriber_may, subscriber_fits, subscriber_begun, subscriber_after, subscriber_answer, release_begun, place_of, route_at, is_route, words_read}
 use Rattle.iox_lanes_machine.specs.LanesParties.declared.call.Answer.{Answer}
 use Rattle.iox_lanes_machine.specs.LanesParties.declared.call.Call.{Call}
@@ -14,7 +14,7 @@ use Rattle.iox_lanes_machine.specs.LanesParties.declared.call.CallName.{CallName
 use Rattle.iox_lanes_machine.specs.LanesParties.declared.call.FinishedCall.{FinishedCall}
 use Rattle.iox_lanes_machine.specs.LanesParties.declared.call.Move.TheVariants.{Begin, GoOn}
 use Rattle.iox_lanes_machine.specs.LanesParties.declared.call.Party.TheVariants.{Subscriber}
-use Rattle.iox_lanes_machine.specs.LanesWords.Table.{after_shared}
+use Rattle.iox_lanes_machine.specs.LanesBase.Table.{after_shared}
 use Rattle.iox_lanes_machine.proofs.LanesParties.Rings.{and_right}
 use Rattle.iox_lanes_machine.specs.Kept.{IsKept}
 use Rattle.iox_lanes_machine.specs.Links.{LinkState}

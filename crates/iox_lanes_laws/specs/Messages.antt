@@ -1,8 +1,8 @@
 -- The messages that are sent on lanes: what each has as its send begins.
 use Rattle.std.specs.Prelude.{ℕ, ◌==◌, if◌then◌else◌, List, [], ◌∷◌, ◌++◌, slice_get, Option, Some, None}
-use Rattle.iox_lanes_machine.specs.LanesWords.Table.{TableWords, held_by}
-use Rattle.iox_lanes_machine.specs.LanesWords.declared.words.word.SharedWord.TheVariants.{Slot}
-use Rattle.iox_lanes_machine.specs.LanesWords.declared.words.word.SlotWord.TheVariants.{Payload}
+use Rattle.iox_lanes_machine.specs.LanesBase.Table.{TableWords, held_by}
+use Rattle.iox_lanes_machine.specs.LanesBase.declared.words.word.SharedWord.TheVariants.{Slot}
+use Rattle.iox_lanes_machine.specs.LanesBase.declared.words.word.SlotWord.TheVariants.{Payload}
 use Rattle.iox_lanes_machine.specs.LanesParties.Parties.{PublisherLaneState, head_of}
 use Rattle.iox_lanes_machine.specs.LanesParties.declared.call.Call.{Call}
 use Rattle.iox_lanes_machine.specs.LanesParties.declared.call.Call.TheVariants as call

@@ -1,8 +1,8 @@
 -- What a call of a subscriber leaves that no other call overlaps.
 use Rattle.std.specs.Prelude.{ℕ, ◌≡◌, ◌<◌, ◌++◌, true, ◌∷◌, length, slice_get, Some, None}
-use Rattle.iox_lanes_machine.specs.LanesCalls.declared.calls.route.Route.{Route}
-use Rattle.iox_lanes_machine.specs.LanesCalls.declared.calls.subscriber.Receipt.{Receipt}
-use Rattle.iox_lanes_machine.specs.LanesCalls.declared.calls.subscriber.Receipt.TheVariants as receipt
+use Rattle.iox_lanes_machine.specs.LanesBase.declared.calls.route.Route.{Route}
+use Rattle.iox_lanes_machine.specs.LanesBase.declared.calls.subscriber.Receipt.{Receipt}
+use Rattle.iox_lanes_machine.specs.LanesBase.declared.calls.subscriber.Receipt.TheVariants as receipt
 use Rattle.iox_lanes_machine.specs.LanesParties.Parties.{SubscriberLaneState, place_of}
 use Rattle.iox_lanes_machine.specs.LanesParties.declared.call.Answer.TheVariants as answer
 use Rattle.iox_lanes_machine.specs.LanesParties.declared.call.Call.TheVariants as call

@@ -4,19 +4,19 @@ use Rattle.std.proofs.lemmas.List.{get_or-set_other}
 use Rattle.iox_lanes_machine.specs.QueuesSteps.declared.order.Placed.{Placed}
 use Rattle.iox_lanes_machine.specs.QueuesSteps.declared.schedule.Stepped.{Stepped}
 use Rattle.iox_lanes_machine.specs.QueuesSteps.declared.schedule.Stepped.TheVariants as stepped
-use Rattle.iox_lanes_machine.specs.LanesWords.Numbers.{number_of, IsWord}
-use Rattle.iox_lanes_machine.specs.LanesWords.Table.{TableWords, held_by, stored_in, after_shared, IsOfTable}
-use Rattle.iox_lanes_machine.specs.LanesWords.declared.words.access.SharedAccess.{SharedAccess}
-use Rattle.iox_lanes_machine.specs.LanesWords.declared.words.access.SharedAccess.TheVariants.{Load, Store, Exchange, Local}
-use Rattle.iox_lanes_machine.specs.LanesWords.declared.words.word.SharedWord.{SharedWord}
-use Rattle.iox_lanes_machine.proofs.LanesWords.Numbering.{apart}
-use Rattle.iox_lanes_machine.specs.LanesCalls.Publishing.{publisher_next, publisher_is_over}
-use Rattle.iox_lanes_machine.specs.LanesCalls.Subscribing.{subscriber_next, subscriber_is_over}
-use Rattle.iox_lanes_machine.specs.LanesCalls.declared.calls.publisher.PublisherCall.{PublisherCall}
-use Rattle.iox_lanes_machine.specs.LanesCalls.declared.calls.publisher.PublisherCall.TheVariants as publishing
-use Rattle.iox_lanes_machine.specs.LanesCalls.declared.calls.subscriber.SubscriberCall.{SubscriberCall}
-use Rattle.iox_lanes_machine.specs.LanesCalls.declared.calls.subscriber.SubscriberCall.TheVariants as subscribing
-use Rattle.iox_lanes_machine.specs.LanesPublisher.declared.publisher.slot_book.LoanAnswer.{LoanAnswer}
+use Rattle.iox_lanes_machine.specs.LanesBase.Numbers.{number_of, IsWord}
+use Rattle.iox_lanes_machine.specs.LanesBase.Table.{TableWords, held_by, stored_in, after_shared, IsOfTable}
+use Rattle.iox_lanes_machine.specs.LanesBase.declared.words.access.SharedAccess.{SharedAccess}
+use Rattle.iox_lanes_machine.specs.LanesBase.declared.words.access.SharedAccess.TheVariants.{Load, Store, Exchange, Local}
+use Rattle.iox_lanes_machine.specs.LanesBase.declared.words.word.SharedWord.{SharedWord}
+use Rattle.iox_lanes_machine.proofs.LanesBase.Numbering.{apart}
+use Rattle.iox_lanes_machine.specs.LanesBase.Publishing.{publisher_next, publisher_is_over}
+use Rattle.iox_lanes_machine.specs.LanesBase.Subscribing.{subscriber_next, subscriber_is_over}
+use Rattle.iox_lanes_machine.specs.LanesBase.declared.calls.publisher.PublisherCall.{PublisherCall}
+use Rattle.iox_lanes_machine.specs.LanesBase.declared.calls.publisher.PublisherCall.TheVariants as publishing
+use Rattle.iox_lanes_machine.specs.LanesBase.declared.calls.subscriber.SubscriberCall.{SubscriberCall}
+use Rattle.iox_lanes_machine.specs.LanesBase.declared.calls.subscriber.SubscriberCall.TheVariants as subscribing
+use Rattle.iox_lanes_machine.specs.LanesParties.declared.publisher.slot_book.LoanAnswer.{LoanAnswer}
 use Rattle.iox_lanes_machine.specs.LanesParties.Parties.{PublisherLaneState, SubscriberLaneState, publisher_begun, publisher_after, publisher_answer, subscriber_begun, subscriber_after, subscriber_answer}
 use Rattle.iox_lanes_machine.specs.LanesParties.Within.{IsPublisher, IsSubscriber}
 use Rattle.iox_lanes_machine.specs.LanesParties.declared.call.Answer.{Answer}

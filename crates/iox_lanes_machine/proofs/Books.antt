@@ -3,7 +3,7 @@ use Rattle.std.proofs.Common.{ℕ, suc, ◌≡◌, ◌+◌, ◌-◌, ◌*◌, �
 use Rattle.std.proofs.lemmas.Bool.{ltb-true, ltb-false}
 use Rattle.std.proofs.lemmas.Bool.Decides.{eqb_tells}
 use Rattle.iox_lanes_parties.specs.QueuesSteps.Access.{successor}
-use Rattle.iox_lanes_parties.specs.LanesCalls.declared.calls.publisher.PublisherChange.TheVariants as change
+use Rattle.iox_lanes_parties.specs.LanesBase.declared.calls.publisher.PublisherChange.TheVariants as change
 use Rattle.iox_lanes_parties.specs.PublisherKeeping.{BookState, put_at, counted_up, counted_down, first_free, lent, lent_from, unlent, dropped, newest_of, remembered, referred_at, unreferred_at}
 use Rattle.iox_lanes_parties.specs.declared.publisher.slot_book.LoanMark.{LoanMark}
 use Rattle.iox_lanes_parties.specs.declared.publisher.slot_book.LoanMark.TheVariants as mark

@@ -4,12 +4,12 @@ use Rattle.std.proofs.lemmas.Bool.Decides.{eqb_tells}
 use Rattle.iox_lanes_machine.specs.QueuesSteps.declared.order.Placed.{Placed}
 use Rattle.iox_lanes_machine.specs.QueuesSteps.declared.schedule.Stepped.{Stepped}
 use Rattle.iox_lanes_machine.specs.QueuesSteps.declared.schedule.Stepped.TheVariants as stepped
-use Rattle.iox_lanes_machine.specs.LanesCalls.Publishing.{publisher_next, publisher_change}
-use Rattle.iox_lanes_machine.specs.LanesCalls.Subscribing.{subscriber_next}
-use Rattle.iox_lanes_machine.specs.LanesCalls.declared.calls.publisher.PublisherChange.{PublisherChange}
-use Rattle.iox_lanes_machine.specs.LanesCalls.declared.calls.publisher.PublisherChange.TheVariants as change
-use Rattle.iox_lanes_machine.specs.LanesPublisher.PublisherKeeping.{BookState, changed, lent, lent_from, first_free, counted_down, dropped, newest_of, unlent, remembered}
-use Rattle.iox_lanes_machine.specs.LanesPublisher.declared.publisher.slot_book.LoanAnswer.TheVariants as answer
+use Rattle.iox_lanes_machine.specs.LanesBase.Publishing.{publisher_next, publisher_change}
+use Rattle.iox_lanes_machine.specs.LanesBase.Subscribing.{subscriber_next}
+use Rattle.iox_lanes_machine.specs.LanesBase.declared.calls.publisher.PublisherChange.{PublisherChange}
+use Rattle.iox_lanes_machine.specs.LanesBase.declared.calls.publisher.PublisherChange.TheVariants as change
+use Rattle.iox_lanes_machine.specs.LanesParties.PublisherKeeping.{BookState, changed, lent, lent_from, first_free, counted_down, dropped, newest_of, unlent, remembered}
+use Rattle.iox_lanes_machine.specs.LanesParties.declared.publisher.slot_book.LoanAnswer.TheVariants as answer
 use Rattle.iox_lanes_machine.specs.LanesParties.Parties.{PublisherLaneState, SubscriberLaneState, publisher_begun, publisher_after, subscriber_begun, subscriber_after}
 use Rattle.iox_lanes_machine.specs.LanesParties.declared.call.Call.{Call}
 use Rattle.iox_lanes_machine.specs.LanesParties.declared.call.Call.TheVariants as call

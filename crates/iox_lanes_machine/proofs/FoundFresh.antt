@@ -11,13 +11,13 @@ use Rattle.iox_lanes_machine.specs.QueuesRings.Ends.{cells_of}
 use Rattle.iox_lanes_machine.specs.QueuesRings.RingMachine.{first_words}
 use Rattle.iox_lanes_machine.specs.QueuesRings.declared.ends.RingKind.{RingKind}
 use Rattle.iox_lanes_machine.specs.QueuesRings.declared.ends.RingKind.TheVariants as kind
-use Rattle.iox_lanes_machine.specs.LanesWords.Numbers.{number_of}
-use Rattle.iox_lanes_machine.specs.LanesWords.Table.{TableWords, stored_in}
-use Rattle.iox_lanes_machine.specs.LanesWords.declared.words.word.ConnectionRing.TheVariants.{Submission, Completion}
-use Rattle.iox_lanes_machine.specs.LanesWords.declared.words.word.SharedWord.TheVariants.{Ring}
-use Rattle.iox_lanes_machine.specs.LanesCalls.declared.calls.route.Route.{Route}
-use Rattle.iox_lanes_machine.specs.LanesPublisher.declared.publisher.slot_book.LoanMark.{LoanMark}
-use Rattle.iox_lanes_machine.specs.LanesPublisher.declared.publisher.slot_book.LoanMark.TheVariants as mark
+use Rattle.iox_lanes_machine.specs.LanesBase.Numbers.{number_of}
+use Rattle.iox_lanes_machine.specs.LanesBase.Table.{TableWords, stored_in}
+use Rattle.iox_lanes_machine.specs.LanesBase.declared.words.word.ConnectionRing.TheVariants.{Submission, Completion}
+use Rattle.iox_lanes_machine.specs.LanesBase.declared.words.word.SharedWord.TheVariants.{Ring}
+use Rattle.iox_lanes_machine.specs.LanesBase.declared.calls.route.Route.{Route}
+use Rattle.iox_lanes_machine.specs.LanesParties.declared.publisher.slot_book.LoanMark.{LoanMark}
+use Rattle.iox_lanes_machine.specs.LanesParties.declared.publisher.slot_book.LoanMark.TheVariants as mark
 use Rattle.iox_lanes_machine.specs.LanesParties.Parties.{PublisherLaneState, is_out}
 use Rattle.iox_lanes_machine.specs.LedgerRooms.{CountsLoans}
 use Rattle.iox_lanes_machine.specs.LedgerUses.{entry, UsesCounted}

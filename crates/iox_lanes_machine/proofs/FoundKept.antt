@@ -11,21 +11,21 @@ use Rattle.iox_lanes_machine.specs.QueuesRings.Ends.{cells_of}
 use Rattle.iox_lanes_machine.specs.QueuesRings.RingMachine.{first_words}
 use Rattle.iox_lanes_machine.specs.QueuesRings.declared.ends.RingKind.TheVariants as kind
 use Rattle.iox_lanes_machine.proofs.QueuesRings.EitherRing.{start_refusing}
-use Rattle.iox_lanes_machine.specs.QueuesRefusing.declared.refusing.pop.Pop.TheVariants as refusing_pop
-use Rattle.iox_lanes_machine.specs.QueuesRefusing.declared.refusing.push.Push.TheVariants as refusing_push
-use Rattle.iox_lanes_machine.specs.LanesWords.Numbers.{IsWord, words_of, number_of}
-use Rattle.iox_lanes_machine.specs.LanesWords.Table.{TableWords, stored_in}
-use Rattle.iox_lanes_machine.specs.LanesWords.declared.words.access.SharedAccess.TheVariants.{Store}
-use Rattle.iox_lanes_machine.specs.LanesWords.declared.words.sizes.TableSizes.{TableSizes}
-use Rattle.iox_lanes_machine.specs.LanesWords.declared.words.word.ConnectionRing.{ConnectionRing}
-use Rattle.iox_lanes_machine.specs.LanesWords.declared.words.word.ConnectionRing.TheVariants.{Submission, Completion}
-use Rattle.iox_lanes_machine.specs.LanesWords.declared.words.word.SharedWord.TheVariants.{Ring, Slot}
-use Rattle.iox_lanes_machine.specs.LanesWords.declared.words.word.SlotWord.{SlotWord}
-use Rattle.iox_lanes_machine.specs.LanesWords.declared.words.word.SlotWord.TheVariants.{Header, UserHeader, Payload}
-use Rattle.iox_lanes_machine.specs.LanesCalls.Routes.{known_as}
-use Rattle.iox_lanes_machine.specs.LanesCalls.declared.calls.route.Route.{Route}
-use Rattle.iox_lanes_machine.specs.LanesPublisher.declared.publisher.slot_book.LoanMark.TheVariants as mark
-use Rattle.iox_lanes_machine.specs.LanesPublisher.PublisherKeeping.{may_remember}
+use Rattle.iox_lanes_machine.specs.QueuesRings.declared.refusing.pop.Pop.TheVariants as refusing_pop
+use Rattle.iox_lanes_machine.specs.QueuesRings.declared.refusing.push.Push.TheVariants as refusing_push
+use Rattle.iox_lanes_machine.specs.LanesBase.Numbers.{IsWord, words_of, number_of}
+use Rattle.iox_lanes_machine.specs.LanesBase.Table.{TableWords, stored_in}
+use Rattle.iox_lanes_machine.specs.LanesBase.declared.words.access.SharedAccess.TheVariants.{Store}
+use Rattle.iox_lanes_machine.specs.LanesBase.declared.words.sizes.TableSizes.{TableSizes}
+use Rattle.iox_lanes_machine.specs.LanesBase.declared.words.word.ConnectionRing.{ConnectionRing}
+use Rattle.iox_lanes_machine.specs.LanesBase.declared.words.word.ConnectionRing.TheVariants.{Submission, Completion}
+use Rattle.iox_lanes_machine.specs.LanesBase.declared.words.word.SharedWord.TheVariants.{Ring, Slot}
+use Rattle.iox_lanes_machine.specs.LanesBase.declared.words.word.SlotWord.{SlotWord}
+use Rattle.iox_lanes_machine.specs.LanesBase.declared.words.word.SlotWord.TheVariants.{Header, UserHeader, Payload}
+use Rattle.iox_lanes_machine.specs.LanesBase.Routes.{known_as}
+use Rattle.iox_lanes_machine.specs.LanesBase.declared.calls.route.Route.{Route}
+use Rattle.iox_lanes_machine.specs.LanesParties.declared.publisher.slot_book.LoanMark.TheVariants as mark
+use Rattle.iox_lanes_machine.specs.LanesParties.PublisherKeeping.{may_remember}
 use Rattle.iox_lanes_machine.specs.LanesParties.Parties.{PublisherLaneState, SubscriberLaneState, is_out, lane_found, lane_remembers, lane_resized, lane_named, lane_meets}
 use Rattle.iox_lanes_machine.specs.LanesParties.Within.{IsPublisher}
 use Rattle.iox_lanes_machine.proofs.LanesParties.Rings.{all_at, and_left, and_right}

@@ -9,15 +9,15 @@ use Rattle.iox_lanes_machine.specs.QueuesSteps.declared.access.Word.{Word}
 use Rattle.iox_lanes_machine.specs.QueuesSteps.declared.access.Word.TheVariants.{Write, Read, Cell}
 use Rattle.iox_lanes_machine.specs.QueuesSteps.declared.access.Access.{Access}
 use Rattle.iox_lanes_machine.specs.QueuesSteps.declared.access.Access.TheVariants as own
-use Rattle.iox_lanes_machine.specs.LanesWords.Numbers.{number_of, words_of, IsWord}
-use Rattle.iox_lanes_machine.specs.LanesWords.Table.{TableWords, held_by, stored_in, shared_answer, after_shared}
-use Rattle.iox_lanes_machine.specs.LanesWords.Words.{in_ring, on_ring}
-use Rattle.iox_lanes_machine.specs.LanesWords.declared.words.access.SharedAccess.{SharedAccess}
-use Rattle.iox_lanes_machine.specs.LanesWords.declared.words.access.SharedAccess.TheVariants.{Load, Store, Exchange, Local}
-use Rattle.iox_lanes_machine.specs.LanesWords.declared.words.word.ConnectionRing.TheVariants.{Submission, Completion}
-use Rattle.iox_lanes_machine.specs.LanesWords.declared.words.word.SharedWord.{SharedWord}
-use Rattle.iox_lanes_machine.specs.LanesWords.declared.words.word.SharedWord.TheVariants.{Ring, Slot}
-use Rattle.iox_lanes_machine.proofs.LanesWords.Numbering.{apart, within}
+use Rattle.iox_lanes_machine.specs.LanesBase.Numbers.{number_of, words_of, IsWord}
+use Rattle.iox_lanes_machine.specs.LanesBase.Table.{TableWords, held_by, stored_in, shared_answer, after_shared}
+use Rattle.iox_lanes_machine.specs.LanesBase.Words.{in_ring, on_ring}
+use Rattle.iox_lanes_machine.specs.LanesBase.declared.words.access.SharedAccess.{SharedAccess}
+use Rattle.iox_lanes_machine.specs.LanesBase.declared.words.access.SharedAccess.TheVariants.{Load, Store, Exchange, Local}
+use Rattle.iox_lanes_machine.specs.LanesBase.declared.words.word.ConnectionRing.TheVariants.{Submission, Completion}
+use Rattle.iox_lanes_machine.specs.LanesBase.declared.words.word.SharedWord.{SharedWord}
+use Rattle.iox_lanes_machine.specs.LanesBase.declared.words.word.SharedWord.TheVariants.{Ring, Slot}
+use Rattle.iox_lanes_machine.proofs.LanesBase.Numbering.{apart, within}
 use Rattle.iox_lanes_machine.specs.Returns.{back_word, back_cells, back_ring}
 use Rattle.iox_lanes_machine.proofs.InTable.{same_ring}
 

@@ -3,7 +3,7 @@ use Rattle.std.proofs.Common.{ℕ, ◌≡◌, ◌+◌, ◌-◌, ◌*◌, ◌<◌
 use Rattle.std.proofs.lemmas.Bool.{ltb-true, ltb-false}
 use Rattle.std.proofs.lemmas.Bool.Decides.{eqb_tells}
 use Rattle.iox_lanes_parties.specs.QueuesSteps.Access.{successor}
-use Rattle.iox_lanes_parties.specs.LanesCalls.declared.calls.publisher.PublisherChange.TheVariants as change
+use Rattle.iox_lanes_parties.specs.LanesBase.declared.calls.publisher.PublisherChange.TheVariants as change
 use Rattle.iox_lanes_parties.specs.PublisherKeeping.{BookState, is_own, may_have, stands_in, may_remember, found_newest, referred_at, counted_up}
 use Rattle.iox_lanes_parties.specs.declared.publisher.slot_book.LoanMark.{LoanMark}
 use Rattle.iox_lanes_parties.specs.declared.publisher.slot_book.LoanMark.TheVariants as mark

@@ -71,8 +71,6 @@ pub mod Pace
 pub mod Queue
 pub mod LedgerFindings
 pub use Rattle.iox_lanes_parties.proofs as LanesParties
-pub use Rattle.iox_lanes_parties.proofs.LanesWords as LanesWords
-pub use Rattle.iox_lanes_parties.proofs.QueuesOverflowing as QueuesOverflowing
-pub use Rattle.iox_lanes_parties.proofs.QueuesRefusing as QueuesRefusing
+pub use Rattle.iox_lanes_parties.proofs.LanesBase as LanesBase
 pub use Rattle.iox_lanes_parties.proofs.QueuesRings as QueuesRings
 pub use Rattle.iox_lanes_parties.proofs.QueuesSteps as QueuesSteps

@@ -1,19 +1,19 @@
 -- A loan ends as its publisher's record says when it begins.
 use Rattle.std.proofs.Common.{ℕ, ◌≡◌, ◌+◌, ◌-◌, ◌*◌, ◌<◌, ◌≤◌, ◌^◌, ◌==◌, Bool, true, false, List, [], ◌∷◌, length, get_or, slice_get, Some, refl, sym, ◌∙◌, ap, subst, inl, inr, arith}
 use Rattle.iox_lanes_machine.specs.QueuesSteps.Access.{successor}
-use Rattle.iox_lanes_machine.specs.QueuesRefusing.Refusing as refusing
-use Rattle.iox_lanes_machine.specs.QueuesRefusing.declared.refusing.pop.Pop.TheVariants as pop
-use Rattle.iox_lanes_machine.specs.LanesWords.declared.words.sizes.TableSizes.{TableSizes}
-use Rattle.iox_lanes_machine.specs.LanesCalls.Answers.{refusing_pop_answer}
-use Rattle.iox_lanes_machine.specs.LanesCalls.Publishing.{publisher_is_idle, publisher_take, publisher_change, taken_back, loan_reclaimed}
-use Rattle.iox_lanes_machine.specs.LanesCalls.declared.calls.publisher.PublisherCall.{PublisherCall}
-use Rattle.iox_lanes_machine.specs.LanesCalls.declared.calls.publisher.PublisherCall.TheVariants as publishing
-use Rattle.iox_lanes_machine.specs.LanesCalls.declared.calls.publisher.PublisherChange.TheVariants as change
-use Rattle.iox_lanes_machine.specs.LanesCalls.declared.calls.route.Route.{Route}
-use Rattle.iox_lanes_machine.specs.LanesPublisher.PublisherKeeping.{BookState, changed, lent}
-use Rattle.iox_lanes_machine.specs.LanesPublisher.Publishers.{words_of}
-use Rattle.iox_lanes_machine.specs.LanesPublisher.declared.publisher.slot_book.LoanMark.{LoanMark}
-use Rattle.iox_lanes_machine.specs.LanesPublisher.declared.publisher.slot_book.LoanMark.TheVariants as mark
+use Rattle.iox_lanes_machine.specs.QueuesRings.Refusing as refusing
+use Rattle.iox_lanes_machine.specs.QueuesRings.declared.refusing.pop.Pop.TheVariants as pop
+use Rattle.iox_lanes_machine.specs.LanesBase.declared.words.sizes.TableSizes.{TableSizes}
+use Rattle.iox_lanes_machine.specs.LanesBase.Answers.{refusing_pop_answer}
+use Rattle.iox_lanes_machine.specs.LanesBase.Publishing.{publisher_is_idle, publisher_take, publisher_change, taken_back, loan_reclaimed}
+use Rattle.iox_lanes_machine.specs.LanesBase.declared.calls.publisher.PublisherCall.{PublisherCall}
+use Rattle.iox_lanes_machine.specs.LanesBase.declared.calls.publisher.PublisherCall.TheVariants as publishing
+use Rattle.iox_lanes_machine.specs.LanesBase.declared.calls.publisher.PublisherChange.TheVariants as change
+use Rattle.iox_lanes_machine.specs.LanesBase.declared.calls.route.Route.{Route}
+use Rattle.iox_lanes_machine.specs.LanesParties.PublisherKeeping.{BookState, changed, lent}
+use Rattle.iox_lanes_machine.specs.LanesParties.Publishers.{words_of}
+use Rattle.iox_lanes_machine.specs.LanesParties.declared.publisher.slot_book.LoanMark.{LoanMark}
+use Rattle.iox_lanes_machine.specs.LanesParties.declared.publisher.slot_book.LoanMark.TheVariants as mark
 use Rattle.iox_lanes_machine.specs.LanesParties.Parties as parties
 use Rattle.iox_lanes_machine.specs.LanesParties.Parties.{PublisherLaneState, publisher_begun, publisher_after}
 use Rattle.iox_lanes_machine.specs.LanesParties.declared.call.Answer.{Answer}

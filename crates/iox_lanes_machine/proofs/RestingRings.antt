@@ -7,13 +7,13 @@ use Rattle.iox_lanes_machine.specs.QueuesSteps.declared.access.Word.TheVariants.
 use Rattle.iox_lanes_machine.specs.QueuesRings.Ends.{Shape, cells_of, push_idle, pop_idle}
 use Rattle.iox_lanes_machine.specs.QueuesRings.declared.ends.RingKind.{RingKind}
 use Rattle.iox_lanes_machine.specs.QueuesRings.declared.ends.RingKind.TheVariants as kind
-use Rattle.iox_lanes_machine.specs.LanesWords.Table.{held_by}
-use Rattle.iox_lanes_machine.specs.LanesCalls.Publishing.{publisher_is_idle}
-use Rattle.iox_lanes_machine.specs.LanesCalls.Subscribing.{subscriber_is_idle}
-use Rattle.iox_lanes_machine.specs.LanesCalls.declared.calls.publisher.PublisherCall.{PublisherCall}
-use Rattle.iox_lanes_machine.specs.LanesCalls.declared.calls.publisher.PublisherCall.TheVariants as publishing
-use Rattle.iox_lanes_machine.specs.LanesCalls.declared.calls.subscriber.SubscriberCall.{SubscriberCall}
-use Rattle.iox_lanes_machine.specs.LanesCalls.declared.calls.subscriber.SubscriberCall.TheVariants as subscribing
+use Rattle.iox_lanes_machine.specs.LanesBase.Table.{held_by}
+use Rattle.iox_lanes_machine.specs.LanesBase.Publishing.{publisher_is_idle}
+use Rattle.iox_lanes_machine.specs.LanesBase.Subscribing.{subscriber_is_idle}
+use Rattle.iox_lanes_machine.specs.LanesBase.declared.calls.publisher.PublisherCall.{PublisherCall}
+use Rattle.iox_lanes_machine.specs.LanesBase.declared.calls.publisher.PublisherCall.TheVariants as publishing
+use Rattle.iox_lanes_machine.specs.LanesBase.declared.calls.subscriber.SubscriberCall.{SubscriberCall}
+use Rattle.iox_lanes_machine.specs.LanesBase.declared.calls.subscriber.SubscriberCall.TheVariants as subscribing
 use Rattle.iox_lanes_machine.specs.Kept.{IsKept, IsWithin}
 use Rattle.iox_lanes_machine.specs.Links.{LinkState}
 use Rattle.iox_lanes_machine.specs.Mailboxes.{positions_of}

@@ -3,8 +3,8 @@ use Rattle.std.proofs.Common.{ℕ, ◌≡◌, ◌+◌, ◌-◌, ◌<◌, ◌≤�
 use Rattle.std.proofs.lemmas.Bool.{cases_lt}
 use Rattle.std.proofs.lemmas.Bool.Decides.{eqb_tells}
 use Rattle.iox_lanes_parties.specs.QueuesSteps.Access.{successor}
-use Rattle.iox_lanes_parties.specs.LanesCalls.declared.calls.publisher.PublisherChange.{PublisherChange}
-use Rattle.iox_lanes_parties.specs.LanesCalls.declared.calls.publisher.PublisherChange.TheVariants as change
+use Rattle.iox_lanes_parties.specs.LanesBase.declared.calls.publisher.PublisherChange.{PublisherChange}
+use Rattle.iox_lanes_parties.specs.LanesBase.declared.calls.publisher.PublisherChange.TheVariants as change
 use Rattle.iox_lanes_parties.specs.PublisherKeeping.{BookState, changed, lent, lent_from, first_free, newest_of, unlent, dropped, remembered, counted_down}
 use Rattle.iox_lanes_parties.specs.declared.publisher.slot_book.LoanAnswer.TheVariants as answer
 use Rattle.iox_lanes_machine.specs.LedgerRooms.{slots_at}

@@ -10,27 +10,27 @@ use Rattle.iox_lanes_machine.specs.QueuesSteps.declared.order.PopAnswer.{PopAnsw
 use Rattle.iox_lanes_machine.specs.QueuesSteps.declared.order.PopAnswer.TheVariants.{Got, Saw}
 use Rattle.iox_lanes_machine.specs.QueuesSteps.declared.order.Placed.{Placed}
 use Rattle.iox_lanes_machine.specs.QueuesSteps.declared.order.PushAnswer.{PushAnswer}
-use Rattle.iox_lanes_machine.specs.QueuesRefusing.Refusing as refusing
-use Rattle.iox_lanes_machine.specs.QueuesRefusing.declared.refusing.pop.Pop as refusing_pop_type
+use Rattle.iox_lanes_machine.specs.QueuesRings.Refusing as refusing
+use Rattle.iox_lanes_machine.specs.QueuesRings.declared.refusing.pop.Pop as refusing_pop_type
 use Rattle.iox_lanes_machine.specs.QueuesRings.Ends.{Shape, cells_of, push_next, push_take, placed_by_push, put_in_hand, pop_next, placed_by_pop}
 use Rattle.iox_lanes_machine.specs.QueuesRings.declared.ends.RingKind.{RingKind}
 use Rattle.iox_lanes_machine.specs.QueuesRings.declared.ends.Push.{Push}
 use Rattle.iox_lanes_machine.specs.QueuesRings.declared.ends.Pop.{Pop}
 use Rattle.iox_lanes_machine.proofs.QueuesRings.EitherRing.{push_goes, pop_goes}
-use Rattle.iox_lanes_machine.specs.LanesWords.Table.{TableWords, held_by, shared_answer, after_shared, IsOfTable}
-use Rattle.iox_lanes_machine.specs.LanesWords.Words.{on_ring}
-use Rattle.iox_lanes_machine.specs.LanesWords.declared.words.word.ConnectionRing.TheVariants.{Submission}
-use Rattle.iox_lanes_machine.specs.LanesCalls.Answers.{push_answer, refusing_pop_answer}
-use Rattle.iox_lanes_machine.specs.LanesCalls.Publishing.{publisher_is_idle, publisher_next, publisher_take, loan_from, loan_reclaimed, write_from, head_from, sweep_from, send_reclaimed, pushed}
-use Rattle.iox_lanes_machine.specs.LanesCalls.Subscribing.{subscriber_next}
-use Rattle.iox_lanes_machine.specs.LanesCalls.declared.calls.publisher.Delivery.{Delivery}
-use Rattle.iox_lanes_machine.specs.LanesCalls.declared.calls.publisher.PublisherCall.{PublisherCall}
-use Rattle.iox_lanes_machine.specs.LanesCalls.declared.calls.publisher.PublisherCall.TheVariants as publishing
-use Rattle.iox_lanes_machine.specs.LanesCalls.declared.calls.route.Route.{Route}
-use Rattle.iox_lanes_machine.specs.LanesCalls.declared.calls.subscriber.SubscriberCall.{SubscriberCall}
-use Rattle.iox_lanes_machine.specs.LanesCalls.declared.calls.subscriber.SubscriberCall.TheVariants as subscribing
-use Rattle.iox_lanes_machine.specs.LanesPublisher.Publishers.{words_of}
-use Rattle.iox_lanes_machine.specs.LanesPublisher.declared.publisher.slot_book.LoanAnswer.{LoanAnswer}
+use Rattle.iox_lanes_machine.specs.LanesBase.Table.{TableWords, held_by, shared_answer, after_shared, IsOfTable}
+use Rattle.iox_lanes_machine.specs.LanesBase.Words.{on_ring}
+use Rattle.iox_lanes_machine.specs.LanesBase.declared.words.word.ConnectionRing.TheVariants.{Submission}
+use Rattle.iox_lanes_machine.specs.LanesBase.Answers.{push_answer, refusing_pop_answer}
+use Rattle.iox_lanes_machine.specs.LanesBase.Publishing.{publisher_is_idle, publisher_next, publisher_take, loan_from, loan_reclaimed, write_from, head_from, sweep_from, send_reclaimed, pushed}
+use Rattle.iox_lanes_machine.specs.LanesBase.Subscribing.{subscriber_next}
+use Rattle.iox_lanes_machine.specs.LanesBase.declared.calls.publisher.Delivery.{Delivery}
+use Rattle.iox_lanes_machine.specs.LanesBase.declared.calls.publisher.PublisherCall.{PublisherCall}
+use Rattle.iox_lanes_machine.specs.LanesBase.declared.calls.publisher.PublisherCall.TheVariants as publishing
+use Rattle.iox_lanes_machine.specs.LanesBase.declared.calls.route.Route.{Route}
+use Rattle.iox_lanes_machine.specs.LanesBase.declared.calls.subscriber.SubscriberCall.{SubscriberCall}
+use Rattle.iox_lanes_machine.specs.LanesBase.declared.calls.subscriber.SubscriberCall.TheVariants as subscribing
+use Rattle.iox_lanes_machine.specs.LanesParties.Publishers.{words_of}
+use Rattle.iox_lanes_machine.specs.LanesParties.declared.publisher.slot_book.LoanAnswer.{LoanAnswer}
 use Rattle.iox_lanes_machine.specs.LanesParties.Parties.{PublisherLaneState, SubscriberLaneState, publisher_may, publisher_begun, publisher_after, publisher_answer, head_of, subscriber_answer, lent}
 use Rattle.iox_lanes_machine.specs.LanesParties.Within.{IsPublisher, IsSubscribing, IsSubscriber}
 use Rattle.iox_lanes_machine.specs.LanesParties.declared.call.Answer.TheVariants as answer

@@ -4,9 +4,9 @@ use Rattle.std.proofs.lemmas.Nat.{div_below, div-add-mod'}
 use Rattle.std.proofs.lemmas.List.{length-replicate}
 use Rattle.iox_lanes_machine.specs.QueuesSteps.Access.{RingWords}
 use Rattle.iox_lanes_machine.specs.QueuesSteps.declared.order.Placed.{Placed}
-use Rattle.iox_lanes_machine.specs.LanesPublisher.declared.publisher.slot_book.LoanMark.{LoanMark}
-use Rattle.iox_lanes_machine.specs.LanesPublisher.declared.publisher.slot_book.LoanMark.TheVariants as mark
-use Rattle.iox_lanes_machine.specs.LanesCalls.declared.calls.route.Route.{Route}
+use Rattle.iox_lanes_machine.specs.LanesParties.declared.publisher.slot_book.LoanMark.{LoanMark}
+use Rattle.iox_lanes_machine.specs.LanesParties.declared.publisher.slot_book.LoanMark.TheVariants as mark
+use Rattle.iox_lanes_machine.specs.LanesBase.declared.calls.route.Route.{Route}
 use Rattle.iox_lanes_machine.specs.LanesParties.Parties.{is_out}
 use Rattle.iox_lanes_machine.specs.Stored.{between}
 use Rattle.iox_lanes_machine.specs.LedgerUses.{one_if, count, refers, refers_to, UsesCounted}

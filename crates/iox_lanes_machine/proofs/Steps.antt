@@ -10,16 +10,16 @@ use Rattle.iox_lanes_machine.specs.QueuesSteps.declared.order.Placed.{Placed}
 use Rattle.iox_lanes_machine.specs.QueuesRings.Ends.{Shape, cells_of, push_idle, pop_idle}
 use Rattle.iox_lanes_machine.specs.QueuesRings.declared.ends.Push.{Push}
 use Rattle.iox_lanes_machine.specs.QueuesRings.declared.ends.Pop.{Pop}
-use Rattle.iox_lanes_machine.specs.LanesWords.Table.{TableWords, after_shared, IsOfTable}
-use Rattle.iox_lanes_machine.specs.LanesWords.Words.{on_ring}
-use Rattle.iox_lanes_machine.specs.LanesWords.declared.words.word.ConnectionRing.TheVariants.{Submission, Completion}
-use Rattle.iox_lanes_machine.specs.LanesCalls.Publishing.{publisher_next}
-use Rattle.iox_lanes_machine.specs.LanesCalls.Subscribing.{subscriber_next, subscriber_take, subscriber_change}
-use Rattle.iox_lanes_machine.specs.LanesCalls.declared.calls.publisher.PublisherCall.{PublisherCall}
-use Rattle.iox_lanes_machine.specs.LanesCalls.declared.calls.publisher.PublisherCall.TheVariants as publishing
-use Rattle.iox_lanes_machine.specs.LanesCalls.declared.calls.subscriber.SubscriberCall.{SubscriberCall}
-use Rattle.iox_lanes_machine.specs.LanesCalls.declared.calls.subscriber.SubscriberCall.TheVariants as subscribing
-use Rattle.iox_lanes_machine.specs.LanesPublisher.Publishers.{words_of}
+use Rattle.iox_lanes_machine.specs.LanesBase.Table.{TableWords, after_shared, IsOfTable}
+use Rattle.iox_lanes_machine.specs.LanesBase.Words.{on_ring}
+use Rattle.iox_lanes_machine.specs.LanesBase.declared.words.word.ConnectionRing.TheVariants.{Submission, Completion}
+use Rattle.iox_lanes_machine.specs.LanesBase.Publishing.{publisher_next}
+use Rattle.iox_lanes_machine.specs.LanesBase.Subscribing.{subscriber_next, subscriber_take, subscriber_change}
+use Rattle.iox_lanes_machine.specs.LanesBase.declared.calls.publisher.PublisherCall.{PublisherCall}
+use Rattle.iox_lanes_machine.specs.LanesBase.declared.calls.publisher.PublisherCall.TheVariants as publishing
+use Rattle.iox_lanes_machine.specs.LanesBase.declared.calls.subscriber.SubscriberCall.{SubscriberCall}
+use Rattle.iox_lanes_machine.specs.LanesBase.declared.calls.subscriber.SubscriberCall.TheVariants as subscribing
+use Rattle.iox_lanes_machine.specs.LanesParties.Publishers.{words_of}
 use Rattle.iox_lanes_machine.specs.LanesParties.Parties.{PublisherLaneState, SubscriberLaneState, publisher_begun, publisher_after, subscriber_begun, subscriber_after}
 use Rattle.iox_lanes_machine.specs.LanesParties.Within.{IsPublishing, IsPublisher, IsSubscribing, IsSubscriber}
 use Rattle.iox_lanes_machine.specs.LanesParties.declared.call.Call.{Call}

@@ -9,18 +9,18 @@ use Rattle.iox_lanes_machine.specs.QueuesSteps.Order.{at}
 use Rattle.iox_lanes_machine.specs.QueuesSteps.declared.order.Placed.{Placed}
 use Rattle.iox_lanes_machine.specs.QueuesSteps.declared.order.PopAnswer.{PopAnswer}
 use Rattle.iox_lanes_machine.specs.QueuesSteps.declared.order.PopAnswer.TheVariants.{Got, Saw}
-use Rattle.iox_lanes_machine.specs.QueuesRefusing.declared.refusing.push.Push as refusing_push_type
+use Rattle.iox_lanes_machine.specs.QueuesRings.declared.refusing.push.Push as refusing_push_type
 use Rattle.iox_lanes_machine.specs.QueuesRings.Ends.{cells_of, pop_take}
 use Rattle.iox_lanes_machine.specs.QueuesRings.declared.ends.RingKind.{RingKind}
 use Rattle.iox_lanes_machine.specs.QueuesRings.declared.ends.Pop.{Pop}
-use Rattle.iox_lanes_machine.specs.LanesWords.Table.{shared_answer, after_shared, IsOfTable}
-use Rattle.iox_lanes_machine.specs.LanesWords.declared.words.sizes.TableSizes.{TableSizes}
-use Rattle.iox_lanes_machine.specs.LanesCalls.Answers.{pop_answer}
-use Rattle.iox_lanes_machine.specs.LanesCalls.Subscribing.{subscriber_next, subscriber_take, subscriber_change, borrowed_by, given_back_by}
-use Rattle.iox_lanes_machine.specs.LanesCalls.declared.calls.publisher.PublisherCall.{PublisherCall}
-use Rattle.iox_lanes_machine.specs.LanesCalls.declared.calls.route.Route.{Route}
-use Rattle.iox_lanes_machine.specs.LanesCalls.declared.calls.subscriber.SubscriberCall.{SubscriberCall}
-use Rattle.iox_lanes_machine.specs.LanesCalls.declared.calls.subscriber.SubscriberCall.TheVariants as subscribing
+use Rattle.iox_lanes_machine.specs.LanesBase.Table.{shared_answer, after_shared, IsOfTable}
+use Rattle.iox_lanes_machine.specs.LanesBase.declared.words.sizes.TableSizes.{TableSizes}
+use Rattle.iox_lanes_machine.specs.LanesBase.Answers.{pop_answer}
+use Rattle.iox_lanes_machine.specs.LanesBase.Subscribing.{subscriber_next, subscriber_take, subscriber_change, borrowed_by, given_back_by}
+use Rattle.iox_lanes_machine.specs.LanesBase.declared.calls.publisher.PublisherCall.{PublisherCall}
+use Rattle.iox_lanes_machine.specs.LanesBase.declared.calls.route.Route.{Route}
+use Rattle.iox_lanes_machine.specs.LanesBase.declared.calls.subscriber.SubscriberCall.{SubscriberCall}
+use Rattle.iox_lanes_machine.specs.LanesBase.declared.calls.subscriber.SubscriberCall.TheVariants as subscribing
 use Rattle.iox_lanes_machine.specs.LanesParties.Parties.{PublisherLaneState, SubscriberLaneState, subscriber_begun, subscriber_after}
 use Rattle.iox_lanes_machine.specs.LanesParties.Within.{IsPublisher, IsSubscriber, IsSubscribing}
 use Rattle.iox_lanes_machine.specs.LanesParties.declared.call.Call.{Call}

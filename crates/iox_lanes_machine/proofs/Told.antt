@@ -4,9 +4,9 @@ use Rattle.iox_lanes_machine.specs.QueuesSteps.Access.{successor}
 use Rattle.iox_lanes_machine.specs.QueuesSteps.declared.order.Placed.{Placed}
 use Rattle.iox_lanes_machine.specs.QueuesSteps.declared.schedule.Stepped.{Stepped}
 use Rattle.iox_lanes_machine.specs.QueuesSteps.declared.schedule.Stepped.TheVariants as stepped
-use Rattle.iox_lanes_machine.specs.LanesCalls.Publishing.{publisher_is_idle, publisher_is_over}
-use Rattle.iox_lanes_machine.specs.LanesCalls.Subscribing.{subscriber_is_idle, subscriber_is_over}
-use Rattle.iox_lanes_machine.specs.LanesCalls.declared.calls.route.Route.{Route}
+use Rattle.iox_lanes_machine.specs.LanesBase.Publishing.{publisher_is_idle, publisher_is_over}
+use Rattle.iox_lanes_machine.specs.LanesBase.Subscribing.{subscriber_is_idle, subscriber_is_over}
+use Rattle.iox_lanes_machine.specs.LanesBase.declared.calls.route.Route.{Route}
 use Rattle.iox_lanes_machine.specs.LanesParties.Parties.{PublisherLaneState, SubscriberLaneState, name_of, publisher_may, publisher_fits, publisher_begun, publisher_after, subscriber_may, subscriber_fits, subscriber_begun, subscriber_after, subscriber_answer, release_begun, is_route, place_of, route_at}
 use Rattle.iox_lanes_machine.specs.LanesParties.declared.call.Answer.{Answer}
 use Rattle.iox_lanes_machine.specs.LanesParties.declared.call.Call.{Call}

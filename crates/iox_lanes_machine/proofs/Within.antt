@@ -7,19 +7,19 @@ use Rattle.std.proofs.lemmas.List.Elements.{All-set}
 use Rattle.iox_lanes_machine.specs.QueuesSteps.Order.{at}
 use Rattle.iox_lanes_machine.specs.QueuesSteps.declared.order.Act.{Act}
 use Rattle.iox_lanes_machine.specs.QueuesSteps.declared.order.Placed.{Placed}
-use Rattle.iox_lanes_machine.specs.LanesWords.Numbers.{number_of, words_of}
-use Rattle.iox_lanes_machine.specs.LanesWords.Table.{TableWords, held_by, stored_in, after_shared}
-use Rattle.iox_lanes_machine.specs.LanesWords.declared.words.sizes.TableSizes.{TableSizes}
-use Rattle.iox_lanes_machine.specs.LanesWords.declared.words.access.SharedAccess.{SharedAccess}
-use Rattle.iox_lanes_machine.specs.LanesWords.declared.words.access.SharedAccess.TheVariants.{Load, Store, Exchange, Local}
-use Rattle.iox_lanes_machine.specs.LanesCalls.Publishing.{publisher_next}
-use Rattle.iox_lanes_machine.specs.LanesCalls.Subscribing.{subscriber_next, subscriber_change, subscriber_is_over}
-use Rattle.iox_lanes_machine.specs.LanesCalls.declared.calls.route.Route.{Route}
-use Rattle.iox_lanes_machine.specs.LanesCalls.declared.calls.subscriber.SubscriberCall.{SubscriberCall}
-use Rattle.iox_lanes_machine.specs.LanesCalls.declared.calls.subscriber.SubscriberCall.TheVariants as subscribing
-use Rattle.iox_lanes_machine.specs.LanesCalls.declared.calls.subscriber.SubscriberChange.{SubscriberChange}
-use Rattle.iox_lanes_machine.specs.LanesCalls.declared.calls.subscriber.SubscriberChange.TheVariants as change
-use Rattle.iox_lanes_machine.specs.LanesSubscriber.Keeping.{SubscriberState, changed}
+use Rattle.iox_lanes_machine.specs.LanesBase.Numbers.{number_of, words_of}
+use Rattle.iox_lanes_machine.specs.LanesBase.Table.{TableWords, held_by, stored_in, after_shared}
+use Rattle.iox_lanes_machine.specs.LanesBase.declared.words.sizes.TableSizes.{TableSizes}
+use Rattle.iox_lanes_machine.specs.LanesBase.declared.words.access.SharedAccess.{SharedAccess}
+use Rattle.iox_lanes_machine.specs.LanesBase.declared.words.access.SharedAccess.TheVariants.{Load, Store, Exchange, Local}
+use Rattle.iox_lanes_machine.specs.LanesBase.Publishing.{publisher_next}
+use Rattle.iox_lanes_machine.specs.LanesBase.Subscribing.{subscriber_next, subscriber_change, subscriber_is_over}
+use Rattle.iox_lanes_machine.specs.LanesBase.declared.calls.route.Route.{Route}
+use Rattle.iox_lanes_machine.specs.LanesBase.declared.calls.subscriber.SubscriberCall.{SubscriberCall}
+use Rattle.iox_lanes_machine.specs.LanesBase.declared.calls.subscriber.SubscriberCall.TheVariants as subscribing
+use Rattle.iox_lanes_machine.specs.LanesBase.declared.calls.subscriber.SubscriberChange.{SubscriberChange}
+use Rattle.iox_lanes_machine.specs.LanesBase.declared.calls.subscriber.SubscriberChange.TheVariants as change
+use Rattle.iox_lanes_machine.specs.LanesParties.Keeping.{SubscriberState, changed}
 use Rattle.iox_lanes_machine.specs.LanesParties.Parties.{PublisherLaneState, SubscriberLaneState, publisher_begun, publisher_after, subscriber_begun, subscriber_after, release_begun, place_of, route_at, words_read}
 use Rattle.iox_lanes_machine.specs.LanesParties.Within.{IsPublisher, IsSubscriber}
 use Rattle.iox_lanes_machine.specs.LanesParties.declared.call.Call.{Call}

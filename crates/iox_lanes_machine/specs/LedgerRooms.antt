@@ -1,21 +1,21 @@
 -- How many slots a connection has, how many of them its subscriber borrows, and how many loans are out.
 use Rattle.std.specs.Prelude.{ℕ, ◌≡◌, ◌+◌, ◌<◌, ◌≤◌, ◌^◌, ◌⊎◌, Bool, true, false, length, get_or, slice_get, Some}
-use Rattle.iox_lanes_parties.specs.QueuesOverflowing.declared.overflowing.push.Push as overflowing_type
-use Rattle.iox_lanes_parties.specs.QueuesOverflowing.declared.overflowing.push.Push.TheVariants as overflowing
-use Rattle.iox_lanes_parties.specs.QueuesOverflowing.declared.overflowing.pop.Pop.TheVariants as overflowing_pop
-use Rattle.iox_lanes_parties.specs.QueuesRefusing.declared.refusing.push.Push as refusing_type
-use Rattle.iox_lanes_parties.specs.QueuesRefusing.declared.refusing.push.Push.TheVariants as refusing
-use Rattle.iox_lanes_parties.specs.QueuesRefusing.declared.refusing.pop.Pop.{Pop}
-use Rattle.iox_lanes_parties.specs.QueuesRefusing.declared.refusing.pop.Pop.TheVariants as pop
+use Rattle.iox_lanes_parties.specs.QueuesRings.declared.overflowing.push.Push as overflowing_type
+use Rattle.iox_lanes_parties.specs.QueuesRings.declared.overflowing.push.Push.TheVariants as overflowing
+use Rattle.iox_lanes_parties.specs.QueuesRings.declared.overflowing.pop.Pop.TheVariants as overflowing_pop
+use Rattle.iox_lanes_parties.specs.QueuesRings.declared.refusing.push.Push as refusing_type
+use Rattle.iox_lanes_parties.specs.QueuesRings.declared.refusing.push.Push.TheVariants as refusing
+use Rattle.iox_lanes_parties.specs.QueuesRings.declared.refusing.pop.Pop.{Pop}
+use Rattle.iox_lanes_parties.specs.QueuesRings.declared.refusing.pop.Pop.TheVariants as pop
 use Rattle.iox_lanes_parties.specs.QueuesRings.declared.ends.Pop as ring_pop
 use Rattle.iox_lanes_parties.specs.QueuesRings.declared.ends.Pop.TheVariants as rings
 use Rattle.iox_lanes_parties.specs.QueuesRings.declared.ends.Push.{Push}
 use Rattle.iox_lanes_parties.specs.QueuesRings.declared.ends.Push.TheVariants as ring
-use Rattle.iox_lanes_parties.specs.LanesCalls.declared.calls.publisher.PublisherCall.{PublisherCall}
-use Rattle.iox_lanes_parties.specs.LanesCalls.declared.calls.publisher.PublisherCall.TheVariants as publishing
-use Rattle.iox_lanes_parties.specs.LanesCalls.declared.calls.route.Route.{Route}
-use Rattle.iox_lanes_parties.specs.LanesCalls.declared.calls.subscriber.SubscriberCall.{SubscriberCall}
-use Rattle.iox_lanes_parties.specs.LanesCalls.declared.calls.subscriber.SubscriberCall.TheVariants as subscribing
+use Rattle.iox_lanes_parties.specs.LanesBase.declared.calls.publisher.PublisherCall.{PublisherCall}
+use Rattle.iox_lanes_parties.specs.LanesBase.declared.calls.publisher.PublisherCall.TheVariants as publishing
+use Rattle.iox_lanes_parties.specs.LanesBase.declared.calls.route.Route.{Route}
+use Rattle.iox_lanes_parties.specs.LanesBase.declared.calls.subscriber.SubscriberCall.{SubscriberCall}
+use Rattle.iox_lanes_parties.specs.LanesBase.declared.calls.subscriber.SubscriberCall.TheVariants as subscribing
 use Rattle.iox_lanes_parties.specs.PublisherKeeping.{BookState}
 use Rattle.iox_lanes_parties.specs.declared.publisher.slot_book.LoanMark.TheVariants as mark
 use Rattle.iox_lanes_parties.specs.Parties.{SubscriberLaneState, is_out}

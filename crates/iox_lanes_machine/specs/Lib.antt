@@ -39,12 +39,7 @@ pub mod Sending
 pub mod Borrowing
 pub mod LedgerRooms
 pub mod Pace
-pub use Rattle.iox_lanes_parties.specs.LanesCalls as LanesCalls
+pub use Rattle.iox_lanes_parties.specs.LanesBase as LanesBase
 pub use Rattle.iox_lanes_parties.specs as LanesParties
-pub use Rattle.iox_lanes_parties.specs as LanesPublisher
-pub use Rattle.iox_lanes_parties.specs as LanesSubscriber
-pub use Rattle.iox_lanes_parties.specs.LanesWords as LanesWords
-pub use Rattle.iox_lanes_parties.specs.QueuesOverflowing as QueuesOverflowing
-pub use Rattle.iox_lanes_parties.specs.QueuesRefusing as QueuesRefusing
 pub use Rattle.iox_lanes_parties.specs.QueuesRings as QueuesRings
 pub use Rattle.iox_lanes_parties.specs.QueuesSteps as QueuesSteps

@@ -1,12 +1,12 @@
 -- Lanes as they are made: each publisher has a connection to each subscriber, and nothing was done yet.
 use Rattle.std.specs.Prelude.{ℕ, zero, suc, ◌+◌, ◌*◌, ◌/◌, ◌%◌, List, [], ◌∷◌, ◌++◌, replicate}
 use Rattle.iox_lanes_machine.specs.QueuesRings.Ends.{cells_of}
-use Rattle.iox_lanes_machine.specs.LanesWords.Numbers.{words_of}
-use Rattle.iox_lanes_machine.specs.LanesWords.declared.words.sizes.TableSizes.{TableSizes}
-use Rattle.iox_lanes_machine.specs.LanesCalls.declared.calls.route.Route.{Route}
-use Rattle.iox_lanes_machine.specs.LanesPublisher.PublisherKeeping.{new_book}
-use Rattle.iox_lanes_machine.specs.LanesPublisher.Publishers.{new_publisher}
-use Rattle.iox_lanes_machine.specs.LanesSubscriber.Keeping.{new_subscriber}
+use Rattle.iox_lanes_machine.specs.LanesBase.Numbers.{words_of}
+use Rattle.iox_lanes_machine.specs.LanesBase.declared.words.sizes.TableSizes.{TableSizes}
+use Rattle.iox_lanes_machine.specs.LanesBase.declared.calls.route.Route.{Route}
+use Rattle.iox_lanes_machine.specs.LanesParties.PublisherKeeping.{new_book}
+use Rattle.iox_lanes_machine.specs.LanesParties.Publishers.{new_publisher}
+use Rattle.iox_lanes_machine.specs.LanesParties.Keeping.{new_subscriber}
 use Rattle.iox_lanes_machine.specs.LanesParties.Parties.{PublisherLaneState, SubscriberLaneState}
 use Rattle.iox_lanes_machine.specs.LanesParties.declared.call.CallName.TheVariants as name
 use Rattle.iox_lanes_machine.specs.World.{World}

@@ -1,13 +1,13 @@
 -- How many steps a publisher's call may still make.
 use Rattle.std.specs.Prelude.{ℕ, ◌+◌, ◌-◌, ◌*◌}
-use Rattle.iox_lanes_parties.specs.QueuesOverflowing.declared.overflowing.push.Push.TheVariants as overflowing
-use Rattle.iox_lanes_parties.specs.QueuesRefusing.declared.refusing.push.Push.TheVariants as refusing
-use Rattle.iox_lanes_parties.specs.QueuesRefusing.declared.refusing.pop.Pop.{Pop}
-use Rattle.iox_lanes_parties.specs.QueuesRefusing.declared.refusing.pop.Pop.TheVariants as pop
+use Rattle.iox_lanes_parties.specs.QueuesRings.declared.overflowing.push.Push.TheVariants as overflowing
+use Rattle.iox_lanes_parties.specs.QueuesRings.declared.refusing.push.Push.TheVariants as refusing
+use Rattle.iox_lanes_parties.specs.QueuesRings.declared.refusing.pop.Pop.{Pop}
+use Rattle.iox_lanes_parties.specs.QueuesRings.declared.refusing.pop.Pop.TheVariants as pop
 use Rattle.iox_lanes_parties.specs.QueuesRings.declared.ends.Push.{Push}
 use Rattle.iox_lanes_parties.specs.QueuesRings.declared.ends.Push.TheVariants as ring
-use Rattle.iox_lanes_parties.specs.LanesCalls.declared.calls.publisher.PublisherCall.{PublisherCall}
-use Rattle.iox_lanes_parties.specs.LanesCalls.declared.calls.publisher.PublisherCall.TheVariants as publishing
+use Rattle.iox_lanes_parties.specs.LanesBase.declared.calls.publisher.PublisherCall.{PublisherCall}
+use Rattle.iox_lanes_parties.specs.LanesBase.declared.calls.publisher.PublisherCall.TheVariants as publishing
 use Rattle.iox_lanes_parties.specs.PublisherKeeping.{BookState}
 use Rattle.iox_lanes_machine.specs.LedgerRooms.{slots_at}
 

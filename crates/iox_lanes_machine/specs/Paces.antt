@@ -1,6 +1,6 @@
 -- How many steps a loan and a send take, however the steps of others fall between theirs.
 use Rattle.std.specs.Prelude.{ℕ, ◌≡◌, ◌+◌, ◌*◌, ◌<◌, ◌≤◌, ◌^◌, Bool, true, false, List, [], ◌∷◌, slice_get, Some}
-use Rattle.iox_lanes_machine.specs.LanesCalls.Publishing.{publisher_is_idle}
+use Rattle.iox_lanes_machine.specs.LanesBase.Publishing.{publisher_is_idle}
 use Rattle.iox_lanes_machine.specs.LanesParties.Parties.{PublisherLaneState}
 use Rattle.iox_lanes_machine.specs.LanesParties.declared.call.Call.TheVariants as call
 use Rattle.iox_lanes_machine.specs.LanesParties.declared.call.Entry.{Entry}

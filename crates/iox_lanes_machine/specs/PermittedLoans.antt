@@ -1,7 +1,7 @@
 -- A loan ends as its publisher's record says when it begins: refused, or with a slot.
 use Rattle.std.specs.Prelude.{ℕ, ◌≡◌, ◌+◌, ◌<◌, ◌≤◌, ◌^◌, List, [], ◌∷◌, ◌++◌, true, length, slice_get, Some}
-use Rattle.iox_lanes_machine.specs.LanesPublisher.declared.publisher.slot_book.LoanAnswer.{LoanAnswer}
-use Rattle.iox_lanes_machine.specs.LanesPublisher.declared.publisher.slot_book.LoanAnswer.TheVariants as loan
+use Rattle.iox_lanes_machine.specs.LanesParties.declared.publisher.slot_book.LoanAnswer.{LoanAnswer}
+use Rattle.iox_lanes_machine.specs.LanesParties.declared.publisher.slot_book.LoanAnswer.TheVariants as loan
 use Rattle.iox_lanes_machine.specs.LanesParties.Parties.{PublisherLaneState}
 use Rattle.iox_lanes_machine.specs.LanesParties.declared.call.Answer.TheVariants as answer
 use Rattle.iox_lanes_machine.specs.LanesParties.declared.call.Call.TheVariants as call

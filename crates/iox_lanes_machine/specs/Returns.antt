@@ -4,21 +4,21 @@ use Rattle.std.specs.List.{All}
 use Rattle.iox_lanes_machine.specs.QueuesSteps.Access.{RingWords}
 use Rattle.iox_lanes_machine.specs.QueuesSteps.declared.access.Word.{Word}
 use Rattle.iox_lanes_machine.specs.QueuesSteps.declared.access.Word.TheVariants.{Write, Read, Cell}
-use Rattle.iox_lanes_machine.specs.QueuesRefusing.Refusing.{Shape}
-use Rattle.iox_lanes_machine.specs.QueuesRefusing.declared.refusing.push.Push.{Push}
-use Rattle.iox_lanes_machine.specs.QueuesRefusing.declared.refusing.push.Push.TheVariants as push
-use Rattle.iox_lanes_machine.specs.QueuesRefusing.declared.refusing.pop.Pop.{Pop}
-use Rattle.iox_lanes_machine.specs.QueuesRefusing.declared.refusing.pop.Pop.TheVariants as pop
-use Rattle.iox_lanes_machine.specs.LanesWords.Numbers.{number_of}
-use Rattle.iox_lanes_machine.specs.LanesWords.Table.{TableWords, held_by}
-use Rattle.iox_lanes_machine.specs.LanesWords.declared.words.word.ConnectionRing.TheVariants.{Completion}
-use Rattle.iox_lanes_machine.specs.LanesWords.declared.words.word.SharedWord.{SharedWord}
-use Rattle.iox_lanes_machine.specs.LanesWords.declared.words.word.SharedWord.TheVariants.{Ring}
-use Rattle.iox_lanes_machine.specs.LanesCalls.declared.calls.publisher.PublisherCall.{PublisherCall}
-use Rattle.iox_lanes_machine.specs.LanesCalls.declared.calls.publisher.PublisherCall.TheVariants as publishing
-use Rattle.iox_lanes_machine.specs.LanesCalls.declared.calls.route.Route.{Route}
-use Rattle.iox_lanes_machine.specs.LanesCalls.declared.calls.subscriber.SubscriberCall.{SubscriberCall}
-use Rattle.iox_lanes_machine.specs.LanesCalls.declared.calls.subscriber.SubscriberCall.TheVariants as subscribing
+use Rattle.iox_lanes_machine.specs.QueuesRings.Refusing.{Shape}
+use Rattle.iox_lanes_machine.specs.QueuesRings.declared.refusing.push.Push.{Push}
+use Rattle.iox_lanes_machine.specs.QueuesRings.declared.refusing.push.Push.TheVariants as push
+use Rattle.iox_lanes_machine.specs.QueuesRings.declared.refusing.pop.Pop.{Pop}
+use Rattle.iox_lanes_machine.specs.QueuesRings.declared.refusing.pop.Pop.TheVariants as pop
+use Rattle.iox_lanes_machine.specs.LanesBase.Numbers.{number_of}
+use Rattle.iox_lanes_machine.specs.LanesBase.Table.{TableWords, held_by}
+use Rattle.iox_lanes_machine.specs.LanesBase.declared.words.word.ConnectionRing.TheVariants.{Completion}
+use Rattle.iox_lanes_machine.specs.LanesBase.declared.words.word.SharedWord.{SharedWord}
+use Rattle.iox_lanes_machine.specs.LanesBase.declared.words.word.SharedWord.TheVariants.{Ring}
+use Rattle.iox_lanes_machine.specs.LanesBase.declared.calls.publisher.PublisherCall.{PublisherCall}
+use Rattle.iox_lanes_machine.specs.LanesBase.declared.calls.publisher.PublisherCall.TheVariants as publishing
+use Rattle.iox_lanes_machine.specs.LanesBase.declared.calls.route.Route.{Route}
+use Rattle.iox_lanes_machine.specs.LanesBase.declared.calls.subscriber.SubscriberCall.{SubscriberCall}
+use Rattle.iox_lanes_machine.specs.LanesBase.declared.calls.subscriber.SubscriberCall.TheVariants as subscribing
 use Rattle.iox_lanes_machine.specs.LanesParties.Parties.{PublisherLaneState, SubscriberLaneState}
 use Rattle.iox_lanes_machine.specs.World.{World, publisher_stage, subscriber_stage}
 use Rattle.iox_lanes_machine.specs.Links.{LinkState}

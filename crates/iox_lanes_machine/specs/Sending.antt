@@ -1,13 +1,13 @@
 -- What a send that is under way knows of its slot: the connections that it has not come to lack it.
 use Rattle.std.specs.Prelude.{ℕ, ◌≡◌, ◌+◌, ◌<◌, ◌≤◌, false}
-use Rattle.iox_lanes_parties.specs.QueuesOverflowing.declared.overflowing.push.Push as overflowing_type
-use Rattle.iox_lanes_parties.specs.QueuesOverflowing.declared.overflowing.push.Push.TheVariants as overflowing
-use Rattle.iox_lanes_parties.specs.QueuesRefusing.declared.refusing.push.Push as refusing_type
-use Rattle.iox_lanes_parties.specs.QueuesRefusing.declared.refusing.push.Push.TheVariants as refusing
+use Rattle.iox_lanes_parties.specs.QueuesRings.declared.overflowing.push.Push as overflowing_type
+use Rattle.iox_lanes_parties.specs.QueuesRings.declared.overflowing.push.Push.TheVariants as overflowing
+use Rattle.iox_lanes_parties.specs.QueuesRings.declared.refusing.push.Push as refusing_type
+use Rattle.iox_lanes_parties.specs.QueuesRings.declared.refusing.push.Push.TheVariants as refusing
 use Rattle.iox_lanes_parties.specs.QueuesRings.declared.ends.Push.{Push}
 use Rattle.iox_lanes_parties.specs.QueuesRings.declared.ends.Push.TheVariants as ring
-use Rattle.iox_lanes_parties.specs.LanesCalls.declared.calls.publisher.PublisherCall.{PublisherCall}
-use Rattle.iox_lanes_parties.specs.LanesCalls.declared.calls.publisher.PublisherCall.TheVariants as publishing
+use Rattle.iox_lanes_parties.specs.LanesBase.declared.calls.publisher.PublisherCall.{PublisherCall}
+use Rattle.iox_lanes_parties.specs.LanesBase.declared.calls.publisher.PublisherCall.TheVariants as publishing
 use Rattle.iox_lanes_parties.specs.PublisherKeeping.{BookState, loan_of}
 use Rattle.iox_lanes_parties.specs.Parties.{is_out}
 use Rattle.iox_lanes_machine.specs.LedgerUses.{refers_to, IsOwn}

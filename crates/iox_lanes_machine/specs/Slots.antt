@@ -1,12 +1,12 @@
 -- Words of slots are stored only while the slot is a loan of the publisher that stores them, and no slot is a loan of two publishers.
 use Rattle.std.specs.Prelude.{ℕ, ◌≡◌, ◌+◌, ◌<◌, ◌≤◌, true, length, slice_get, Some}
-use Rattle.iox_lanes_machine.specs.LanesWords.Numbers.{IsWord}
-use Rattle.iox_lanes_machine.specs.LanesWords.Table.{held_by}
-use Rattle.iox_lanes_machine.specs.LanesWords.declared.words.word.SlotWord.{SlotWord}
-use Rattle.iox_lanes_machine.specs.LanesWords.declared.words.word.SharedWord.TheVariants.{Slot}
-use Rattle.iox_lanes_machine.specs.LanesCalls.declared.calls.publisher.PublisherCall.{PublisherCall}
-use Rattle.iox_lanes_machine.specs.LanesCalls.declared.calls.publisher.PublisherCall.TheVariants as publishing
-use Rattle.iox_lanes_machine.specs.LanesPublisher.PublisherKeeping.{BookState, loan_of}
+use Rattle.iox_lanes_machine.specs.LanesBase.Numbers.{IsWord}
+use Rattle.iox_lanes_machine.specs.LanesBase.Table.{held_by}
+use Rattle.iox_lanes_machine.specs.LanesBase.declared.words.word.SlotWord.{SlotWord}
+use Rattle.iox_lanes_machine.specs.LanesBase.declared.words.word.SharedWord.TheVariants.{Slot}
+use Rattle.iox_lanes_machine.specs.LanesBase.declared.calls.publisher.PublisherCall.{PublisherCall}
+use Rattle.iox_lanes_machine.specs.LanesBase.declared.calls.publisher.PublisherCall.TheVariants as publishing
+use Rattle.iox_lanes_machine.specs.LanesParties.PublisherKeeping.{BookState, loan_of}
 use Rattle.iox_lanes_machine.specs.LanesParties.Parties.{PublisherLaneState, is_out}
 use Rattle.iox_lanes_machine.specs.LanesParties.declared.call.Party.{Party}
 use Rattle.iox_lanes_machine.specs.LanesParties.declared.call.Party.TheVariants.{Publisher, Subscriber}

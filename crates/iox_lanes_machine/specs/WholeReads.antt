@@ -1,9 +1,9 @@
 -- A read gives what its slot held when its message was sent, whatever steps lie between.
 use Rattle.std.specs.Prelude.{ℕ, ◌≡◌, ◌+◌, ◌<◌, ◌≤◌, ◌^◌, ◌⊎◌, true, false, List, [], ◌∷◌, ◌++◌, length, get_or}
-use Rattle.iox_lanes_machine.specs.LanesWords.Table.{held_by}
-use Rattle.iox_lanes_machine.specs.LanesWords.declared.words.word.SharedWord.{SharedWord}
-use Rattle.iox_lanes_machine.specs.LanesWords.declared.words.word.SharedWord.TheVariants.{Slot}
-use Rattle.iox_lanes_machine.specs.LanesCalls.Subscribing.{word_at}
+use Rattle.iox_lanes_machine.specs.LanesBase.Table.{held_by}
+use Rattle.iox_lanes_machine.specs.LanesBase.declared.words.word.SharedWord.{SharedWord}
+use Rattle.iox_lanes_machine.specs.LanesBase.declared.words.word.SharedWord.TheVariants.{Slot}
+use Rattle.iox_lanes_machine.specs.LanesBase.Subscribing.{word_at}
 use Rattle.iox_lanes_machine.specs.LanesParties.declared.call.CallName.TheVariants as name
 use Rattle.iox_lanes_machine.specs.LanesParties.declared.call.Entry.{Entry}
 use Rattle.iox_lanes_machine.specs.LanesParties.declared.call.FinishedCall.{FinishedCall}

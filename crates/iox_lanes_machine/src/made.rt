@@ -7,10 +7,10 @@ use crate::order::Order;
 use crate::sizes::LaneSizes;
 use iox_lanes_base::calls::Route;
 use iox_lanes_base::calls::subscriber::SlotExtent;
-use iox_lanes_parties::{Head, PublisherLane, SubscriberLane};
+use iox_lanes_base::words::TableSizes;
 use iox_lanes_parties::publisher::{LanePublisher, SlotBook};
 use iox_lanes_parties::subscriber::LaneSubscriber;
-use iox_lanes_base::words::TableSizes;
+use iox_lanes_parties::{Head, PublisherLane, SubscriberLane};
 use std::alloc::{AllocError, Global};
 
 /// The links that the first connections are.

@@ -2,8 +2,8 @@
 ghost use Rattle.std.specs.Prelude.{◌≡◌, if◌then◌else◌, [], None};
 ghost use Rattle.std.specs.Option.{option_to_list};
 ghost use Rattle.iox_lanes_machine.specs.QueuesRings.Ends.{late_put};
-ghost use Rattle.iox_lanes_machine.specs.LanesWords.Numbers.{IsWord};
-ghost use Rattle.iox_lanes_machine.specs.LanesWords.Table.{held_by};
+ghost use Rattle.iox_lanes_machine.specs.LanesBase.Numbers.{IsWord};
+ghost use Rattle.iox_lanes_machine.specs.LanesBase.Table.{held_by};
 ghost use Rattle.iox_lanes_machine.specs.Rings.{push_on, sent_word};
 
 use iox_lanes_base::calls::PublisherCall;

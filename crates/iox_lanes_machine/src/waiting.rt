@@ -2,7 +2,7 @@
 ghost use Rattle.std.specs.Prelude.{◌≡◌, ◌+◌, ◌-◌, ◌<◌, ◌≤◌, ◌%◌, length, slice_get, Some};
 ghost use Rattle.iox_lanes_machine.specs.QueuesRings.Ends.{cells_of};
 ghost use Rattle.iox_lanes_machine.specs.QueuesSteps.declared.access.Word.TheVariants.{Cell};
-ghost use Rattle.iox_lanes_machine.specs.LanesWords.Table.{held_by};
+ghost use Rattle.iox_lanes_machine.specs.LanesBase.Table.{held_by};
 ghost use Rattle.iox_lanes_machine.specs.Kept.{IsWithin};
 ghost use Rattle.iox_lanes_machine.specs.Links.{LinkState};
 ghost use Rattle.iox_lanes_machine.specs.Mailboxes.{positions_of};

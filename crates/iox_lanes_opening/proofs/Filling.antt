@@ -10,7 +10,7 @@ use Rattle.std.specs.List.{All}
 use Rattle.iox_domain_sender.specs.DomainSlots.Uses.{Connection, nobody, connection_at}
 use Rattle.iox_domain_sender.specs.Messages.{Message}
 use Rattle.iox_domain_sender.specs.Sending.{SenderState, with_uses}
-use Rattle.iox_lanes_machine.specs.LanesWords.Table.{TableWords}
+use Rattle.iox_lanes_machine.specs.LanesBase.Table.{TableWords}
 use Rattle.iox_lanes_machine.specs.World.{World}
 use Rattle.iox_lanes_opening.specs.Clearing.{NoneBorrowed, IsCleared}
 use Rattle.iox_lanes_opening.specs.Restoring.{AreLeft, IsLeft, IsOwn, IsQuiet, OnlyWaits, OnlyRemembers, MayRememberAll, messages_in}

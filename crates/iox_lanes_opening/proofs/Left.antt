@@ -7,7 +7,7 @@ use Rattle.iox_domain_sender.specs.DomainSlots.QueuesBase.Waiting.{put, put_over
 use Rattle.iox_domain_sender.specs.DomainSlots.Uses.{Uses, Connection, nobody, connection_at, with_connection, offered, newest}
 use Rattle.iox_domain_sender.specs.Messages.{Message, Loan}
 use Rattle.iox_domain_sender.specs.Sending.{IsIfInSlot, StandsAlone}
-use Rattle.iox_lanes_machine.specs.LanesWords.Table.{TableWords}
+use Rattle.iox_lanes_machine.specs.LanesBase.Table.{TableWords}
 use Rattle.iox_lanes_opening.specs.Leaving.{message_in}
 use Rattle.iox_lanes_opening.specs.Restoring.{IsLeft, AreLeft}
 

@@ -4,7 +4,7 @@ use Rattle.std.proofs.lemmas.List.{map-append, length-map, length-take-le, take_
 use Rattle.std.proofs.lemmas.Option.{get_or_from_slice_get, slice_get-get_or}
 use Rattle.iox_domain_sender.specs.DomainSlots.Uses.{newest}
 use Rattle.iox_domain_sender.specs.Sending.{SenderState, with_uses}
-use Rattle.iox_lanes_machine.specs.LanesWords.Table.{TableWords}
+use Rattle.iox_lanes_machine.specs.LanesBase.Table.{TableWords}
 use Rattle.iox_lanes_opening.specs.Leaving.{message_in}
 use Rattle.iox_lanes_opening.specs.Restoring.{AreLeft, IsOwn, IsQuiet, OnlyRemembers, MayRememberAll, messages_in}
 use Rattle.iox_lanes_opening.proofs.Returning.{message_of}

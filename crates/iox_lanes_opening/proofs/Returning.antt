@@ -7,7 +7,7 @@ use Rattle.iox_domain_sender.specs.DomainSlots.declared.stage.Stage.TheVariants 
 use Rattle.iox_domain_sender.specs.DomainSlots.Uses.{Connection, nobody, connection_at, with_connection, offered}
 use Rattle.iox_domain_sender.specs.Messages.{Message}
 use Rattle.iox_domain_sender.specs.Sending.{SenderState, with_uses}
-use Rattle.iox_lanes_machine.specs.LanesWords.Table.{TableWords}
+use Rattle.iox_lanes_machine.specs.LanesBase.Table.{TableWords}
 use Rattle.iox_lanes_machine.specs.Resting.{Rests, mail_at}
 use Rattle.iox_lanes_machine.specs.World.{World}
 use Rattle.iox_lanes_opening.specs.Leaving.{message_in}

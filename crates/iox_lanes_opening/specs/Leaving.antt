@@ -1,10 +1,10 @@
 -- The messages that lie in the words of slots.
 use Rattle.std.specs.Prelude.{ℕ, ◌+◌, List, [], ◌∷◌, take, drop}
 use Rattle.iox_domain_sender.specs.Messages.{Message}
-use Rattle.iox_lanes_machine.specs.LanesWords.Numbers.{number_of}
-use Rattle.iox_lanes_machine.specs.LanesWords.Table.{TableWords, held_by}
-use Rattle.iox_lanes_machine.specs.LanesWords.declared.words.word.SharedWord.TheVariants.{Slot}
-use Rattle.iox_lanes_machine.specs.LanesWords.declared.words.word.SlotWord.TheVariants.{Header, UserHeader, Payload}
+use Rattle.iox_lanes_machine.specs.LanesBase.Numbers.{number_of}
+use Rattle.iox_lanes_machine.specs.LanesBase.Table.{TableWords, held_by}
+use Rattle.iox_lanes_machine.specs.LanesBase.declared.words.word.SharedWord.TheVariants.{Slot}
+use Rattle.iox_lanes_machine.specs.LanesBase.declared.words.word.SlotWord.TheVariants.{Header, UserHeader, Payload}
 
 -- how many elements the header of a slot says
 abbrev pub elements_in : TableWords → ℕ → ℕ

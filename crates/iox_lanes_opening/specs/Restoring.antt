@@ -5,8 +5,8 @@ use Rattle.iox_domain_sender.specs.DomainSlots.Uses.{Uses, connection_at, with_c
 use Rattle.iox_domain_sender.specs.DomainSlots.declared.stage.Stage.TheVariants as stage
 use Rattle.iox_domain_sender.specs.Messages.{Message, Loan}
 use Rattle.iox_domain_sender.specs.Sending.{SenderState, with_uses}
-use Rattle.iox_lanes_machine.specs.LanesWords.Numbers.{words_of}
-use Rattle.iox_lanes_machine.specs.LanesWords.Table.{TableWords}
+use Rattle.iox_lanes_machine.specs.LanesBase.Numbers.{words_of}
+use Rattle.iox_lanes_machine.specs.LanesBase.Table.{TableWords}
 use Rattle.iox_lanes_machine.specs.Resting.{Rests, mail_at}
 use Rattle.iox_lanes_machine.specs.World.{World}
 use Rattle.iox_lanes_opening.specs.Leaving.{message_in}

@@ -1,8 +1,8 @@
 //! What the lanes of a domain do.
 use iox_lanes_base::calls::{Delivery, Receipt};
 use iox_lanes_machine::Lanes;
-use iox_lanes_parties::{Answer, Call, Move, Party};
 use iox_lanes_parties::publisher::LoanAnswer;
+use iox_lanes_parties::{Answer, Call, Move, Party};
 use iox_queues_steps::Stepped;
 use std::alloc::{AllocError, Global};
 use std::process::Abort;

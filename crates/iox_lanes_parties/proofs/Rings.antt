@@ -8,11 +8,11 @@ use Rattle.iox_lanes_parties.specs.QueuesSteps.declared.access.Word.{Word}
 use Rattle.iox_lanes_parties.specs.QueuesSteps.declared.access.Word.TheVariants.{Write, Read, Cell}
 use Rattle.iox_lanes_parties.specs.QueuesSteps.declared.access.Access.{Access}
 use Rattle.iox_lanes_parties.specs.QueuesSteps.declared.access.Access.TheVariants as own
-use Rattle.iox_lanes_parties.specs.LanesWords.Numbers.{most_cells, IsRingWord}
-use Rattle.iox_lanes_parties.specs.LanesWords.Table.{IsOfTable}
-use Rattle.iox_lanes_parties.specs.LanesWords.Words.{cell_word, on_ring}
-use Rattle.iox_lanes_parties.specs.LanesWords.declared.words.sizes.TableSizes.{TableSizes}
-use Rattle.iox_lanes_parties.specs.LanesWords.declared.words.word.ConnectionRing.{ConnectionRing}
+use Rattle.iox_lanes_parties.specs.LanesBase.Numbers.{most_cells, IsRingWord}
+use Rattle.iox_lanes_parties.specs.LanesBase.Table.{IsOfTable}
+use Rattle.iox_lanes_parties.specs.LanesBase.Words.{cell_word, on_ring}
+use Rattle.iox_lanes_parties.specs.LanesBase.declared.words.sizes.TableSizes.{TableSizes}
+use Rattle.iox_lanes_parties.specs.LanesBase.declared.words.word.ConnectionRing.{ConnectionRing}
 
 pub and_left : (a b : Bool) → (a && b) ≡ true → a ≡ true
 and_left true b h = refl

@@ -8,23 +8,23 @@ use Rattle.iox_lanes_parties.specs.QueuesSteps.declared.order.PushAnswer.{PushAn
 use Rattle.iox_lanes_parties.specs.QueuesSteps.declared.order.PushAnswer.TheVariants.{Kept, LeftOut, Refused}
 use Rattle.iox_lanes_parties.specs.QueuesSteps.declared.order.PopAnswer.{PopAnswer}
 use Rattle.iox_lanes_parties.specs.QueuesSteps.declared.order.PopAnswer.TheVariants.{Got, Saw}
-use Rattle.iox_lanes_parties.specs.QueuesRefusing.Refusing as refusing
-use Rattle.iox_lanes_parties.specs.QueuesRefusing.declared.refusing.push.Push.{Push}
+use Rattle.iox_lanes_parties.specs.QueuesRings.Refusing as refusing
+use Rattle.iox_lanes_parties.specs.QueuesRings.declared.refusing.push.Push.{Push}
 use Rattle.iox_lanes_parties.specs.QueuesRings.Ends.{pop_next, pop_take}
 use Rattle.iox_lanes_parties.specs.QueuesRings.declared.ends.Pop.{Pop}
-use Rattle.iox_lanes_parties.specs.LanesWords.Table.{IsOfTable}
-use Rattle.iox_lanes_parties.specs.LanesWords.Numbers.{IsSlotWord}
-use Rattle.iox_lanes_parties.specs.LanesWords.declared.words.sizes.TableSizes.{TableSizes}
-use Rattle.iox_lanes_parties.specs.LanesWords.declared.words.word.ConnectionRing.TheVariants.{Submission, Completion}
-use Rattle.iox_lanes_parties.specs.LanesWords.declared.words.word.SlotWord.TheVariants.{Header, UserHeader, Payload}
-use Rattle.iox_lanes_parties.specs.LanesCalls.Answers.{pop_answer, refusing_push_answer}
-use Rattle.iox_lanes_parties.specs.LanesCalls.Subscribing.{subscriber_next, subscriber_take, subscriber_change, subscriber_is_idle, receive_from, received, is_full_at, released}
-use Rattle.iox_lanes_parties.specs.LanesCalls.declared.calls.route.Route.{Route}
-use Rattle.iox_lanes_parties.specs.LanesCalls.declared.calls.subscriber.SlotExtent.{SlotExtent}
-use Rattle.iox_lanes_parties.specs.LanesCalls.declared.calls.subscriber.SubscriberCall.{SubscriberCall}
-use Rattle.iox_lanes_parties.specs.LanesCalls.declared.calls.subscriber.SubscriberCall.TheVariants as subscribing
-use Rattle.iox_lanes_parties.specs.LanesCalls.declared.calls.subscriber.SubscriberChange.{SubscriberChange}
-use Rattle.iox_lanes_parties.specs.LanesCalls.declared.calls.subscriber.SubscriberChange.TheVariants as change
+use Rattle.iox_lanes_parties.specs.LanesBase.Table.{IsOfTable}
+use Rattle.iox_lanes_parties.specs.LanesBase.Numbers.{IsSlotWord}
+use Rattle.iox_lanes_parties.specs.LanesBase.declared.words.sizes.TableSizes.{TableSizes}
+use Rattle.iox_lanes_parties.specs.LanesBase.declared.words.word.ConnectionRing.TheVariants.{Submission, Completion}
+use Rattle.iox_lanes_parties.specs.LanesBase.declared.words.word.SlotWord.TheVariants.{Header, UserHeader, Payload}
+use Rattle.iox_lanes_parties.specs.LanesBase.Answers.{pop_answer, refusing_push_answer}
+use Rattle.iox_lanes_parties.specs.LanesBase.Subscribing.{subscriber_next, subscriber_take, subscriber_change, subscriber_is_idle, receive_from, received, is_full_at, released}
+use Rattle.iox_lanes_parties.specs.LanesBase.declared.calls.route.Route.{Route}
+use Rattle.iox_lanes_parties.specs.LanesBase.declared.calls.subscriber.SlotExtent.{SlotExtent}
+use Rattle.iox_lanes_parties.specs.LanesBase.declared.calls.subscriber.SubscriberCall.{SubscriberCall}
+use Rattle.iox_lanes_parties.specs.LanesBase.declared.calls.subscriber.SubscriberCall.TheVariants as subscribing
+use Rattle.iox_lanes_parties.specs.LanesBase.declared.calls.subscriber.SubscriberChange.{SubscriberChange}
+use Rattle.iox_lanes_parties.specs.LanesBase.declared.calls.subscriber.SubscriberChange.TheVariants as change
 use Rattle.iox_lanes_parties.specs.Keeping.{SubscriberState, put_at, changed}
 use Rattle.iox_lanes_parties.specs.Parties.{SubscriberLaneState, place_of, route_at, is_borrowed, subscriber_may, subscriber_fits, subscriber_begun, subscriber_after, release_begun}
 use Rattle.iox_lanes_parties.specs.Within.{IsRoute, IsAt, IsExtent, IsSubscribing, IsSubscriber, SubscribersStayWithin}

@@ -4,9 +4,6 @@ pub mod Within
 pub mod Keeping
 pub mod PublisherKeeping
 pub mod Publishers
-pub use Rattle.iox_lanes_base.specs as LanesCalls
-pub use Rattle.iox_lanes_base.specs as LanesWords
-pub use Rattle.iox_lanes_base.specs.QueuesOverflowing as QueuesOverflowing
-pub use Rattle.iox_lanes_base.specs.QueuesRefusing as QueuesRefusing
+pub use Rattle.iox_lanes_base.specs as LanesBase
 pub use Rattle.iox_lanes_base.specs.QueuesRings as QueuesRings
 pub use Rattle.iox_lanes_base.specs.QueuesSteps as QueuesSteps

@@ -1,12 +1,12 @@
 -- A publisher and a subscriber with the call that each is in: which calls fit, what a step leaves, what a call answers.
 use Rattle.std.specs.Prelude.{ℕ, ◌+◌, ◌-◌, Bool, true, false, not, ◌&&◌, ◌==◌, if◌then◌else◌, nat_lt, List, [], ◌++◌, length, map, take, set, get_or, slice_get, Option, Some, None}
-use Rattle.iox_lanes_parties.specs.LanesCalls.Publishing.{publisher_is_idle}
-use Rattle.iox_lanes_parties.specs.LanesCalls.Subscribing.{subscriber_is_idle}
-use Rattle.iox_lanes_parties.specs.LanesCalls.declared.calls.publisher.PublisherCall.{PublisherCall}
-use Rattle.iox_lanes_parties.specs.LanesCalls.declared.calls.publisher.PublisherCall.TheVariants as publishing
-use Rattle.iox_lanes_parties.specs.LanesCalls.declared.calls.route.Route.{Route}
-use Rattle.iox_lanes_parties.specs.LanesCalls.declared.calls.subscriber.SubscriberCall.{SubscriberCall}
-use Rattle.iox_lanes_parties.specs.LanesCalls.declared.calls.subscriber.SubscriberCall.TheVariants as subscribing
+use Rattle.iox_lanes_parties.specs.LanesBase.Publishing.{publisher_is_idle}
+use Rattle.iox_lanes_parties.specs.LanesBase.Subscribing.{subscriber_is_idle}
+use Rattle.iox_lanes_parties.specs.LanesBase.declared.calls.publisher.PublisherCall.{PublisherCall}
+use Rattle.iox_lanes_parties.specs.LanesBase.declared.calls.publisher.PublisherCall.TheVariants as publishing
+use Rattle.iox_lanes_parties.specs.LanesBase.declared.calls.route.Route.{Route}
+use Rattle.iox_lanes_parties.specs.LanesBase.declared.calls.subscriber.SubscriberCall.{SubscriberCall}
+use Rattle.iox_lanes_parties.specs.LanesBase.declared.calls.subscriber.SubscriberCall.TheVariants as subscribing
 use Rattle.iox_lanes_parties.specs.PublisherKeeping.{loan_of}
 use Rattle.iox_lanes_parties.specs.Publishers as publishers
 use Rattle.iox_lanes_parties.specs.Publishers.{PublisherState}

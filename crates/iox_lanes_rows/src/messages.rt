@@ -1,7 +1,7 @@
 //! Messages that lanes keep, beside what a read gives.
 use crate::calls::{PUBLISHER, SUBSCRIBER};
-use iox_lanes_machine::{LaneSizes, Lanes};
 use iox_lanes_laws::messages::{Message, RecordedLanes};
+use iox_lanes_machine::{LaneSizes, Lanes};
 use iox_lanes_parties::{Call, Move, Party};
 use iox_queues_rings::RingKind;
 use iox_queues_steps::Stepped;

@@ -6,20 +6,20 @@ use Rattle.iox_lanes_machine.specs.QueuesSteps.declared.order.PopAnswer.{PopAnsw
 use Rattle.iox_lanes_machine.specs.QueuesSteps.declared.order.PopAnswer.TheVariants.{Got, Saw}
 use Rattle.iox_lanes_machine.specs.QueuesSteps.declared.order.PushAnswer.{PushAnswer}
 use Rattle.iox_lanes_machine.specs.QueuesSteps.declared.order.PushAnswer.TheVariants.{Kept, LeftOut, Refused}
-use Rattle.iox_lanes_machine.specs.QueuesRefusing.Refusing as refusing
-use Rattle.iox_lanes_machine.specs.QueuesRefusing.declared.refusing.push.Push as push_type
-use Rattle.iox_lanes_machine.specs.QueuesRefusing.declared.refusing.push.Push.TheVariants as push
+use Rattle.iox_lanes_machine.specs.QueuesRings.Refusing as refusing
+use Rattle.iox_lanes_machine.specs.QueuesRings.declared.refusing.push.Push as push_type
+use Rattle.iox_lanes_machine.specs.QueuesRings.declared.refusing.push.Push.TheVariants as push
 use Rattle.iox_lanes_machine.specs.QueuesRings.Ends.{pop_take}
 use Rattle.iox_lanes_machine.specs.QueuesRings.declared.ends.Pop.{Pop}
-use Rattle.iox_lanes_machine.specs.LanesWords.Numbers.{IsSmall}
-use Rattle.iox_lanes_machine.specs.LanesWords.declared.words.sizes.TableSizes.{TableSizes}
-use Rattle.iox_lanes_machine.specs.LanesCalls.Answers.{pop_answer, refusing_push_answer}
-use Rattle.iox_lanes_machine.specs.LanesCalls.Subscribing.{subscriber_is_idle, subscriber_is_over, subscriber_take, subscriber_change, is_full_at, receive_from, received, released}
-use Rattle.iox_lanes_machine.specs.LanesCalls.declared.calls.route.Route.{Route}
-use Rattle.iox_lanes_machine.specs.LanesCalls.declared.calls.subscriber.Receipt.{Receipt}
-use Rattle.iox_lanes_machine.specs.LanesCalls.declared.calls.subscriber.SlotExtent.{SlotExtent}
-use Rattle.iox_lanes_machine.specs.LanesCalls.declared.calls.subscriber.SubscriberCall.{SubscriberCall}
-use Rattle.iox_lanes_machine.specs.LanesCalls.declared.calls.subscriber.SubscriberCall.TheVariants as subscribing
+use Rattle.iox_lanes_machine.specs.LanesBase.Numbers.{IsSmall}
+use Rattle.iox_lanes_machine.specs.LanesBase.declared.words.sizes.TableSizes.{TableSizes}
+use Rattle.iox_lanes_machine.specs.LanesBase.Answers.{pop_answer, refusing_push_answer}
+use Rattle.iox_lanes_machine.specs.LanesBase.Subscribing.{subscriber_is_idle, subscriber_is_over, subscriber_take, subscriber_change, is_full_at, receive_from, received, released}
+use Rattle.iox_lanes_machine.specs.LanesBase.declared.calls.route.Route.{Route}
+use Rattle.iox_lanes_machine.specs.LanesBase.declared.calls.subscriber.Receipt.{Receipt}
+use Rattle.iox_lanes_machine.specs.LanesBase.declared.calls.subscriber.SlotExtent.{SlotExtent}
+use Rattle.iox_lanes_machine.specs.LanesBase.declared.calls.subscriber.SubscriberCall.{SubscriberCall}
+use Rattle.iox_lanes_machine.specs.LanesBase.declared.calls.subscriber.SubscriberCall.TheVariants as subscribing
 use Rattle.iox_lanes_machine.specs.LanesParties.Parties.{SubscriberLaneState, subscriber_may, subscriber_fits, subscriber_begun, subscriber_after, subscriber_answer, words_read, release_begun, place_of, route_at, is_route}
 use Rattle.iox_lanes_machine.specs.LanesParties.Within.{IsSubscribing, IsSubscriber}
 use Rattle.iox_lanes_machine.specs.LanesParties.declared.call.Answer.{Answer}

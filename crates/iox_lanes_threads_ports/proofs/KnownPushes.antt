@@ -12,36 +12,36 @@ use Rattle.iox_lanes_machine.specs.QueuesSteps.declared.order.PushAnswer.{PushAn
 use Rattle.iox_lanes_machine.specs.QueuesSteps.declared.order.PushAnswer.TheVariants.{Kept, LeftOut, Refused}
 use Rattle.iox_lanes_machine.specs.QueuesSteps.declared.order.PopAnswer.{PopAnswer}
 use Rattle.iox_lanes_machine.specs.QueuesSteps.declared.order.PopAnswer.TheVariants.{Got, Saw}
-use Rattle.iox_lanes_machine.specs.QueuesOverflowing.Overflowing as overflowing
-use Rattle.iox_lanes_machine.specs.QueuesOverflowing.declared.overflowing.push.Push as over_type
-use Rattle.iox_lanes_machine.specs.QueuesOverflowing.declared.overflowing.push.Push.TheVariants as over
-use Rattle.iox_lanes_machine.specs.QueuesRefusing.Refusing as refusing
-use Rattle.iox_lanes_machine.specs.QueuesRefusing.declared.refusing.pop.Pop as pop_type
-use Rattle.iox_lanes_machine.specs.QueuesRefusing.declared.refusing.push.Push.TheVariants as lone
+use Rattle.iox_lanes_machine.specs.QueuesRings.Overflowing as overflowing
+use Rattle.iox_lanes_machine.specs.QueuesRings.declared.overflowing.push.Push as over_type
+use Rattle.iox_lanes_machine.specs.QueuesRings.declared.overflowing.push.Push.TheVariants as over
+use Rattle.iox_lanes_machine.specs.QueuesRings.Refusing as refusing
+use Rattle.iox_lanes_machine.specs.QueuesRings.declared.refusing.pop.Pop as pop_type
+use Rattle.iox_lanes_machine.specs.QueuesRings.declared.refusing.push.Push.TheVariants as lone
 use Rattle.iox_lanes_machine.specs.QueuesRings.Ends.{push_begun, push_next, push_take}
 use Rattle.iox_lanes_machine.specs.QueuesRings.declared.ends.RingKind.{RingKind}
 use Rattle.iox_lanes_machine.specs.QueuesRings.declared.ends.RingKind.TheVariants as kind
 use Rattle.iox_lanes_machine.specs.QueuesRings.declared.ends.Push.{Push}
 use Rattle.iox_lanes_machine.specs.QueuesRings.declared.ends.Push.TheVariants as ring_push
-use Rattle.iox_lanes_machine.specs.LanesWords.Numbers.{words_of, number_of, IsWord, IsSmall}
-use Rattle.iox_lanes_machine.specs.LanesWords.Table.{IsOfTable}
-use Rattle.iox_lanes_machine.specs.LanesWords.Words.{on_ring}
-use Rattle.iox_lanes_machine.specs.LanesWords.declared.words.access.SharedAccess.{SharedAccess}
-use Rattle.iox_lanes_machine.specs.LanesWords.declared.words.access.SharedAccess.TheVariants.{Load, Store, Exchange, Local}
-use Rattle.iox_lanes_machine.specs.LanesWords.declared.words.word.ConnectionRing.{ConnectionRing}
-use Rattle.iox_lanes_machine.specs.LanesWords.declared.words.word.ConnectionRing.TheVariants.{Submission, Completion}
-use Rattle.iox_lanes_machine.specs.LanesWords.declared.words.word.SlotWord.{SlotWord}
-use Rattle.iox_lanes_machine.specs.LanesWords.declared.words.word.SharedWord.{SharedWord}
-use Rattle.iox_lanes_machine.specs.LanesWords.declared.words.word.SharedWord.TheVariants.{Ring, Slot}
-use Rattle.iox_lanes_machine.specs.LanesCalls.Answers.{refusing_pop_answer, push_answer}
-use Rattle.iox_lanes_machine.specs.LanesCalls.Publishing.{publisher_next, publisher_take, header_word, head_from, push_from, sweep_from, send_reclaimed, pushed, counted, nothing_sent}
-use Rattle.iox_lanes_machine.specs.LanesCalls.declared.calls.publisher.Delivery.{Delivery}
-use Rattle.iox_lanes_machine.specs.LanesCalls.declared.calls.publisher.PublisherCall.{PublisherCall}
-use Rattle.iox_lanes_machine.specs.LanesCalls.declared.calls.publisher.PublisherCall.TheVariants as publishing
-use Rattle.iox_lanes_machine.specs.LanesCalls.declared.calls.route.Route.{Route}
+use Rattle.iox_lanes_machine.specs.LanesBase.Numbers.{words_of, number_of, IsWord, IsSmall}
+use Rattle.iox_lanes_machine.specs.LanesBase.Table.{IsOfTable}
+use Rattle.iox_lanes_machine.specs.LanesBase.Words.{on_ring}
+use Rattle.iox_lanes_machine.specs.LanesBase.declared.words.access.SharedAccess.{SharedAccess}
+use Rattle.iox_lanes_machine.specs.LanesBase.declared.words.access.SharedAccess.TheVariants.{Load, Store, Exchange, Local}
+use Rattle.iox_lanes_machine.specs.LanesBase.declared.words.word.ConnectionRing.{ConnectionRing}
+use Rattle.iox_lanes_machine.specs.LanesBase.declared.words.word.ConnectionRing.TheVariants.{Submission, Completion}
+use Rattle.iox_lanes_machine.specs.LanesBase.declared.words.word.SlotWord.{SlotWord}
+use Rattle.iox_lanes_machine.specs.LanesBase.declared.words.word.SharedWord.{SharedWord}
+use Rattle.iox_lanes_machine.specs.LanesBase.declared.words.word.SharedWord.TheVariants.{Ring, Slot}
+use Rattle.iox_lanes_machine.specs.LanesBase.Answers.{refusing_pop_answer, push_answer}
+use Rattle.iox_lanes_machine.specs.LanesBase.Publishing.{publisher_next, publisher_take, header_word, head_from, push_from, sweep_from, send_reclaimed, pushed, counted, nothing_sent}
+use Rattle.iox_lanes_machine.specs.LanesBase.declared.calls.publisher.Delivery.{Delivery}
+use Rattle.iox_lanes_machine.specs.LanesBase.declared.calls.publisher.PublisherCall.{PublisherCall}
+use Rattle.iox_lanes_machine.specs.LanesBase.declared.calls.publisher.PublisherCall.TheVariants as publishing
+use Rattle.iox_lanes_machine.specs.LanesBase.declared.calls.route.Route.{Route}
 use Rattle.iox_lanes_machine.specs.LedgerUses.{one_if, total}
-use Rattle.iox_lanes_machine.specs.LanesPublisher.Publishers.{words_of as call_words}
-use Rattle.iox_lanes_machine.specs.LanesPublisher.declared.publisher.slot_book.LoanAnswer.{LoanAnswer}
+use Rattle.iox_lanes_machine.specs.LanesParties.Publishers.{words_of as call_words}
+use Rattle.iox_lanes_machine.specs.LanesParties.declared.publisher.slot_book.LoanAnswer.{LoanAnswer}
 use Rattle.iox_lanes_machine.specs.LanesParties.Parties.{PublisherLaneState, publisher_fits, publisher_begun, publisher_after, publisher_answer, head_of}
 use Rattle.iox_lanes_machine.specs.LanesParties.Within.{IsPublishing, IsRoute}
 use Rattle.iox_lanes_machine.specs.LanesParties.declared.call.Answer.TheVariants as answer

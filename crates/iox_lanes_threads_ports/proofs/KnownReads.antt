@@ -3,16 +3,16 @@ use Rattle.std.proofs.Common.{ℕ, ◌≡◌, ◌+◌, ◌-◌, ◌*◌, ◌<◌
 use Rattle.std.proofs.lemmas.Bool.{cases_order, ltb-true, ltb-false, lt-ltb}
 use Rattle.std.proofs.lemmas.List.{get_or-set_same, get_or-set_other}
 use Rattle.iox_lanes_machine.specs.QueuesSteps.Access.{successor}
-use Rattle.iox_lanes_machine.specs.LanesWords.Numbers.{slot_words, slots_first, slot_word_number, number_of, words_of, IsSlotWord, IsWord}
-use Rattle.iox_lanes_machine.specs.LanesWords.declared.words.sizes.TableSizes.{TableSizes}
-use Rattle.iox_lanes_machine.specs.LanesWords.declared.words.word.SharedWord.TheVariants.{Slot}
-use Rattle.iox_lanes_machine.specs.LanesWords.declared.words.word.SlotWord.TheVariants.{Header, UserHeader, Payload}
-use Rattle.iox_lanes_machine.specs.LanesCalls.Subscribing.{word_at, subscriber_next, subscriber_take, subscriber_change, subscriber_is_over, read_at}
-use Rattle.iox_lanes_machine.specs.LanesCalls.declared.calls.route.Route.{Route}
-use Rattle.iox_lanes_machine.specs.LanesCalls.declared.calls.subscriber.SlotExtent.{SlotExtent}
-use Rattle.iox_lanes_machine.specs.LanesCalls.declared.calls.subscriber.SubscriberCall.{SubscriberCall}
-use Rattle.iox_lanes_machine.specs.LanesCalls.declared.calls.subscriber.SubscriberCall.TheVariants as subscribing
-use Rattle.iox_lanes_machine.specs.LanesSubscriber.Keeping.{SubscriberState, put_at, changed}
+use Rattle.iox_lanes_machine.specs.LanesBase.Numbers.{slot_words, slots_first, slot_word_number, number_of, words_of, IsSlotWord, IsWord}
+use Rattle.iox_lanes_machine.specs.LanesBase.declared.words.sizes.TableSizes.{TableSizes}
+use Rattle.iox_lanes_machine.specs.LanesBase.declared.words.word.SharedWord.TheVariants.{Slot}
+use Rattle.iox_lanes_machine.specs.LanesBase.declared.words.word.SlotWord.TheVariants.{Header, UserHeader, Payload}
+use Rattle.iox_lanes_machine.specs.LanesBase.Subscribing.{word_at, subscriber_next, subscriber_take, subscriber_change, subscriber_is_over, read_at}
+use Rattle.iox_lanes_machine.specs.LanesBase.declared.calls.route.Route.{Route}
+use Rattle.iox_lanes_machine.specs.LanesBase.declared.calls.subscriber.SlotExtent.{SlotExtent}
+use Rattle.iox_lanes_machine.specs.LanesBase.declared.calls.subscriber.SubscriberCall.{SubscriberCall}
+use Rattle.iox_lanes_machine.specs.LanesBase.declared.calls.subscriber.SubscriberCall.TheVariants as subscribing
+use Rattle.iox_lanes_machine.specs.LanesParties.Keeping.{SubscriberState, put_at, changed}
 use Rattle.iox_lanes_machine.specs.LanesParties.Parties.{SubscriberLaneState, subscriber_begun, subscriber_after, words_read}
 use Rattle.iox_lanes_machine.specs.LanesParties.Within.{IsSubscribing, IsExtent}
 use Rattle.iox_lanes_machine.specs.LanesParties.declared.call.Call.TheVariants as call

@@ -4,25 +4,25 @@ use Rattle.std.proofs.lemmas.Bool.{cases_lt, eq-eqb}
 use Rattle.std.proofs.lemmas.Option.{slice_get_within}
 use Rattle.iox_lanes_machine.specs.QueuesSteps.Access.{successor}
 use Rattle.iox_lanes_machine.specs.QueuesSteps.declared.order.PushAnswer.TheVariants.{Kept, LeftOut, Refused}
-use Rattle.iox_lanes_machine.specs.QueuesOverflowing.declared.overflowing.push.Push.TheVariants as overflowing_push
-use Rattle.iox_lanes_machine.specs.QueuesRefusing.Refusing as refusing
-use Rattle.iox_lanes_machine.specs.QueuesRefusing.declared.refusing.push.Push.TheVariants as refusing_push
-use Rattle.iox_lanes_machine.specs.QueuesRefusing.declared.refusing.pop.Pop.{Pop}
-use Rattle.iox_lanes_machine.specs.QueuesRefusing.declared.refusing.pop.Pop.TheVariants as pop
+use Rattle.iox_lanes_machine.specs.QueuesRings.declared.overflowing.push.Push.TheVariants as overflowing_push
+use Rattle.iox_lanes_machine.specs.QueuesRings.Refusing as refusing
+use Rattle.iox_lanes_machine.specs.QueuesRings.declared.refusing.push.Push.TheVariants as refusing_push
+use Rattle.iox_lanes_machine.specs.QueuesRings.declared.refusing.pop.Pop.{Pop}
+use Rattle.iox_lanes_machine.specs.QueuesRings.declared.refusing.pop.Pop.TheVariants as pop
 use Rattle.iox_lanes_machine.specs.QueuesRings.Ends.{push_begun}
 use Rattle.iox_lanes_machine.specs.QueuesRings.declared.ends.RingKind.{RingKind}
 use Rattle.iox_lanes_machine.specs.QueuesRings.declared.ends.RingKind.TheVariants as kind
 use Rattle.iox_lanes_machine.specs.QueuesRings.declared.ends.Push.{Push}
 use Rattle.iox_lanes_machine.specs.QueuesRings.declared.ends.Push.TheVariants as ring
-use Rattle.iox_lanes_machine.specs.LanesWords.Numbers.{IsSmall}
-use Rattle.iox_lanes_machine.specs.LanesWords.declared.words.sizes.TableSizes.{TableSizes}
-use Rattle.iox_lanes_machine.specs.LanesCalls.Answers.{push_answer, refusing_pop_answer}
-use Rattle.iox_lanes_machine.specs.LanesCalls.Publishing.{publisher_is_over, loan_from, push_from, sweep_from, nothing_sent, counted, pushed, taken_back, loan_reclaimed, send_reclaimed, publisher_take, publisher_change, write_from, head_from}
-use Rattle.iox_lanes_machine.specs.LanesCalls.declared.calls.publisher.Delivery.{Delivery}
-use Rattle.iox_lanes_machine.specs.LanesCalls.declared.calls.publisher.PublisherCall.{PublisherCall}
-use Rattle.iox_lanes_machine.specs.LanesCalls.declared.calls.publisher.PublisherCall.TheVariants as publishing
-use Rattle.iox_lanes_machine.specs.LanesCalls.declared.calls.publisher.PublisherChange.TheVariants as change
-use Rattle.iox_lanes_machine.specs.LanesCalls.declared.calls.route.Route.{Route}
+use Rattle.iox_lanes_machine.specs.LanesBase.Numbers.{IsSmall}
+use Rattle.iox_lanes_machine.specs.LanesBase.declared.words.sizes.TableSizes.{TableSizes}
+use Rattle.iox_lanes_machine.specs.LanesBase.Answers.{push_answer, refusing_pop_answer}
+use Rattle.iox_lanes_machine.specs.LanesBase.Publishing.{publisher_is_over, loan_from, push_from, sweep_from, nothing_sent, counted, pushed, taken_back, loan_reclaimed, send_reclaimed, publisher_take, publisher_change, write_from, head_from}
+use Rattle.iox_lanes_machine.specs.LanesBase.declared.calls.publisher.Delivery.{Delivery}
+use Rattle.iox_lanes_machine.specs.LanesBase.declared.calls.publisher.PublisherCall.{PublisherCall}
+use Rattle.iox_lanes_machine.specs.LanesBase.declared.calls.publisher.PublisherCall.TheVariants as publishing
+use Rattle.iox_lanes_machine.specs.LanesBase.declared.calls.publisher.PublisherChange.TheVariants as change
+use Rattle.iox_lanes_machine.specs.LanesBase.declared.calls.route.Route.{Route}
 use Rattle.iox_lanes_machine.specs.Pace.{pushing_left, sweeps_left}
 use Rattle.iox_lanes_machine.specs.LedgerRooms.{TakesSome, PushGoes}
 use Rattle.iox_lanes_machine.specs.LanesParties.Within.{IsAt, IsPublishing}

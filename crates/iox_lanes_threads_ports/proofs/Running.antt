@@ -1,21 +1,21 @@
 -- A port that goes on step by step.
 use Rattle.std.proofs.Common.{ℕ, ◌≡◌, ◌+◌, ◌<◌, ◌≤◌, ◌⊎◌, true, false, List, Option, Some, None, is_some, refl, sym, ◌∙◌, ap, subst, inl, inr, arith}
 use Rattle.atomic_table.specs.Table.{Me}
-use Rattle.iox_lanes_machine.specs.LanesWords.Numbers.{IsSmall}
-use Rattle.iox_lanes_machine.specs.LanesWords.declared.words.sizes.TableSizes.{TableSizes}
-use Rattle.iox_lanes_machine.specs.LanesCalls.Publishing.{publisher_next, publisher_is_over, publisher_change}
-use Rattle.iox_lanes_machine.specs.LanesCalls.declared.calls.route.Route.{Route}
-use Rattle.iox_lanes_machine.specs.LanesCalls.Subscribing.{subscriber_next, subscriber_is_over}
-use Rattle.iox_lanes_machine.specs.LanesCalls.declared.calls.publisher.PublisherCall.{PublisherCall}
-use Rattle.iox_lanes_machine.specs.LanesCalls.declared.calls.publisher.PublisherCall.TheVariants as publishing
-use Rattle.iox_lanes_machine.specs.LanesCalls.declared.calls.subscriber.SubscriberCall.{SubscriberCall}
-use Rattle.iox_lanes_machine.specs.LanesCalls.declared.calls.subscriber.SubscriberCall.TheVariants as subscribing
-use Rattle.iox_lanes_machine.specs.LanesWords.declared.words.access.SharedAccess.{SharedAccess}
-use Rattle.iox_lanes_machine.specs.LanesWords.declared.words.access.SharedAccess.TheVariants.{Local}
+use Rattle.iox_lanes_machine.specs.LanesBase.Numbers.{IsSmall}
+use Rattle.iox_lanes_machine.specs.LanesBase.declared.words.sizes.TableSizes.{TableSizes}
+use Rattle.iox_lanes_machine.specs.LanesBase.Publishing.{publisher_next, publisher_is_over, publisher_change}
+use Rattle.iox_lanes_machine.specs.LanesBase.declared.calls.route.Route.{Route}
+use Rattle.iox_lanes_machine.specs.LanesBase.Subscribing.{subscriber_next, subscriber_is_over}
+use Rattle.iox_lanes_machine.specs.LanesBase.declared.calls.publisher.PublisherCall.{PublisherCall}
+use Rattle.iox_lanes_machine.specs.LanesBase.declared.calls.publisher.PublisherCall.TheVariants as publishing
+use Rattle.iox_lanes_machine.specs.LanesBase.declared.calls.subscriber.SubscriberCall.{SubscriberCall}
+use Rattle.iox_lanes_machine.specs.LanesBase.declared.calls.subscriber.SubscriberCall.TheVariants as subscribing
+use Rattle.iox_lanes_machine.specs.LanesBase.declared.words.access.SharedAccess.{SharedAccess}
+use Rattle.iox_lanes_machine.specs.LanesBase.declared.words.access.SharedAccess.TheVariants.{Local}
 use Rattle.iox_lanes_machine.specs.LanesParties.Parties.{PublisherLaneState, SubscriberLaneState, publisher_after, publisher_answer, publisher_fits, subscriber_after}
 use Rattle.iox_lanes_machine.specs.LanesParties.Within.{IsPublisher}
 use Rattle.iox_lanes_machine.specs.LanesParties.declared.call.Answer.{Answer}
-use Rattle.iox_lanes_machine.specs.LanesPublisher.Publishers.{words_of as call_words}
+use Rattle.iox_lanes_machine.specs.LanesParties.Publishers.{words_of as call_words}
 use Rattle.iox_lanes_threads_rule.specs.declared.service.Service.{Service}
 use Rattle.iox_lanes_threads_rule.specs.Acts.{single, port_of, stepped, ToldBy}
 use Rattle.iox_lanes_threads_rule.specs.declared.view.Port.{Port}

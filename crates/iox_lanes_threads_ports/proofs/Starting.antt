@@ -1,7 +1,7 @@
 -- How many steps a loan, a write and a send make at most, where they begin.
 use Rattle.std.proofs.Common.{ℕ, ◌≡◌, ◌+◌, ◌-◌, slice_get, refl, sym, ap, subst, arith}
-use Rattle.iox_lanes_machine.specs.LanesWords.Numbers.{IsSmall}
-use Rattle.iox_lanes_machine.specs.LanesWords.declared.words.sizes.TableSizes.{TableSizes}
+use Rattle.iox_lanes_machine.specs.LanesBase.Numbers.{IsSmall}
+use Rattle.iox_lanes_machine.specs.LanesBase.declared.words.sizes.TableSizes.{TableSizes}
 use Rattle.iox_lanes_machine.specs.Pace.{sweeps_left}
 use Rattle.iox_lanes_machine.specs.LanesParties.Parties.{PublisherLaneState, head_of}
 use Rattle.iox_lanes_machine.specs.LanesParties.declared.call.Call.TheVariants as call

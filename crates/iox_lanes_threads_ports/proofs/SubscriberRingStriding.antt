@@ -3,19 +3,19 @@ use Rattle.std.proofs.Common.{ℕ, ◌≡◌, ◌-◌, ◌<◌, ◌≤◌, ◌==
 use Rattle.std.proofs.lemmas.Bool.{lt-ltb, le-ltb}
 use Rattle.iox_lanes_machine.specs.QueuesSteps.Access.{successor}
 use Rattle.iox_lanes_machine.specs.QueuesSteps.declared.order.PushAnswer.TheVariants.{Refused}
-use Rattle.iox_lanes_machine.specs.QueuesOverflowing.Overflowing as overflowing
-use Rattle.iox_lanes_machine.specs.QueuesOverflowing.declared.overflowing.pop.Pop.TheVariants as overflowing_pop
-use Rattle.iox_lanes_machine.specs.QueuesRefusing.Refusing as refusing
-use Rattle.iox_lanes_machine.specs.QueuesRefusing.declared.refusing.pop.Pop.TheVariants as refusing_pop
-use Rattle.iox_lanes_machine.specs.QueuesRefusing.declared.refusing.push.Push.{Push}
-use Rattle.iox_lanes_machine.specs.QueuesRefusing.declared.refusing.push.Push.TheVariants as refusing_push
+use Rattle.iox_lanes_machine.specs.QueuesRings.Overflowing as overflowing
+use Rattle.iox_lanes_machine.specs.QueuesRings.declared.overflowing.pop.Pop.TheVariants as overflowing_pop
+use Rattle.iox_lanes_machine.specs.QueuesRings.Refusing as refusing
+use Rattle.iox_lanes_machine.specs.QueuesRings.declared.refusing.pop.Pop.TheVariants as refusing_pop
+use Rattle.iox_lanes_machine.specs.QueuesRings.declared.refusing.push.Push.{Push}
+use Rattle.iox_lanes_machine.specs.QueuesRings.declared.refusing.push.Push.TheVariants as refusing_push
 use Rattle.iox_lanes_machine.specs.QueuesRings.declared.ends.Pop.{Pop}
 use Rattle.iox_lanes_machine.specs.QueuesRings.declared.ends.Pop.TheVariants as ring_pop
-use Rattle.iox_lanes_machine.specs.LanesCalls.Answers.{pop_answer, refusing_push_answer}
-use Rattle.iox_lanes_machine.specs.LanesCalls.Subscribing.{received, released, borrowed_by}
-use Rattle.iox_lanes_machine.specs.LanesCalls.declared.calls.subscriber.SubscriberCall.TheVariants as subscribing
-use Rattle.iox_lanes_machine.specs.LanesCalls.declared.calls.route.Route.{Route}
-use Rattle.iox_lanes_machine.specs.LanesSubscriber.Keeping.{changed}
+use Rattle.iox_lanes_machine.specs.LanesBase.Answers.{pop_answer, refusing_push_answer}
+use Rattle.iox_lanes_machine.specs.LanesBase.Subscribing.{received, released, borrowed_by}
+use Rattle.iox_lanes_machine.specs.LanesBase.declared.calls.subscriber.SubscriberCall.TheVariants as subscribing
+use Rattle.iox_lanes_machine.specs.LanesBase.declared.calls.route.Route.{Route}
+use Rattle.iox_lanes_machine.specs.LanesParties.Keeping.{changed}
 use Rattle.iox_lanes_machine.specs.LanesParties.Parties.{SubscriberLaneState, subscriber_after}
 use Rattle.iox_lanes_threads_ports.specs.Strides.{subscriber_called}
 use Rattle.iox_lanes_threads_ports.proofs.RingStriding.{unequal}

@@ -2,13 +2,13 @@
 use Rattle.std.proofs.Common.{ℕ, ◌≡◌, ◌+◌, ◌<◌, Bool, true, false, if◌then◌else◌, nat_lt, refl, sym, ◌∙◌, ap, subst}
 use Rattle.std.proofs.lemmas.Bool.{lt-ltb}
 use Rattle.atomic_table.specs.Table.{Me}
-use Rattle.iox_lanes_machine.specs.LanesWords.declared.words.access.SharedAccess.{SharedAccess}
-use Rattle.iox_lanes_machine.specs.LanesWords.declared.words.access.SharedAccess.TheVariants.{Load, Store}
-use Rattle.iox_lanes_machine.specs.LanesWords.declared.words.word.SharedWord.{SharedWord}
-use Rattle.iox_lanes_machine.specs.LanesCalls.Subscribing.{subscriber_next, read_at}
-use Rattle.iox_lanes_machine.specs.LanesCalls.declared.calls.subscriber.SlotExtent.{SlotExtent}
-use Rattle.iox_lanes_machine.specs.LanesCalls.declared.calls.subscriber.SubscriberCall.{SubscriberCall}
-use Rattle.iox_lanes_machine.specs.LanesCalls.declared.calls.subscriber.SubscriberCall.TheVariants as subscribing
+use Rattle.iox_lanes_machine.specs.LanesBase.declared.words.access.SharedAccess.{SharedAccess}
+use Rattle.iox_lanes_machine.specs.LanesBase.declared.words.access.SharedAccess.TheVariants.{Load, Store}
+use Rattle.iox_lanes_machine.specs.LanesBase.declared.words.word.SharedWord.{SharedWord}
+use Rattle.iox_lanes_machine.specs.LanesBase.Subscribing.{subscriber_next, read_at}
+use Rattle.iox_lanes_machine.specs.LanesBase.declared.calls.subscriber.SlotExtent.{SlotExtent}
+use Rattle.iox_lanes_machine.specs.LanesBase.declared.calls.subscriber.SubscriberCall.{SubscriberCall}
+use Rattle.iox_lanes_machine.specs.LanesBase.declared.calls.subscriber.SubscriberCall.TheVariants as subscribing
 use Rattle.iox_lanes_machine.specs.LanesParties.Parties.{SubscriberLaneState, subscriber_after}
 use Rattle.iox_lanes_threads_rule.specs.Acts.{single, port_of, stepped, ToldBy}
 use Rattle.iox_lanes_threads_rule.specs.declared.view.Port.{Port}

@@ -3,16 +3,16 @@ use Rattle.std.specs.Prelude.{ℕ, ◌≡◌, ◌+◌, ◌<◌, ◌%◌, Bool, t
 use Rattle.iox_lanes_machine.specs.QueuesSteps.Access.{successor}
 use Rattle.iox_lanes_machine.specs.QueuesSteps.declared.access.Word.TheVariants.{Write, Cell}
 use Rattle.iox_lanes_machine.specs.QueuesRings.declared.ends.RingKind.TheVariants.{Refusing}
-use Rattle.iox_lanes_machine.specs.LanesWords.declared.words.word.ConnectionRing.{ConnectionRing}
-use Rattle.iox_lanes_machine.specs.LanesWords.declared.words.word.ConnectionRing.TheVariants.{Submission, Completion}
-use Rattle.iox_lanes_machine.specs.LanesWords.declared.words.word.SharedWord.{SharedWord}
-use Rattle.iox_lanes_machine.specs.LanesWords.declared.words.word.SharedWord.TheVariants.{Ring, Slot}
-use Rattle.iox_lanes_machine.specs.LanesWords.declared.words.word.SlotWord.TheVariants.{Payload}
-use Rattle.iox_lanes_machine.specs.LanesCalls.Publishing.{header_word}
-use Rattle.iox_lanes_machine.specs.LanesCalls.Subscribing.{word_at}
-use Rattle.iox_lanes_machine.specs.LanesCalls.declared.calls.publisher.Delivery.{Delivery}
-use Rattle.iox_lanes_machine.specs.LanesCalls.declared.calls.route.Route.{Route}
-use Rattle.iox_lanes_machine.specs.LanesCalls.declared.calls.subscriber.SlotExtent.{SlotExtent}
+use Rattle.iox_lanes_machine.specs.LanesBase.declared.words.word.ConnectionRing.{ConnectionRing}
+use Rattle.iox_lanes_machine.specs.LanesBase.declared.words.word.ConnectionRing.TheVariants.{Submission, Completion}
+use Rattle.iox_lanes_machine.specs.LanesBase.declared.words.word.SharedWord.{SharedWord}
+use Rattle.iox_lanes_machine.specs.LanesBase.declared.words.word.SharedWord.TheVariants.{Ring, Slot}
+use Rattle.iox_lanes_machine.specs.LanesBase.declared.words.word.SlotWord.TheVariants.{Payload}
+use Rattle.iox_lanes_machine.specs.LanesBase.Publishing.{header_word}
+use Rattle.iox_lanes_machine.specs.LanesBase.Subscribing.{word_at}
+use Rattle.iox_lanes_machine.specs.LanesBase.declared.calls.publisher.Delivery.{Delivery}
+use Rattle.iox_lanes_machine.specs.LanesBase.declared.calls.route.Route.{Route}
+use Rattle.iox_lanes_machine.specs.LanesBase.declared.calls.subscriber.SlotExtent.{SlotExtent}
 use Rattle.iox_lanes_machine.specs.LedgerUses.{total}
 use Rattle.iox_lanes_machine.specs.LanesParties.Parties.{SubscriberLaneState, place_of}
 use Rattle.iox_lanes_threads_rule.specs.declared.view.Port.{Port}

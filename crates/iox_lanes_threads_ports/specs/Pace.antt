@@ -1,8 +1,8 @@
 -- How many steps a publisher's call in threads may still make, if it takes no more than so many samples back at one connection.
 use Rattle.std.specs.Prelude.{ℕ, ◌+◌, ◌-◌, ◌*◌, ◌≤◌}
-use Rattle.iox_lanes_machine.specs.LanesWords.declared.words.sizes.TableSizes.{TableSizes}
-use Rattle.iox_lanes_machine.specs.LanesCalls.declared.calls.publisher.PublisherCall.{PublisherCall}
-use Rattle.iox_lanes_machine.specs.LanesCalls.declared.calls.publisher.PublisherCall.TheVariants as publishing
+use Rattle.iox_lanes_machine.specs.LanesBase.declared.words.sizes.TableSizes.{TableSizes}
+use Rattle.iox_lanes_machine.specs.LanesBase.declared.calls.publisher.PublisherCall.{PublisherCall}
+use Rattle.iox_lanes_machine.specs.LanesBase.declared.calls.publisher.PublisherCall.TheVariants as publishing
 use Rattle.iox_lanes_machine.specs.Pace.{taking_left, pushing_left, sweeps_left}
 use Rattle.iox_lanes_machine.specs.LedgerRooms.{TakesSome, PushGoes}
 use Rattle.iox_lanes_machine.specs.LanesParties.declared.call.Call.TheVariants as call

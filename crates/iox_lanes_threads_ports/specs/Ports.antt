@@ -2,18 +2,18 @@
 use Rattle.std.specs.Prelude.{ℕ, ◌≡◌, ◌+◌, ◌<◌, ◌≤◌, List, length, slice_get, Some, true}
 use Rattle.std.specs.List.{All}
 use Rattle.iox_lanes_machine.specs.QueuesSteps.declared.access.Word.TheVariants.{Write, Read}
-use Rattle.iox_lanes_machine.specs.LanesWords.Numbers.{slot_words, words_of}
-use Rattle.iox_lanes_machine.specs.LanesWords.declared.words.word.ConnectionRing.TheVariants.{Completion}
-use Rattle.iox_lanes_machine.specs.LanesWords.declared.words.word.SharedWord.{SharedWord}
-use Rattle.iox_lanes_machine.specs.LanesWords.declared.words.word.SharedWord.TheVariants.{Ring}
-use Rattle.iox_lanes_machine.specs.LanesCalls.declared.calls.publisher.PublisherCall.{PublisherCall}
-use Rattle.iox_lanes_machine.specs.LanesCalls.declared.calls.publisher.PublisherCall.TheVariants as publishing
-use Rattle.iox_lanes_machine.specs.LanesCalls.declared.calls.route.Route.{Route}
-use Rattle.iox_lanes_machine.specs.LanesCalls.declared.calls.subscriber.SubscriberCall.{SubscriberCall}
-use Rattle.iox_lanes_machine.specs.LanesCalls.declared.calls.subscriber.SubscriberCall.TheVariants as subscribing
-use Rattle.iox_lanes_machine.specs.LanesPublisher.PublisherKeeping.{BookState}
-use Rattle.iox_lanes_machine.specs.LanesCalls.Publishing.{publisher_next}
-use Rattle.iox_lanes_machine.specs.LanesCalls.Subscribing.{subscriber_next}
+use Rattle.iox_lanes_machine.specs.LanesBase.Numbers.{slot_words, words_of}
+use Rattle.iox_lanes_machine.specs.LanesBase.declared.words.word.ConnectionRing.TheVariants.{Completion}
+use Rattle.iox_lanes_machine.specs.LanesBase.declared.words.word.SharedWord.{SharedWord}
+use Rattle.iox_lanes_machine.specs.LanesBase.declared.words.word.SharedWord.TheVariants.{Ring}
+use Rattle.iox_lanes_machine.specs.LanesBase.declared.calls.publisher.PublisherCall.{PublisherCall}
+use Rattle.iox_lanes_machine.specs.LanesBase.declared.calls.publisher.PublisherCall.TheVariants as publishing
+use Rattle.iox_lanes_machine.specs.LanesBase.declared.calls.route.Route.{Route}
+use Rattle.iox_lanes_machine.specs.LanesBase.declared.calls.subscriber.SubscriberCall.{SubscriberCall}
+use Rattle.iox_lanes_machine.specs.LanesBase.declared.calls.subscriber.SubscriberCall.TheVariants as subscribing
+use Rattle.iox_lanes_machine.specs.LanesParties.PublisherKeeping.{BookState}
+use Rattle.iox_lanes_machine.specs.LanesBase.Publishing.{publisher_next}
+use Rattle.iox_lanes_machine.specs.LanesBase.Subscribing.{subscriber_next}
 use Rattle.iox_lanes_machine.specs.LanesParties.Parties.{PublisherLaneState, SubscriberLaneState, publisher_fits, publisher_begun, publisher_after, subscriber_fits, subscriber_begun, subscriber_after}
 use Rattle.iox_lanes_machine.specs.LanesParties.declared.call.Call.{Call}
 use Rattle.iox_lanes_machine.specs.LanesParties.declared.call.Move.TheVariants.{Begin}

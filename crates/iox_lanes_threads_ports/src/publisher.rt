@@ -1,6 +1,6 @@
 //! A publisher that steps in threads.
 ghost use Rattle.std.specs.Prelude.{◌≡◌, true, false, length, is_some, IfOk, IfSome};
-ghost use Rattle.iox_lanes_machine.specs.LanesWords.Numbers.{IsSmall};
+ghost use Rattle.iox_lanes_machine.specs.LanesBase.Numbers.{IsSmall};
 ghost use Rattle.std.specs.List.{All};
 ghost use Rattle.iox_lanes_machine.specs.LanesParties.Parties.{head_of, with_user_header, publisher_fits};
 ghost use Rattle.iox_lanes_threads_rule.specs.Acts.{single, port_of};
@@ -12,10 +12,10 @@ ghost use Rattle.iox_lanes_threads_ports.specs.Values.{IsSeated, HasRoom, Asks, 
 
 use crate::publishing::run;
 use iox_lanes_base::calls::Delivery;
-use iox_lanes_parties::{Answer, Call, Move, PublisherLane};
-use iox_lanes_parties::publisher::LoanAnswer;
-use iox_lanes_threads_rule::{Opening, WordSeat, Words};
 use iox_lanes_base::words::TableSizes;
+use iox_lanes_parties::publisher::LoanAnswer;
+use iox_lanes_parties::{Answer, Call, Move, PublisherLane};
+use iox_lanes_threads_rule::{Opening, WordSeat, Words};
 use std::alloc::{AllocError, Global};
 use std::marker::Model;
 

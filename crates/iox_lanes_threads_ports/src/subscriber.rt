@@ -1,6 +1,6 @@
 //! A subscriber that steps in threads.
 ghost use Rattle.std.specs.Prelude.{◌≡◌, ◌+◌, ◌||◌, true, false, length, None, Some};
-ghost use Rattle.iox_lanes_machine.specs.LanesCalls.Subscribing.{subscriber_is_idle, subscriber_is_over};
+ghost use Rattle.iox_lanes_machine.specs.LanesBase.Subscribing.{subscriber_is_idle, subscriber_is_over};
 ghost use Rattle.iox_lanes_machine.specs.LanesParties.Parties.{subscriber_begun, words_read};
 ghost use Rattle.iox_lanes_threads_rule.specs.Acts.{single, port_of};
 ghost use Rattle.iox_lanes_threads_ports.specs.Courses.{SubscriberEnds};
@@ -10,9 +10,9 @@ ghost use Rattle.iox_lanes_threads_ports.specs.Values.{IsSeated, IsBetween, Same
 
 use crate::subscribing::{finish, run_on};
 use iox_lanes_base::calls::Receipt;
+use iox_lanes_base::words::TableSizes;
 use iox_lanes_parties::{Answer, Call, Move, SubscriberLane};
 use iox_lanes_threads_rule::{Opening, WordSeat, Words};
-use iox_lanes_base::words::TableSizes;
 use std::marker::Model;
 use std::sync::Wait;
 

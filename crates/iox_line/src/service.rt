@@ -6,11 +6,11 @@ ghost use Rattle.iox_line.specs.Outcome.{takes_memory};
 
 use crate::verb::ServiceVerb;
 use iox_command::Command;
-use iox_line_base::text::Words;
 use iox_line_base::attributes::{defined_attributes, required_attributes};
 use iox_line_base::services::value::{name, pattern};
 use iox_line_base::services::{NamedService, named_service};
 use iox_line_base::steps::{foreign_steps, listed_steps};
+use iox_line_base::text::Words;
 use std::alloc::{AllocError, Global};
 
 /// The command of a verb that names a service, and the words after it.

@@ -4,9 +4,9 @@ ghost use Rattle.iox_lanes_threads.specs.Ports.{MayOpen};
 ghost use Rattle.iox_lanes_threads.specs.Threads.{RefusesToOpen};
 ghost use Rattle.iox_lanes.specs.Opened.{IsOpened};
 
+use crate::DomainLanes;
 use crate::threads::threads::{DomainBoard, DomainThreads};
 use iox_domain::Domain;
-use crate::DomainLanes;
 use iox_lanes_threads::{LaneThreads, OpenError};
 use iox_queues_base::Words;
 use std::alloc::Global;

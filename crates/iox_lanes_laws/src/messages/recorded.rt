@@ -28,7 +28,7 @@ impl RecordedLanes {
     ghost use Rattle.iox_lanes_laws.specs.Messages.{begun_messages, message_of};
     ghost use Rattle.iox_lanes_laws.specs.Recorded.{RecordsTo, RecordsRun};
     ghost use Rattle.iox_lanes_machine.specs.LanesParties.Parties.{is_out};
-    ghost use Rattle.iox_lanes_machine.specs.LanesPublisher.PublisherKeeping.{loan_of};
+    ghost use Rattle.iox_lanes_machine.specs.LanesParties.PublisherKeeping.{loan_of};
     ghost use Rattle.iox_lanes_machine.specs.World.{fits};
 
     /// These lanes, of which no message is kept yet. It takes no memory.

@@ -3,7 +3,7 @@ ghost use Rattle.std.specs.Prelude.{◌≡◌, ◌+◌, ◌-◌, ◌<◌, ◌≤
 ghost use Rattle.iox_domain_sender.specs.Sending.{with_uses};
 ghost use Rattle.iox_domain_sender.specs.DomainSlots.declared.stage.Stage.TheVariants as stage;
 ghost use Rattle.iox_domain_sender.specs.DomainSlots.Uses.{connection_at, with_connection, offered, newest};
-ghost use Rattle.iox_lanes_machine.specs.LanesWords.Numbers.{words_of};
+ghost use Rattle.iox_lanes_machine.specs.LanesBase.Numbers.{words_of};
 ghost use Rattle.iox_lanes_opening.specs.Leaving.{message_in};
 ghost use Rattle.iox_lanes_opening.specs.Restoring.{IsWhole, IsQuiet, IsOwn, AreLeft, MayStand, OnlyWaits, OnlyRemembers, MayWaitAll, MayRememberAll, messages_in};
 ghost use Rattle.iox_lanes_machine.specs.Resting.{mail_at};
@@ -11,8 +11,8 @@ ghost use Rattle.iox_lanes_machine.specs.Resting.{mail_at};
 use crate::leaving::words::{elements, payload, user_header};
 use iox_domain_sender::Sender;
 use iox_domain_slots::Stage;
-use iox_lanes_machine::Lanes;
 use iox_lanes_base::words::WordTable;
+use iox_lanes_machine::Lanes;
 use iox_queues_base::Words;
 
 // The message that lies in a slot of the lanes is sent again, in the same slot of the publisher, whose slots begin at `first` in the lanes. `one` has room for one

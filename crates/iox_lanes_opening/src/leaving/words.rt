@@ -1,8 +1,8 @@
 //! A message out of the words of a slot.
 ghost use Rattle.std.specs.Prelude.{◌≡◌, ◌+◌, ◌≤◌, ◌<◌, length, take, drop};
-ghost use Rattle.iox_lanes_machine.specs.LanesWords.Numbers.{number_of, words_of};
-ghost use Rattle.iox_lanes_machine.specs.LanesWords.declared.words.word.SharedWord.TheVariants as word;
-ghost use Rattle.iox_lanes_machine.specs.LanesWords.declared.words.word.SlotWord.TheVariants as part;
+ghost use Rattle.iox_lanes_machine.specs.LanesBase.Numbers.{number_of, words_of};
+ghost use Rattle.iox_lanes_machine.specs.LanesBase.declared.words.word.SharedWord.TheVariants as word;
+ghost use Rattle.iox_lanes_machine.specs.LanesBase.declared.words.word.SlotWord.TheVariants as part;
 ghost use Rattle.iox_lanes_opening.specs.Leaving.{user_header_in, payload_in, elements_in};
 
 use iox_lanes_base::words::{SharedWord, SlotWord, WordTable};

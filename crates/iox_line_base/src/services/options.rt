@@ -4,10 +4,10 @@ ghost use Rattle.std.specs.Option.{option_map};
 ghost use Rattle.iox_line_base.specs.Reading.{publish_subscribe_options, publish_subscribe_parts, publish_subscribe_of, event_options, event_parts, event_of, request_response_options, request_response_parts, request_response_of};
 
 use crate::services::value::{named_number_or_off, named_switch};
-use iox_command::{EventOptions, PublishSubscribeOptions, RequestResponseOptions};
 use crate::text::Words;
 use crate::text::options::one;
 use crate::text::value::named_number;
+use iox_command::{EventOptions, PublishSubscribeOptions, RequestResponseOptions};
 
 /// The options of a publish-subscribe service; `None` if a word is none of them, or one comes twice.
 pub fn publish_subscribe(words: &Words) -> Option<PublishSubscribeOptions>

@@ -4,9 +4,9 @@ ghost use Rattle.iox_line_base.specs.Reading.{options_of, service_of};
 
 use crate::services::options::{event, publish_subscribe, request_response};
 use crate::services::value::{name, pattern};
-use iox_command::ServiceOptions;
 use crate::text::Words;
 use crate::text::number::numbered;
+use iox_command::ServiceOptions;
 use iox_describe_base::{MessagingPattern, ServiceName};
 
 /// A service, as a line names it.

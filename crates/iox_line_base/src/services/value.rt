@@ -4,12 +4,12 @@ ghost use Rattle.iox_line_base.specs.Words.{same};
 ghost use Rattle.iox_line_base.specs.Options.{find, named};
 ghost use Rattle.iox_line_base.specs.Reading.{switch_of, number_or_off_of, pattern_named, name_of};
 
-use iox_command::NumberOrOff;
 use crate::text::Words;
 use crate::text::number::number;
 use crate::text::options::find;
 use crate::text::visible::is_visible_text;
 use crate::text::words::is;
+use iox_command::NumberOrOff;
 use iox_describe_base::limits::MAX_SERVICE_NAME_LENGTH;
 use iox_describe_base::{MessagingPattern, ServiceName};
 

@@ -4,8 +4,8 @@ ghost use Rattle.iox_line_base.specs.Memory.{MayLack, some};
 ghost use Rattle.iox_line_base.specs.StepsReading.{steps_of};
 
 use crate::steps::step::step;
-use iox_command::{ForeignStep, Steps};
 use crate::text::Words;
+use iox_command::{ForeignStep, Steps};
 use iox_describe_base::MessagingPattern;
 use std::alloc::{AllocError, Global};
 

@@ -5,10 +5,10 @@ ghost use Rattle.iox_line_base.specs.StepsReading.{next_access, listed_step, lis
 
 use crate::steps::foreign::append;
 use crate::steps::step::step;
-use iox_command::{StepBefore, Steps};
 use crate::text::Words;
 use crate::text::number::number;
 use crate::text::options::after;
+use iox_command::{StepBefore, Steps};
 use iox_describe_base::MessagingPattern;
 use std::alloc::{AllocError, Global};
 

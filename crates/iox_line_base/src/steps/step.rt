@@ -2,12 +2,12 @@
 ghost use Rattle.std.specs.Prelude.{◌≡◌};
 ghost use Rattle.iox_line_base.specs.StepsReading.{step_verb_of, step_at, step_of};
 
-use iox_command::ForeignStep;
+use crate::services::service::service_options;
 use crate::text::Words;
 use crate::text::number::numbered;
 use crate::text::words::{is, split};
+use iox_command::ForeignStep;
 use iox_describe_base::MessagingPattern;
-use crate::services::service::service_options;
 
 /// What a step does. This port's own.
 #[derive(Clone, Copy, Debug, PartialEq, Eq)]

@@ -1,6 +1,6 @@
 use Rattle.std.proofs.Common.{ℕ, ◌≡◌, false, take}
 use Rattle.std.specs.List.{All}
-use Rattle.iox_lanes_machine.specs.LanesPublisher.PublisherKeeping.{loan_of}
+use Rattle.iox_lanes_machine.specs.LanesParties.PublisherKeeping.{loan_of}
 use Rattle.iox_lanes_machine.specs.LanesParties.Parties.{PublisherLaneState, is_out}
 use Rattle.iox_lanes_machine.proofs.resting.have_loans.Given as goal
 

@@ -1,5 +1,5 @@
 use Rattle.std.proofs.Common.{ℕ, is_some, sym, ap, subst, ◌∙◌}
-use Rattle.iox_lanes_machine.specs.LanesWords.Numbers.{IsSmall}
+use Rattle.iox_lanes_machine.specs.LanesBase.Numbers.{IsSmall}
 use Rattle.iox_lanes_machine.specs.LanesParties.Parties.{head_of}
 use Rattle.iox_lanes_machine.specs.LanesParties.declared.call.Call.TheVariants as call
 use Rattle.iox_lanes_machine.specs.LanesParties.declared.call.Move.TheVariants.{Begin}

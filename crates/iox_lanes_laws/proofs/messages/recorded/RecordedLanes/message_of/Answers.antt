@@ -1,5 +1,5 @@
 use Rattle.std.proofs.Common.{◌≡◌, ◌<◌, Some, slice_get, ap, subst, sym}
-use Rattle.iox_lanes_machine.specs.LanesWords.Table.{TableWords}
+use Rattle.iox_lanes_machine.specs.LanesBase.Table.{TableWords}
 use Rattle.iox_lanes_machine.specs.World.{World}
 use Rattle.iox_lanes_laws.specs.Recorded.{RecordState}
 use Rattle.iox_lanes_laws.proofs.Lanes.{loan_there}
