@@ -50,9 +50,10 @@ fn small(byte: u8) -> u8
     }
 }
 
-/// Whether the name is displayed as its text, and debugged as its literal.
+/// Whether the copy of a name is displayed as its text, and debugged as its literal.
 fn is_printed(alloc: Global, name: &Semantic<Name, 8>) -> Result<bool, AllocError> {
-    Ok(format!(in alloc; "{name} {name:?}")?.as_str() == "A\"b \"A\\\"b\"")
+    let copy = name.clone()?;
+    Ok(format!(in alloc; "{copy} {copy:?}")?.as_str() == "A\"b \"A\\\"b\"")
 }
 
 /// Whether a name is equal to another in its letters' case alone, and is no empty one, and none with a slash.
