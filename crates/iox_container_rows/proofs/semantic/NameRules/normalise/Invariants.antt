@@ -1,6 +1,6 @@
 use Rattle.std.proofs.Common.{◌≡◌, ◌++◌, take, drop, map}
 use Rattle.iox_container_rows.specs.LetterCase.{lower_case}
-use Rattle.iox_container_rows.proofs.semantic.AnyCaseRules.normalise.Given as goal
+use Rattle.iox_container_rows.proofs.semantic.NameRules.normalise.Given as goal
 
 -- the bytes so far are small
 abbrev pub invariant-loop-at : goal.invariant-loop-at

@@ -3,7 +3,7 @@ use Rattle.std.proofs.Math.ListN.{set}
 use Rattle.std.proofs.lemmas.List.{get_or_default, length-append, length-drop, length-map, length-take-le}
 use Rattle.std.proofs.lemmas.List.Edits.{map_over_more}
 use Rattle.iox_container_rows.specs.LetterCase.{lower_case}
-use Rattle.iox_container_rows.proofs.semantic.AnyCaseRules.normalise.Goals as goal
+use Rattle.iox_container_rows.proofs.semantic.NameRules.normalise.Goals as goal
 
 pub loop-at-preserved : goal.loop-at-preserved
 loop-at-preserved g c =
