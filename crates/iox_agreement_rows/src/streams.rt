@@ -223,49 +223,57 @@ fn a_writer_may_take_one_byte_a_call_or_all_in_one_but_not_none(
     )
 }
 
-/// Gives one byte at each call, without end: so many newlines, and then letters.
+/// Gives one byte at each call: so many newlines, and then so many letters.
 #[derive(Drop)]
-struct Endless {
+struct Drips {
     newlines: u64,
+    letters: u64,
 }
 
-impl io::Read for Endless {
+impl io::Read for Drips {
     fn read(&mut self, buffer: &mut [u8]) -> io::Result<usize> {
         let Some(first) = buffer.first_mut() else {
             return Ok(0);
         };
-        *first = if self.newlines > 0 { b'\n' } else { b'x' };
-        self.newlines = self.newlines.saturating_sub(1);
+        if self.newlines > 0 {
+            self.newlines -= 1;
+            *first = b'\n';
+            return Ok(1);
+        }
+        *first = b'x';
+        if self.letters == 0 {
+            return Ok(0);
+        }
+        self.letters -= 1;
         Ok(1)
     }
 }
 
-/// Whether the input is left after the most calls, none of which failed, with so many bytes written.
-fn is_left(alloc: Global, input: &mut Input<Endless>, length: u64) -> bool
+/// What a conversation comes to, whether a read has failed, and how many bytes are written.
+fn told_of_drips(alloc: Global, input: &mut Input<Drips>) -> (Result<(), ServeError>, bool, usize)
     requires { input.old.calls + 2 ^ 20 < 2 ^ 64 }
 {
-    let before = input.calls();
     let mut output = Output::new(Vec::new(alloc));
     let result = converse(alloc, input, &mut output);
-    result == Err(ServeError::ReadFault)
-        && input.calls().wrapping_sub(before) == READ_CALLS
-        && !input.has_failed()
-        && output.writer().len() as u64 == length
+    (result, input.has_failed(), output.writer().len())
 }
 
-/// Whether an endless input is left twice: first each newline has its answer, and then a line without an end has none.
-fn is_left_twice(alloc: Global) -> bool {
-    let mut input = Input::new(Endless {
-        newlines: READ_CALLS,
+/// Whether an input is left after the most calls, each newline with its answer and the line without an end with none, and is asked again in a
+/// second conversation, where it has ended.
+fn is_left(alloc: Global) -> bool {
+    let mut input = Input::new(Drips {
+        newlines: READ_CALLS - 1_000,
+        letters: 1_000,
     });
-    is_left(alloc, &mut input, READ_CALLS)
+    told_of_drips(alloc, &mut input) == (Err(ServeError::ReadFault), false, 1_047_576)
         && input.calls() == READ_CALLS
-        && is_left(alloc, &mut input, 0)
+        && told_of_drips(alloc, &mut input) == (Ok(()), false, 0)
+        && input.calls() == READ_CALLS + 1
 }
 
 #[test]
 fn an_endless_reader_is_left(rt: HostRuntime) {
-    assert!(rt; is_left_twice(rt.alloc()));
+    assert!(rt; is_left(rt.alloc()));
 }
 
 /// So many newlines, so many letters, and so many newlines again.
