@@ -1,0 +1,320 @@
+//! Readers and writers that give or take little at a time, or fail.
+use crate::echo::converse;
+use crate::tables::wanted;
+use iox_conversation::{Input, Output, READ_CALLS, ServeError};
+use std::alloc::Global;
+use std::io;
+use std::io::ErrorKind;
+use std::test::Fail;
+
+const LINES: &[u8] = b"node
+create n1 ps A
+
+put p1 42
+x
+receive s1
+";
+
+/// At which byte each line ends.
+const ENDS: [usize; 6] = [5, 20, 21, 31, 33, 44];
+
+/// Gives its bytes by pieces: the first of one size, the others of another. After so many calls each fails.
+#[derive(Drop)]
+struct Pieces {
+    rest: &'static [u8],
+    first: usize,
+    others: usize,
+    good_calls: usize,
+}
+
+impl io::Read for Pieces {
+    fn read(&mut self, buffer: &mut [u8]) -> io::Result<usize> {
+        if self.good_calls == 0 {
+            return Err(io::Error::from(ErrorKind::ConnectionReset));
+        }
+        self.good_calls -= 1;
+        let count = buffer.len().min(self.rest.len()).min(self.first);
+        buffer[..count].copy_from_slice(&self.rest[..count]);
+        self.rest = &self.rest[count..];
+        self.first = self.others;
+        Ok(count)
+    }
+}
+
+/// Takes so many bytes a call at most, and keeps them. After so many calls each fails.
+#[derive(Drop)]
+struct Sips {
+    taken: Vec<u8>,
+    most: usize,
+    good_calls: usize,
+}
+
+impl io::Write for Sips {
+    fn write(&mut self, bytes: &[u8]) -> io::Result<usize> {
+        if self.good_calls == 0 {
+            return Err(io::Error::from(ErrorKind::BrokenPipe));
+        }
+        self.good_calls -= 1;
+        let count = bytes.len().min(self.most);
+        if self.taken.extend_from_slice(&bytes[..count]).is_err() {
+            return Err(io::Error::from(ErrorKind::OutOfMemory));
+        }
+        Ok(count)
+    }
+
+    fn flush(&mut self) -> io::Result<()> {
+        Ok(())
+    }
+}
+
+/// How a conversation goes: what is read, in pieces of which sizes and in how many calls that go well, how many bytes are taken a call and in how many
+/// that go well; what it comes to, and how many bytes are written.
+#[derive(Clone, Copy)]
+struct Talk {
+    rest: &'static [u8],
+    first: usize,
+    others: usize,
+    reads: usize,
+    most: usize,
+    writes: usize,
+    result: Result<(), ServeError>,
+    written: usize,
+}
+
+/// All lines are read in one piece, and their answers written in one.
+const GOOD: Talk = Talk {
+    rest: LINES,
+    first: usize::MAX,
+    others: usize::MAX,
+    reads: usize::MAX,
+    most: usize::MAX,
+    writes: usize::MAX,
+    result: Ok(()),
+    written: 44,
+};
+
+/// What a conversation comes to, whether a read failed and whether a write did, and how many bytes of the lines are written; none where others are.
+type Told = (Result<(), ServeError>, bool, bool, Option<usize>);
+
+fn told(alloc: Global, talk: Talk) -> Told {
+    let mut input = Input::new(Pieces {
+        rest: talk.rest,
+        first: talk.first,
+        others: talk.others,
+        good_calls: talk.reads,
+    });
+    let mut output = Output::new(Sips {
+        taken: Vec::new(alloc),
+        most: talk.most,
+        good_calls: talk.writes,
+    });
+    let result = converse(alloc, &mut input, &mut output);
+    let taken = output.writer().taken.as_slice();
+    let written = LINES.starts_with(taken).then_some(taken.len());
+    (result, input.has_failed(), output.has_failed(), written)
+}
+
+/// The conversation must go so.
+fn goes(alloc: Global, talk: Talk) -> Result<(), Fail> {
+    let read_fails = talk.result == Err(ServeError::ReadFault);
+    let write_fails = talk.result == Err(ServeError::WriteFault);
+    wanted(
+        told(alloc, talk),
+        (talk.result, read_fails, write_fails, Some(talk.written)),
+    )
+}
+
+fn goes_in_pieces(alloc: Global, others: usize) -> Result<(), Fail> {
+    for first in 1..LINES.len() {
+        goes(
+            alloc,
+            Talk {
+                first,
+                others,
+                ..GOOD
+            },
+        )?;
+    }
+    Ok(())
+}
+
+#[test]
+fn pieces_make_no_difference(rt: HostRuntime) -> Result<(), Fail> {
+    goes_in_pieces(rt.alloc(), 1)?;
+    goes_in_pieces(rt.alloc(), LINES.len())
+}
+
+/// How many bytes the lines have that are whole after so many.
+fn whole_after(count: usize) -> usize {
+    let mut whole = 0;
+    for end in &ENDS {
+        if *end <= count {
+            whole = *end;
+        }
+    }
+    whole
+}
+
+#[test]
+fn a_failed_read_ends_the_conversation(rt: HostRuntime) -> Result<(), Fail> {
+    for reads in 0..=LINES.len() {
+        let result = Err(ServeError::ReadFault);
+        let written = whole_after(reads);
+        goes(
+            rt.alloc(),
+            Talk {
+                first: 1,
+                others: 1,
+                reads,
+                result,
+                written,
+                ..GOOD
+            },
+        )?;
+    }
+    Ok(())
+}
+
+#[test]
+fn a_failed_write_ends_the_conversation(rt: HostRuntime) -> Result<(), Fail> {
+    for written in 0..LINES.len() {
+        let result = Err(ServeError::WriteFault);
+        goes(
+            rt.alloc(),
+            Talk {
+                most: 1,
+                writes: written,
+                result,
+                written,
+                ..GOOD
+            },
+        )?;
+    }
+    Ok(())
+}
+
+#[test]
+fn a_writer_may_take_one_byte_a_call_or_all_in_one_but_not_none(
+    rt: HostRuntime,
+) -> Result<(), Fail> {
+    goes(rt.alloc(), Talk { most: 1, ..GOOD })?;
+    // It fails at a second call: what answers one read is written together.
+    goes(rt.alloc(), Talk { writes: 1, ..GOOD })?;
+    let result = Err(ServeError::WriteFault);
+    goes(
+        rt.alloc(),
+        Talk {
+            most: 0,
+            result,
+            written: 0,
+            ..GOOD
+        },
+    )?;
+    // Nothing to write fails nowhere.
+    goes(
+        rt.alloc(),
+        Talk {
+            rest: b"",
+            most: 0,
+            writes: 0,
+            written: 0,
+            ..GOOD
+        },
+    )
+}
+
+/// Gives one byte at each call: so many newlines, and then so many letters.
+#[derive(Drop)]
+struct Drips {
+    newlines: u64,
+    letters: u64,
+}
+
+impl io::Read for Drips {
+    fn read(&mut self, buffer: &mut [u8]) -> io::Result<usize> {
+        let Some(first) = buffer.first_mut() else {
+            return Ok(0);
+        };
+        if self.newlines > 0 {
+            self.newlines -= 1;
+            *first = b'\n';
+            return Ok(1);
+        }
+        *first = b'x';
+        if self.letters == 0 {
+            return Ok(0);
+        }
+        self.letters -= 1;
+        Ok(1)
+    }
+}
+
+/// What a conversation comes to, whether a read has failed, and how many bytes are written.
+fn told_of_drips(alloc: Global, input: &mut Input<Drips>) -> (Result<(), ServeError>, bool, usize)
+    requires { input.old.calls + 2 ^ 20 < 2 ^ 64 }
+{
+    let mut output = Output::new(Vec::new(alloc));
+    let result = converse(alloc, input, &mut output);
+    (result, input.has_failed(), output.writer().len())
+}
+
+/// Whether an input is left after the most calls, each newline with its answer and the line without an end with none, and is asked again in a
+/// second conversation, where it has ended.
+fn is_left(alloc: Global) -> bool {
+    let mut input = Input::new(Drips {
+        newlines: READ_CALLS - 1_000,
+        letters: 1_000,
+    });
+    told_of_drips(alloc, &mut input) == (Err(ServeError::ReadFault), false, 1_047_576)
+        && input.calls() == READ_CALLS
+        && told_of_drips(alloc, &mut input) == (Ok(()), false, 0)
+        && input.calls() == READ_CALLS + 1
+}
+
+#[test]
+fn an_endless_reader_is_left(rt: HostRuntime) {
+    assert!(rt; is_left(rt.alloc()));
+}
+
+/// So many newlines, so many letters, and so many newlines again.
+type Text = [usize; 3];
+
+/// How many bytes are said again of the text.
+fn heard_of(alloc: Global, [before, letters, behind]: Text) -> Result<usize, Fail> {
+    let mut text = vec![in alloc; b'\n'; before]?;
+    text.resize(text.len().saturating_add(letters), b'x')?;
+    text.resize(text.len().saturating_add(behind), b'\n')?;
+    let mut input = Input::new(text.as_slice());
+    let mut output = Output::new(Vec::new(alloc));
+    converse(alloc, &mut input, &mut output)?;
+    Ok(output.writer().len())
+}
+
+/// Texts, and how many bytes are said again: of a line the first 1,025 and a newline.
+const HEARD: [(Text, usize); 16] = [
+    ([0, 0, 0], 0),
+    ([1, 0, 0], 1),
+    ([2, 0, 0], 2),
+    ([7, 0, 0], 7),
+    ([64, 0, 0], 64),
+    ([1_000, 0, 0], 1_000),
+    ([70_000, 0, 0], 70_000),
+    ([0, 1, 0], 2),
+    ([0, 2, 1], 3),
+    ([0, 7, 0], 8),
+    ([0, 64, 1], 65),
+    ([0, 1_000, 0], 1_001),
+    ([0, 1_024, 0], 1_025),
+    ([0, 1_025, 0], 1_026),
+    ([0, 70_000, 0], 1_026),
+    // The second read ends a line that the first began, so its answers have more bytes than a read.
+    ([64_536, 1_000, 65_536], 131_072),
+];
+
+#[test]
+fn texts_of_all_sizes_are_heard(rt: HostRuntime) -> Result<(), Fail> {
+    for (text, length) in &HEARD {
+        wanted(heard_of(rt.alloc(), *text)?, *length)?;
+    }
+    Ok(())
+}
