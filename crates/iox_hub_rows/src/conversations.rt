@@ -1,10 +1,10 @@
-//! Messages go from node to node.
-use crate::shared::{Messages, Step, create, go, open, wanted};
+//! Messages of single values go from node to node.
+use crate::services::{CONFIG, Messages, Service, create, open, wanted};
 use iox_delivery::{Publisher, Sent, Subscriber};
 use iox_delivery_factories::{PortFactoryPublisher, PortFactorySubscriber};
 use iox_domain_home::Home;
-use iox_domain_values::{PublisherCreateError, SubscriberCreateError};
-use iox_hub_base::NodeHandle;
+use iox_domain_values::{PublisherCreateError, SendError, SubscriberCreateError};
+use iox_hub_base::Hub;
 use std::alloc::Global;
 use std::process::Abort;
 use std::test::Fail;
@@ -33,123 +33,225 @@ fn subscribe(
     }
 }
 
-// To how many mailboxes a value goes.
-fn puts(
+// How a value is sent.
+#[derive(Clone, Copy)]
+enum By {
+    // It is lent, written and sent.
+    Loan,
+    // A default is lent and sent.
+    Default,
+    // A copy is sent.
+    Copy,
+}
+
+// One call, and what it answers.
+enum Call {
+    // The publisher follows the subscribers.
+    PublisherFollows,
+    // The subscriber follows the publishers.
+    SubscriberFollows,
+    // Whether the subscriber has samples.
+    Has(bool),
+    // A value is sent to one mailbox.
+    Sends(By, u64),
+    // The subscriber receives this value, or none, and releases it.
+    Receives(Option<u64>),
+}
+
+// A value is lent, written and sent.
+fn lends(
     rt: &impl Abort,
     alloc: Global,
     hub: &mut Messages,
     publisher: &Publisher<u64, u8>,
     value: u64,
-) -> Option<usize> {
+) -> Result<Sent<u64, u8>, SendError> {
     assert!(rt; publisher.holds(hub));
     assert!(rt; !publisher.is_blocked(hub));
-    let loan = publisher.loan_uninit(alloc, hub).ok()?;
+    let loan = publisher.loan_uninit(alloc, hub)?;
     let sample = loan.write_payload(hub, value);
     assert!(rt; sample.holds(hub));
     assert!(rt; !sample.is_blocked(hub));
-    match sample.send(alloc, hub) {
-        Ok(Sent::Delivered(delivered)) => Some(delivered),
+    sample.send(alloc, hub)
+}
+
+// A default is lent and sent.
+fn lends_default(
+    rt: &impl Abort,
+    alloc: Global,
+    hub: &mut Messages,
+    publisher: &Publisher<u64, u8>,
+) -> Result<Sent<u64, u8>, SendError> {
+    assert!(rt; publisher.holds(hub));
+    assert!(rt; !publisher.is_blocked(hub));
+    let sample = publisher.loan(alloc, hub)?;
+    assert!(rt; sample.holds(hub));
+    assert!(rt; !sample.is_blocked(hub));
+    sample.send(alloc, hub)
+}
+
+// A copy is sent.
+fn copies(
+    rt: &impl Abort,
+    alloc: Global,
+    hub: &mut Messages,
+    publisher: &Publisher<u64, u8>,
+    value: u64,
+) -> Result<Sent<u64, u8>, SendError> {
+    assert!(rt; publisher.holds(hub));
+    assert!(rt; !publisher.is_blocked(hub));
+    publisher.send_copy(alloc, hub, value)
+}
+
+// Whether one mailbox took what was sent. A send that waits is let go.
+fn is_delivered(hub: &mut Messages, sent: Result<Sent<u64, u8>, SendError>) -> bool {
+    match sent {
+        Ok(Sent::Delivered(delivered)) => delivered == 1,
         Ok(Sent::Blocked(blocked)) => {
-            assert!(rt; blocked.holds(hub));
-            let _ = blocked.give_up(hub);
-            None
+            blocked.drop_with(hub);
+            false
         }
-        Err(_) => None,
+        Err(_) => false,
     }
 }
 
-// What comes next, and which port it is from; it is released again.
+// Whether a value is sent to one mailbox.
+fn sends(
+    rt: &impl Abort,
+    alloc: Global,
+    hub: &mut Messages,
+    publisher: &Publisher<u64, u8>,
+    by: By,
+    value: u64,
+) -> bool {
+    let sent = match by {
+        By::Loan => lends(rt, alloc, hub, publisher, value),
+        By::Default => lends_default(rt, alloc, hub, publisher),
+        By::Copy => copies(rt, alloc, hub, publisher, value),
+    };
+    is_delivered(hub, sent)
+}
+
+// What comes next; it is released again.
 fn receives(
     rt: &impl Abort,
     alloc: Global,
     hub: &mut Messages,
     subscriber: &Subscriber<u64, u8>,
-) -> Option<(u64, u64)> {
-    assert!(rt; subscriber.holds(hub));
+) -> Option<u64> {
     let sample = subscriber.receive(alloc, hub).ok()??;
     assert!(rt; sample.holds(hub));
-    let came = (*sample.payload(hub), sample.origin(hub));
+    let came = *sample.payload(hub);
     sample.release(hub);
     Some(came)
 }
 
-// Whether of three messages in a mailbox of two the oldest is dropped.
-fn converse(
+// Whether a call goes so.
+fn goes(
     rt: &impl Abort,
     alloc: Global,
     hub: &mut Messages,
     publisher: &Publisher<u64, u8>,
     subscriber: &Subscriber<u64, u8>,
+    call: &Call,
 ) -> bool {
-    let nothing = receives(rt, alloc, hub, subscriber).is_none();
-    let sent = puts(rt, alloc, hub, publisher, 1) == Some(1)
-        && puts(rt, alloc, hub, publisher, 2) == Some(1)
-        && puts(rt, alloc, hub, publisher, 3) == Some(1);
-    let received = receives(rt, alloc, hub, subscriber) == Some((2, 2))
-        && receives(rt, alloc, hub, subscriber) == Some((3, 2));
-    nothing && sent && received && receives(rt, alloc, hub, subscriber).is_none()
+    assert!(rt; subscriber.holds(hub));
+    match *call {
+        Call::PublisherFollows => {
+            assert!(rt; publisher.holds(hub));
+            assert!(rt; !publisher.is_blocked(hub));
+            publisher.update_connections(alloc, hub) == Ok(())
+        }
+        Call::SubscriberFollows => subscriber.update_connections(alloc, hub) == Ok(()),
+        Call::Has(has) => subscriber.has_samples(alloc, hub) == Ok(has),
+        Call::Sends(by, value) => sends(rt, alloc, hub, publisher, by, value),
+        Call::Receives(value) => receives(rt, alloc, hub, subscriber) == value,
+    }
 }
 
-// Whether a publisher that a builder makes is heard.
-fn is_heard(
+// Of four messages in a mailbox of three the oldest goes.
+const CALLS: [Call; 12] = [
+    Call::PublisherFollows,
+    Call::SubscriberFollows,
+    Call::Has(false),
+    Call::Receives(None),
+    Call::Sends(By::Copy, 1),
+    Call::Sends(By::Loan, 2),
+    Call::Sends(By::Default, 0),
+    Call::Sends(By::Copy, 3),
+    Call::Has(true),
+    Call::Receives(Some(2)),
+    Call::Receives(Some(0)),
+    Call::Receives(Some(3)),
+];
+
+// Each call must go so; then the publisher leaves.
+fn go_on(
     rt: &impl Abort,
-    builder: PortFactoryPublisher<u64, u8>,
     alloc: Global,
     hub: &mut Messages,
+    publisher: Publisher<u64, u8>,
     subscriber: &Subscriber<u64, u8>,
-) -> Result<bool, PublisherCreateError> {
-    let publisher = publish(builder, alloc, hub)?;
-    let heard = converse(rt, alloc, hub, &publisher, subscriber);
+) {
+    for (place, call) in CALLS.iter().enumerate() {
+        assert!(rt;
+            goes(rt, alloc, hub, &publisher, subscriber, call),
+            "call {place}"
+        );
+    }
     assert!(rt; publisher.holds(hub));
     assert!(rt; !publisher.is_blocked(hub));
     publisher.leave(hub);
-    Ok(heard)
 }
 
-// Whether a subscriber and a publisher that builders make understand one another.
+// Whether ports that builders make understand one another; then the subscriber leaves.
 fn understand(
     rt: &impl Abort,
-    writers: PortFactoryPublisher<u64, u8>,
-    readers: PortFactorySubscriber<u64, u8>,
     alloc: Global,
     hub: &mut Messages,
-) -> Result<bool, Fail> {
+    writers: PortFactoryPublisher<u64, u8>,
+    readers: PortFactorySubscriber<u64, u8>,
+) -> Result<(), Fail> {
     let subscriber = subscribe(readers, alloc, hub)?;
-    let sized = subscriber.buffer_size() == 2;
-    let heard = is_heard(rt, writers, alloc, hub, &subscriber);
+    let publisher = publish(writers, alloc, hub);
+    let made = publisher.is_ok();
+    if let Ok(publisher) = publisher {
+        go_on(rt, alloc, hub, publisher, &subscriber);
+    }
     assert!(rt; subscriber.holds(hub));
     subscriber.leave(hub);
-    Ok(sized && heard?)
+    wanted(made, "a publisher comes")
 }
 
-/// Messages go from the first node to a second one.
-pub(crate) fn goes_on_from(
+// Messages go from the node that created a service to one that opened it.
+fn converse(
     rt: &impl Abort,
     alloc: Global,
     hub: &mut Messages,
-    first: &NodeHandle,
+    made: &Service,
+    opened: &Service,
 ) -> Result<(), Fail> {
+    assert!(rt; hub.holds(made));
+    assert!(rt; hub.holds(opened));
+    let (Some(writers), Some(readers)) = (
+        hub.publisher_builder(made),
+        hub.subscriber_builder(opened),
+    ) else {
+        return wanted(false, "there are builders");
+    };
+    understand(rt, alloc, hub, writers, readers)
+}
+
+// Two nodes agree on a service, and messages go.
+fn agree(rt: &impl Abort, alloc: Global, hub: &mut Messages) -> Result<(), Fail> {
+    let first = hub.new_node()?;
     let second = hub.new_node()?;
-    wanted((hub.id(), first.number(), second.number()), (7, 1, 2))?;
-    let made = create(rt, alloc, hub, first)?;
-    let opened = open(rt, alloc, hub, &second)?;
-    wanted(
-        (made.node(), opened.node(), opened.number()),
-        (1, 2, made.number()),
-    )?;
-    assert!(rt; hub.holds(&made));
-    assert!(rt; hub.holds(&opened));
-    let Some(readers) = hub.subscriber_builder(&opened) else {
-        return wanted(false, true);
-    };
-    let Some(writers) = hub.publisher_builder(&made) else {
-        return wanted(false, true);
-    };
-    let understood = understand(rt, writers, readers, alloc, hub)?;
-    wanted(understood, true)
+    let made = create::<u64>(rt, alloc, hub, &first, b"A")?;
+    let opened = open::<u64>(rt, alloc, hub, &second, b"A")?;
+    converse(rt, alloc, hub, &made, &opened)
 }
 
 #[test]
 fn a_message_goes_from_node_to_node(rt: HostRuntime) -> Result<(), Fail> {
-    go(&rt, rt.alloc(), &[Step::Converse])
+    agree(&rt, rt.alloc(), &mut Hub::new(rt.alloc(), CONFIG))
 }

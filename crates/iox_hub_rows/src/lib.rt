@@ -1,22 +1,22 @@
-//! What the typed calls of a hub come to, as tests.
+//! Tests of ports as values, of a hub by typed calls, and of handlers that commands name: what no clause says.
 //!
-//! - `shared`: a hub with a service, and what is done there as rows of a table.
-//! - `conversations`: messages go from node to node.
-//! - `closing`: what keeps a factory from being closed.
-//! - `domains`: domains that are made, taken and put back.
-//! - `lives`: a name is used again.
-//! - `foreign`: nodes of others act between the calls, and between the accesses of one.
+//! What the calls come to is said by their clauses. Here each call that makes something succeeds with ample memory, at all sizes. What commands can
+//! say is asked by lines of the script: `crates/script_cases`.
+//!
+//! - `services`: services of a hub, and their domains.
+//! - `conversations`: messages of single values go from node to node.
+//! - `slices`: messages of slices do.
+//! - `custom`: ports of a payload that only the description says.
+//! - `handled`: handlers that commands name by their places.
 #![tactic(auto)]
 
 #[cfg(test)]
-mod closing;
-#[cfg(test)]
 mod conversations;
 #[cfg(test)]
-mod domains;
+mod custom;
 #[cfg(test)]
-mod foreign;
+mod handled;
 #[cfg(test)]
-mod lives;
+mod services;
 #[cfg(test)]
-mod shared;
+mod slices;

@@ -1,6 +1,6 @@
 use Rattle.std.proofs.Common.{◌+◌, ◌≤◌}
 use Rattle.iox_hub_run.specs.Numbers.{numbers_used}
-use Rattle.iox_hub_handled_rows.proofs.driving.go_on.Given as goal
+use Rattle.iox_hub_rows.proofs.handled.go_on.Given as goal
 
 -- each line gave out one number at most
 abbrev pub invariant-loop-place : goal.invariant-loop-place

@@ -1,0 +1,380 @@
+//! Handlers that commands name by their places: what is asked of them, and which are left.
+ghost use Rattle.std.specs.Prelude.{◌≡◌, ◌+◌, ◌<◌, ◌≤◌, ◌^◌, length};
+ghost use Rattle.iox_hub_run.specs.Numbers.{numbers_used};
+
+use iox_command::{Command, Reply};
+use iox_domain_values::{
+    BackpressureAction, BackpressureFn, BackpressureHandler, BackpressureInfo, DegradationAction,
+    DegradationCause, DegradationFn, DegradationHandler, DegradationInfo, Handlers,
+};
+use iox_hub::{GivenHandler, GivenHandlers, HandledCommand, run, step};
+use iox_hub_run::{HubConfig, NumberedHub};
+use iox_line::{Scratch, print_reply, read_command};
+use std::alloc::{AllocError, Global};
+use std::process::Abort;
+
+// A hub of messages of numbers, for whose ports boxed handlers may decide.
+type Numbers = NumberedHub<u64, u64, Handlers, DegradationHandler>;
+
+// Handlers that are handed in.
+type Given = GivenHandlers<BackpressureHandler, DegradationHandler>;
+
+// Its list of expired connections holds one, where one sample of a publisher may be held.
+const CONFIG: HubConfig = HubConfig {
+    expired_connection_buffer: 0,
+    id: 0,
+};
+
+// An object that answers this action at each full mailbox.
+#[derive(Drop)]
+struct AtFull {
+    action: BackpressureAction,
+}
+
+impl BackpressureFn for AtFull {
+    ghost allows = { λ object info answer. answer ≡ object.action };
+
+    fn call(&self, info: &BackpressureInfo) -> BackpressureAction {
+        self.action
+    }
+}
+
+// An object that answers this action wherever a connection failed.
+#[derive(Drop)]
+struct AtFailure {
+    action: DegradationAction,
+}
+
+impl DegradationFn for AtFailure {
+    ghost allows = { λ object cause info answer. answer ≡ object.action };
+
+    fn call(&self, cause: DegradationCause, info: &DegradationInfo) -> DegradationAction {
+        self.action
+    }
+}
+
+// Hands in an object for full mailboxes.
+fn hand_full(
+    alloc: Global,
+    given: &mut Given,
+    action: BackpressureAction,
+) -> Result<(), AllocError> {
+    let object = Box::new(alloc, AtFull { action })?;
+    given.hand_in(GivenHandler::Backpressure(BackpressureHandler::boxed(object)))?;
+    Ok(())
+}
+
+// Hands in an object for connections that failed.
+fn hand_failure(
+    alloc: Global,
+    given: &mut Given,
+    action: DegradationAction,
+) -> Result<(), AllocError> {
+    let object = Box::new(alloc, AtFailure { action })?;
+    given.hand_in(GivenHandler::Degradation(DegradationHandler::boxed(object)))?;
+    Ok(())
+}
+
+// What those for full mailboxes do, at places 1 to 4.
+const AT_FULL: [BackpressureAction; 4] = [
+    BackpressureAction::Retry,
+    BackpressureAction::DiscardData,
+    BackpressureAction::DiscardDataAndFail,
+    BackpressureAction::FollowBackpressureyStrategy,
+];
+
+// Hands in six objects: at places 1 to 4 for full mailboxes, at places 5 and 6 for connections that failed, which fail, and pass it over.
+fn hand_in(alloc: Global, given: &mut Given) -> Result<(), AllocError> {
+    for action in &AT_FULL {
+        hand_full(alloc, given, *action)?;
+    }
+    hand_failure(alloc, given, DegradationAction::DegradeAndFail)?;
+    hand_failure(alloc, given, DegradationAction::Ignore)
+}
+
+// A line, the places that it names, at a full mailbox and where a connection failed, and the reply.
+type Row = (&'static str, Option<u64>, Option<u64>, &'static str);
+
+// The command of a line, with the places that are named.
+fn named<'a>(
+    command: Command<'a, u64>,
+    at_full: Option<u64>,
+    at_failure: Option<u64>,
+) -> HandledCommand<'a, u64> {
+    match command {
+        Command::Publisher { factory, options } => HandledCommand::Publisher {
+            factory,
+            options,
+            at_full,
+            at_failure,
+        },
+        Command::Subscriber { factory, options } => match at_failure {
+            Some(at_failure) => HandledCommand::Subscriber {
+                factory,
+                options,
+                at_failure,
+            },
+            None => HandledCommand::Plain(Command::Subscriber { factory, options }),
+        },
+        other => HandledCommand::Plain(other),
+    }
+}
+
+// Whether this is the reply, as a line of the script.
+fn is_reply(alloc: Global, reply: &Reply<u64>, wanted: &str) -> Result<bool, AllocError> {
+    let mut line = Vec::new(alloc);
+    print_reply(reply, &mut line)?;
+    Ok(line.as_slice() == wanted.as_bytes())
+}
+
+// Whether a line is replied to so.
+fn goes(
+    alloc: Global,
+    hub: &mut Numbers,
+    given: &mut Given,
+    scratch: &mut Scratch,
+    row: &Row,
+) -> Result<bool, AllocError>
+    requires { numbers_used hub.old + 1 < 2 ^ 64 }
+    ensures { numbers_used hub.new ≤ numbers_used hub.old + 1 }
+{
+    let (line, at_full, at_failure, wanted) = *row;
+    let Ok(command) = read_command(alloc, line.as_bytes(), scratch)? else {
+        return Ok(false);
+    };
+    let reply = step(hub, alloc, named(command, at_full, at_failure), given)?;
+    is_reply(alloc, &reply, wanted)
+}
+
+// Each line must be replied to as its row says.
+fn go_on(
+    rt: &impl Abort,
+    alloc: Global,
+    hub: &mut Numbers,
+    given: &mut Given,
+    rows: &[Row],
+) -> Result<(), AllocError>
+    requires { numbers_used hub.old + length rows.now < 2 ^ 32 }
+{
+    let mut scratch = Scratch::new(alloc)?;
+    for (place, row) in rows.iter().enumerate() {
+        assert!(rt; goes(alloc, hub, given, &mut scratch, row)?, "{place}");
+    }
+    Ok(())
+}
+
+// Lines, and which places have objects left behind them.
+struct Case {
+    rows: &'static [Row],
+    left: &'static [bool],
+}
+
+// Whether just at these places objects are left.
+fn are_left(given: &Given, left: &[bool]) -> bool {
+    for (place, kept) in given.places.iter().enumerate() {
+        if left.get(place) != Some(&kept.is_some()) {
+            return false;
+        }
+    }
+    given.places.len() == left.len()
+}
+
+// On a new hub, with six objects handed in, each line must be replied to as its row says, and of the objects these must be left.
+fn go(rt: &impl Abort, alloc: Global, case: &Case) -> Result<(), AllocError> {
+    assert!(rt; case.rows.len() < 1000);
+    let mut given = Given::new(alloc);
+    hand_in(alloc, &mut given)?;
+    let mut hub = Numbers::new(alloc, CONFIG);
+    go_on(rt, alloc, &mut hub, &mut given, case.rows)?;
+    assert!(rt; are_left(&given, case.left));
+    Ok(())
+}
+
+// A full mailbox of a service without overflow is asked of the object that the publisher took, and of no action that the command names.
+const FULL: [Row; 21] = [
+    ("node", None, None, "ok n1"),
+    (
+        "create n1 ps A overflow=0 buffer=1 publishers=5",
+        None,
+        None,
+        "ok f1",
+    ),
+    ("subscriber f1", None, None, "ok s1"),
+    (
+        "publisher f1 strategy=discard handler=discard",
+        Some(1),
+        None,
+        "ok p1",
+    ),
+    ("publisher f1 handler=fail", Some(2), None, "ok p2"),
+    ("publisher f1 handler=discard", Some(3), Some(6), "ok p3"),
+    (
+        "publisher f1 strategy=discard handler=fail",
+        Some(4),
+        None,
+        "ok p4",
+    ),
+    ("publisher f1 handler=fail", None, None, "ok p5"),
+    ("update s1", None, None, "ok"),
+    ("put p1 1", None, None, "ok 1"),
+    ("put p2 2", None, None, "ok 1"),
+    ("put p3 3", None, None, "ok 1"),
+    ("put p4 4", None, None, "ok 1"),
+    ("put p5 5", None, None, "ok 1"),
+    ("put p1 6", None, None, "blocked"),
+    ("retry p1 5", None, None, "blocked"),
+    ("put p2 7", None, None, "ok 0"),
+    ("put p3 8", None, None, "err SendError::UnableToDeliver"),
+    ("put p4 9", None, None, "ok 0"),
+    ("put p5 10", None, None, "err SendError::UnableToDeliver"),
+    ("giveup p1", None, None, "ok 0"),
+];
+
+// A connection that fails is asked of the object that the subscriber took.
+const FAILURE: [Row; 18] = [
+    ("node", None, None, "ok n1"),
+    (
+        "create n1 ps A publishers=1 borrowed=1",
+        None,
+        None,
+        "ok f1",
+    ),
+    ("subscriber f1 degrade=ignore", None, Some(5), "ok s1"),
+    ("publisher f1", None, None, "ok p1"),
+    ("put p1 7", None, None, "ok 1"),
+    ("receive s1", None, None, "ok m1 7"),
+    ("leave p1", None, None, "ok"),
+    ("update s1", None, None, "ok"),
+    ("publisher f1", None, None, "ok p2"),
+    ("put p2 8", None, None, "ok 1"),
+    ("receive s1", None, None, "ok m2 8"),
+    ("leave p2", None, None, "ok"),
+    ("update s1", None, None, "ok"),
+    ("publisher f1", None, None, "ok p3"),
+    ("put p3 9", None, None, "ok 1"),
+    (
+        "receive s1",
+        None,
+        None,
+        "err ReceiveError::ConnectionFailure(FailedToEstablishConnection(ExpiredConnectionBufferFull))",
+    ),
+    ("release m1", None, None, "ok"),
+    ("receive s1", None, None, "ok m3 9"),
+];
+
+// Skipped are commands that name place 0, a place past the last, one of the other kind, or an empty one; also where they name another that
+// has what they want. They take nothing, nor do those that are skipped for their factory.
+const SKIPPED: [Row; 17] = [
+    ("node", None, None, "ok n1"),
+    ("create n1 ps A publishers=2", None, None, "ok f1"),
+    ("create n1 ev B", None, None, "ok f2"),
+    ("publisher f1", Some(0), None, "skip"),
+    ("publisher f1", Some(7), None, "skip"),
+    ("publisher f1", Some(18446744073709551615), None, "skip"),
+    ("publisher f1", Some(5), None, "skip"),
+    ("publisher f1", None, Some(1), "skip"),
+    ("publisher f1", Some(1), Some(2), "skip"),
+    ("publisher f1", Some(6), Some(6), "skip"),
+    ("subscriber f1", None, Some(0), "skip"),
+    ("subscriber f1", None, Some(2), "skip"),
+    ("publisher f2", Some(1), Some(5), "skip"),
+    ("publisher f3", Some(1), None, "skip"),
+    ("subscriber f2", None, Some(5), "skip"),
+    ("publisher f1", Some(1), Some(5), "ok p1"),
+    ("publisher f1", Some(1), None, "skip"),
+];
+
+// A port that is refused has spent its objects.
+const REFUSED: [Row; 8] = [
+    ("node", None, None, "ok n1"),
+    (
+        "create n1 ps A publishers=1 subscribers=1 buffer=2",
+        None,
+        None,
+        "ok f1",
+    ),
+    ("publisher f1", None, None, "ok p1"),
+    (
+        "publisher f1",
+        Some(1),
+        Some(5),
+        "err PublisherCreateError::ExceedsMaxSupportedPublishers",
+    ),
+    (
+        "subscriber f1 buffer=3",
+        None,
+        Some(6),
+        "err SubscriberCreateError::BufferSizeExceedsMaxSupportedBufferSizeOfService",
+    ),
+    ("subscriber f1", None, Some(6), "skip"),
+    ("leave p1", None, None, "ok"),
+    ("publisher f1", Some(1), None, "skip"),
+];
+
+const CASES: [Case; 4] = [
+    Case {
+        rows: &FULL,
+        left: &[false, false, false, false, true, false],
+    },
+    Case {
+        rows: &FAILURE,
+        left: &[true, true, true, true, false, true],
+    },
+    Case {
+        rows: &SKIPPED,
+        left: &[false, true, true, true, false, true],
+    },
+    Case {
+        rows: &REFUSED,
+        left: &[false, true, true, true, false, false],
+    },
+];
+
+fn all_go(rt: &impl Abort, alloc: Global) -> Result<(), AllocError> {
+    for case in &CASES {
+        go(rt, alloc, case)?;
+    }
+    Ok(())
+}
+
+#[test]
+fn handlers_that_are_named_are_asked(rt: HostRuntime) -> Result<(), AllocError> {
+    all_go(&rt, rt.alloc())
+}
+
+// How many commands are run, with as many objects handed in.
+const LENGTHS: [usize; 6] = [0, 1, 2, 7, 64, 1000];
+
+// So many nodes.
+fn nodes(alloc: Global, len: usize) -> Result<Vec<HandledCommand<'static, u64>>, AllocError> {
+    let mut commands = Vec::new(alloc);
+    for _ in 0..len {
+        commands.push(HandledCommand::Plain(Command::Node))?;
+    }
+    Ok(commands)
+}
+
+// So many objects.
+fn objects(alloc: Global, len: usize) -> Result<Given, AllocError> {
+    let mut given = Given::new(alloc);
+    for _ in 0..len {
+        hand_failure(alloc, &mut given, DegradationAction::Ignore)?;
+    }
+    Ok(given)
+}
+
+// Whether as many commands are replied to, and as many objects are left.
+fn runs(alloc: Global, len: usize) -> Result<bool, AllocError> {
+    let mut given = objects(alloc, len)?;
+    let mut hub = Numbers::new(alloc, CONFIG);
+    let report = run(&mut hub, alloc, nodes(alloc, len)?, &mut given);
+    Ok(!report.stopped && report.replies.len() == len && given.places.len() == len)
+}
+
+#[test]
+fn lists_of_commands_are_run(rt: HostRuntime) -> Result<(), AllocError> {
+    for len in &LENGTHS {
+        assert!(rt; runs(rt.alloc(), *len)?, "{len}");
+    }
+    Ok(())
+}

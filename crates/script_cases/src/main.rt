@@ -1,0 +1,127 @@
+//! Answers blocks of script lines, each block on a new hub, and prints each line with what it is replied beside it.
+//!
+//! Blocks stand in standard input with an empty line between them. The first line of a block is its title. A title `expired N: ..` says how many
+//! connections of publishers that left a subscriber keeps, which are 128 otherwise. `N times LINES` stands for these lines N times, with `; ` between
+//! each two; a `#` in them is the number of the time, from 1. It is told the replies of the first time, and those of the last where any differ.
+#![tactic(auto)]
+
+use iox_script::{HubConfig, Input, Output, serve};
+use std::alloc::{AllocError, Global};
+use std::io;
+use std::str::Lines;
+
+/// How many connections of publishers that left a subscriber keeps, where the title doesn't say.
+const EXPIRED_CONNECTION_BUFFER: u32 = 128;
+
+fn main(rt: HostRuntime) -> io::Result<()> {
+    let text = io::read_to_string(rt.alloc(), rt.stdin())?;
+    for block in text.split("\n\n") {
+        let (title, lines) = block.split_once('\n').unwrap_or((block, ""));
+        println!(rt; "{title}")?;
+        answer(&rt, expired(title), lines)?;
+        println!(rt; "")?;
+    }
+    Ok(())
+}
+
+// How many connections of publishers that left a subscriber keeps.
+fn expired(title: &str) -> u32 {
+    let Some((_, rest)) = title.split_once("expired ") else {
+        return EXPIRED_CONNECTION_BUFFER;
+    };
+    let (number, _) = rest.split_once(':').unwrap_or((rest, ""));
+    number.parse::<u32>().unwrap_or(EXPIRED_CONNECTION_BUFFER)
+}
+
+// Prints each line of a block with what a new hub replies.
+fn answer(rt: &HostRuntime, expired: u32, lines: &str) -> io::Result<()> {
+    let script = spelled(rt.alloc(), lines)?;
+    let replies = replied(rt.alloc(), expired, script.as_bytes())?;
+    tell(rt, lines, &mut replies.lines())
+}
+
+// How often lines are said, and the lines.
+fn counted(line: &str) -> (usize, &str) {
+    let Some((number, once)) = line.split_once(" times ") else {
+        return (1, line);
+    };
+    match number.parse::<usize>() {
+        Ok(times) => (times, once),
+        Err(_) => (1, line),
+    }
+}
+
+// The lines as they are said, one after the other.
+fn spelled(alloc: Global, lines: &str) -> Result<String, AllocError> {
+    let mut script = String::new(alloc);
+    for line in lines.lines() {
+        let (times, once) = counted(line);
+        for time in 0..times {
+            say(alloc, &mut script, once, time)?;
+        }
+    }
+    Ok(script)
+}
+
+// Says lines once more, after so many times.
+fn say(alloc: Global, script: &mut String, once: &str, time: usize) -> Result<(), AllocError> {
+    let number = format!(in alloc; "{}", time.saturating_add(1))?;
+    let numbered = once.replace(alloc, "#", number.as_str())?;
+    for line in numbered.split("; ") {
+        script.push_str(line)?;
+        script.push('\n')?;
+    }
+    Ok(())
+}
+
+// What a new hub replies to a script.
+fn replied(alloc: Global, expired: u32, script: &[u8]) -> io::Result<String> {
+    let config = HubConfig {
+        expired_connection_buffer: expired,
+        id: 0,
+    };
+    let mut input = Input::new(script);
+    let mut output = Output::new(Vec::new(alloc));
+    let _ = serve(alloc, config, &mut input, &mut output);
+    let replies = output.into_writer();
+    Ok(String::from_utf8(replies).unwrap_or(String::new(alloc)))
+}
+
+// The next replies, as many as lines are said at once.
+fn heard(alloc: Global, lines: usize, replies: &mut Lines<'_>) -> Result<String, AllocError> {
+    let mut text = String::new(alloc);
+    for place in 0..lines {
+        if place > 0 {
+            text.push_str("; ")?;
+        }
+        text.push_str(replies.next().unwrap_or(""))?;
+    }
+    Ok(text)
+}
+
+// What lines are told that are said so often.
+fn told(alloc: Global, line: &str, replies: &mut Lines<'_>) -> Result<String, AllocError> {
+    let (times, once) = counted(line);
+    let lines = once.split("; ").count();
+    let first = heard(alloc, lines, replies)?;
+    let mut last = String::new(alloc);
+    let mut same = true;
+    for _ in 1..times {
+        last = heard(alloc, lines, replies)?;
+        same = same && last == first;
+    }
+    if same {
+        Ok(first)
+    } else {
+        format!(in alloc; "{first} .. {last}")
+    }
+}
+
+// Prints each line with what it is told.
+fn tell(rt: &HostRuntime, lines: &str, replies: &mut Lines<'_>) -> io::Result<()> {
+    for line in lines.lines() {
+        let answer = told(rt.alloc(), line, replies)?;
+        println!(rt; "{line} -> {answer}")?;
+    }
+    Ok(())
+}
