@@ -46,6 +46,7 @@ use std::process::ExitCode;
 const MISUSED: u8 = 64;
 
 const NO_RECORD: &str = "the record wasn't written";
+
 const NO_TABLE: &str = "the table can't be read";
 
 fn main(rt: HostRuntime) -> io::Result<ExitCode> {

@@ -5,8 +5,8 @@ ghost use Rattle.csv.specs.Writing.{default_writer, row_text};
 ghost use Rattle.csv.specs.declared.parser.State.TheVariants as st;
 ghost use Rattle.example_tracer.specs.Record.{header, fields_of, values_of, delivered_of, table_of};
 
-use csv::{Error, WriterBuilder};
 use crate::exchange::{Exchange, is, received, sent, word};
+use csv::{Error, WriterBuilder};
 use std::alloc::Global;
 
 /// The names of the columns.
