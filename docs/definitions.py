@@ -125,14 +125,14 @@ def sources(crate):
 
 
 def exported(texts):
-    """Returns what the `pub use` lines of a crate name, and which of its modules are public."""
+    """Returns what the `pub use` lines of a crate name, and which of its modules are public: of a program all that its root names."""
     lines = [it for text in texts.values() for it in re.findall(r"^pub use ([^;]*);", text, re.M)]
-    public, asked = set(), ["lib"]
+    public, asked = set(), ["lib", "main"]
     while asked:
         module = asked.pop()
         public.add(module)
-        inner = re.findall(r"^pub mod (\w+)", texts.get(module, ""), re.M)
-        asked += inner if module == "lib" else [f"{module}/{it}" for it in inner]
+        inner = re.findall(r"^mod (\w+)" if module == "main" else r"^pub mod (\w+)", texts.get(module, ""), re.M)
+        asked += inner if module in ("lib", "main") else [f"{module}/{it}" for it in inner]
     return {it for line in lines for it in re.findall(r"\w+", line)}, public
 
 

@@ -13,8 +13,8 @@ work=$(mktemp -d)
 broker=
 trap '[ -z "$broker" ] || kill "$broker"; rm -r "$work"' EXIT
 
-gateway=crates/example_gateway/out/example_gateway
-[ -x "$gateway" ] || (cd crates/example_gateway && rt run <stdin >/dev/null)
+tracer=crates/example_tracer/out/example_tracer
+[ -x "$tracer" ] || (cd crates/example_tracer && rt run <stdin >/dev/null)
 
 # What the hub over there replies to the reading of its own subscriber.
 there() {
@@ -26,7 +26,7 @@ echo "received here:"
 grep '^ok m' "$work/here"
 
 echo "received there, by a pipe:"
-"$gateway" <"$work/here" | grep . | there >"$work/piped"
+"$tracer" serve <"$work/here" | grep . | there >"$work/piped"
 grep '^ok m' "$work/piped"
 
 command -v mosquitto >/dev/null && command -v mosquitto_pub >/dev/null || { echo "no Mosquitto here: the way through a broker isn't tried"; exit 0; }
@@ -36,7 +36,7 @@ sleep 1
 mosquitto_sub -h 127.0.0.1 -p "$PORT" -t hub/sensors -q 1 -W 20 -C "$(grep -c '^ok m' "$work/here")" >"$work/carried" &
 carrier=$!
 sleep 1
-"$gateway" <"$work/here" | grep . | mosquitto_pub -h 127.0.0.1 -p "$PORT" -t hub/sensors -q 1 -l
+"$tracer" serve <"$work/here" | grep . | mosquitto_pub -h 127.0.0.1 -p "$PORT" -t hub/sensors -q 1 -l
 wait "$carrier"
 echo "received there, through $(mosquitto -h | head -n 1):"
 there <"$work/carried" >"$work/brokered"

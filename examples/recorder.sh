@@ -8,14 +8,13 @@ top=$(cd "$(dirname "$0")/.." && pwd)
 work=$(mktemp -d)
 trap 'rm -r "$work"' EXIT
 
-# The programs: proved and built at the first call.
-for it in recorder replayer; do
-    [ -x "$top/crates/example_$it/out/example_$it" ] || (cd "$top/crates/example_$it" && rt run <stdin >/dev/null)
-done
+# The program: proved and built at the first call.
+tracer=$top/crates/example_tracer/out/example_tracer
+[ -x "$tracer" ] || (cd "$top/crates/example_tracer" && rt run <stdin >/dev/null)
 
 paste "$top/examples/$name.iox" "$top/examples/$name.replies" >"$work/conversation"
-"$top/crates/example_recorder/out/example_recorder" <"$work/conversation" >"$work/record.csv"
-"$top/crates/example_replayer/out/example_replayer" <"$work/record.csv" >"$work/script"
+"$tracer" record <"$work/conversation" >"$work/record.csv"
+"$tracer" replay <"$work/record.csv" >"$work/script"
 cmp "$work/script" "$top/examples/$name.iox" && echo "the script again: the same $(wc -l <"$work/script") lines"
 
 command -v sqlite3 >/dev/null || { echo "no sqlite3 here: the record isn't imported"; exit 0; }

@@ -5,12 +5,12 @@ use Rattle.std.specs.List.{range_with_len}
 use Rattle.std.proofs.lemmas.List.{map-append, take_more}
 use Rattle.std.proofs.lemmas.List.Elements.{filter-append}
 use Rattle.std.proofs.lemmas.List.FromFn.{filter_of_map_range_with_len_more}
-use Rattle.example_exchange.specs.declared.Exchange.{Exchange}
-use Rattle.example_drawing.specs.declared.Shape.{Shape}
-use Rattle.example_drawing.specs.Drawing.{drawing_of}
-use Rattle.example_arrows.specs.declared.Arrow.{Arrow}
-use Rattle.example_arrows.specs.Trace.{Trace}
-use Rattle.example_lifelines.specs.Frame.{is_way, rows_of, ways_in}
+use Rattle.example_tracer.specs.declared.exchange.Exchange.{Exchange}
+use Rattle.example_tracer.specs.declared.drawing.Shape.{Shape}
+use Rattle.example_tracer.specs.Drawing.{drawing_of}
+use Rattle.example_tracer.specs.declared.arrows.Arrow.{Arrow}
+use Rattle.example_tracer.specs.Trace.{Trace}
+use Rattle.example_tracer.specs.Frame.{is_way, rows_of, ways_in}
 use Rattle.example_tracer.specs.Picture.{across, rows_of_way, lost_rows, IsDrawn, more, Pictures}
 
 -- one more shape is one more way, or none

@@ -1,1 +1,10 @@
+pub mod Conversation
+pub mod Drawing
+pub mod Exchange
+pub mod Frame
+pub mod Gateway
 pub mod Picture
+pub mod Record
+pub mod Replay
+pub mod Things
+pub mod Trace

@@ -1,14 +1,14 @@
 -- What a picture shows of the messages of a conversation, by the rows that strokes begin and end in.
 use Rattle.std.specs.Prelude.{ℕ, Bool, false, ◌≡◌, List, [], ◌∷◌, ◌++◌, map, filter, length, position, unwrap_or, Option, Some, None}
 use Rattle.std.specs.List.{range_with_len}
-use Rattle.example_exchange.specs.declared.Exchange.{Exchange}
-use Rattle.example_exchange.specs.Exchange.{is_text}
-use Rattle.example_exchange.specs.Things.{made_by}
-use Rattle.example_drawing.specs.declared.Shape.{Shape}
-use Rattle.example_drawing.specs.Drawing.{drawing_of}
-use Rattle.example_lifelines.specs.Frame.{ways_in}
-use Rattle.example_arrows.specs.declared.Arrow.{Arrow}
-use Rattle.example_arrows.specs.Trace.{Trace, sent_at, is_lost}
+use Rattle.example_tracer.specs.declared.exchange.Exchange.{Exchange}
+use Rattle.example_tracer.specs.Exchange.{is_text}
+use Rattle.example_tracer.specs.Things.{made_by}
+use Rattle.example_tracer.specs.declared.drawing.Shape.{Shape}
+use Rattle.example_tracer.specs.Drawing.{drawing_of}
+use Rattle.example_tracer.specs.Frame.{ways_in}
+use Rattle.example_tracer.specs.declared.arrows.Arrow.{Arrow}
+use Rattle.example_tracer.specs.Trace.{Trace, sent_at, is_lost}
 
 -- whether the name of what was made is this one
 abbrev pub is_name_of : List ℕ → Option (List ℕ) → Bool

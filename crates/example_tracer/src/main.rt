@@ -1,17 +1,134 @@
-//! Draws a conversation with a hub. Standard input has a row a line of the script: the line, a tab, and its reply, as `paste` writes them; standard
-//! output is the picture, as SVG.
+//! What a conversation with a hub gives. The first argument says which; with none it is `draw`.
+//!
+//! | Argument | Standard input | Standard output |
+//! |---|---|---|
+//! | `draw` | a conversation | its picture, as SVG |
+//! | `record` | a conversation | its record, as CSV |
+//! | `replay` | a record | the script that it recorded |
+//! | `serve` | the replies of a hub | for each a line for another hub |
+//! | `all` | a conversation | its picture, its record, the script of that record, and the lines for its replies, each below its name |
+//!
+//! A conversation has a row a line of the script: the line, a tab, and its reply, as `paste` writes them. With another argument the
+//! program ends with status 64.
+//!
+//! | Module | What it has |
+//! |---|---|
+//! | `exchange` | lines with their replies, as rows of a text |
+//! | `arrows` | which line sent what a line received |
+//! | `drawing` | strokes and texts in rows, as SVG |
+//! | `lifelines` | what a picture shows beside arrows |
+//! | `picture` | the picture of a conversation |
+//! | `record` | the record of a conversation |
+//! | `replay` | the script of a record |
+//! | `gateway` | from the replies of one hub to the lines of another |
 #![tactic(auto)]
 
+mod arrows;
+mod drawing;
+mod exchange;
+mod gateway;
+mod lifelines;
 mod picture;
+mod record;
+mod replay;
 
-use example_exchange::conversation;
+use exchange::conversation;
+use gateway::{Gateway, replies};
+use iox_conversation::{Input, Output, serve, status};
 use picture::picture;
+use record::record;
+use replay::replay;
+use std::env;
 use std::io::{self, Read};
+use std::process::ExitCode;
 
-fn main(rt: HostRuntime) -> io::Result<()> {
+/// The status after an argument that isn't known.
+const MISUSED: u8 = 64;
+
+const NO_RECORD: &str = "the record wasn't written";
+
+const NO_TABLE: &str = "the table can't be read";
+
+fn main(rt: HostRuntime) -> io::Result<ExitCode> {
+    let word = env::args(&rt)?.nth(1);
+    match word.as_deref() {
+        None | Some("draw") => draw(&rt),
+        Some("record") => print_record(&rt),
+        Some("replay") => print_script(&rt),
+        Some("serve") => Ok(carry(&rt, rt.stdin())),
+        Some("all") => print_all(&rt),
+        Some(_) => {
+            rt.eprintln("the argument is draw, record, replay, serve or all")?;
+            Ok(ExitCode::from(MISUSED))
+        }
+    }
+}
+
+/// All of standard input.
+fn read(rt: &HostRuntime) -> io::Result<Vec<u8>> {
     let mut text = Vec::new(rt.alloc());
     rt.stdin().read_to_end(&mut text)?;
+    Ok(text)
+}
+
+fn print(rt: &HostRuntime, text: &[u8]) -> io::Result<ExitCode> {
+    rt.write_all(text)?;
+    Ok(ExitCode::SUCCESS)
+}
+
+fn fail(rt: &HostRuntime, why: &str) -> io::Result<ExitCode> {
+    rt.eprintln(why)?;
+    Ok(ExitCode::FAILURE)
+}
+
+fn draw(rt: &HostRuntime) -> io::Result<ExitCode> {
+    let text = read(rt)?;
     let conversation = conversation(rt.alloc(), &text)?;
-    let out = picture(rt.alloc(), &conversation)?;
-    rt.print(&out)
+    let picture = picture(rt.alloc(), &conversation)?;
+    print(rt, picture.as_bytes())
+}
+
+fn print_record(rt: &HostRuntime) -> io::Result<ExitCode> {
+    let text = read(rt)?;
+    let conversation = conversation(rt.alloc(), &text)?;
+    match record(rt.alloc(), &conversation) {
+        Ok(table) => print(rt, &table),
+        Err(_) => fail(rt, NO_RECORD),
+    }
+}
+
+fn print_script(rt: &HostRuntime) -> io::Result<ExitCode> {
+    let table = read(rt)?;
+    match replay(rt.alloc(), &table) {
+        Ok(script) => print(rt, &script),
+        Err(_) => fail(rt, NO_TABLE),
+    }
+}
+
+/// Answers replies of a hub, as they come, by the lines for another.
+fn carry<R: Read + Drop>(rt: &HostRuntime, replies: R) -> ExitCode {
+    let mut input = Input::new(replies);
+    let mut output = Output::new(rt.stdout());
+    ExitCode::from(status(serve(rt.alloc(), Gateway, &mut input, &mut output)))
+}
+
+/// Prints what all other arguments give of a conversation, each below its name.
+fn print_all(rt: &HostRuntime) -> io::Result<ExitCode> {
+    let text = read(rt)?;
+    let conversation = conversation(rt.alloc(), &text)?;
+    rt.println("picture:")?;
+    rt.print(&picture(rt.alloc(), &conversation)?)?;
+    let Ok(table) = record(rt.alloc(), &conversation) else {
+        return fail(rt, NO_RECORD);
+    };
+    rt.println("record:")?;
+    rt.write_all(&table)?;
+    let Ok(script) = replay(rt.alloc(), &table) else {
+        return fail(rt, NO_TABLE);
+    };
+    rt.println("script of the record:")?;
+    rt.write_all(&script)?;
+    rt.println("lines for another hub:")?;
+    let replies = replies(rt.alloc(), &conversation)?;
+    Ok(carry(rt, &replies[..]))
 }

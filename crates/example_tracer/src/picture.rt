@@ -1,12 +1,12 @@
 //! What is drawn of a conversation: its frame, the ways of the messages, and what was lost.
 ghost use Rattle.std.specs.Prelude.{◌≡◌, [], ◌∷◌, ◌++◌, IfOk, OnOk, position, string_bytes};
-ghost use Rattle.example_lifelines.specs.Frame.{ways_in};
+ghost use Rattle.example_tracer.specs.Frame.{ways_in};
 ghost use Rattle.example_tracer.specs.Picture.{makes, rows_of_way, lost_rows, IsDrawn, Pictures};
 
-use example_arrows::{Arrow, is_lost, trace};
-use example_drawing::{Shape, drawing};
-use example_exchange::{Exchange, is, made, word};
-use example_lifelines::{Frame, Shapes, end};
+use crate::arrows::{Arrow, is_lost, trace};
+use crate::drawing::{Shape, drawing};
+use crate::exchange::{Exchange, is, made, word};
+use crate::lifelines::{Frame, Shapes, end};
 use std::alloc::{AllocError, Global};
 
 /// How each class of shape looks.

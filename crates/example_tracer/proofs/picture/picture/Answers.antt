@@ -1,6 +1,6 @@
 use Rattle.std.proofs.Common.{string_bytes}
 use Rattle.std.proofs.lemmas.Result.{IfOk-weaker}
-use Rattle.example_lifelines.specs.Frame.{ways_in}
+use Rattle.example_tracer.specs.Frame.{ways_in}
 use Rattle.example_tracer.specs.Picture.{Pictures, IsDrawn}
 use Rattle.example_tracer.proofs.PictureLemmas.{pictured}
 use Rattle.example_tracer.proofs.picture.picture.Goals as goal

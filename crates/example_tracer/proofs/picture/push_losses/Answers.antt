@@ -1,7 +1,7 @@
 use Rattle.std.proofs.Common.{ℕ, Bool, sym, ◌∙◌, refl}
 use Rattle.std.specs.Prelude.{Option}
-use Rattle.example_lifelines.specs.Frame.{ways_in}
-use Rattle.example_arrows.specs.Trace.{sent_at, is_lost}
+use Rattle.example_tracer.specs.Frame.{ways_in}
+use Rattle.example_tracer.specs.Trace.{sent_at, is_lost}
 use Rattle.example_tracer.proofs.PictureLemmas.{one_more, none_more}
 use Rattle.example_tracer.proofs.picture.push_losses.Goals as goal
 use Rattle.example_tracer.proofs.picture.push_losses.Goals.{then-is_lost+in_ok-push, else-is_lost}

@@ -1,9 +1,9 @@
 use Rattle.std.proofs.Common.{◌≡◌, ◌++◌, map}
 use Rattle.std.specs.Prelude.{filter}
 use Rattle.std.specs.List.{range_with_len}
-use Rattle.example_lifelines.specs.Frame.{ways_in}
+use Rattle.example_tracer.specs.Frame.{ways_in}
 use Rattle.example_tracer.specs.Picture.{across}
-use Rattle.example_arrows.specs.Trace.{sent_at, is_lost}
+use Rattle.example_tracer.specs.Trace.{sent_at, is_lost}
 use Rattle.example_tracer.proofs.picture.push_losses.Given as goal
 
 -- behind what was there, a stroke for each of the lines so far that is lost

@@ -1,5 +1,5 @@
 use Rattle.std.proofs.Common.{take}
-use Rattle.example_lifelines.specs.Frame.{ways_in}
+use Rattle.example_tracer.specs.Frame.{ways_in}
 use Rattle.example_tracer.specs.Picture.{IsDrawn}
 use Rattle.example_tracer.proofs.picture.shapes.Given as goal
 

@@ -1,2 +1,0 @@
-pub mod OnlyLemmas
-pub mod TraceLemmas

@@ -1,5 +1,0 @@
-use Rattle.example_arrows.specs.Trace.{Trace}
-use Rattle.example_arrows.proofs.trace.Given as goal
-
-abbrev pub invariant-loop-receipt : goal.invariant-loop-receipt
-invariant-loop-receipt l = Trace l.conversation l.receipt l.arrows.items

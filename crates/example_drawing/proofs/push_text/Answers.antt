@@ -1,8 +1,0 @@
-use Rattle.example_drawing.proofs.DrawingLemmas.{inert_text}
-use Rattle.example_drawing.proofs.push_text.Goals as goal
-
-pub returns-clause-inert : goal.returns-clause-inert
-returns-clause-inert c = inert_text c.args.text.now
-
-pub returns-in_err-push_escaped-clause-inert : goal.returns-in_err-push_escaped-clause-inert
-returns-in_err-push_escaped-clause-inert c = inert_text c.args.text.now

@@ -1,3 +1,0 @@
-pub mod Conversation
-pub mod Exchange
-pub mod Things

@@ -1,0 +1,182 @@
+//! Which line sent what a line received, as far as lines and replies tell it.
+ghost use Rattle.std.specs.Prelude.{◌≡◌, ◌<◌, ◌≤◌, None, IfOk, length, count_by, All};
+ghost use Rattle.std.specs.List.{AllPairs, list_any};
+ghost use Rattle.std.specs.Option.{option_map};
+ghost use Rattle.example_tracer.specs.Exchange.{seen};
+ghost use Rattle.example_tracer.specs.Trace.{sent_at, received_at, fits, passes, may_be, IsOnly, IsArrow, Trace, Joins, KeepsOrder, LostForGood, gives_sample, is_lost, untold};
+
+use crate::exchange::{Exchange, Message, is, received, sent};
+use std::alloc::{AllocError, Global};
+
+/// The way of a message: the line that received it, by which port, and the line that sent it, by which port, if that can be told.
+#[derive(Clone, Copy)]
+pub struct Arrow<'a> {
+    pub receipt: usize,
+    pub subscriber: &'a [u8],
+    pub origin: Option<usize>,
+    pub publisher: &'a [u8],
+}
+
+fn sent_at<'a>(conversation: &[Exchange<'a>], line: usize) -> Option<Message<'a>>
+    requires { line < length conversation.now }
+    ensures { option_map seen result ≡ sent_at conversation.now line }
+{
+    sent(&conversation[line])
+}
+
+fn received_at<'a>(conversation: &[Exchange<'a>], line: usize) -> Option<Message<'a>>
+    requires { line < length conversation.now }
+    ensures { option_map seen result ≡ received_at conversation.now line }
+{
+    received(&conversation[line])
+}
+
+/// Whether the values may be the same: those of a `send` aren't told.
+fn fits(sent: &Message<'_>, received: &Message<'_>) -> bool
+    ensures { result ≡ fits (seen sent.now) (seen received.now) }
+{
+    match (sent.values, received.values) {
+        (Some(these), Some(those)) => is(these, those),
+        _ => true,
+    }
+}
+
+/// Whether an arrow shows that the subscriber got this line's message of the publisher, or one behind it.
+fn passes(arrow: &Arrow<'_>, subscriber: &[u8], publisher: &[u8], line: usize) -> bool
+    ensures { result ≡ passes arrow.now subscriber.now publisher.now line }
+{
+    match arrow.origin {
+        Some(origin) => {
+            line <= origin && is(arrow.subscriber, subscriber) && is(arrow.publisher, publisher)
+        }
+        None => false,
+    }
+}
+
+fn came(arrows: &[Arrow<'_>], subscriber: &[u8], publisher: &[u8], line: usize) -> bool
+    ensures { result ≡ list_any (λ arrow. passes arrow subscriber.now publisher.now line) arrows.now }
+{
+    arrows
+        .iter()
+        .any(|arrow| passes(arrow, subscriber, publisher, line))
+}
+
+/// Whether a line may have sent what was received: its values fit, and neither its message nor one behind it came before.
+fn may_be(
+    conversation: &[Exchange<'_>],
+    arrows: &[Arrow<'_>],
+    received: &Message<'_>,
+    line: usize,
+) -> bool
+    requires { line < length conversation.now }
+    ensures { result ≡ may_be conversation.now arrows.now (seen received.now) line }
+{
+    match sent_at(conversation, line) {
+        Some(sent) => fits(&sent, received) && !came(arrows, received.port, sent.port, line),
+        None => false,
+    }
+}
+
+/// The only line before this one that may have sent what was received; None where there is none or more than one.
+fn origin(
+    conversation: &[Exchange<'_>],
+    arrows: &[Arrow<'_>],
+    received: &Message<'_>,
+    receipt: usize,
+) -> Option<usize>
+    requires { receipt ≤ length conversation.now }
+    ensures { IsOnly (may_be conversation.now arrows.now (seen received.now)) receipt result }
+{
+    let mut only = None;
+    for line in 0..receipt {
+        if may_be(conversation, arrows, received, line) {
+            if only.is_some() {
+                return None;
+            }
+            only = Some(line);
+        }
+    }
+    only
+}
+
+fn way<'a>(
+    conversation: &[Exchange<'a>],
+    arrows: &[Arrow<'a>],
+    received: &Message<'a>,
+    receipt: usize,
+) -> Arrow<'a>
+    requires { receipt ≤ length conversation.now }
+    ensures { IsArrow conversation.now arrows.now receipt (seen received.now) result }
+{
+    let origin = origin(conversation, arrows, received, receipt);
+    let publisher = match origin {
+        Some(line) => match sent_at(conversation, line) {
+            Some(sent) => sent.port,
+            None => &[],
+        },
+        None => &[],
+    };
+    Arrow {
+        receipt,
+        subscriber: received.port,
+        origin,
+        publisher,
+    }
+}
+
+/// Whether this arrow, behind those before it, shows that its subscriber, which came behind line `since`, never gets the message of a line:
+/// a later message of the publisher arrived, and neither this one nor one that may be it arrived before.
+pub fn is_lost(
+    conversation: &[Exchange<'_>],
+    before: &[Arrow<'_>],
+    arrow: &Arrow<'_>,
+    line: usize,
+    since: usize,
+) -> bool
+    requires { line < length conversation.now }
+    ensures { result ≡ is_lost before.now arrow.now line since (sent_at conversation.now line) }
+{
+    match (sent_at(conversation, line), arrow.origin) {
+        (Some(sent), Some(origin)) => {
+            since < line
+                && line < origin
+                && is(sent.port, arrow.publisher)
+                && !came(before, arrow.subscriber, arrow.publisher, line)
+                && !is_untold(before, arrow.subscriber, line)
+        }
+        _ => false,
+    }
+}
+
+/// Whether the subscriber got something behind this line of which the origin can't be told.
+fn is_untold(arrows: &[Arrow<'_>], subscriber: &[u8], line: usize) -> bool
+    ensures { result ≡ list_any (λ arrow. untold arrow subscriber.now line) arrows.now }
+{
+    arrows.iter().any(|arrow| {
+        arrow.origin.is_none() && line < arrow.receipt && is(arrow.subscriber, subscriber)
+    })
+}
+
+/// The ways of all messages that the conversation received, in the order of their receipts.
+///
+/// What can be told is told: of the earlier lines whose values fit, and which the subscriber didn't get or pass over already, it is the only one.
+pub fn trace<'a>(alloc: Global, conversation: &[Exchange<'a>]) -> Result<Vec<Arrow<'a>>, AllocError>
+    ensures trace { IfOk result (λ arrows. Trace conversation.now (length conversation.now) arrows.items) }
+    // Each sample that was received has one arrow.
+    ensures one_each { IfOk result (λ arrows. length arrows.items ≡ count_by gives_sample conversation.now) }
+    // An arrow leads from a message that was sent to a later line that received a sample, and the values fit.
+    ensures joins { IfOk result (λ arrows. All (Joins conversation.now) arrows.items) }
+    // Of one publisher a subscriber gets messages in the order of sending, each at most once.
+    ensures order { IfOk result (λ arrows. AllPairs KeepsOrder arrows.items) }
+    // What an arrow shows as lost to its subscriber, no arrow leads there, before it or behind it.
+    ensures lost { IfOk result (λ arrows. LostForGood conversation.now arrows.items) }
+{
+    let mut arrows = Vec::new(alloc);
+    for receipt in 0..conversation.len() {
+        if let Some(received) = received_at(conversation, receipt) {
+            let way = way(conversation, &arrows, &received, receipt);
+            arrows.push(way)?;
+        }
+    }
+    Ok(arrows)
+}

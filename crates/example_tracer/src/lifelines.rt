@@ -1,0 +1,127 @@
+//! The frame of a conversation's picture: a row a line, with its reply, and a lifeline for each node, factory, port and loan, from the line that made
+//! it to the line that ended it.
+ghost use Rattle.std.specs.Prelude.{◌≡◌, [], ◌∷◌, ◌++◌, IfOk, OnOk, codes, length, map};
+ghost use Rattle.std.specs.List.{range_with_len};
+ghost use Rattle.example_tracer.specs.Frame.{ways_in, texts_of, line_in, reply_in};
+
+use crate::drawing::{Place, Shape};
+use crate::exchange::{Exchange, ends, is, made, word};
+use std::alloc::{AllocError, Global};
+
+/// What is drawn so far.
+pub type Shapes<'a> = Vec<Shape<'a>>;
+
+/// The first row from this one on that ended what has this name, or the row behind the last.
+pub fn end(conversation: &[Exchange<'_>], name: &[u8], from: usize) -> usize {
+    for (row, it) in conversation.iter().enumerate() {
+        if from <= row && ends(it, name) {
+            return row;
+        }
+    }
+    conversation.len()
+}
+
+/// How far to the right the replies of a picture are, and its lifelines, each with the row in which it begins.
+#[derive(Drop)]
+pub struct Frame<'a> {
+    replies: usize,
+    lifelines: Vec<(&'a [u8], Place)>,
+    pub width: usize,
+}
+
+impl<'a> Frame<'a> {
+    /// The frame of a conversation: as wide as its longest line and reply, and its lifelines.
+    pub fn new(alloc: Global, conversation: &[Exchange<'a>]) -> Result<Self, AllocError> {
+        let line = conversation.iter().map(|it| it.line.len()).max();
+        let reply = conversation.iter().map(|it| it.reply.len()).max();
+        let replies = line.unwrap_or(0).saturating_mul(8).saturating_add(32);
+        let widest = reply.unwrap_or(0).saturating_mul(8).saturating_add(48);
+        let mut width = widest.saturating_add(replies);
+        let mut lifelines = Vec::new(alloc);
+        for (row, it) in conversation.iter().enumerate() {
+            if let Some(name) = made(it.reply) {
+                lifelines.push((name, (width, row)))?;
+                width = width.saturating_add(64);
+            }
+        }
+        Ok(Frame {
+            replies,
+            lifelines,
+            width,
+        })
+    }
+
+    /// How far to the right the lifeline of this name is; the left edge, where nothing of this name was made.
+    pub fn find(&self, name: &[u8]) -> usize {
+        for it in &self.lifelines {
+            if is(it.0, name) {
+                return it.1.0;
+            }
+        }
+        0
+    }
+
+    /// Adds a line and its reply, and a sign where no mailbox took its message.
+    fn push_row(
+        &self,
+        shapes: &mut Shapes<'a>,
+        row: usize,
+        it: &Exchange<'a>,
+    ) -> Result<(), AllocError>
+        ensures ways { OnOk result (ways_in shapes.new.items ≡ ways_in shapes.old.items) }
+        ensures line { OnOk result (texts_of (codes "line") shapes.new.items ≡ texts_of (codes "line") shapes.old.items ++ (row, it.now.line.now) ∷ []) }
+        ensures reply { OnOk result (texts_of (codes "reply") shapes.new.items ≡ texts_of (codes "reply") shapes.old.items ++ (row, it.now.reply.now) ∷ []) }
+    {
+        shapes.push(Shape::Text("line", (8, row), it.line))?;
+        shapes.push(Shape::Text("reply", (self.replies, row), it.reply))?;
+        if is(it.reply, b"ok 0") {
+            let x = self.find(word(word(it.line).1).0).saturating_add(8);
+            shapes.push(Shape::Text("nobody", (x, row), b"x"))?;
+        }
+        Ok(())
+    }
+
+    /// The lifelines.
+    fn lines(&self, alloc: Global, conversation: &[Exchange<'_>]) -> Result<Shapes<'a>, AllocError>
+        ensures ways { IfOk result (λ shapes. ways_in shapes.items ≡ []) }
+        ensures lines { IfOk result (λ shapes. texts_of (codes "line") shapes.items ≡ []) }
+        ensures replies { IfOk result (λ shapes. texts_of (codes "reply") shapes.items ≡ []) }
+    {
+        let mut shapes = Vec::new(alloc);
+        for it in &self.lifelines {
+            let (x, row) = it.1;
+            let until = end(conversation, it.0, row);
+            shapes.push(Shape::Stroke("life", (x, row), (x, until)))?;
+        }
+        Ok(shapes)
+    }
+
+    /// What is drawn before the ways of the messages: the lifelines, and the lines with their replies.
+    pub fn shapes(
+        &self,
+        alloc: Global,
+        conversation: &[Exchange<'a>],
+    ) -> Result<Shapes<'a>, AllocError>
+        ensures ways { IfOk result (λ shapes. ways_in shapes.items ≡ []) }
+        // Each line stands in its row, and so does each reply.
+        ensures lines { IfOk result (λ shapes. texts_of (codes "line") shapes.items ≡ map (line_in conversation.now) (range_with_len 0 (length conversation.now))) }
+        ensures replies { IfOk result (λ shapes. texts_of (codes "reply") shapes.items ≡ map (reply_in conversation.now) (range_with_len 0 (length conversation.now))) }
+    {
+        let mut shapes = self.lines(alloc, conversation)?;
+        for row in 0..conversation.len() {
+            self.push_row(&mut shapes, row, &conversation[row])?;
+        }
+        Ok(shapes)
+    }
+
+    /// Adds the names of the lifelines, over what is drawn so far.
+    pub fn push_names(&self, shapes: &mut Shapes<'a>) -> Result<(), AllocError>
+        ensures { OnOk result (ways_in shapes.new.items ≡ ways_in shapes.old.items) }
+    {
+        for it in &self.lifelines {
+            let (x, row) = it.1;
+            shapes.push(Shape::Text("name", (x.saturating_sub(8), row), it.0))?;
+        }
+        Ok(())
+    }
+}
