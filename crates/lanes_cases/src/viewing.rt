@@ -1,0 +1,127 @@
+//! What lanes find before their first step, and what can be seen of them.
+use crate::calling;
+use crate::said::Said;
+use crate::words::{number, party, word};
+use iox_lanes_machine::{Found, Lanes};
+use iox_lanes_words::SlotWord;
+use std::alloc::{AllocError, Global};
+use std::str::SplitWhitespace;
+
+// What a line says is found.
+fn found(words: &mut SplitWhitespace<'_>) -> Option<Found> {
+    let kind = word(words);
+    let port = number(words);
+    let place = number(words);
+    let third = number(words);
+    let publisher = port as usize;
+    Some(match kind {
+        "waiting" => Found::Waiting {
+            publisher,
+            place,
+            slot: third,
+        },
+        "back" => Found::GivenBack {
+            publisher,
+            place,
+            slot: third,
+        },
+        "newest" => Found::Newest {
+            publisher,
+            slot: place,
+        },
+        "payload" => Found::Held {
+            slot: port,
+            word: SlotWord::Payload(place),
+            value: third,
+        },
+        "buffer" => Found::Buffer {
+            publisher,
+            place,
+            messages: third,
+        },
+        "slots" => Found::Slots {
+            publisher,
+            slots: place,
+            most_loans: third,
+        },
+        "header" => Found::Header {
+            publisher,
+            node_id: place,
+            publisher_id: third,
+        },
+        "swapped" => Found::Swapped {
+            subscriber: publisher,
+            one: place,
+            other: third,
+        },
+        _ => return None,
+    })
+}
+
+fn find<'a>(lanes: &mut Lanes, words: &mut SplitWhitespace<'_>) -> Result<Said<'a>, AllocError> {
+    match found(words) {
+        Some(found) => Ok(Said::Is(lanes.find(found)?)),
+        None => Ok(Said::Unknown),
+    }
+}
+
+fn position(lanes: &Lanes, connection: u64) -> Said<'_> {
+    if connection < lanes.links().len() as u64 {
+        Said::Positions(lanes.position(connection))
+    } else {
+        Said::Nothing
+    }
+}
+
+fn link(lanes: &Lanes, connection: u64) -> Said<'_> {
+    match lanes.links().get(connection as usize) {
+        Some(link) => Said::Link(link.limit(), link.found()),
+        None => Said::Nothing,
+    }
+}
+
+fn history(lanes: &Lanes, publisher: u64) -> Said<'_> {
+    match lanes.publishers().get(publisher as usize) {
+        Some(lane) => Said::Words(lane.history()),
+        None => Said::Nothing,
+    }
+}
+
+fn order(lanes: &Lanes, connection: u64, at: u64) -> Said<'_> {
+    match lanes.order(connection).get(at as usize) {
+        Some(placed) => Said::Placed(*placed),
+        None => Said::Nothing,
+    }
+}
+
+// What is seen of the lanes.
+fn view<'a>(lanes: &'a Lanes, verb: &str, words: &mut SplitWhitespace<'_>) -> Said<'a> {
+    match verb {
+        "links" => Said::Number(lanes.links().len() as u64),
+        "link" => link(lanes, number(words)),
+        "history" => history(lanes, number(words)),
+        "position" => position(lanes, number(words)),
+        "order" => {
+            let connection = number(words);
+            order(lanes, connection, number(words))
+        }
+        "moments" => Said::Number(lanes.moments()),
+        _ => Said::Unknown,
+    }
+}
+
+/// What a line of lanes answers.
+pub(crate) fn answer<'a>(
+    alloc: Global,
+    lanes: &'a mut Lanes,
+    first: &str,
+    words: &mut SplitWhitespace<'_>,
+) -> Result<Said<'a>, AllocError> {
+    if let Some(party) = party(first) {
+        return calling::answer(alloc, lanes, party, words);
+    }
+    if first == "find" {
+        return find(lanes, words);
+    }
+    Ok(view(lanes, first, words))
+}
