@@ -193,6 +193,16 @@ fn receive(lanes: &mut Lanes, party: Party) -> Option<u64> {
     }
 }
 
+// Receives so many messages; what the last receive answered.
+fn receives(lanes: &mut Lanes, party: Party, count: u64) -> Said<'_> {
+    for _ in 0..count {
+        if receive(lanes, party).is_none() {
+            break;
+        }
+    }
+    ended(lanes)
+}
+
 // Receives, reads and releases; where the words begin that were read, if all that came to its end.
 fn take(lanes: &mut Lanes, party: Party) -> Option<usize> {
     let sample = receive(lanes, party)?;
@@ -288,6 +298,7 @@ pub(crate) fn answer<'a>(
         "put" => put_one(alloc, lanes, party, number(words)),
         "puts" => puts(alloc, lanes, party, number(words)),
         "loans" => Ok(loans(lanes, party, number(words))),
+        "receives" => Ok(receives(lanes, party, number(words))),
         "take" => Ok(takes(lanes, party, 1)),
         "takes" => Ok(takes(lanes, party, number(words))),
         verb => whole(alloc, lanes, party, verb, words, MOST),

@@ -87,7 +87,7 @@ fn strategy(word: &str) -> BackpressureStrategy {
     }
 }
 
-fn asked(word: &str) -> Asked {
+fn answering(word: &str) -> Asked {
     match word {
         "retry" => Asked::Fixed(BackpressureAction::Retry),
         "discard" => Asked::Fixed(BackpressureAction::DiscardData),
@@ -109,7 +109,7 @@ fn set(plan: &mut Plan, name: &str, word: &str) {
         "values" => plan.config.values = count(word),
         "alloc" => plan.config.allocation = allocation(word),
         "strategy" => plan.strategy = strategy(word),
-        "handler" => plan.asked = asked(word),
+        "handler" => plan.asked = answering(word),
         _ => {}
     }
 }
@@ -145,14 +145,9 @@ fn overriding(slots: Option<usize>) -> PreallocatedSamplesOverride {
     }
 }
 
-/// A publisher comes; its number.
-pub(crate) fn publisher<'a>(
-    alloc: Global,
-    domain: &mut Numbers,
-    words: &mut SplitWhitespace<'_>,
-) -> Result<Said<'a>, AllocError> {
-    let plan = planned(words);
-    let by = handlers(alloc, &plan)?;
+// A publisher comes that is made so; its number.
+fn publishes<'a>(alloc: Global, domain: &mut Numbers, plan: &Plan) -> Result<Said<'a>, AllocError> {
+    let by = handlers(alloc, plan)?;
     let slots = overriding(plan.slots);
     Ok(
         match domain.create_publisher(alloc, plan.config, USER_HEADER, &slots, by) {
@@ -160,6 +155,29 @@ pub(crate) fn publisher<'a>(
             Err(error) => Said::Refused(error.text()),
         },
     )
+}
+
+/// A publisher comes; its number.
+pub(crate) fn publisher<'a>(
+    alloc: Global,
+    domain: &mut Numbers,
+    words: &mut SplitWhitespace<'_>,
+) -> Result<Said<'a>, AllocError> {
+    let plan = planned(words);
+    publishes(alloc, domain, &plan)
+}
+
+/// So many plain publishers come; the number of the last one.
+pub(crate) fn publishers<'a>(
+    alloc: Global,
+    domain: &mut Numbers,
+    count: u64,
+) -> Result<Said<'a>, AllocError> {
+    let mut last = Said::Nothing;
+    for _ in 0..count {
+        last = publishes(alloc, domain, &PLAIN)?;
+    }
+    Ok(last)
 }
 
 fn subscribes<'a>(
@@ -186,6 +204,16 @@ pub(crate) fn subscriber<'a>(
 ) -> Said<'a> {
     let by = DegradationHandler::Fixed(DegradationAction::DegradeAndFail);
     subscribes(alloc, domain, number_if(words), by)
+}
+
+/// So many subscribers come; the number of the last one.
+pub(crate) fn subscribers<'a>(alloc: Global, domain: &mut Numbers, count: u64) -> Said<'a> {
+    let mut last = Said::Nothing;
+    for _ in 0..count {
+        let by = DegradationHandler::Fixed(DegradationAction::DegradeAndFail);
+        last = subscribes(alloc, domain, None, by);
+    }
+    last
 }
 
 /// A subscriber comes for which an object decides; its number.

@@ -41,11 +41,12 @@ fn serve_domain(rt: &HostRuntime, domain: Numbers, lines: Lines<'_>) -> io::Resu
     Ok(())
 }
 
-// A block: its first line says what it is about.
+// A block: its first line is its title, and the second one says what it is about.
 fn serve(rt: &HostRuntime, alloc: Global, block: &str) -> io::Result<()> {
     let mut lines = block.lines();
+    let title = lines.next().unwrap_or("");
     let head = lines.next().unwrap_or("");
-    println!(rt; "{head}")?;
+    println!(rt; "\n{title}\n{head}")?;
     let mut words = head.split_whitespace();
     match word(&mut words) {
         "lanes" => match making::lanes(alloc, &mut words)? {

@@ -228,6 +228,8 @@ pub(crate) fn answer<'a>(
     match first {
         "publisher" => coming::publisher(alloc, domain, words),
         "subscriber" => Ok(coming::subscriber(alloc, domain, words)),
+        "publishers" => coming::publishers(alloc, domain, number(words)),
+        "subscribers" => Ok(coming::subscribers(alloc, domain, number(words))),
         "watcher" => coming::watcher(alloc, domain),
         "refusal" => Ok(reason(domain)),
         _ => Ok(by_port(alloc, domain, kept, first, words)),

@@ -34,14 +34,14 @@ pub(crate) enum Said<'a> {
     Ended(Answer),
     /// What a send of a domain came to.
     Sent(Sent),
-    /// These words, or these slots.
+    /// These words.
     Words(&'a [u64]),
     /// The positions of a connection.
     Positions(Positions),
     /// An entry of an order.
     Placed(Placed),
-    /// How many messages may wait at a connection, and what waited there before the first step.
-    Link(u64, &'a [u64]),
+    /// So many messages waited at a connection before the first step, of so many that may.
+    Waited(usize, u64),
     /// The line isn't understood, or doesn't fit what is there.
     Unknown,
 }
@@ -64,7 +64,7 @@ impl<'a> fmt::Display for Said<'a> {
             Said::Words(words) => write!(f, "{words:?}"),
             Said::Positions(positions) => write!(f, "{positions:?}"),
             Said::Placed(placed) => write!(f, "{placed:?}"),
-            Said::Link(limit, found) => write!(f, "{limit} {found:?}"),
+            Said::Waited(found, limit) => write!(f, "{found} of {limit}"),
             Said::Unknown => f.write_str("unknown"),
         }
     }

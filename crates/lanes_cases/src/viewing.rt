@@ -65,6 +65,21 @@ fn find<'a>(lanes: &mut Lanes, words: &mut SplitWhitespace<'_>) -> Result<Said<'
     }
 }
 
+// The first so many slots wait at the first connection; how many of them were taken in.
+fn find_first<'a>(lanes: &mut Lanes, count: u64) -> Result<Said<'a>, AllocError> {
+    for slot in 0..count {
+        let waiting = Found::Waiting {
+            publisher: 0,
+            place: 0,
+            slot,
+        };
+        if !lanes.find(waiting)? {
+            return Ok(Said::Number(slot));
+        }
+    }
+    Ok(Said::Number(count))
+}
+
 fn position(lanes: &Lanes, connection: u64) -> Said<'_> {
     if connection < lanes.links().len() as u64 {
         Said::Positions(lanes.position(connection))
@@ -75,14 +90,20 @@ fn position(lanes: &Lanes, connection: u64) -> Said<'_> {
 
 fn link(lanes: &Lanes, connection: u64) -> Said<'_> {
     match lanes.links().get(connection as usize) {
-        Some(link) => Said::Link(link.limit(), link.found()),
+        Some(link) => Said::Waited(link.found().len(), link.limit()),
         None => Said::Nothing,
     }
 }
 
-fn history(lanes: &Lanes, publisher: u64) -> Said<'_> {
-    match lanes.publishers().get(publisher as usize) {
-        Some(lane) => Said::Words(lane.history()),
+// The slot at a place of a publisher's history, the oldest at 0.
+fn remembered(lanes: &Lanes, publisher: u64, at: u64) -> Option<u64> {
+    let lane = lanes.publishers().get(publisher as usize)?;
+    lane.history().get(at as usize).copied()
+}
+
+fn history(lanes: &Lanes, publisher: u64, at: u64) -> Said<'_> {
+    match remembered(lanes, publisher, at) {
+        Some(slot) => Said::Number(slot),
         None => Said::Nothing,
     }
 }
@@ -99,7 +120,10 @@ fn view<'a>(lanes: &'a Lanes, verb: &str, words: &mut SplitWhitespace<'_>) -> Sa
     match verb {
         "links" => Said::Number(lanes.links().len() as u64),
         "link" => link(lanes, number(words)),
-        "history" => history(lanes, number(words)),
+        "history" => {
+            let publisher = number(words);
+            history(lanes, publisher, number(words))
+        }
         "position" => position(lanes, number(words)),
         "order" => {
             let connection = number(words);
@@ -120,8 +144,9 @@ pub(crate) fn answer<'a>(
     if let Some(party) = party(first) {
         return calling::answer(alloc, lanes, party, words);
     }
-    if first == "find" {
-        return find(lanes, words);
+    match first {
+        "find" => find(lanes, words),
+        "find_first" => find_first(lanes, number(words)),
+        verb => Ok(view(lanes, verb, words)),
     }
-    Ok(view(lanes, first, words))
 }
