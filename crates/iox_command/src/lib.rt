@@ -6,6 +6,7 @@
 //! | `command` | the commands |
 //! | `service` | the settings of a service that a command names, by its pattern |
 //! | `port` | the options of a publisher and of a subscriber |
+//! | `ports` | the commands of ports by themselves |
 //! | `step` | what a foreign process does between the accesses of a command |
 //! | `steps` | a list of such steps |
 //! | `values` | the values of a message |
@@ -28,6 +29,7 @@
 
 pub mod command;
 pub mod port;
+pub mod ports;
 pub mod refusal;
 pub mod reply;
 pub mod service;
@@ -37,6 +39,7 @@ pub mod values;
 
 pub use command::Command;
 pub use port::{PortNumber, PublisherOptions, SubscriberOptions};
+pub use ports::PortCommand;
 pub use refusal::{HubError, Refusal};
 pub use reply::Reply;
 pub use service::{

@@ -1,31 +1,23 @@
-//! Strings, containers, maps and byte cells, held against rows from outside: what no contract of theirs can say.
+//! Strings, containers, maps, byte cells and tables of numbers: what no contract of theirs can say.
 //!
-//! It has no items of its own, only tests: `strings`, `options`, `vectors`, `queues`, `semantic`, `byte_cells`,
-//! `slot_maps` and `flat_maps` hold the edits and what is printed, `text_forms` what is read and written as JSON,
-//! `memory` that ample memory is always enough, `texts` the text of each error; `shown` is what they share.
+//! It has no items of its own, only tests: `sizes` holds that ample memory is enough at each size, `texts` what is
+//! displayed and debugged, `semantic` names with rules, `text_forms` what is read and written as JSON, `drops` the order
+//! in which items go, `numbered` many values after one another, `known` rows known beforehand; `answers` is what they share.
 #![tactic(auto)]
 
 #[cfg(test)]
-mod byte_cells;
+mod answers;
 #[cfg(test)]
-mod flat_maps;
+mod drops;
 #[cfg(test)]
-mod memory;
+mod known;
 #[cfg(test)]
-mod options;
-#[cfg(test)]
-mod queues;
+mod numbered;
 #[cfg(test)]
 mod semantic;
 #[cfg(test)]
-mod shown;
-#[cfg(test)]
-mod slot_maps;
-#[cfg(test)]
-mod strings;
+mod sizes;
 #[cfg(test)]
 mod text_forms;
 #[cfg(test)]
 mod texts;
-#[cfg(test)]
-mod vectors;

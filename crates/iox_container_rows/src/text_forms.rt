@@ -3,7 +3,7 @@ use iox_container::{RelocatableOption, StaticVec};
 use iox_string::StaticString;
 use serde::{Deserialize, DeserializeOwned, Serialize};
 use serde_json::{Error, Value};
-use std::alloc::Global;
+use std::alloc::{AllocError, Global};
 use std::fmt::Debug;
 use std::process::Abort;
 use std::test::Fail;
@@ -118,4 +118,42 @@ fn strings_vectors_and_options_go_through_their_text_forms(rt: HostRuntime) -> R
     check::<StaticVec<u8, 0>>(&rt, rt.alloc(), &LISTS_OF_NONE)?;
     check::<RelocatableOption<u8>>(&rt, rt.alloc(), &OPTIONS)?;
     check::<StaticVec<StaticString<4>, 2>>(&rt, rt.alloc(), &LISTS_OF_STRINGS)
+}
+
+/// A first text, one for the first of so many items, one for each further, and a last one.
+fn repeated(alloc: Global, parts: [&str; 4], len: usize) -> Result<String, AllocError> {
+    let [open, first, further, close] = parts;
+    let mut text = String::new(alloc);
+    text.push_str(open)?;
+    for place in 0..len {
+        text.push_str(if place == 0 { first } else { further })?;
+    }
+    text.push_str(close)?;
+    Ok(text)
+}
+
+/// Whether a list of so many sevens is read, and written again.
+fn is_list_of(alloc: Global, len: usize) -> Result<bool, Fail> {
+    let json = repeated(alloc, ["[", "7", ", 7", "]"], len)?;
+    let written = repeated(alloc, ["[", "7", ",7", "]"], len)?;
+    let answer = format!(in alloc; "{json} {written}")?;
+    is_read::<StaticVec<u8, 1_000>>(alloc, json.as_str(), answer.as_str())
+}
+
+/// Whether a text of so many letters is.
+fn is_text_of(alloc: Global, len: usize) -> Result<bool, Fail> {
+    let json = repeated(alloc, ["\"", "x", "x", "\""], len)?;
+    let answer = format!(in alloc; "{json} {json}")?;
+    is_read::<StaticString<1_000>>(alloc, json.as_str(), answer.as_str())
+}
+
+#[test]
+fn lists_and_texts_of_each_size_go_through_their_text_forms(rt: HostRuntime) -> Result<(), Fail> {
+    for len in &[0usize, 1, 2, 7, 64, 1_000] {
+        assert!(rt;
+            is_list_of(rt.alloc(), *len)? && is_text_of(rt.alloc(), *len)?,
+            "{len}"
+        );
+    }
+    Ok(())
 }

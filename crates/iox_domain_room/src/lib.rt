@@ -9,3 +9,4 @@
 #![tactic(auto)]
 
 pub mod loans;
+pub mod samples;

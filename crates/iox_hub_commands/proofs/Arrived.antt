@@ -2,29 +2,29 @@
 use Rattle.std.proofs.Common.{◌≡◌, ◌∙◌, ℕ, List, Option, None, Some, IsSome, Result, Ok, Err, option_map, refl, sym, ap}
 use Rattle.std.specs.declared.alloc.AllocError.{AllocError}
 use Rattle.iox_command.specs.declared.reply.Reply.{Reply}
-use Rattle.iox_hub_ports.specs.Delivery.Holding.{message_found}
-use Rattle.iox_hub_ports.specs.Delivery.declared.port_id.PortId.{PortId}
-use Rattle.iox_hub_ports.specs.DomainHome.Homes.{AtDomain}
-use Rattle.iox_hub_ports.specs.DomainHome.Steps.{ReceivesBy}
-use Rattle.iox_hub_ports.specs.DomainHome.declared.domain_id.DomainId.{DomainId}
-use Rattle.iox_hub_ports.proofs.DomainLaws.TakenHeld.{received_is_held}
-use Rattle.iox_hub_ports.specs.DomainPorts.Reading.{sample_in}
-use Rattle.iox_hub_ports.specs.DomainPorts.declared.service_ports.ServicePorts.{ServicePorts}
-use Rattle.iox_hub_ports.specs.DomainSender.Messages.{Message}
-use Rattle.iox_hub_ports.specs.DomainSubscriber.declared.attached.Taken.{Taken}
+use Rattle.iox_hub_commands.specs.Delivery.Holding.{message_found}
+use Rattle.iox_hub_commands.specs.Delivery.declared.port_id.PortId.{PortId}
+use Rattle.iox_hub_commands.specs.DomainHome.Homes.{AtDomain}
+use Rattle.iox_hub_commands.specs.DomainHome.Steps.{ReceivesBy}
+use Rattle.iox_hub_commands.specs.DomainHome.declared.domain_id.DomainId.{DomainId}
+use Rattle.iox_hub_commands.proofs.DomainLaws.TakenHeld.{received_is_held}
+use Rattle.iox_hub_commands.specs.DomainPorts.Reading.{sample_in}
+use Rattle.iox_hub_commands.specs.DomainPorts.declared.service_ports.ServicePorts.{ServicePorts}
+use Rattle.iox_hub_commands.specs.DomainSender.Messages.{Message}
+use Rattle.iox_hub_commands.specs.DomainSubscriber.declared.attached.Taken.{Taken}
 use Rattle.iox_command.specs.DomainValues.declared.degradation.DegradationAction.{DegradationAction}
 use Rattle.iox_command.specs.DomainValues.declared.degradation.DegradationInfo.{DegradationInfo}
 use Rattle.iox_command.specs.DomainValues.declared.port_error.ReceiveError.{ReceiveError}
-use Rattle.iox_hub_ports.specs.Calls.{AtPort, Receives}
-use Rattle.iox_hub_ports.specs.Growing.{GrowsFirst}
-use Rattle.iox_hub_ports.specs.Numbering.{NumbersSample, ReceivesNumbered, with_sample}
-use Rattle.iox_hub_ports.specs.Reading.{values_under}
-use Rattle.iox_hub_ports.specs.Tables.{IsFull}
-use Rattle.iox_hub_ports.specs.declared.made.Made.{Made}
-use Rattle.iox_hub_ports.specs.declared.made.MadeSample.{MadeSample}
+use Rattle.iox_hub_commands.specs.Calls.{AtPort, Receives}
+use Rattle.iox_hub_commands.specs.Growing.{GrowsFirst}
+use Rattle.iox_hub_commands.specs.Numbering.{NumbersSample, ReceivesNumbered, with_sample}
+use Rattle.iox_hub_commands.specs.Reading.{values_under}
+use Rattle.iox_hub_commands.specs.Tables.{IsFull}
+use Rattle.iox_hub_commands.specs.declared.ports.made.Made.{Made}
+use Rattle.iox_hub_commands.specs.declared.ports.made.MadeSample.{MadeSample}
 use Rattle.iox_hub_commands.specs.Receiving.{IsShown, IsTold}
-use Rattle.iox_hub_ports.proofs.Numbered.Telling.{found_and_gone}
-use Rattle.iox_hub_ports.specs.Numbered.NumberTable.{Rises, value_at}
+use Rattle.iox_hub_commands.proofs.Numbered.Telling.{found_and_gone}
+use Rattle.iox_hub_commands.specs.Numbered.NumberTable.{Rises, value_at}
 
 some_of : {A : Type 0} (found : Option A) (x : A) → found ≡ Some x → IsSome found
 some_of found x is = rw is refl

@@ -1,3 +1,8 @@
 pub mod Arrived
-pub use Rattle.iox_hub_ports.proofs.DomainLaws as DomainLaws
 mod Refused
+pub mod Misfit
+pub mod Answering
+pub mod PortsRefused
+pub mod Written
+pub use Rattle.iox_delivery_slices.proofs.DomainLaws as DomainLaws
+pub use Rattle.iox_numbered.proofs as Numbered

@@ -2,20 +2,20 @@
 use Rattle.std.specs.Prelude.{ℕ, ◌≡◌, true, Option, Result}
 use Rattle.std.specs.Option.{unwrap_or}
 use Rattle.iox_command.specs.declared.reply.Reply.{Reply}
-use Rattle.iox_hub_ports.specs.DomainHome.Homes.{MakesAt}
-use Rattle.iox_hub_ports.specs.DomainHome.Steps.{PublisherComes, SubscriberComes, why_no_publisher, why_no_subscriber}
-use Rattle.iox_hub_ports.specs.DomainHome.declared.domain_id.DomainId.{DomainId}
-use Rattle.iox_hub_ports.specs.DomainPorts.declared.making.PublisherConfig.{PublisherConfig}
-use Rattle.iox_hub_ports.specs.DomainPorts.declared.making.SubscriberConfig.{SubscriberConfig}
-use Rattle.iox_hub_ports.specs.DomainPorts.declared.service_ports.ServicePorts.{ServicePorts}
+use Rattle.iox_hub_commands.specs.DomainHome.Homes.{MakesAt}
+use Rattle.iox_hub_commands.specs.DomainHome.Steps.{PublisherComes, SubscriberComes, why_no_publisher, why_no_subscriber}
+use Rattle.iox_hub_commands.specs.DomainHome.declared.domain_id.DomainId.{DomainId}
+use Rattle.iox_hub_commands.specs.DomainPorts.declared.making.PublisherConfig.{PublisherConfig}
+use Rattle.iox_hub_commands.specs.DomainPorts.declared.making.SubscriberConfig.{SubscriberConfig}
+use Rattle.iox_hub_commands.specs.DomainPorts.declared.service_ports.ServicePorts.{ServicePorts}
 use Rattle.iox_command.specs.DomainValues.declared.create_error.PublisherCreateError.{PublisherCreateError}
 use Rattle.iox_command.specs.DomainValues.declared.create_error.SubscriberCreateError.{SubscriberCreateError}
 use Rattle.iox_command.specs.DomainValues.declared.degradation.DegradationAction.{DegradationAction}
 use Rattle.iox_command.specs.DomainValues.declared.degradation.DegradationCause.{DegradationCause}
 use Rattle.iox_command.specs.DomainValues.declared.degradation.DegradationCause.TheVariants.{FailedToEstablishConnection}
 use Rattle.iox_command.specs.DomainValues.declared.degradation.DegradationInfo.{DegradationInfo}
-use Rattle.iox_hub_ports.specs.Making.{MakesRoomFirst, with_publisher, with_subscriber}
-use Rattle.iox_hub_ports.specs.declared.made.Made.{Made}
+use Rattle.iox_hub_commands.specs.Making.{MakesRoomFirst, with_publisher, with_subscriber}
+use Rattle.iox_hub_commands.specs.declared.ports.made.Made.{Made}
 use Rattle.iox_hub_commands.specs.Replies.{publisher_reply, subscriber_reply}
 
 -- A publisher of slices comes to a domain, with this config and these handlers, and gets the next number; it gets so many slots, or as many

@@ -3,16 +3,16 @@ use Rattle.std.specs.Prelude.{ℕ, ◌≡◌, Bool, Option, Result}
 use Rattle.iox_command.specs.declared.port.PortNumber.{PortNumber}
 use Rattle.iox_command.specs.declared.port.PortNumber.TheVariants as port
 use Rattle.iox_command.specs.declared.reply.Reply.{Reply}
-use Rattle.iox_hub_ports.specs.DomainHome.declared.domain_id.DomainId.{DomainId}
-use Rattle.iox_hub_ports.specs.DomainPorts.declared.service_ports.ServicePorts.{ServicePorts}
+use Rattle.iox_hub_commands.specs.DomainHome.declared.domain_id.DomainId.{DomainId}
+use Rattle.iox_hub_commands.specs.DomainPorts.declared.service_ports.ServicePorts.{ServicePorts}
 use Rattle.iox_command.specs.DomainValues.declared.connection_failure.ConnectionFailure.{ConnectionFailure}
 use Rattle.iox_command.specs.DomainValues.declared.degradation.DegradationAction.{DegradationAction}
 use Rattle.iox_command.specs.DomainValues.declared.degradation.DegradationInfo.{DegradationInfo}
-use Rattle.iox_hub_ports.specs.Calls.{AtPort, AtPortIf, Follows, PublisherGoes, FollowsPublishers, Tells, SubscriberGoes}
-use Rattle.iox_hub_ports.specs.Numbering.{removed_if}
-use Rattle.iox_hub_ports.specs.Tables.{port_under, without_publisher, without_subscriber}
-use Rattle.iox_hub_ports.specs.declared.made.Made.{Made}
-use Rattle.iox_hub_ports.specs.Numbered.NumberTable.{value_at}
+use Rattle.iox_hub_commands.specs.Calls.{AtPort, AtPortIf, Follows, PublisherGoes, FollowsPublishers, Tells, SubscriberGoes}
+use Rattle.iox_hub_commands.specs.Numbering.{removed_if}
+use Rattle.iox_hub_commands.specs.Tables.{port_under, without_publisher, without_subscriber}
+use Rattle.iox_hub_commands.specs.declared.ports.made.Made.{Made}
+use Rattle.iox_hub_commands.specs.Numbered.NumberTable.{value_at}
 use Rattle.iox_hub_commands.specs.Replies.{updated_reply, has_reply, done_reply}
 
 -- A publisher or a subscriber follows the list of the others.

@@ -2,21 +2,21 @@
 use Rattle.std.specs.Prelude.{ℕ, ◌≡◌, List, length, Option, Result, Ok, Err}
 use Rattle.std.specs.declared.alloc.AllocError.{AllocError}
 use Rattle.iox_command.specs.declared.reply.Reply.{Reply}
-use Rattle.iox_hub_ports.specs.DomainHome.declared.domain_id.DomainId.{DomainId}
-use Rattle.iox_hub_ports.specs.DomainPorts.declared.service_ports.ServicePorts.{ServicePorts}
-use Rattle.iox_hub_ports.specs.DomainPublisher.declared.meeting.Sent.{Sent}
+use Rattle.iox_hub_commands.specs.DomainHome.declared.domain_id.DomainId.{DomainId}
+use Rattle.iox_hub_commands.specs.DomainPorts.declared.service_ports.ServicePorts.{ServicePorts}
+use Rattle.iox_hub_commands.specs.DomainPublisher.declared.meeting.Sent.{Sent}
 use Rattle.iox_command.specs.DomainValues.declared.backpressure.BackpressureDecision.{BackpressureDecision}
 use Rattle.iox_command.specs.DomainValues.declared.backpressure.BackpressureInfo.{BackpressureInfo}
 use Rattle.iox_command.specs.DomainValues.declared.degradation.DegradationAction.{DegradationAction}
 use Rattle.iox_command.specs.DomainValues.declared.degradation.DegradationInfo.{DegradationInfo}
 use Rattle.iox_command.specs.DomainValues.declared.port_error.LoanError.{LoanError}
 use Rattle.iox_command.specs.DomainValues.declared.port_error.SendError.{SendError}
-use Rattle.iox_hub_ports.specs.Calls.{AtPort, Puts, ready}
-use Rattle.iox_hub_ports.specs.Growing.{GrowsFirst}
-use Rattle.iox_hub_ports.specs.Numbering.{LendsNumbered, LendsWrittenNumbered}
-use Rattle.iox_hub_ports.specs.Tables.{IsFull, lender}
-use Rattle.iox_hub_ports.specs.declared.made.Made.{Made}
-use Rattle.iox_hub_ports.specs.Numbered.NumberTable.{value_at}
+use Rattle.iox_hub_commands.specs.Calls.{AtPort, Puts, ready}
+use Rattle.iox_hub_commands.specs.Growing.{GrowsFirst}
+use Rattle.iox_hub_commands.specs.Numbering.{LendsNumbered, LendsWrittenNumbered}
+use Rattle.iox_hub_commands.specs.Tables.{IsFull, lender}
+use Rattle.iox_hub_commands.specs.declared.ports.made.Made.{Made}
+use Rattle.iox_hub_commands.specs.Numbered.NumberTable.{value_at}
 use Rattle.iox_hub_commands.specs.Replies.{loan_reply, sent_reply}
 
 -- what a loan is replied as, if memory was found for its number

@@ -6,22 +6,22 @@ use Rattle.std.specs.Global.{Vec}
 use Rattle.std.specs.declared.alloc.AllocError.{AllocError}
 use Rattle.iox_command.specs.declared.reply.Reply.{Reply}
 use Rattle.iox_command.specs.declared.reply.Reply.TheVariants as reply
-use Rattle.iox_hub_ports.specs.DomainHome.declared.domain_id.DomainId.{DomainId}
-use Rattle.iox_hub_ports.specs.DomainPorts.Lending.{gave_up_in}
-use Rattle.iox_hub_ports.specs.DomainPorts.declared.service_ports.ServicePorts.{ServicePorts}
-use Rattle.iox_hub_ports.specs.DomainPublisher.declared.meeting.Sent.{Sent}
+use Rattle.iox_hub_commands.specs.DomainHome.declared.domain_id.DomainId.{DomainId}
+use Rattle.iox_hub_commands.specs.DomainPorts.Lending.{gave_up_in}
+use Rattle.iox_hub_commands.specs.DomainPorts.declared.service_ports.ServicePorts.{ServicePorts}
+use Rattle.iox_hub_commands.specs.DomainPublisher.declared.meeting.Sent.{Sent}
 use Rattle.iox_command.specs.DomainValues.declared.backpressure.BackpressureDecision.{BackpressureDecision}
 use Rattle.iox_command.specs.DomainValues.declared.backpressure.BackpressureInfo.{BackpressureInfo}
 use Rattle.iox_command.specs.DomainValues.declared.degradation.DegradationAction.{DegradationAction}
 use Rattle.iox_command.specs.DomainValues.declared.degradation.DegradationInfo.{DegradationInfo}
 use Rattle.iox_command.specs.DomainValues.declared.port_error.SendError.{SendError}
-use Rattle.iox_hub_ports.specs.Calls.{AtPort, Retries, GivesUp}
-use Rattle.iox_hub_ports.specs.Loans.{loan_under, changed_under, is_set, set_in, is_filled, filled_in, SendsUnder}
-use Rattle.iox_hub_ports.specs.Numbering.{removed_if}
-use Rattle.iox_hub_ports.specs.Reading.{values_under, is_held, ReleasesUnder}
-use Rattle.iox_hub_ports.specs.Tables.{port_under, without_loan, without_sample}
-use Rattle.iox_hub_ports.specs.declared.made.Made.{Made}
-use Rattle.iox_hub_ports.specs.Numbered.NumberTable.{value_at}
+use Rattle.iox_hub_commands.specs.Calls.{AtPort, Retries, GivesUp}
+use Rattle.iox_hub_commands.specs.Loans.{loan_under, changed_under, is_set, set_in, is_filled, filled_in, SendsUnder}
+use Rattle.iox_hub_commands.specs.Numbering.{removed_if}
+use Rattle.iox_hub_commands.specs.Reading.{values_under, is_held, ReleasesUnder}
+use Rattle.iox_hub_commands.specs.Tables.{port_under, without_loan, without_sample}
+use Rattle.iox_hub_commands.specs.declared.ports.made.Made.{Made}
+use Rattle.iox_hub_commands.specs.Numbered.NumberTable.{value_at}
 use Rattle.iox_hub_commands.specs.Replies.{sent_reply, given_up_reply, done_reply}
 
 -- One value of a written loan is written.

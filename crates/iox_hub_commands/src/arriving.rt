@@ -1,17 +1,17 @@
 //! The commands by which ports come, over the tables of what goes by numbers and any home of ports.
 ghost use Rattle.std.specs.Prelude.{◌≡◌, ◌+◌, ◌<◌, ◌^◌, Err, option_map};
-ghost use Rattle.iox_hub_ports.specs.DomainHome.Steps.{why_no_publisher, why_no_subscriber};
-ghost use Rattle.iox_hub_ports.specs.declared.made.Made.{Made};
+ghost use Rattle.iox_hub_commands.specs.DomainHome.Steps.{why_no_publisher, why_no_subscriber};
+ghost use Rattle.iox_hub_commands.specs.declared.ports.made.Made.{Made};
 ghost use Rattle.iox_hub_commands.specs.Arriving.{PublisherStep, SubscriberStep};
 ghost use Rattle.iox_hub_commands.specs.Naming.{publisher_config, subscriber_config};
 
 use crate::naming;
+use crate::ports::{Made, PublisherParts};
 use crate::replies::{publisher_reply, subscriber_reply};
 use iox_command::{PublisherOptions, Reply, SubscriberOptions};
 use iox_domain_home::{DomainId, Home, MakesPorts};
 use iox_domain_ports::{PublisherConfig, SubscriberConfig};
 use iox_domain_values::{Degrades, PortOwner, PublisherCreateError, SubscriberCreateError};
-use iox_hub_ports::{Made, PublisherParts};
 use std::alloc::Global;
 
 /// A publisher of slices comes to a domain, with what is named, and gets the next number; `handlers` decide for it. Skipped where the domain

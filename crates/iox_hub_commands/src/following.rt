@@ -1,10 +1,10 @@
 //! The commands by which ports follow the list of the others, say whether messages wait, and leave.
 ghost use Rattle.iox_hub_commands.specs.Following.{UpdateStep, HasStep, LeaveStep};
 
+use crate::ports::Made;
 use crate::replies::{done_reply, has_reply, updated_reply};
 use iox_command::{PortNumber, Reply};
 use iox_domain_home::Home;
-use iox_hub_ports::Made;
 use std::alloc::Global;
 
 pub fn update<T: Copy, U: Copy, H: Home<T, U>>(

@@ -2,10 +2,10 @@
 ghost use Rattle.std.specs.Prelude.{◌+◌, ◌<◌, ◌^◌};
 ghost use Rattle.iox_hub_commands.specs.Lending.{LoanStep, LoanUninitStep, PutStep};
 
+use crate::ports::Made;
 use crate::replies::{loan_reply, sent_reply};
 use iox_command::Reply;
 use iox_domain_home::Home;
-use iox_hub_ports::Made;
 use std::alloc::{AllocError, Global};
 
 /// A publisher lends so many elements, none of which is written. Skipped as `Made::loan_uninit` answers None, and refused as that is.

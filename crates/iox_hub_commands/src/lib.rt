@@ -4,6 +4,7 @@
 //!
 //! | Module | What it has |
 //! |---|---|
+//! | `ports` | ports, loans and samples under numbers |
 //! | `handlers` | who decides for a port that a command made |
 //! | `naming` | what a command names of a port |
 //! | `replies` | what the answers of calls are replied as |
@@ -27,11 +28,12 @@ pub mod handlers;
 pub mod lending;
 pub mod messages;
 mod naming;
+pub mod ports;
 pub mod receiving;
 pub mod replies;
 
 pub use handlers::{
     FixedDegradation, FixedHandlers, NamedSlots, PublisherHandlers, SubscriberHandler,
 };
-pub use iox_hub_ports::Made;
 pub use naming::{most_loans, publisher_handlers, subscriber_handler};
+pub use ports::Made;

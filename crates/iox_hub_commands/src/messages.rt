@@ -2,10 +2,10 @@
 ghost use Rattle.std.specs.Prelude.{◌≡◌, ◌<◌, length, IfOk, OnErr};
 ghost use Rattle.iox_hub_commands.specs.Messages.{SetStep, FillStep, DropStep, SendStep, RetryStep, GiveUpStep, ReadStep, ReleaseStep};
 
+use crate::ports::Made;
 use crate::replies::{done_reply, given_up_reply, sent_reply};
 use iox_command::Reply;
 use iox_domain_home::Home;
-use iox_hub_ports::Made;
 use std::alloc::{AllocError, Global};
 
 pub fn set<T: Copy, U: Copy, H: Home<T, U>>(

@@ -1,13 +1,13 @@
 //! The command that receives, over the tables of what goes by numbers and any home of ports.
 ghost use Rattle.std.specs.Prelude.{◌+◌, ◌<◌, ◌^◌, IsSome};
 ghost use Rattle.iox_hub_commands.specs.Receiving.{IsShown, ReceiveStep};
-ghost use Rattle.iox_hub_ports.specs.Reading.{values_under};
-ghost use Rattle.iox_hub_ports.specs.Numbered.NumberTable.{value_at};
+ghost use Rattle.iox_hub_commands.specs.Reading.{values_under};
+ghost use Rattle.iox_hub_commands.specs.Numbered.NumberTable.{value_at};
 
 use crate::messages::copied;
+use crate::ports::Made;
 use iox_command::{Refusal, Reply};
 use iox_domain_home::Home;
-use iox_hub_ports::Made;
 use std::alloc::{AllocError, Global};
 
 /// A subscriber receives, after an update; a sample that came gets the next number, and is replied with its values. Skipped as

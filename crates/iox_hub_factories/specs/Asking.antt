@@ -1,11 +1,11 @@
 -- What the options of a service ask, whatever its pattern.
 use Rattle.std.specs.Prelude.{ℕ, List}
-use Rattle.iox_hub_requests.specs.Command.Patterns.{pattern_of}
-use Rattle.iox_hub_requests.specs.Command.declared.service.EventOptions.{EventOptions}
-use Rattle.iox_hub_requests.specs.Command.declared.service.PublishSubscribeOptions.{PublishSubscribeOptions}
-use Rattle.iox_hub_requests.specs.Command.declared.service.RequestResponseOptions.{RequestResponseOptions}
-use Rattle.iox_hub_requests.specs.Command.declared.service.ServiceOptions.{ServiceOptions}
-use Rattle.iox_hub_requests.specs.Command.declared.service.ServiceOptions.TheVariants as options
+use Rattle.iox_hub_factories.specs.Command.Patterns.{pattern_of}
+use Rattle.iox_hub_factories.specs.Command.declared.service.EventOptions.{EventOptions}
+use Rattle.iox_hub_factories.specs.Command.declared.service.PublishSubscribeOptions.{PublishSubscribeOptions}
+use Rattle.iox_hub_factories.specs.Command.declared.service.RequestResponseOptions.{RequestResponseOptions}
+use Rattle.iox_hub_factories.specs.Command.declared.service.ServiceOptions.{ServiceOptions}
+use Rattle.iox_hub_factories.specs.Command.declared.service.ServiceOptions.TheVariants as options
 use Rattle.iox_hub_base.specs.DescribeBase.Attributes.{Required}
 use Rattle.iox_hub_base.specs.DescribeBase.Hash.{service_hash_of}
 use Rattle.iox_hub_base.specs.DescribeBase.declared.attribute.Attribute.{Attribute}
@@ -17,14 +17,14 @@ use Rattle.iox_hub_base.specs.DescribeSettings.PublishSubscribeSettings as publi
 use Rattle.iox_hub_base.specs.DescribeSettings.RequestResponseSettings as request_response_settings
 use Rattle.iox_hub_base.specs.DescribeSettings.declared.static_config.Settings.{Settings}
 use Rattle.iox_hub_base.specs.DescribeSettings.declared.static_config.Settings.TheVariants as settings
-use Rattle.iox_hub_requests.specs.DescribeVerdict.EventClauses as event_clauses
-use Rattle.iox_hub_requests.specs.DescribeVerdict.PublishSubscribeClauses as publish_subscribe_clauses
-use Rattle.iox_hub_requests.specs.DescribeVerdict.RequestResponseClauses as request_response_clauses
-use Rattle.iox_hub_requests.specs.DescribeVerdict.declared.requirement.event.Requirement.{Requirement as EventRequirement}
-use Rattle.iox_hub_requests.specs.DescribeVerdict.declared.requirement.publish_subscribe.Requirement.{Requirement as PublishSubscribeRequirement}
-use Rattle.iox_hub_requests.specs.DescribeVerdict.declared.requirement.request_response.Requirement.{Requirement as RequestResponseRequirement}
-use Rattle.iox_hub_requests.specs.Asked.{asked_event, asked_publish_subscribe, asked_request_response}
-use Rattle.iox_hub_requests.specs.Described.{settings_of}
+use Rattle.iox_hub_factories.specs.DescribeVerdict.EventClauses as event_clauses
+use Rattle.iox_hub_factories.specs.DescribeVerdict.PublishSubscribeClauses as publish_subscribe_clauses
+use Rattle.iox_hub_factories.specs.DescribeVerdict.RequestResponseClauses as request_response_clauses
+use Rattle.iox_hub_factories.specs.DescribeVerdict.declared.requirement.event.Requirement.{Requirement as EventRequirement}
+use Rattle.iox_hub_factories.specs.DescribeVerdict.declared.requirement.publish_subscribe.Requirement.{Requirement as PublishSubscribeRequirement}
+use Rattle.iox_hub_factories.specs.DescribeVerdict.declared.requirement.request_response.Requirement.{Requirement as RequestResponseRequirement}
+use Rattle.iox_hub_factories.specs.Asked.{asked_event, asked_publish_subscribe, asked_request_response}
+use Rattle.iox_hub_factories.specs.Described.{settings_of}
 
 -- under which hash a service of these options and this name is found
 abbrev pub hash_of : List ℕ → ServiceOptions → ServiceHash

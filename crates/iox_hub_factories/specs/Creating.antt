@@ -1,11 +1,11 @@
 -- A service is created as options ask, and its factory gets a number.
 use Rattle.std.specs.Prelude.{ℕ, ◌≡◌, Bool, true, false, List, Option, Some, Result, Ok, Err}
 use Rattle.std.specs.declared.alloc.AllocError.{AllocError}
-use Rattle.iox_hub_requests.specs.Command.declared.refusal.Refusal.{Refusal}
-use Rattle.iox_hub_requests.specs.Command.declared.refusal.Refusal.TheVariants as refusal
-use Rattle.iox_hub_requests.specs.Command.declared.service.ServiceOptions.{ServiceOptions}
-use Rattle.iox_hub_requests.specs.Command.declared.service.ServiceOptions.TheVariants as options
-use Rattle.iox_hub_requests.specs.Command.declared.step.StepBefore.{StepBefore}
+use Rattle.iox_hub_factories.specs.Command.declared.refusal.Refusal.{Refusal}
+use Rattle.iox_hub_factories.specs.Command.declared.refusal.Refusal.TheVariants as refusal
+use Rattle.iox_hub_factories.specs.Command.declared.service.ServiceOptions.{ServiceOptions}
+use Rattle.iox_hub_factories.specs.Command.declared.service.ServiceOptions.TheVariants as options
+use Rattle.iox_hub_factories.specs.Command.declared.step.StepBefore.{StepBefore}
 use Rattle.iox_hub_base.specs.DescribeBase.Detail.{Detail}
 use Rattle.iox_hub_base.specs.DescribeBase.declared.attribute.Attribute.{Attribute}
 use Rattle.iox_hub_base.specs.DescribeBase.declared.hash.ServiceHash.{ServiceHash}
@@ -15,16 +15,16 @@ use Rattle.iox_hub_base.specs.DescribeSettings.Agreement.{Agreement, AreWithinLi
 use Rattle.iox_hub_base.specs.Opening.{Made, OpensInHub}
 use Rattle.iox_hub_base.specs.declared.hub.Hub.{Hub}
 use Rattle.iox_hub_base.specs.Negotiate.Negotiation.{Creates}
-use Rattle.iox_hub_requests.specs.NegotiateErrors.EventErrors as event
-use Rattle.iox_hub_requests.specs.NegotiateErrors.PublishSubscribeErrors as publish_subscribe
-use Rattle.iox_hub_requests.specs.NegotiateErrors.RequestResponseErrors as request_response
-use Rattle.iox_hub_requests.specs.NegotiateErrors.declared.event.EventCreateError.TheVariants as event_error
-use Rattle.iox_hub_requests.specs.NegotiateErrors.declared.publish_subscribe.PublishSubscribeCreateError.TheVariants as publish_subscribe_error
-use Rattle.iox_hub_requests.specs.NegotiateErrors.declared.request_response.RequestResponseCreateError.TheVariants as request_response_error
-use Rattle.iox_hub_requests.specs.NegotiateRounds.declared.failure.CreateFailure.{CreateFailure}
-use Rattle.iox_hub_requests.specs.NegotiateRounds.declared.failure.CreateFailure.TheVariants.{OutOfMemory}
-use Rattle.iox_hub_requests.specs.NegotiateTable.Stepped.{SteppedSight}
-use Rattle.iox_hub_requests.specs.NegotiateTable.declared.step.ForeignStep.{ForeignStep}
+use Rattle.iox_hub_factories.specs.NegotiateErrors.EventErrors as event
+use Rattle.iox_hub_factories.specs.NegotiateErrors.PublishSubscribeErrors as publish_subscribe
+use Rattle.iox_hub_factories.specs.NegotiateErrors.RequestResponseErrors as request_response
+use Rattle.iox_hub_factories.specs.NegotiateErrors.declared.event.EventCreateError.TheVariants as event_error
+use Rattle.iox_hub_factories.specs.NegotiateErrors.declared.publish_subscribe.PublishSubscribeCreateError.TheVariants as publish_subscribe_error
+use Rattle.iox_hub_factories.specs.NegotiateErrors.declared.request_response.RequestResponseCreateError.TheVariants as request_response_error
+use Rattle.iox_hub_factories.specs.NegotiateRounds.declared.failure.CreateFailure.{CreateFailure}
+use Rattle.iox_hub_factories.specs.NegotiateRounds.declared.failure.CreateFailure.TheVariants.{OutOfMemory}
+use Rattle.iox_hub_factories.specs.NegotiateTable.Stepped.{SteppedSight}
+use Rattle.iox_hub_factories.specs.NegotiateTable.declared.step.ForeignStep.{ForeignStep}
 use Rattle.iox_hub_factories.specs.Asking.{hash_of, agreed_of, IsHistoryTooLong}
 use Rattle.iox_hub_factories.specs.Numbering.{Prepares, GetsNumber, IsSkipped, IsRefusedWith}
 use Rattle.iox_hub_factories.specs.Tables.{FactoryTable}

@@ -1,16 +1,16 @@
 -- What the calls come to for the factories under numbers, in other words than theirs.
 use Rattle.std.specs.Prelude.{ℕ, ◌≡◌, ◌≢◌, Bool, List, Option, None, Some, option_map, Result, Ok, Err}
-use Rattle.iox_hub_requests.specs.Command.Patterns.{pattern_of}
-use Rattle.iox_hub_requests.specs.Command.declared.refusal.Refusal.{Refusal}
-use Rattle.iox_hub_requests.specs.Command.declared.step.StepBefore.{StepBefore}
+use Rattle.iox_hub_factories.specs.Command.Patterns.{pattern_of}
+use Rattle.iox_hub_factories.specs.Command.declared.refusal.Refusal.{Refusal}
+use Rattle.iox_hub_factories.specs.Command.declared.step.StepBefore.{StepBefore}
 use Rattle.iox_hub_base.specs.DescribeBase.Attributes.{Required}
 use Rattle.iox_hub_base.specs.DescribeBase.Detail.{Detail}
 use Rattle.iox_hub_base.specs.DescribeBase.declared.attribute.Attribute.{Attribute}
 use Rattle.iox_hub_base.specs.DescribeBase.declared.message_type.MessageTypeDetails.{MessageTypeDetails}
 use Rattle.iox_hub_base.specs.DescribeBase.declared.pattern.MessagingPattern.{MessagingPattern}
 use Rattle.iox_hub_base.specs.declared.hub.Hub.{Hub}
-use Rattle.iox_hub_requests.specs.NegotiateErrors.declared.close.CloseError.{CloseError}
-use Rattle.iox_hub_requests.specs.NegotiateErrors.declared.close.CloseError.TheVariants.{StillInUse}
+use Rattle.iox_hub_factories.specs.NegotiateErrors.declared.close.CloseError.{CloseError}
+use Rattle.iox_hub_factories.specs.NegotiateErrors.declared.close.CloseError.TheVariants.{StillInUse}
 use Rattle.iox_numbered.specs.NumberTable.{Rises, value_at}
 use Rattle.iox_hub_factories.specs.Closing.{ClosesNumbered}
 use Rattle.iox_hub_factories.specs.Creating.{CreatesNumbered}

@@ -1,14 +1,14 @@
 -- How a factory gets a number, and what is made ready before the first access.
 use Rattle.std.specs.Prelude.{ℕ, ◌≡◌, ◌<◌, ◌≤◌, List, [], length, Option, None, Some, Result, Ok, Err}
 use Rattle.std.specs.declared.alloc.AllocError.{AllocError}
-use Rattle.iox_hub_requests.specs.Command.declared.refusal.Refusal.{Refusal}
-use Rattle.iox_hub_requests.specs.Command.declared.step.StepBefore.{StepBefore}
-use Rattle.iox_hub_requests.specs.Describe.Within.{HasForm}
+use Rattle.iox_hub_factories.specs.Command.declared.refusal.Refusal.{Refusal}
+use Rattle.iox_hub_factories.specs.Command.declared.step.StepBefore.{StepBefore}
+use Rattle.iox_hub_factories.specs.Describe.Within.{HasForm}
 use Rattle.iox_hub_base.specs.DescribeBase.declared.message_type.MessageTypeDetails.{MessageTypeDetails}
 use Rattle.iox_hub_base.specs.DescribeBase.declared.pattern.MessagingPattern.{MessagingPattern}
 use Rattle.iox_hub_base.specs.Opening.{Made}
-use Rattle.iox_hub_requests.specs.Steps.{lists_of}
-use Rattle.iox_hub_requests.specs.NegotiateTable.declared.step.ForeignStep.{ForeignStep}
+use Rattle.iox_hub_factories.specs.Steps.{lists_of}
+use Rattle.iox_hub_factories.specs.NegotiateTable.declared.step.ForeignStep.{ForeignStep}
 use Rattle.iox_numbered.specs.NumberTable.{inserted}
 use Rattle.iox_hub_factories.specs.Tables.{FactoryTable, SameNumbers, pattern_in, parts_of}
 use Rattle.iox_hub_factories.specs.declared.made.MadeFactory.{MadeFactory}

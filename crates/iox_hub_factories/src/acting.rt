@@ -1,11 +1,11 @@
 //! Nodes of others act.
-ghost use Rattle.iox_hub_requests.specs.Asked.{types_of};
+ghost use Rattle.iox_hub_factories.specs.Asked.{types_of};
 ghost use Rattle.iox_hub_factories.specs.Foreign.{ActsNamed};
 
+use crate::requests::{message_types, step_list};
 use iox_command::{ForeignStep, HubError};
 use iox_describe_base::{MessagingPattern, ServiceName, ZeroCopySend};
 use iox_hub_base::Hub;
-use iox_hub_requests::{message_types, step_list};
 use std::alloc::Global;
 
 /// Nodes of others do these steps on the service of this pattern and name, one after the other, as `Hub::foreign` does them.

@@ -1,17 +1,17 @@
 //! The table: which factory goes by a number.
 ghost use Rattle.std.specs.Prelude.{◌≡◌, ◌+◌, ◌<◌, ◌^◌, length, option_map};
 ghost use Rattle.std.specs.Result.{result_map_both};
-ghost use Rattle.iox_hub_requests.specs.Describe.Within.{HasForm};
+ghost use Rattle.iox_hub_factories.specs.Describe.Within.{HasForm};
 ghost use Rattle.iox_numbered.specs.NumberTable.{value_at, inserted};
 ghost use Rattle.iox_hub_factories.specs.Numbering.{MakesRoom, Prepares};
 ghost use Rattle.iox_hub_factories.specs.Tables.{no_factories, parts_of, publish_subscribe_in};
 
 use crate::made::MadeFactory;
+use crate::requests::step_lists;
 use iox_command::StepBefore;
 use iox_describe::pattern::PublishSubscribe;
 use iox_describe_base::{MessageTypeDetails, ServiceName};
 use iox_hub_base::PortFactory;
-use iox_hub_requests::step_lists;
 use iox_negotiate_table::StepList;
 use iox_numbered::Numbered;
 use std::alloc::{AllocError, Global};

@@ -2,6 +2,7 @@
 //!
 //! | Module | What it has |
 //! |---|---|
+//! | `requests` | what a command asks of negotiation |
 //! | `made` | a service that is open, whatever its pattern |
 //! | `factories` | the table: which factory goes by a number |
 //! | `asked` | which service is asked for |
@@ -29,6 +30,7 @@ pub mod factories;
 pub mod laws;
 pub mod made;
 pub mod opening;
+pub mod requests;
 
 pub use acting::foreign;
 pub use asked::ServiceAsked;

@@ -1,15 +1,16 @@
 //! Services are opened.
 ghost use Rattle.std.specs.Prelude.{◌≡◌, ◌<◌, ◌+◌, ◌^◌, length};
-ghost use Rattle.iox_hub_requests.specs.Command.declared.service.ServiceOptions.TheVariants as service;
+ghost use Rattle.iox_hub_factories.specs.Command.declared.service.ServiceOptions.TheVariants as service;
 ghost use Rattle.iox_hub_base.specs.DescribeBase.Detail.{detail};
 ghost use Rattle.iox_hub_base.specs.DescribeBase.declared.type_detail.TypeVariant.TheVariants.{FixedSize};
 ghost use Rattle.iox_hub_base.specs.Hubs.{is_node};
-ghost use Rattle.iox_hub_requests.specs.Asked.{types_of};
+ghost use Rattle.iox_hub_factories.specs.Asked.{types_of};
 ghost use Rattle.iox_hub_factories.specs.Opening.{OpensAs, OpensNumbered, open_lacking};
 
 use crate::asked::ServiceAsked;
 use crate::factories::Factories;
 use crate::made::MadeFactory;
+use crate::requests::{event, message_types, publish_subscribe, request_response};
 use iox_command::{
     EventOptions, PublishSubscribeOptions, Refusal, RequestResponseOptions, ServiceOptions,
     StepBefore,
@@ -17,7 +18,6 @@ use iox_command::{
 use iox_describe::pattern::{Event, PublishSubscribe, RequestResponse};
 use iox_describe_base::{AttributeVerifier, MessageTypeDetails, ZeroCopySend};
 use iox_hub_base::{Hub, HubBuilder};
-use iox_hub_requests::{event, message_types, publish_subscribe, request_response};
 use iox_negotiate::Builder;
 use iox_negotiate_errors::{EventOpenError, PublishSubscribeOpenError, RequestResponseOpenError};
 use iox_negotiate_table::StepList;

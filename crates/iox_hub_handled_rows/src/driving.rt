@@ -7,7 +7,7 @@ use iox_domain_values::{
     BackpressureAction, BackpressureFn, BackpressureHandler, BackpressureInfo, DegradationAction,
     DegradationCause, DegradationFn, DegradationHandler, DegradationInfo, Handlers,
 };
-use iox_hub_handled::{GivenHandler, GivenHandlers, HandledCommand, step};
+use iox_hub::{GivenHandler, GivenHandlers, HandledCommand, step};
 use iox_hub_run::{HubConfig, NumberedHub};
 use iox_line::{Scratch, print_reply, read_command};
 use std::alloc::{AllocError, Global};

@@ -1,7 +1,7 @@
 //! A list of commands.
 use crate::driving::{CONFIG, Given, Numbers, hand_in, left};
 use iox_command::{Command, PublisherOptions, Reply};
-use iox_hub_handled::{HandledCommand, run};
+use iox_hub::{HandledCommand, run};
 use std::alloc::{AllocError, Global};
 
 const OPTIONS: PublisherOptions = PublisherOptions {

@@ -15,9 +15,9 @@ use Rattle.iox_hub_factories.specs.HubBase.Opening.{Made as Opened}
 use Rattle.iox_hub_commands.specs.Arriving.{PublisherStep, SubscriberStep}
 use Rattle.iox_hub_commands.specs.DomainPorts.declared.making.PublisherConfig.{PublisherConfig}
 use Rattle.iox_hub_commands.specs.DomainPorts.declared.making.SubscriberConfig.{SubscriberConfig}
-use Rattle.iox_hub_commands.specs.HubPorts.Making.{NumbersPort, with_publisher, with_subscriber}
-use Rattle.iox_hub_commands.specs.HubPorts.Tables.{IsRoomier}
-use Rattle.iox_hub_commands.specs.HubPorts.declared.made.Made.{Made}
+use Rattle.iox_hub_commands.specs.Making.{NumbersPort, with_publisher, with_subscriber}
+use Rattle.iox_hub_commands.specs.Tables.{IsRoomier}
+use Rattle.iox_hub_commands.specs.declared.ports.made.Made.{Made}
 use Rattle.iox_hub_commands.specs.Naming.{publisher_config, publisher_handlers, subscriber_config, subscriber_handler}
 use Rattle.iox_hub_run.specs.Room.{OnlyRoomier}
 use Rattle.iox_hub_run.specs.Services.{PublisherComes, SubscriberComes, domain_of_factory, owner_of_factory}

@@ -6,11 +6,11 @@ use Rattle.iox_hub_commands.specs.DomainHome.declared.domain_id.DomainId.{Domain
 use Rattle.iox_hub_commands.specs.DomainSubscriber.declared.attached.Taken.{Taken}
 use Rattle.iox_hub_commands.specs.DomainValues.declared.port_error.LoanError.{LoanError}
 use Rattle.iox_hub_commands.specs.DomainValues.declared.port_error.ReceiveError.{ReceiveError}
-use Rattle.iox_hub_commands.specs.HubPorts.Growing.{GrowsFirst}
-use Rattle.iox_hub_commands.specs.HubPorts.Making.{NumbersPort, with_publisher, with_subscriber}
-use Rattle.iox_hub_commands.specs.HubPorts.Numbering.{NumbersLoan, NumbersSample, removed_if}
-use Rattle.iox_hub_commands.specs.HubPorts.Tables.{IsRoomier, without_publisher, without_subscriber, without_loan, without_sample}
-use Rattle.iox_hub_commands.specs.HubPorts.declared.made.Made.{Made}
+use Rattle.iox_hub_commands.specs.Growing.{GrowsFirst}
+use Rattle.iox_hub_commands.specs.Making.{NumbersPort, with_publisher, with_subscriber}
+use Rattle.iox_hub_commands.specs.Numbering.{NumbersLoan, NumbersSample, removed_if}
+use Rattle.iox_hub_commands.specs.Tables.{IsRoomier, without_publisher, without_subscriber, without_loan, without_sample}
+use Rattle.iox_hub_commands.specs.declared.ports.made.Made.{Made}
 use Rattle.iox_hub_run.specs.Lives.{AllStay, OneChanges}
 use Rattle.iox_hub_run.proofs.GoingOn.{stay_longer, stays_and_changes, one_more}
 

@@ -5,13 +5,13 @@ use Rattle.std.proofs.lemmas.List.Sums.{sum_by-le-sum_by}
 use Rattle.std.specs.Map.{values_of}
 use Rattle.std.specs.Prelude.{min, ◌-◌, ◌^◌, OnErr, OnOk}
 use Rattle.std.specs.declared.alloc.AllocError.{AllocError}
-use Rattle.iox_command_ports.specs.Ports.{command_of}
-use Rattle.iox_command_ports.specs.declared.port_command.PortCommand.{PortCommand}
-use Rattle.iox_command_ports.specs.declared.port_command.PortCommand.TheVariants as port_command
-use Rattle.iox_domain_sample_room.specs.Roomy.{AreRoomy}
-use Rattle.iox_domain_sample_room.specs.Samples.{samples_left, samples_at_most}
-use Rattle.iox_domain_sample_room.proofs.Bounds.{few_left}
-use Rattle.iox_domain_sample_room.proofs.StayRoomy.{new_roomy, stay_roomy}
+use Rattle.iox_command.specs.Ports.{command_of}
+use Rattle.iox_command.specs.declared.ports.port_command.PortCommand.{PortCommand}
+use Rattle.iox_command.specs.declared.ports.port_command.PortCommand.TheVariants as port_command
+use Rattle.iox_domain_room.specs.Roomy.{AreRoomy}
+use Rattle.iox_domain_room.specs.Samples.{samples_left, samples_at_most}
+use Rattle.iox_domain_room.proofs.Bounds.{few_left}
+use Rattle.iox_domain_room.proofs.StayRoomy.{new_roomy, stay_roomy}
 use Rattle.iox_hub_commands.specs.Arriving.{PublisherStep, SubscriberStep}
 use Rattle.iox_hub_commands.specs.Command.declared.command.Command.{Command}
 use Rattle.iox_hub_commands.specs.Command.declared.command.Command.TheVariants as command
@@ -36,13 +36,13 @@ use Rattle.iox_hub_commands.specs.DomainValues.declared.degradation.DegradationA
 use Rattle.iox_hub_commands.specs.DomainValues.declared.degradation.DegradationCause.{DegradationCause}
 use Rattle.iox_hub_commands.specs.DomainValues.declared.degradation.DegradationInfo.{DegradationInfo}
 use Rattle.iox_hub_commands.specs.DomainValues.declared.port_error.ReceiveError.{ReceiveError}
-use Rattle.iox_hub_commands.specs.HubPorts.Calls.{ready}
-use Rattle.iox_hub_commands.specs.HubPorts.Growing.{GrowsFirst}
-use Rattle.iox_hub_commands.specs.HubPorts.Making.{NumbersPort, with_publisher, with_subscriber}
-use Rattle.iox_hub_commands.specs.HubPorts.Numbering.{LendsNumbered, LendsWrittenNumbered, ReceivesNumbered, NumbersSample}
-use Rattle.iox_hub_commands.specs.HubPorts.Reading.{values_under}
-use Rattle.iox_hub_commands.specs.HubPorts.Tables.{IsFull, lender}
-use Rattle.iox_hub_commands.specs.HubPorts.declared.made.Made.{Made}
+use Rattle.iox_hub_commands.specs.Calls.{ready}
+use Rattle.iox_hub_commands.specs.Growing.{GrowsFirst}
+use Rattle.iox_hub_commands.specs.Making.{NumbersPort, with_publisher, with_subscriber}
+use Rattle.iox_hub_commands.specs.Numbering.{LendsNumbered, LendsWrittenNumbered, ReceivesNumbered, NumbersSample}
+use Rattle.iox_hub_commands.specs.Reading.{values_under}
+use Rattle.iox_hub_commands.specs.Tables.{IsFull, lender}
+use Rattle.iox_hub_commands.specs.declared.ports.made.Made.{Made}
 use Rattle.iox_hub_commands.specs.Messages.{SomeValues}
 use Rattle.iox_hub_commands.specs.Receiving.{IsTold}
 use Rattle.iox_hub_factories.specs.HubBase.AsHome.{hub_ports, with_hub_ports, with_hub_publisher, with_hub_subscriber}

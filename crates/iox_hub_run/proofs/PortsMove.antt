@@ -40,15 +40,15 @@ use Rattle.iox_hub_commands.specs.Following.{UpdateStep, HasStep, LeaveStep}
 use Rattle.iox_hub_commands.specs.Lending.{LoanStep, LoanUninitStep, PutStep}
 use Rattle.iox_hub_commands.specs.Messages.{SetStep, FillStep, DropStep, SendStep, RetryStep, GiveUpStep, ReleaseStep}
 use Rattle.iox_hub_commands.specs.Receiving.{ReceiveStep}
-use Rattle.iox_hub_commands.specs.HubPorts.Calls.{AtPort, AtPortIf, Lends, LendsWritten, Puts, Follows, Sends, Retries, GivesUp, PublisherGoes, FollowsPublishers, Tells, Receives, SubscriberGoes, ready}
-use Rattle.iox_hub_commands.specs.HubPorts.Growing.{GrowsFirst}
-use Rattle.iox_hub_commands.specs.HubPorts.Loans.{changed_under, set_in, filled_in, SendsUnder}
-use Rattle.iox_hub_commands.specs.HubPorts.Numbering.{LendsNumbered, LendsWrittenNumbered, ReceivesNumbered}
-use Rattle.iox_hub_commands.specs.HubPorts.Reading.{ReleasesUnder}
-use Rattle.iox_hub_commands.specs.HubPorts.Tables.{IsFull, lender, port_under}
-use Rattle.iox_hub_commands.specs.HubPorts.declared.made.Made.{Made}
-use Rattle.iox_hub_commands.specs.HubPorts.declared.made.MadeLoan.{MadeLoan}
-use Rattle.iox_hub_commands.specs.HubPorts.declared.made.MadeSample.{MadeSample}
+use Rattle.iox_hub_commands.specs.Calls.{AtPort, AtPortIf, Lends, LendsWritten, Puts, Follows, Sends, Retries, GivesUp, PublisherGoes, FollowsPublishers, Tells, Receives, SubscriberGoes, ready}
+use Rattle.iox_hub_commands.specs.Growing.{GrowsFirst}
+use Rattle.iox_hub_commands.specs.Loans.{changed_under, set_in, filled_in, SendsUnder}
+use Rattle.iox_hub_commands.specs.Numbering.{LendsNumbered, LendsWrittenNumbered, ReceivesNumbered}
+use Rattle.iox_hub_commands.specs.Reading.{ReleasesUnder}
+use Rattle.iox_hub_commands.specs.Tables.{IsFull, lender, port_under}
+use Rattle.iox_hub_commands.specs.declared.ports.made.Made.{Made}
+use Rattle.iox_hub_commands.specs.declared.ports.made.MadeLoan.{MadeLoan}
+use Rattle.iox_hub_commands.specs.declared.ports.made.MadeSample.{MadeSample}
 use Rattle.iox_hub_factories.specs.Numbered.NumberTable.{value_at}
 use Rattle.iox_hub_run.specs.Grown.{AnySlots, AnyAction, AnyDecision, LeadsTo}
 use Rattle.iox_hub_run.proofs.Grown.{Moves, MovesOne, by_call, by_handlers, each_leads, is_moves, none_moves, moves_on, keep_moves, at_domain_moves, leaves_moves, makes_moves, changed_moves}

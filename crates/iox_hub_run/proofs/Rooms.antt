@@ -29,12 +29,12 @@ use Rattle.iox_hub_commands.specs.DomainValues.declared.degradation.DegradationI
 use Rattle.iox_hub_commands.specs.DomainValues.declared.port_error.LoanError.{LoanError}
 use Rattle.iox_hub_commands.specs.DomainValues.declared.port_error.ReceiveError.{ReceiveError}
 use Rattle.iox_hub_commands.specs.Following.{LeaveStep}
-use Rattle.iox_hub_commands.specs.HubPorts.Calls.{ready}
-use Rattle.iox_hub_commands.specs.HubPorts.Growing.{GrowsFirst}
-use Rattle.iox_hub_commands.specs.HubPorts.Making.{NumbersPort, with_publisher, with_subscriber}
-use Rattle.iox_hub_commands.specs.HubPorts.Numbering.{LendsNumbered, LendsWrittenNumbered, ReceivesNumbered, NumbersLoan, NumbersSample, removed_if}
-use Rattle.iox_hub_commands.specs.HubPorts.Tables.{IsFull, IsRoomier, lender, without_publisher, without_subscriber, without_loan, without_sample}
-use Rattle.iox_hub_commands.specs.HubPorts.declared.made.Made.{Made}
+use Rattle.iox_hub_commands.specs.Calls.{ready}
+use Rattle.iox_hub_commands.specs.Growing.{GrowsFirst}
+use Rattle.iox_hub_commands.specs.Making.{NumbersPort, with_publisher, with_subscriber}
+use Rattle.iox_hub_commands.specs.Numbering.{LendsNumbered, LendsWrittenNumbered, ReceivesNumbered, NumbersLoan, NumbersSample, removed_if}
+use Rattle.iox_hub_commands.specs.Tables.{IsFull, IsRoomier, lender, without_publisher, without_subscriber, without_loan, without_sample}
+use Rattle.iox_hub_commands.specs.declared.ports.made.Made.{Made}
 use Rattle.iox_hub_commands.specs.Lending.{LoanStep, LoanUninitStep, lent_reply}
 use Rattle.iox_hub_commands.specs.Receiving.{ReceiveStep}
 use Rattle.iox_hub_factories.proofs.Numbered.Joined.{length-removed}

@@ -13,5 +13,5 @@ pub mod AgreementLaws
 pub use Rattle.iox_hub_commands.specs.Command as Command
 pub use Rattle.iox_hub_factories.specs.HubBase as HubBase
 pub use Rattle.iox_hub_commands.specs as HubCommands
-pub use Rattle.iox_hub_factories.specs.HubRequests as HubRequests
-pub use Rattle.iox_command_ports.specs.Ports as CommandPorts
+pub use Rattle.iox_hub_factories.specs as HubFactories
+pub use Rattle.iox_command.specs.Ports as CommandPorts

@@ -4,7 +4,7 @@ use Rattle.iox_hub_factories.specs.HubBase.Hubs.{IsNewHub}
 use Rattle.iox_hub_factories.specs.HubBase.declared.hub.HubConfig.{HubConfig}
 use Rattle.iox_hub_factories.specs.Numbered.NumberTable.{NumberTable}
 use Rattle.iox_hub_factories.specs.Tables.{no_factories}
-use Rattle.iox_hub_commands.specs.HubPorts.declared.made.Made.{Made}
+use Rattle.iox_hub_commands.specs.declared.ports.made.Made.{Made}
 use Rattle.iox_hub_run.specs.declared.numbered_hub.NumberedHub.{NumberedHub}
 
 -- No value stands in a table, and its first number is 1; there may be room for some.

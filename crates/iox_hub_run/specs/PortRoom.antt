@@ -2,10 +2,10 @@
 use Rattle.std.specs.Prelude.{ℕ, ◌≡◌, ◌+◌, ◌<◌, ◌⊎◌, [], length, Option, None, Some}
 use Rattle.iox_hub_commands.specs.Command.declared.command.Command.{Command}
 use Rattle.iox_hub_commands.specs.Command.declared.command.Command.TheVariants as command
-use Rattle.iox_domain_sample_room.specs.Samples.{held_by_one}
+use Rattle.iox_domain_room.specs.Samples.{held_by_one}
 use Rattle.iox_hub_commands.specs.DomainHome.declared.domain_id.DomainId.{DomainId}
 use Rattle.iox_hub_commands.specs.DomainPorts.declared.service_ports.ServicePorts.{ServicePorts}
-use Rattle.iox_hub_commands.specs.HubPorts.Reading.{values_under}
+use Rattle.iox_hub_commands.specs.Reading.{values_under}
 use Rattle.iox_hub_commands.specs.Messages.{SomeValues}
 use Rattle.iox_hub_factories.specs.HubBase.AsHome.{hub_ports}
 use Rattle.iox_hub_factories.specs.HubServices.Room.{loans_left_in, samples_left_in}

@@ -4,8 +4,8 @@ use Rattle.std.specs.declared.alloc.AllocError.{AllocError}
 use Rattle.iox_hub_commands.specs.Command.declared.command.Command.{Command}
 use Rattle.iox_hub_commands.specs.Command.declared.command.Command.TheVariants as command
 use Rattle.iox_hub_commands.specs.Command.declared.reply.Reply.{Reply}
-use Rattle.iox_hub_commands.specs.HubPorts.Tables.{IsRoomier}
-use Rattle.iox_hub_commands.specs.HubPorts.declared.made.Made.{Made}
+use Rattle.iox_hub_commands.specs.Tables.{IsRoomier}
+use Rattle.iox_hub_commands.specs.declared.ports.made.Made.{Made}
 use Rattle.iox_hub_factories.specs.Numbered.NumberTable.{NumberTable}
 use Rattle.iox_hub_run.specs.Runs.{IsRun, NeverBegins}
 use Rattle.iox_hub_run.specs.declared.numbered_hub.NumberedHub.{NumberedHub}

@@ -1,9 +1,9 @@
 //! One command of a port, and its reply.
 ghost use Rattle.std.specs.Prelude.{◌+◌, ◌<◌, ◌≤◌, ◌^◌, OnErr};
-ghost use Rattle.iox_command_ports.specs.Ports.{command_of};
+ghost use Rattle.iox_command.specs.Ports.{command_of};
 ghost use Rattle.iox_hub_commands.specs.DescribeBase.Detail.{detail};
 ghost use Rattle.iox_hub_commands.specs.DescribeBase.declared.type_detail.TypeVariant.TheVariants.{FixedSize};
-ghost use Rattle.iox_hub_factories.specs.HubRequests.Asked.{types_of};
+ghost use Rattle.iox_hub_factories.specs.Asked.{types_of};
 ghost use Rattle.iox_hub_run.specs.Agreements.{AreOfOneAgreement};
 ghost use Rattle.iox_hub_run.specs.Grown.{GrowsOn, HaveGrown, AreAsAgreed, OneDomainMoves};
 ghost use Rattle.iox_hub_run.specs.Lives.{ChangesOneThing};
@@ -13,7 +13,7 @@ ghost use Rattle.iox_hub_run.specs.Steps.{Step};
 
 use crate::numbered_hub::NumberedHub;
 use iox_command::Reply;
-use iox_command_ports::PortCommand;
+use iox_command::ports::PortCommand;
 use iox_describe_base::ZeroCopySend;
 use iox_hub_commands::{
     PublisherHandlers, SubscriberHandler, following, lending, messages, receiving,

@@ -1,6 +1,6 @@
 //! Room for the numbers of loans and samples, which a run makes before its first command, and a port that comes.
 ghost use Rattle.std.specs.Prelude.{◌≡◌, ◌+◌, ◌-◌, ◌^◌, ◌≤◌, ◌<◌, length, min, IsOk, OnOk, OnErr};
-ghost use Rattle.iox_hub_commands.specs.HubPorts.Tables.{SameNumbers};
+ghost use Rattle.iox_hub_commands.specs.Tables.{SameNumbers};
 ghost use Rattle.iox_hub_factories.specs.HubServices.Room.{loans_left_in, samples_left_in, samples_at_most_in};
 ghost use Rattle.iox_hub_run.specs.PortRoom.{FitsBeside, most_samples_at};
 ghost use Rattle.iox_hub_run.specs.Room.{loans_of, samples_of, loans_in, samples_in, FitsMore, FitsAll, OnlyRoomier};
@@ -8,7 +8,7 @@ ghost use Rattle.iox_hub_run.specs.Room.{loans_of, samples_of, loans_in, samples
 use crate::numbered_hub::NumberedHub;
 use iox_command::Command;
 use iox_domain_home::{DomainId, Home};
-use iox_domain_sample_room::samples::held_by_one;
+use iox_domain_room::samples::held_by_one;
 use iox_domain_values::{Decides, Degrades};
 use iox_numbered::Numbered;
 use std::alloc::AllocError;

@@ -2,7 +2,7 @@
 ghost use Rattle.std.specs.Prelude.{◌≡◌, ◌+◌, ◌<◌, ◌^◌, option_map};
 ghost use Rattle.iox_hub_commands.specs.DescribeBase.Detail.{detail};
 ghost use Rattle.iox_hub_commands.specs.DescribeBase.declared.type_detail.TypeVariant.TheVariants.{FixedSize};
-ghost use Rattle.iox_hub_factories.specs.HubRequests.Asked.{types_of};
+ghost use Rattle.iox_hub_factories.specs.Asked.{types_of};
 ghost use Rattle.iox_hub_run.specs.PortRoom.{KeepsRoom};
 ghost use Rattle.iox_hub_run.specs.Services.{NodeMakes, Creates, Opens, OpensOrCreates, Acts, Closes, MakesPublisher, MakesSubscriber, domain_of_factory, owner_of_factory};
 ghost use Rattle.iox_hub_factories.specs.Tables.{publish_subscribe_in};

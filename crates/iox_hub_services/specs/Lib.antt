@@ -13,4 +13,3 @@ pub mod Within
 pub mod Room
 pub mod Laws
 pub use Rattle.iox_domain_room.specs as DomainRoom
-pub use Rattle.iox_domain_sample_room.specs as DomainSampleRoom

@@ -3,7 +3,7 @@ use Rattle.std.specs.Prelude.{ℕ, List, sum_by}
 use Rattle.std.specs.Map.{values_of}
 use Rattle.iox_domain.specs.DomainPorts.declared.service_ports.ServicePorts.{ServicePorts}
 use Rattle.iox_domain_room.specs.Loans.{loans_left}
-use Rattle.iox_domain_sample_room.specs.Samples.{samples_left, samples_at_most}
+use Rattle.iox_domain_room.specs.Samples.{samples_left, samples_at_most}
 use Rattle.iox_hub_services.specs.declared.presence.Presence.{Presence}
 use Rattle.iox_hub_services.specs.declared.presence.Presence.TheVariants.{Here, Out}
 

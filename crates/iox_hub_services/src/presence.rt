@@ -6,13 +6,12 @@ ghost use Rattle.iox_hub_services.specs.Open.{here, taken_out};
 ghost use Rattle.iox_hub_services.specs.Agreeing.{same_agreement};
 ghost use Rattle.iox_hub_services.specs.Room.{counted_at};
 ghost use Rattle.iox_domain_room.specs.Loans.{loans_left};
-ghost use Rattle.iox_domain_sample_room.specs.Samples.{samples_at_most};
+ghost use Rattle.iox_domain_room.specs.Samples.{samples_at_most};
 ghost use Rattle.iox_hub_services.specs.declared.presence.Presence.TheVariants.{Out};
 
 use iox_describe_settings::publish_subscribe::StaticConfig;
 use iox_domain::Domain;
-use iox_domain_room::loans;
-use iox_domain_sample_room::samples;
+use iox_domain_room::{loans, samples};
 use iox_domain_values::{DegradationHandler, Handlers};
 use std::mem;
 

@@ -3,7 +3,7 @@ use Rattle.std.proofs.Common.{arith, ℕ, zero, suc, ◌≡◌, ◌+◌, ◌<◌
 use Rattle.std.proofs.lemmas.List.Sums.{sum_by-cons}
 use Rattle.iox_domain.specs.DomainPorts.DomainSubscriber.declared.attached.Attached.{Attached}
 use Rattle.iox_lanes_machine.specs.World.{World}
-use Rattle.iox_lanes_machine.specs.LanesCalls.declared.route.Route.{Route}
+use Rattle.iox_lanes_machine.specs.LanesBase.declared.calls.route.Route.{Route}
 use Rattle.iox_lanes.specs.Holding.{IsRouteIf}
 
 -- a value more, and what it adds to those that are there

@@ -6,13 +6,13 @@ use Rattle.std.proofs.lemmas.Option.{get_or_from_slice_get, slice_get-get_or, sl
 use Rattle.iox_domain.specs.DomainPorts.DomainSubscriber.Publishers.{port_of}
 use Rattle.iox_domain.specs.DomainPublisher.declared.publisher_port.PublisherPort.{PublisherPort}
 use Rattle.iox_lanes_machine.specs.Fixed.{slots_at}
-use Rattle.iox_lanes_machine.specs.LanesCalls.Publishing.{publisher_is_idle}
-use Rattle.iox_lanes_machine.specs.LanesCalls.Subscribing.{subscriber_is_idle}
+use Rattle.iox_lanes_machine.specs.LanesBase.Publishing.{publisher_is_idle}
+use Rattle.iox_lanes_machine.specs.LanesBase.Subscribing.{subscriber_is_idle}
 use Rattle.iox_lanes_machine.specs.LanesParties.Parties.{PublisherLaneState, SubscriberLaneState}
 use Rattle.iox_lanes_machine.specs.Resting.{AllBetween}
 use Rattle.iox_lanes_machine.specs.World.{World, publisher_stage, subscriber_stage}
 use Rattle.iox_lanes.specs.Holding.{port_if}
-use Rattle.iox_lanes_leaving.specs.Restored.{place_of}
+use Rattle.iox_lanes_opening.specs.Restored.{place_of}
 use Rattle.iox_lanes.specs.Joined.{HasSlotsIf, IsLinkToIf, IsJoined, JoinedStays, place_if, row_of}
 use Rattle.iox_lanes.specs.Returning.{AllRest, ArePortsLeft, IsLeftAt, IsPortLeftIf, JoinsAt}
 use Rattle.iox_lanes.proofs.PortsLeft.{first_is}

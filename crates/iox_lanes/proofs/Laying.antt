@@ -3,7 +3,7 @@ use Rattle.std.proofs.Common.{arith, ℕ, ◌≡◌, ◌+◌, ◌<◌, ◌≤◌
 use Rattle.std.proofs.lemmas.Option.{slice_get-map, slice_get_past}
 use Rattle.iox_domain.specs.DomainPorts.DomainSender.Messages.{Message}
 use Rattle.iox_domain.specs.DomainPublisher.declared.publisher_port.PublisherPort.{PublisherPort}
-use Rattle.iox_lanes_machine.specs.LanesWords.Table.{TableWords}
+use Rattle.iox_lanes_machine.specs.LanesBase.Table.{TableWords}
 use Rattle.iox_lanes.specs.Holding.{IsNamedIf}
 use Rattle.iox_lanes.specs.Lying.{WordsLie, IsLaidAt}
 

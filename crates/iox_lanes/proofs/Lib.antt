@@ -1,3 +1,4 @@
+-- Lemmas on publishers that forget their messages.
 mod Laying
 mod Listing
 mod Following
@@ -5,3 +6,4 @@ mod PortsLeft
 mod Numbers
 mod JoinedLanes
 mod Found
+pub mod Forgetting

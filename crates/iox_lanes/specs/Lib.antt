@@ -1,6 +1,10 @@
+-- The definitions that contracts about a domain's ports in threads cite.
 pub mod Lying
 pub mod Finding
 pub mod Holding
 pub mod Opening
 pub mod Joined
 pub mod Returning
+pub mod Boards
+pub mod Opened
+pub mod Emptied

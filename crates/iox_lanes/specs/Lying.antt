@@ -2,9 +2,9 @@
 use Rattle.std.specs.Prelude.{ℕ, ◌≡◌, ◌+◌, ◌<◌, List, [], ◌∷◌, length, slice_get, slice_index, Option, None, Some}
 use Rattle.iox_domain.specs.DomainPorts.DomainSender.Messages.{Message}
 use Rattle.iox_domain.specs.DomainPublisher.declared.publisher_port.PublisherPort.{PublisherPort}
-use Rattle.iox_lanes_machine.specs.LanesWords.Table.{TableWords, held_by}
-use Rattle.iox_lanes_machine.specs.LanesWords.declared.word.SharedWord.TheVariants.{Slot}
-use Rattle.iox_lanes_machine.specs.LanesWords.declared.word.SlotWord.TheVariants.{Header, UserHeader, Payload}
+use Rattle.iox_lanes_machine.specs.LanesBase.Table.{TableWords, held_by}
+use Rattle.iox_lanes_machine.specs.LanesBase.declared.words.word.SharedWord.TheVariants.{Slot}
+use Rattle.iox_lanes_machine.specs.LanesBase.declared.words.word.SlotWord.TheVariants.{Header, UserHeader, Payload}
 
 -- the header of a slot says this node, this publisher and so many elements
 abbrev pub HeaderLies : TableWords → ℕ → ℕ → ℕ → ℕ → Type 0

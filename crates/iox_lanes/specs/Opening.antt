@@ -1,7 +1,7 @@
 -- Why a domain doesn't become lanes.
 use Rattle.std.specs.Prelude.{Option, None, Some}
-use Rattle.iox_lanes_refusals.specs.declared.into_lanes_error.IntoLanesError.{IntoLanesError}
-use Rattle.iox_lanes_refusals.specs.declared.into_lanes_error.IntoLanesError.TheVariants as reason
+use Rattle.iox_lanes_opening.specs.declared.refusals.into_lanes_error.IntoLanesError.{IntoLanesError}
+use Rattle.iox_lanes_opening.specs.declared.refusals.into_lanes_error.IntoLanesError.TheVariants as reason
 
 -- the first reason that applies is told, and want of memory where none does
 abbrev pub told_of : Option IntoLanesError → IntoLanesError

@@ -5,8 +5,8 @@ use Rattle.iox_domain.specs.DomainPorts.DomainSubscriber.Publishers.{port_of}
 use Rattle.iox_domain.specs.DomainPublisher.Ports.{connection_of}
 use Rattle.iox_domain.specs.DomainPublisher.declared.publisher_port.PublisherPort.{PublisherPort}
 use Rattle.iox_domain.specs.declared.domain.Domain.{Domain}
-use Rattle.iox_lanes_leaving.specs.Restored.{left_at, place_of, with_waiting}
-use Rattle.iox_lanes_leaving.specs.Restoring.{messages_in}
+use Rattle.iox_lanes_opening.specs.Restored.{left_at, place_of, with_waiting}
+use Rattle.iox_lanes_opening.specs.Restoring.{messages_in}
 use Rattle.iox_lanes_machine.specs.LanesParties.Parties.{PublisherLaneState}
 use Rattle.iox_lanes_machine.specs.Resting.{Rests}
 use Rattle.iox_lanes_machine.specs.World.{World}

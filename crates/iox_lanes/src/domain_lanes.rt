@@ -1,6 +1,6 @@
 //! Lanes with the domain that they came from.
 ghost use Rattle.std.specs.Prelude.{◌≡◌, length, IfSome, IfOk, IfErr, OnOk, None};
-ghost use Rattle.iox_lanes_refusals.specs.Refusals.{first_reason};
+ghost use Rattle.iox_lanes_opening.specs.Refusals.{first_reason};
 ghost use Rattle.iox_lanes_machine.specs.Resting.{AllBetween};
 ghost use Rattle.iox_lanes_machine.specs.WholeReads.{CameTo};
 ghost use Rattle.iox_lanes.specs.Opening.{told_of};
@@ -12,7 +12,7 @@ use crate::holding::hold;
 use crate::joining::joins;
 use iox_domain::Domain;
 use iox_lanes_machine::Lanes;
-use iox_lanes_refusals::{IntoLanesError, refusal};
+use iox_lanes_opening::refusals::{IntoLanesError, refusal};
 use iox_queues_base::Words;
 use std::alloc::Global;
 

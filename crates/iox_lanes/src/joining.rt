@@ -3,7 +3,7 @@ ghost use Rattle.std.specs.Prelude.{◌≡◌, ◌+◌, ◌*◌, ◌<◌, ℕ, l
 ghost use Rattle.std.specs.Bool.{OnTrue};
 ghost use Rattle.iox_domain.specs.DomainPublisher.Ports.{connection_of};
 ghost use Rattle.iox_domain.specs.DomainPorts.DomainSlots.declared.stage.Stage.TheVariants as stage;
-ghost use Rattle.iox_lanes_leaving.specs.Restored.{place_of};
+ghost use Rattle.iox_lanes_opening.specs.Restored.{place_of};
 ghost use Rattle.iox_lanes_machine.specs.Fixed.{fixed_slots};
 ghost use Rattle.iox_lanes.specs.Holding.{LanesHold};
 ghost use Rattle.iox_lanes.specs.Joined.{HasSlotsIf, HasSlotsOf, IsJoined, IsLinkTo, IsLinkToIf, LinkJoins, SenderJoins, place_if, row_of};
@@ -13,8 +13,8 @@ use crate::linking::{leads_from, number_of};
 use crate::sending::publisher_at;
 use iox_domain::Domain;
 use iox_domain_publisher::{PublisherPort, Stage};
-use iox_lanes_leaving::is_rested;
 use iox_lanes_machine::Link;
+use iox_lanes_opening::leaving::is_rested;
 use iox_lanes_parties::PublisherLane;
 use iox_queues_base::Words;
 

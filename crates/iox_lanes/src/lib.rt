@@ -10,9 +10,10 @@
 //! - `joining`: whether they go with it, whatever steps they make.
 //! - [`returning`]: the domain that lanes leave.
 //! - [`into_domain_error`]: why lanes don't become a domain.
+//! - [`threads`]: the ports of a domain in threads of their own.
 //! - [`laws`]: what holds of lanes and of the domain beside them.
 //!
-//! First calls. Tests in `iox_lanes_opening_rows` make them.
+//! First calls:
 //!
 //! ```
 //! match into_lanes(alloc, domain) {
@@ -38,8 +39,9 @@ mod lying;
 mod receiving;
 pub mod returning;
 mod sending;
+pub mod threads;
 
 pub use domain_lanes::{DomainLanes, Refused, into_lanes};
 pub use into_domain_error::IntoDomainError;
-pub use iox_lanes_refusals::IntoLanesError;
+pub use iox_lanes_opening::refusals::IntoLanesError;
 pub use returning::StillLanes;

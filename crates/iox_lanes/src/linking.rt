@@ -12,9 +12,9 @@ use crate::sending::{has, in_lanes, publisher_at};
 use iox_domain::Domain;
 use iox_domain_publisher::{PublisherPort, Stage};
 use iox_domain_subscriber::SubscriberPort;
+use iox_lanes_base::words::WordTable;
 use iox_lanes_machine::Link;
 use iox_lanes_parties::PublisherLane;
-use iox_lanes_words::WordTable;
 use iox_queues_base::Words;
 use iox_queues_rings::RingKind;
 

@@ -3,14 +3,14 @@ ghost use Rattle.std.specs.Prelude.{◌≡◌, ◌+◌, ◌<◌, ℕ, slice_get,
 ghost use Rattle.std.specs.Bool.{OnTrue};
 ghost use Rattle.iox_domain.specs.DomainPorts.DomainSender.Messages.{Message};
 ghost use Rattle.iox_domain.specs.DomainPublisher.Ports.{connection_of};
-ghost use Rattle.iox_lanes_machine.specs.LanesWords.Numbers.{IsWord};
-ghost use Rattle.iox_lanes_machine.specs.LanesWords.Table.{held_by};
-ghost use Rattle.iox_lanes_machine.specs.LanesWords.declared.word.SharedWord.TheVariants as SharedWord;
-ghost use Rattle.iox_lanes_machine.specs.LanesWords.declared.word.SlotWord.TheVariants as SlotWord;
+ghost use Rattle.iox_lanes_machine.specs.LanesBase.Numbers.{IsWord};
+ghost use Rattle.iox_lanes_machine.specs.LanesBase.Table.{held_by};
+ghost use Rattle.iox_lanes_machine.specs.LanesBase.declared.words.word.SharedWord.TheVariants as SharedWord;
+ghost use Rattle.iox_lanes_machine.specs.LanesBase.declared.words.word.SlotWord.TheVariants as SlotWord;
 ghost use Rattle.iox_lanes.specs.Lying.{HeaderLies, UserHeaderLies, ValueLies, PayloadLies, WordsLie};
 
 use iox_domain_publisher::PublisherPort;
-use iox_lanes_words::{SharedWord, SlotWord, WordTable};
+use iox_lanes_base::words::{SharedWord, SlotWord, WordTable};
 use iox_queues_base::Words;
 
 /// Whether the message in a slot of a publisher lies in this slot of the lanes.

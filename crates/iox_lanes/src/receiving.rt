@@ -8,7 +8,7 @@ use crate::domain_lanes::Opened;
 use crate::linking::subscriber_at;
 use iox_domain::Domain;
 use iox_domain_subscriber::{Attached, SubscriberPort};
-use iox_lanes_calls::Route;
+use iox_lanes_base::calls::Route;
 use iox_lanes_machine::{Lanes, Link};
 use iox_lanes_parties::SubscriberLane;
 use iox_queues_base::Words;

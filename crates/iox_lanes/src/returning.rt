@@ -3,8 +3,8 @@ ghost use Rattle.std.specs.Prelude.{◌≡◌, ◌+◌, ◌*◌, ◌^◌, ◌<�
 ghost use Rattle.std.specs.Bool.{OnTrue};
 ghost use Rattle.iox_domain.specs.DomainPorts.DomainSender.Sending.{with_uses};
 ghost use Rattle.iox_domain.specs.DomainPorts.DomainSubscriber.Publishers.{port_of};
-ghost use Rattle.iox_lanes_leaving.specs.Restored.{IsRested, IsRestored, place_of};
-ghost use Rattle.iox_lanes_leaving.specs.Restoring.{IsWhole};
+ghost use Rattle.iox_lanes_opening.specs.Restored.{IsRested, IsRestored, place_of};
+ghost use Rattle.iox_lanes_opening.specs.Restoring.{IsWhole};
 ghost use Rattle.iox_lanes_machine.specs.Kept.{IsWithin};
 ghost use Rattle.iox_lanes_machine.specs.Owned.{MailIsOwn, MailHasRoom, HistoriesAreOwn};
 ghost use Rattle.iox_lanes.specs.Joined.{IsJoined, row_of};
@@ -16,8 +16,8 @@ use crate::into_domain_error::IntoDomainError;
 use iox_domain::Domain;
 use iox_domain_publisher::PublisherPort;
 use iox_domain_subscriber::Publishers;
-use iox_lanes_leaving::restore;
 use iox_lanes_machine::{Lanes, Unrest};
+use iox_lanes_opening::leaving::restore;
 use iox_lanes_parties::PublisherLane;
 use iox_queues_base::Words;
 

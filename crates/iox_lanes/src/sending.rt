@@ -8,8 +8,8 @@ use crate::domain_lanes::Opened;
 use crate::lying::lies;
 use iox_domain::Domain;
 use iox_domain_publisher::PublisherPort;
+use iox_lanes_base::words::WordTable;
 use iox_lanes_parties::{Head, PublisherLane};
-use iox_lanes_words::WordTable;
 use iox_queues_base::Words;
 
 /// The publisher whose number stands at a place, if there is one.

@@ -1,12 +1,12 @@
 -- An order that answers as a mailbox gives what was put, in the order of the puts.
 use Rattle.std.proofs.Common.{ℕ, ◌≡◌, Bool, true, false, if◌then◌else◌, nat_lt, List, [], ◌∷◌, ◌++◌, length, drop, map, Some, None, refl, sym, ◌∙◌, ap, subst, inl, inr, append_assoc, append-nil}
-use Rattle.iox_lanes_ledger.specs.QueuesSteps.Order.{Acts, after_acts, acts_of, after_put, puts, push_call, put_of, put_values, take_values, PutNow}
-use Rattle.iox_lanes_ledger.specs.QueuesSteps.declared.order.Act.{Act}
-use Rattle.iox_lanes_ledger.specs.QueuesSteps.declared.order.Act.TheVariants.{Put, Take}
-use Rattle.iox_lanes_ledger.specs.QueuesSteps.declared.order.Placed.{Placed}
-use Rattle.iox_lanes_ledger.specs.QueuesSteps.declared.order.PopAnswer.TheVariants.{Got, Saw}
-use Rattle.iox_lanes_ledger.specs.QueuesSteps.declared.order.PushCall.{PushCall}
-use Rattle.iox_lanes_ledger.specs.QueuesRings.Ends.{overflows}
+use Rattle.iox_lanes_machine.specs.QueuesSteps.Order.{Acts, after_acts, acts_of, after_put, puts, push_call, put_of, put_values, take_values, PutNow}
+use Rattle.iox_lanes_machine.specs.QueuesSteps.declared.order.Act.{Act}
+use Rattle.iox_lanes_machine.specs.QueuesSteps.declared.order.Act.TheVariants.{Put, Take}
+use Rattle.iox_lanes_machine.specs.QueuesSteps.declared.order.Placed.{Placed}
+use Rattle.iox_lanes_machine.specs.QueuesSteps.declared.order.PopAnswer.TheVariants.{Got, Saw}
+use Rattle.iox_lanes_machine.specs.QueuesSteps.declared.order.PushCall.{PushCall}
+use Rattle.iox_lanes_machine.specs.QueuesRings.Ends.{overflows}
 use Rattle.iox_lanes_machine.specs.Arrivals.{IsPartOf, slots_put, OrderArrives}
 use Rattle.iox_lanes_machine.specs.Mailboxes.{OrderFollows}
 use Rattle.iox_lanes_machine.specs.Receipts.{slots_of, slots_taken}

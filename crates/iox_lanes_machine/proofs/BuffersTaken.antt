@@ -3,22 +3,22 @@ use Rattle.std.proofs.Common.{ℕ, ◌≡◌, ◌+◌, ◌-◌, ◌<◌, ◌≤�
 use Rattle.std.proofs.lemmas.Bool.{lt-ltb, le-leb}
 use Rattle.std.proofs.lemmas.Bool.Decides.{eqb_tells}
 use Rattle.std.proofs.lemmas.List.{append-nil, length-map, length-set}
-use Rattle.iox_lanes_ledger.specs.QueuesSteps.Access.{RingWords}
-use Rattle.iox_lanes_ledger.specs.QueuesRings.Ends.{cells_of}
-use Rattle.iox_lanes_ledger.specs.QueuesRings.RingMachine.{first_words}
-use Rattle.iox_lanes_ledger.specs.QueuesRings.declared.ends.RingKind.{RingKind}
-use Rattle.iox_lanes_ledger.specs.QueuesRings.declared.ends.RingKind.TheVariants as kind
-use Rattle.iox_lanes_ledger.proofs.QueuesRings.EitherRing.{start_refusing}
-use Rattle.iox_lanes_ledger.specs.QueuesRefusing.declared.pop.Pop.TheVariants as refusing_pop
-use Rattle.iox_lanes_ledger.specs.QueuesRefusing.declared.push.Push.TheVariants as refusing_push
-use Rattle.iox_lanes_ledger.specs.LanesCalls.Routes.{known_as, rerouted}
-use Rattle.iox_lanes_ledger.specs.LanesCalls.declared.route.Route.{Route}
-use Rattle.iox_lanes_ledger.specs.LanesParties.Parties.{PublisherLaneState, SubscriberLaneState, lane_meets, receiver_meets}
-use Rattle.iox_lanes_ledger.proofs.LanesParties.Rings.{all_at}
-use Rattle.iox_lanes_ledger.specs.Borrowing.{is_at}
-use Rattle.iox_lanes_ledger.specs.Stored.{between}
-use Rattle.iox_lanes_ledger.proofs.Entries.{choose_one}
-use Rattle.iox_lanes_ledger.proofs.Rings.{between_is}
+use Rattle.iox_lanes_machine.specs.QueuesSteps.Access.{RingWords}
+use Rattle.iox_lanes_machine.specs.QueuesRings.Ends.{cells_of}
+use Rattle.iox_lanes_machine.specs.QueuesRings.RingMachine.{first_words}
+use Rattle.iox_lanes_machine.specs.QueuesRings.declared.ends.RingKind.{RingKind}
+use Rattle.iox_lanes_machine.specs.QueuesRings.declared.ends.RingKind.TheVariants as kind
+use Rattle.iox_lanes_machine.proofs.QueuesRings.EitherRing.{start_refusing}
+use Rattle.iox_lanes_machine.specs.QueuesRings.declared.refusing.pop.Pop.TheVariants as refusing_pop
+use Rattle.iox_lanes_machine.specs.QueuesRings.declared.refusing.push.Push.TheVariants as refusing_push
+use Rattle.iox_lanes_machine.specs.LanesBase.Routes.{known_as, rerouted}
+use Rattle.iox_lanes_machine.specs.LanesBase.declared.calls.route.Route.{Route}
+use Rattle.iox_lanes_machine.specs.LanesParties.Parties.{PublisherLaneState, SubscriberLaneState, lane_meets, receiver_meets}
+use Rattle.iox_lanes_machine.proofs.LanesParties.Rings.{all_at}
+use Rattle.iox_lanes_machine.specs.Borrowing.{is_at}
+use Rattle.iox_lanes_machine.specs.Stored.{between}
+use Rattle.iox_lanes_machine.proofs.Entries.{choose_one}
+use Rattle.iox_lanes_machine.proofs.Rings.{between_is}
 use Rattle.iox_lanes_machine.specs.Findings.{back_found, may_buffer, buffers_at, buffers_of, with_buffer, subscribers_meet, buffered_in, buffered_of}
 use Rattle.iox_lanes_machine.specs.Fresh.{IsFreshLink, IsFresh}
 use Rattle.iox_lanes_machine.specs.Kept.{IsLinkOf, sender, receiver, IsWithin}

@@ -3,44 +3,44 @@ use Rattle.std.proofs.Common.{ℕ, ◌≡◌, ◌+◌, ◌==◌, ◌||◌, ◌�
 use Rattle.std.specs.List.{All}
 use Rattle.std.proofs.lemmas.Bool.{eq-eqb}
 use Rattle.std.proofs.lemmas.Bool.Decides.{eqb_tells}
-use Rattle.iox_lanes_ledger.specs.QueuesSteps.Access.{RingWords, successor}
-use Rattle.iox_lanes_ledger.specs.QueuesSteps.declared.order.PushAnswer.{PushAnswer}
-use Rattle.iox_lanes_ledger.specs.QueuesSteps.declared.order.PushAnswer.TheVariants.{Kept, LeftOut, Refused}
-use Rattle.iox_lanes_ledger.specs.QueuesSteps.declared.order.PopAnswer.{PopAnswer}
-use Rattle.iox_lanes_ledger.specs.QueuesSteps.declared.order.PopAnswer.TheVariants.{Got, Saw}
-use Rattle.iox_lanes_ledger.specs.QueuesOverflowing.declared.push.Push.TheVariants as overflowing_push
-use Rattle.iox_lanes_ledger.specs.QueuesOverflowing.declared.pop.Pop.TheVariants as overflowing_pop
-use Rattle.iox_lanes_ledger.proofs.QueuesOverflowing.OverflowingPush as overflowing_pushes
-use Rattle.iox_lanes_ledger.proofs.QueuesOverflowing.OverflowingPop as overflowing_pops
-use Rattle.iox_lanes_ledger.specs.QueuesRefusing.Refusing as refusing
-use Rattle.iox_lanes_ledger.specs.QueuesRefusing.declared.push.Push as refusing_push_type
-use Rattle.iox_lanes_ledger.specs.QueuesRefusing.declared.push.Push.TheVariants as refusing_push
-use Rattle.iox_lanes_ledger.specs.QueuesRefusing.declared.pop.Pop as refusing_pop_type
-use Rattle.iox_lanes_ledger.specs.QueuesRefusing.declared.pop.Pop.TheVariants as refusing_pop
-use Rattle.iox_lanes_ledger.proofs.QueuesRefusing.RefusingSteps as refusing_steps
-use Rattle.iox_lanes_ledger.specs.QueuesRings.Ends.{Shape, push_idle, push_begun, push_is_idle, push_take, pop_idle, pop_first, pop_is_idle, pop_take}
-use Rattle.iox_lanes_ledger.specs.QueuesRings.declared.ends.RingKind.{RingKind}
-use Rattle.iox_lanes_ledger.specs.QueuesRings.declared.ends.RingKind.TheVariants as kind
-use Rattle.iox_lanes_ledger.specs.QueuesRings.declared.ends.Push.{Push}
-use Rattle.iox_lanes_ledger.specs.QueuesRings.declared.ends.Push.TheVariants as push
-use Rattle.iox_lanes_ledger.specs.QueuesRings.declared.ends.Pop.{Pop}
-use Rattle.iox_lanes_ledger.specs.QueuesRings.declared.ends.Pop.TheVariants as pop
-use Rattle.iox_lanes_ledger.proofs.QueuesRings.EitherRing.{push_begins_shape, pop_begins_shape}
-use Rattle.iox_lanes_ledger.specs.LanesCalls.Answers.{push_answer, pop_answer, refusing_pop_answer, refusing_push_answer}
-use Rattle.iox_lanes_ledger.specs.LanesCalls.Publishing.{publisher_is_idle, publisher_take, loan_from, loan_reclaimed, write_from, head_from, push_from, push_at, sweep_from, send_reclaimed, pushed, counted, nothing_sent}
-use Rattle.iox_lanes_ledger.specs.LanesCalls.Subscribing.{subscriber_is_idle, subscriber_take, receive_from, received, is_full_at, released}
-use Rattle.iox_lanes_ledger.specs.LanesCalls.declared.publisher.Delivery.{Delivery}
-use Rattle.iox_lanes_ledger.specs.LanesCalls.declared.publisher.PublisherCall.{PublisherCall}
-use Rattle.iox_lanes_ledger.specs.LanesCalls.declared.publisher.PublisherCall.TheVariants as publishing
-use Rattle.iox_lanes_ledger.specs.LanesCalls.declared.route.Route.{Route}
-use Rattle.iox_lanes_ledger.specs.LanesCalls.declared.subscriber.SlotExtent.{SlotExtent}
-use Rattle.iox_lanes_ledger.specs.LanesCalls.declared.subscriber.SubscriberCall.{SubscriberCall}
-use Rattle.iox_lanes_ledger.specs.LanesCalls.declared.subscriber.SubscriberCall.TheVariants as subscribing
-use Rattle.iox_lanes_ledger.specs.LanesParties.Parties.{PublisherLaneState, SubscriberLaneState, publisher_may, publisher_fits, publisher_begun, head_of, subscriber_may, subscriber_fits, subscriber_begun, release_begun, place_of, route_at}
-use Rattle.iox_lanes_ledger.specs.LanesParties.declared.call.Call.{Call}
-use Rattle.iox_lanes_ledger.specs.LanesParties.declared.call.Call.TheVariants as call
-use Rattle.iox_lanes_ledger.specs.LanesParties.declared.call.Move.TheVariants.{Begin}
-use Rattle.iox_lanes_ledger.proofs.LanesParties.Rings.{and_left, all_at}
+use Rattle.iox_lanes_machine.specs.QueuesSteps.Access.{RingWords, successor}
+use Rattle.iox_lanes_machine.specs.QueuesSteps.declared.order.PushAnswer.{PushAnswer}
+use Rattle.iox_lanes_machine.specs.QueuesSteps.declared.order.PushAnswer.TheVariants.{Kept, LeftOut, Refused}
+use Rattle.iox_lanes_machine.specs.QueuesSteps.declared.order.PopAnswer.{PopAnswer}
+use Rattle.iox_lanes_machine.specs.QueuesSteps.declared.order.PopAnswer.TheVariants.{Got, Saw}
+use Rattle.iox_lanes_machine.specs.QueuesRings.declared.overflowing.push.Push.TheVariants as overflowing_push
+use Rattle.iox_lanes_machine.specs.QueuesRings.declared.overflowing.pop.Pop.TheVariants as overflowing_pop
+use Rattle.iox_lanes_machine.proofs.QueuesRings.OverflowingPush as overflowing_pushes
+use Rattle.iox_lanes_machine.proofs.QueuesRings.OverflowingPop as overflowing_pops
+use Rattle.iox_lanes_machine.specs.QueuesRings.Refusing as refusing
+use Rattle.iox_lanes_machine.specs.QueuesRings.declared.refusing.push.Push as refusing_push_type
+use Rattle.iox_lanes_machine.specs.QueuesRings.declared.refusing.push.Push.TheVariants as refusing_push
+use Rattle.iox_lanes_machine.specs.QueuesRings.declared.refusing.pop.Pop as refusing_pop_type
+use Rattle.iox_lanes_machine.specs.QueuesRings.declared.refusing.pop.Pop.TheVariants as refusing_pop
+use Rattle.iox_lanes_machine.proofs.QueuesRings.RefusingSteps as refusing_steps
+use Rattle.iox_lanes_machine.specs.QueuesRings.Ends.{Shape, push_idle, push_begun, push_is_idle, push_take, pop_idle, pop_first, pop_is_idle, pop_take}
+use Rattle.iox_lanes_machine.specs.QueuesRings.declared.ends.RingKind.{RingKind}
+use Rattle.iox_lanes_machine.specs.QueuesRings.declared.ends.RingKind.TheVariants as kind
+use Rattle.iox_lanes_machine.specs.QueuesRings.declared.ends.Push.{Push}
+use Rattle.iox_lanes_machine.specs.QueuesRings.declared.ends.Push.TheVariants as push
+use Rattle.iox_lanes_machine.specs.QueuesRings.declared.ends.Pop.{Pop}
+use Rattle.iox_lanes_machine.specs.QueuesRings.declared.ends.Pop.TheVariants as pop
+use Rattle.iox_lanes_machine.proofs.QueuesRings.EitherRing.{push_begins_shape, pop_begins_shape}
+use Rattle.iox_lanes_machine.specs.LanesBase.Answers.{push_answer, pop_answer, refusing_pop_answer, refusing_push_answer}
+use Rattle.iox_lanes_machine.specs.LanesBase.Publishing.{publisher_is_idle, publisher_take, loan_from, loan_reclaimed, write_from, head_from, push_from, push_at, sweep_from, send_reclaimed, pushed, counted, nothing_sent}
+use Rattle.iox_lanes_machine.specs.LanesBase.Subscribing.{subscriber_is_idle, subscriber_take, receive_from, received, is_full_at, released}
+use Rattle.iox_lanes_machine.specs.LanesBase.declared.calls.publisher.Delivery.{Delivery}
+use Rattle.iox_lanes_machine.specs.LanesBase.declared.calls.publisher.PublisherCall.{PublisherCall}
+use Rattle.iox_lanes_machine.specs.LanesBase.declared.calls.publisher.PublisherCall.TheVariants as publishing
+use Rattle.iox_lanes_machine.specs.LanesBase.declared.calls.route.Route.{Route}
+use Rattle.iox_lanes_machine.specs.LanesBase.declared.calls.subscriber.SlotExtent.{SlotExtent}
+use Rattle.iox_lanes_machine.specs.LanesBase.declared.calls.subscriber.SubscriberCall.{SubscriberCall}
+use Rattle.iox_lanes_machine.specs.LanesBase.declared.calls.subscriber.SubscriberCall.TheVariants as subscribing
+use Rattle.iox_lanes_machine.specs.LanesParties.Parties.{PublisherLaneState, SubscriberLaneState, publisher_may, publisher_fits, publisher_begun, head_of, subscriber_may, subscriber_fits, subscriber_begun, release_begun, place_of, route_at}
+use Rattle.iox_lanes_machine.specs.LanesParties.declared.call.Call.{Call}
+use Rattle.iox_lanes_machine.specs.LanesParties.declared.call.Call.TheVariants as call
+use Rattle.iox_lanes_machine.specs.LanesParties.declared.call.Move.TheVariants.{Begin}
+use Rattle.iox_lanes_machine.proofs.LanesParties.Rings.{and_left, all_at}
 use Rattle.iox_lanes_machine.specs.Rings.{push_on, pop_on}
 use Rattle.iox_lanes_machine.specs.World.{pushes_to, pops_from}
 use Rattle.iox_lanes_machine.specs.Kept.{IsLinkOf}

@@ -4,37 +4,37 @@ use Rattle.std.proofs.lemmas.Bool.{ltb-true}
 use Rattle.std.proofs.lemmas.Bool.Decides.{eqb_tells}
 use Rattle.std.proofs.lemmas.List.{length-map, length-set}
 use Rattle.std.proofs.lemmas.Option.{slice_get_within}
-use Rattle.iox_lanes_ledger.specs.QueuesSteps.Access.{RingWords, successor}
-use Rattle.iox_lanes_ledger.specs.QueuesSteps.declared.access.Word.{Word}
-use Rattle.iox_lanes_ledger.specs.QueuesSteps.declared.access.Word.TheVariants.{Write, Cell}
-use Rattle.iox_lanes_ledger.specs.QueuesRings.Ends.{cells_of}
-use Rattle.iox_lanes_ledger.specs.QueuesRings.RingMachine.{first_words}
-use Rattle.iox_lanes_ledger.specs.QueuesRings.declared.ends.RingKind.TheVariants as kind
-use Rattle.iox_lanes_ledger.proofs.QueuesRings.EitherRing.{start_refusing}
-use Rattle.iox_lanes_ledger.specs.QueuesRefusing.declared.pop.Pop.TheVariants as refusing_pop
-use Rattle.iox_lanes_ledger.specs.QueuesRefusing.declared.push.Push.TheVariants as refusing_push
-use Rattle.iox_lanes_ledger.specs.LanesWords.Numbers.{IsWord, words_of, number_of}
-use Rattle.iox_lanes_ledger.specs.LanesWords.Table.{TableWords, stored_in}
-use Rattle.iox_lanes_ledger.specs.LanesWords.declared.access.SharedAccess.TheVariants.{Store}
-use Rattle.iox_lanes_ledger.specs.LanesWords.declared.sizes.TableSizes.{TableSizes}
-use Rattle.iox_lanes_ledger.specs.LanesWords.declared.word.ConnectionRing.{ConnectionRing}
-use Rattle.iox_lanes_ledger.specs.LanesWords.declared.word.ConnectionRing.TheVariants.{Submission, Completion}
-use Rattle.iox_lanes_ledger.specs.LanesWords.declared.word.SharedWord.TheVariants.{Ring, Slot}
-use Rattle.iox_lanes_ledger.specs.LanesWords.declared.word.SlotWord.{SlotWord}
-use Rattle.iox_lanes_ledger.specs.LanesWords.declared.word.SlotWord.TheVariants.{Header, UserHeader, Payload}
-use Rattle.iox_lanes_ledger.specs.LanesCalls.Routes.{known_as}
-use Rattle.iox_lanes_ledger.specs.LanesCalls.declared.route.Route.{Route}
-use Rattle.iox_lanes_ledger.specs.LanesPublisher.declared.slot_book.LoanMark.TheVariants as mark
-use Rattle.iox_lanes_ledger.specs.LanesPublisher.Keeping.{may_remember}
-use Rattle.iox_lanes_ledger.specs.LanesParties.Parties.{PublisherLaneState, SubscriberLaneState, is_out, lane_found, lane_remembers, lane_resized, lane_named, lane_meets}
-use Rattle.iox_lanes_ledger.specs.LanesParties.Within.{IsPublisher}
-use Rattle.iox_lanes_ledger.proofs.LanesParties.Rings.{all_at, and_left, and_right}
-use Rattle.iox_lanes_ledger.specs.Rooms.{CountsLoans}
-use Rattle.iox_lanes_ledger.specs.Stored.{between}
-use Rattle.iox_lanes_ledger.specs.Uses.{one_if, count, entry, refers_to, UsesCounted, MayBeReferred}
-use Rattle.iox_lanes_ledger.proofs.Entries.{count_append}
-use Rattle.iox_lanes_ledger.proofs.Findings.{lacks_is, found_counted, found_counts, found_refers, found_refers_elsewhere, newest_counted, newest_counts, newest_refers}
-use Rattle.iox_lanes_ledger.proofs.Rings.{between_is}
+use Rattle.iox_lanes_machine.specs.QueuesSteps.Access.{RingWords, successor}
+use Rattle.iox_lanes_machine.specs.QueuesSteps.declared.access.Word.{Word}
+use Rattle.iox_lanes_machine.specs.QueuesSteps.declared.access.Word.TheVariants.{Write, Cell}
+use Rattle.iox_lanes_machine.specs.QueuesRings.Ends.{cells_of}
+use Rattle.iox_lanes_machine.specs.QueuesRings.RingMachine.{first_words}
+use Rattle.iox_lanes_machine.specs.QueuesRings.declared.ends.RingKind.TheVariants as kind
+use Rattle.iox_lanes_machine.proofs.QueuesRings.EitherRing.{start_refusing}
+use Rattle.iox_lanes_machine.specs.QueuesRings.declared.refusing.pop.Pop.TheVariants as refusing_pop
+use Rattle.iox_lanes_machine.specs.QueuesRings.declared.refusing.push.Push.TheVariants as refusing_push
+use Rattle.iox_lanes_machine.specs.LanesBase.Numbers.{IsWord, words_of, number_of}
+use Rattle.iox_lanes_machine.specs.LanesBase.Table.{TableWords, stored_in}
+use Rattle.iox_lanes_machine.specs.LanesBase.declared.words.access.SharedAccess.TheVariants.{Store}
+use Rattle.iox_lanes_machine.specs.LanesBase.declared.words.sizes.TableSizes.{TableSizes}
+use Rattle.iox_lanes_machine.specs.LanesBase.declared.words.word.ConnectionRing.{ConnectionRing}
+use Rattle.iox_lanes_machine.specs.LanesBase.declared.words.word.ConnectionRing.TheVariants.{Submission, Completion}
+use Rattle.iox_lanes_machine.specs.LanesBase.declared.words.word.SharedWord.TheVariants.{Ring, Slot}
+use Rattle.iox_lanes_machine.specs.LanesBase.declared.words.word.SlotWord.{SlotWord}
+use Rattle.iox_lanes_machine.specs.LanesBase.declared.words.word.SlotWord.TheVariants.{Header, UserHeader, Payload}
+use Rattle.iox_lanes_machine.specs.LanesBase.Routes.{known_as}
+use Rattle.iox_lanes_machine.specs.LanesBase.declared.calls.route.Route.{Route}
+use Rattle.iox_lanes_machine.specs.LanesParties.declared.publisher.slot_book.LoanMark.TheVariants as mark
+use Rattle.iox_lanes_machine.specs.LanesParties.PublisherKeeping.{may_remember}
+use Rattle.iox_lanes_machine.specs.LanesParties.Parties.{PublisherLaneState, SubscriberLaneState, is_out, lane_found, lane_remembers, lane_resized, lane_named, lane_meets}
+use Rattle.iox_lanes_machine.specs.LanesParties.Within.{IsPublisher}
+use Rattle.iox_lanes_machine.proofs.LanesParties.Rings.{all_at, and_left, and_right}
+use Rattle.iox_lanes_machine.specs.LedgerRooms.{CountsLoans}
+use Rattle.iox_lanes_machine.specs.Stored.{between}
+use Rattle.iox_lanes_machine.specs.LedgerUses.{one_if, count, entry, refers_to, UsesCounted, MayBeReferred}
+use Rattle.iox_lanes_machine.proofs.Entries.{count_append}
+use Rattle.iox_lanes_machine.proofs.LedgerFindings.{lacks_is, found_counted, found_counts, found_refers, found_refers_elsewhere, newest_counted, newest_counts, newest_refers}
+use Rattle.iox_lanes_machine.proofs.Rings.{between_is}
 use Rattle.iox_lanes_machine.specs.Findings.{laid, back_found, waits_of, back_of, newest_of, has_word, finds, finds_now, waiting_in, waiting_at, waiting_of, given_at, given_of, remembered_of, with_buffer, buffered_in, buffered_at, buffered_of, resized_of, named_of, swapped_of, with_found, FindsTo, AreFound}
 use Rattle.iox_lanes_machine.specs.Fresh.{HasFound, IsFreshPublisher, IsFreshLink, IsFresh}
 use Rattle.iox_lanes_machine.specs.Kept.{IsLinkOf, sender, IsWithin, IsKept}

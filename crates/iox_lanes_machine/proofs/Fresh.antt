@@ -5,41 +5,41 @@ use Rattle.std.proofs.lemmas.Bool.{cases_lt}
 use Rattle.std.proofs.lemmas.List.{get_or_past}
 use Rattle.std.proofs.lemmas.List.Elements.{All-nil}
 use Rattle.std.proofs.lemmas.Option.{slice_get_within, slice_get-get_or}
-use Rattle.iox_lanes_ledger.specs.QueuesSteps.Access.{RingWords}
-use Rattle.iox_lanes_ledger.specs.QueuesSteps.Order.{puts}
-use Rattle.iox_lanes_ledger.specs.QueuesSteps.declared.access.Word.TheVariants.{Read}
-use Rattle.iox_lanes_ledger.specs.QueuesSteps.declared.order.Placed.{Placed}
-use Rattle.iox_lanes_ledger.specs.QueuesSteps.declared.order.PushCall.{PushCall}
-use Rattle.iox_lanes_ledger.specs.QueuesSteps.Order.{PutNow}
-use Rattle.iox_lanes_ledger.specs.QueuesRefusing.Refusing as refusing
-use Rattle.iox_lanes_ledger.specs.QueuesRefusing.declared.pop.Pop.TheVariants as refusing_pop
-use Rattle.iox_lanes_ledger.specs.QueuesRefusing.declared.push.Push.TheVariants as refusing_push
-use Rattle.iox_lanes_ledger.specs.QueuesRings.Ends.{Shape, cells_of, push_idle, pop_idle}
-use Rattle.iox_lanes_ledger.specs.QueuesRings.RingMachine.{first_words}
-use Rattle.iox_lanes_ledger.specs.QueuesRings.declared.ends.RingKind.{RingKind}
-use Rattle.iox_lanes_ledger.specs.QueuesRings.declared.ends.RingKind.TheVariants as kind
-use Rattle.iox_lanes_ledger.proofs.QueuesRings.EitherRing.{start_overflowing, start_refusing}
-use Rattle.iox_lanes_ledger.specs.LanesWords.Table.{held_by}
-use Rattle.iox_lanes_ledger.specs.LanesCalls.Publishing.{publisher_is_idle}
-use Rattle.iox_lanes_ledger.specs.LanesCalls.Subscribing.{subscriber_is_idle}
-use Rattle.iox_lanes_ledger.specs.LanesCalls.declared.publisher.PublisherCall.{PublisherCall}
-use Rattle.iox_lanes_ledger.specs.LanesCalls.declared.publisher.PublisherCall.TheVariants as publishing
-use Rattle.iox_lanes_ledger.specs.LanesCalls.declared.route.Route.{Route}
-use Rattle.iox_lanes_ledger.specs.LanesCalls.declared.subscriber.SubscriberCall.{SubscriberCall}
-use Rattle.iox_lanes_ledger.specs.LanesCalls.declared.subscriber.SubscriberCall.TheVariants as subscribing
-use Rattle.iox_lanes_ledger.specs.LanesParties.Parties.{PublisherLaneState, SubscriberLaneState, route_at}
-use Rattle.iox_lanes_ledger.specs.LanesParties.Within.{IsPublisher}
-use Rattle.iox_lanes_ledger.specs.LanesParties.declared.call.FinishedCall.{FinishedCall}
-use Rattle.iox_lanes_ledger.proofs.LanesParties.Rings.{all_at}
-use Rattle.iox_lanes_ledger.specs.Borrowing.{is_at, borrows, UsesBorrowed}
-use Rattle.iox_lanes_ledger.specs.Rooms.{slots_at, borrowed_of, HasRooms, MayBorrow, ReleasesOk, CountsBorrowed}
-use Rattle.iox_lanes_ledger.specs.Sending.{SendsLacking}
-use Rattle.iox_lanes_ledger.specs.Stored.{between}
-use Rattle.iox_lanes_ledger.specs.Uses.{one_if, count}
-use Rattle.iox_lanes_ledger.proofs.Entries.{total_zero}
-use Rattle.iox_lanes_ledger.proofs.Rings.{between_is, idle_aside}
-use Rattle.iox_lanes_ledger.proofs.Rooms.{slots_most}
-use Rattle.iox_lanes_ledger.proofs.RoomSteps.{none_within}
+use Rattle.iox_lanes_machine.specs.QueuesSteps.Access.{RingWords}
+use Rattle.iox_lanes_machine.specs.QueuesSteps.Order.{puts}
+use Rattle.iox_lanes_machine.specs.QueuesSteps.declared.access.Word.TheVariants.{Read}
+use Rattle.iox_lanes_machine.specs.QueuesSteps.declared.order.Placed.{Placed}
+use Rattle.iox_lanes_machine.specs.QueuesSteps.declared.order.PushCall.{PushCall}
+use Rattle.iox_lanes_machine.specs.QueuesSteps.Order.{PutNow}
+use Rattle.iox_lanes_machine.specs.QueuesRings.Refusing as refusing
+use Rattle.iox_lanes_machine.specs.QueuesRings.declared.refusing.pop.Pop.TheVariants as refusing_pop
+use Rattle.iox_lanes_machine.specs.QueuesRings.declared.refusing.push.Push.TheVariants as refusing_push
+use Rattle.iox_lanes_machine.specs.QueuesRings.Ends.{Shape, cells_of, push_idle, pop_idle}
+use Rattle.iox_lanes_machine.specs.QueuesRings.RingMachine.{first_words}
+use Rattle.iox_lanes_machine.specs.QueuesRings.declared.ends.RingKind.{RingKind}
+use Rattle.iox_lanes_machine.specs.QueuesRings.declared.ends.RingKind.TheVariants as kind
+use Rattle.iox_lanes_machine.proofs.QueuesRings.EitherRing.{start_overflowing, start_refusing}
+use Rattle.iox_lanes_machine.specs.LanesBase.Table.{held_by}
+use Rattle.iox_lanes_machine.specs.LanesBase.Publishing.{publisher_is_idle}
+use Rattle.iox_lanes_machine.specs.LanesBase.Subscribing.{subscriber_is_idle}
+use Rattle.iox_lanes_machine.specs.LanesBase.declared.calls.publisher.PublisherCall.{PublisherCall}
+use Rattle.iox_lanes_machine.specs.LanesBase.declared.calls.publisher.PublisherCall.TheVariants as publishing
+use Rattle.iox_lanes_machine.specs.LanesBase.declared.calls.route.Route.{Route}
+use Rattle.iox_lanes_machine.specs.LanesBase.declared.calls.subscriber.SubscriberCall.{SubscriberCall}
+use Rattle.iox_lanes_machine.specs.LanesBase.declared.calls.subscriber.SubscriberCall.TheVariants as subscribing
+use Rattle.iox_lanes_machine.specs.LanesParties.Parties.{PublisherLaneState, SubscriberLaneState, route_at}
+use Rattle.iox_lanes_machine.specs.LanesParties.Within.{IsPublisher}
+use Rattle.iox_lanes_machine.specs.LanesParties.declared.call.FinishedCall.{FinishedCall}
+use Rattle.iox_lanes_machine.proofs.LanesParties.Rings.{all_at}
+use Rattle.iox_lanes_machine.specs.Borrowing.{is_at, borrows, UsesBorrowed}
+use Rattle.iox_lanes_machine.specs.LedgerRooms.{slots_at, borrowed_of, HasRooms, MayBorrow, ReleasesOk, CountsBorrowed}
+use Rattle.iox_lanes_machine.specs.Sending.{SendsLacking}
+use Rattle.iox_lanes_machine.specs.Stored.{between}
+use Rattle.iox_lanes_machine.specs.LedgerUses.{one_if, count}
+use Rattle.iox_lanes_machine.proofs.Entries.{total_zero}
+use Rattle.iox_lanes_machine.proofs.Rings.{between_is, idle_aside}
+use Rattle.iox_lanes_machine.proofs.Rooms.{slots_most}
+use Rattle.iox_lanes_machine.proofs.RoomSteps.{none_within}
 use Rattle.iox_lanes_machine.specs.Calls.{IsEnded, AreInTurn, IsStageOf, IsReceiverStageOf, CallsFollow}
 use Rattle.iox_lanes_machine.specs.Fresh.{IsFresh}
 use Rattle.iox_lanes_machine.specs.Held.{LoadsHeld}

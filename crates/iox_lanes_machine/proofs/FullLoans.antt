@@ -3,48 +3,48 @@ use Rattle.std.proofs.Common.{ℕ, ◌≡◌, ◌+◌, ◌-◌, ◌<◌, ◌≤�
 use Rattle.std.proofs.lemmas.Bool.{cases_lt, ltb-true, ltb-false}
 use Rattle.std.proofs.lemmas.Bool.Decides.{eqb_tells}
 use Rattle.std.proofs.lemmas.Option.{slice_get_within}
-use Rattle.iox_lanes_ledger.specs.QueuesSteps.Access.{RingWords, successor}
-use Rattle.iox_lanes_ledger.specs.QueuesRefusing.Refusing as refusing
-use Rattle.iox_lanes_ledger.specs.QueuesRefusing.declared.pop.Pop.{Pop}
-use Rattle.iox_lanes_ledger.specs.QueuesRefusing.declared.pop.Pop.TheVariants as pop
-use Rattle.iox_lanes_ledger.specs.LanesWords.Table.{TableWords, after_shared}
-use Rattle.iox_lanes_ledger.specs.LanesCalls.Answers.{refusing_pop_answer}
-use Rattle.iox_lanes_ledger.specs.LanesCalls.Publishing.{publisher_is_idle, publisher_next, publisher_take, publisher_change, taken_back, loan_reclaimed, loan_from}
-use Rattle.iox_lanes_ledger.specs.LanesCalls.Subscribing.{subscriber_next}
-use Rattle.iox_lanes_ledger.specs.LanesCalls.declared.publisher.PublisherCall.{PublisherCall}
-use Rattle.iox_lanes_ledger.specs.LanesCalls.declared.publisher.PublisherCall.TheVariants as publishing
-use Rattle.iox_lanes_ledger.specs.LanesCalls.declared.publisher.PublisherChange.{PublisherChange}
-use Rattle.iox_lanes_ledger.specs.LanesCalls.declared.publisher.PublisherChange.TheVariants as change
-use Rattle.iox_lanes_ledger.specs.LanesCalls.declared.subscriber.SubscriberCall.{SubscriberCall}
-use Rattle.iox_lanes_ledger.specs.LanesCalls.declared.subscriber.SubscriberCall.TheVariants as subscribing
-use Rattle.iox_lanes_ledger.specs.LanesCalls.declared.route.Route.{Route}
-use Rattle.iox_lanes_ledger.specs.LanesPublisher.Keeping.{BookState, changed, lent}
-use Rattle.iox_lanes_ledger.specs.LanesPublisher.Publishers.{words_of}
-use Rattle.iox_lanes_ledger.specs.LanesPublisher.declared.slot_book.LoanMark.TheVariants as mark
-use Rattle.iox_lanes_ledger.specs.LanesPublisher.declared.slot_book.LoanAnswer.TheVariants as loan
-use Rattle.iox_lanes_ledger.specs.LanesParties.Parties as parties
-use Rattle.iox_lanes_ledger.specs.LanesParties.Parties.{PublisherLaneState, SubscriberLaneState, is_out, publisher_begun, publisher_after}
-use Rattle.iox_lanes_ledger.specs.LanesParties.Within.{IsPublisher}
-use Rattle.iox_lanes_ledger.specs.LanesParties.declared.call.Answer.{Answer}
-use Rattle.iox_lanes_ledger.specs.LanesParties.declared.call.Answer.TheVariants as answer
-use Rattle.iox_lanes_ledger.specs.LanesParties.declared.call.Call.{Call}
-use Rattle.iox_lanes_ledger.specs.LanesParties.declared.call.Call.TheVariants as call
-use Rattle.iox_lanes_ledger.specs.LanesParties.declared.call.Entry.{Entry}
-use Rattle.iox_lanes_ledger.specs.LanesParties.declared.call.FinishedCall.{FinishedCall}
-use Rattle.iox_lanes_ledger.specs.LanesParties.declared.call.Move.{Move}
-use Rattle.iox_lanes_ledger.specs.LanesParties.declared.call.Move.TheVariants.{Begin, GoOn}
-use Rattle.iox_lanes_ledger.specs.LanesParties.declared.call.Party.{Party}
-use Rattle.iox_lanes_ledger.specs.LanesParties.declared.call.Party.TheVariants.{Publisher, Subscriber}
-use Rattle.iox_lanes_ledger.proofs.LanesParties.Rings.{all_at}
-use Rattle.iox_lanes_ledger.proofs.LanesParties.PublishersWithin.{publishers_stay_within}
-use Rattle.iox_lanes_ledger.specs.Rooms.{HasSwept, CallGoes}
-use Rattle.iox_lanes_ledger.specs.Uses.{one_if, count, entry, refers_to, references, total, IsOwn, UsesCounted, ChangeFits}
-use Rattle.iox_lanes_ledger.proofs.Changes.{IsChangeAt, put_by, back_follows, refers_there, refers_elsewhere, lacks_after, own_after, loans_after}
-use Rattle.iox_lanes_ledger.proofs.Entries.{entry_is, total_none}
-use Rattle.iox_lanes_ledger.proofs.Permitted.{none_free, some_place}
-use Rattle.iox_lanes_ledger.proofs.Rings.{between_is}
-use Rattle.iox_lanes_ledger.proofs.RoomSteps.{none_within}
-use Rattle.iox_lanes_ledger.proofs.Sums.{total_is, sum_none}
+use Rattle.iox_lanes_machine.specs.QueuesSteps.Access.{RingWords, successor}
+use Rattle.iox_lanes_machine.specs.QueuesRings.Refusing as refusing
+use Rattle.iox_lanes_machine.specs.QueuesRings.declared.refusing.pop.Pop.{Pop}
+use Rattle.iox_lanes_machine.specs.QueuesRings.declared.refusing.pop.Pop.TheVariants as pop
+use Rattle.iox_lanes_machine.specs.LanesBase.Table.{TableWords, after_shared}
+use Rattle.iox_lanes_machine.specs.LanesBase.Answers.{refusing_pop_answer}
+use Rattle.iox_lanes_machine.specs.LanesBase.Publishing.{publisher_is_idle, publisher_next, publisher_take, publisher_change, taken_back, loan_reclaimed, loan_from}
+use Rattle.iox_lanes_machine.specs.LanesBase.Subscribing.{subscriber_next}
+use Rattle.iox_lanes_machine.specs.LanesBase.declared.calls.publisher.PublisherCall.{PublisherCall}
+use Rattle.iox_lanes_machine.specs.LanesBase.declared.calls.publisher.PublisherCall.TheVariants as publishing
+use Rattle.iox_lanes_machine.specs.LanesBase.declared.calls.publisher.PublisherChange.{PublisherChange}
+use Rattle.iox_lanes_machine.specs.LanesBase.declared.calls.publisher.PublisherChange.TheVariants as change
+use Rattle.iox_lanes_machine.specs.LanesBase.declared.calls.subscriber.SubscriberCall.{SubscriberCall}
+use Rattle.iox_lanes_machine.specs.LanesBase.declared.calls.subscriber.SubscriberCall.TheVariants as subscribing
+use Rattle.iox_lanes_machine.specs.LanesBase.declared.calls.route.Route.{Route}
+use Rattle.iox_lanes_machine.specs.LanesParties.PublisherKeeping.{BookState, changed, lent}
+use Rattle.iox_lanes_machine.specs.LanesParties.Publishers.{words_of}
+use Rattle.iox_lanes_machine.specs.LanesParties.declared.publisher.slot_book.LoanMark.TheVariants as mark
+use Rattle.iox_lanes_machine.specs.LanesParties.declared.publisher.slot_book.LoanAnswer.TheVariants as loan
+use Rattle.iox_lanes_machine.specs.LanesParties.Parties as parties
+use Rattle.iox_lanes_machine.specs.LanesParties.Parties.{PublisherLaneState, SubscriberLaneState, is_out, publisher_begun, publisher_after}
+use Rattle.iox_lanes_machine.specs.LanesParties.Within.{IsPublisher}
+use Rattle.iox_lanes_machine.specs.LanesParties.declared.call.Answer.{Answer}
+use Rattle.iox_lanes_machine.specs.LanesParties.declared.call.Answer.TheVariants as answer
+use Rattle.iox_lanes_machine.specs.LanesParties.declared.call.Call.{Call}
+use Rattle.iox_lanes_machine.specs.LanesParties.declared.call.Call.TheVariants as call
+use Rattle.iox_lanes_machine.specs.LanesParties.declared.call.Entry.{Entry}
+use Rattle.iox_lanes_machine.specs.LanesParties.declared.call.FinishedCall.{FinishedCall}
+use Rattle.iox_lanes_machine.specs.LanesParties.declared.call.Move.{Move}
+use Rattle.iox_lanes_machine.specs.LanesParties.declared.call.Move.TheVariants.{Begin, GoOn}
+use Rattle.iox_lanes_machine.specs.LanesParties.declared.call.Party.{Party}
+use Rattle.iox_lanes_machine.specs.LanesParties.declared.call.Party.TheVariants.{Publisher, Subscriber}
+use Rattle.iox_lanes_machine.proofs.LanesParties.Rings.{all_at}
+use Rattle.iox_lanes_machine.proofs.LanesParties.PublishersWithin.{publishers_stay_within}
+use Rattle.iox_lanes_machine.specs.LedgerRooms.{HasSwept, CallGoes}
+use Rattle.iox_lanes_machine.specs.LedgerUses.{one_if, count, entry, refers_to, references, total, IsOwn, UsesCounted, ChangeFits}
+use Rattle.iox_lanes_machine.proofs.Changes.{IsChangeAt, put_by, back_follows, refers_there, refers_elsewhere, lacks_after, own_after, loans_after}
+use Rattle.iox_lanes_machine.proofs.Entries.{entry_is, total_none}
+use Rattle.iox_lanes_machine.proofs.Permitted.{none_free, some_place}
+use Rattle.iox_lanes_machine.proofs.Rings.{between_is}
+use Rattle.iox_lanes_machine.proofs.RoomSteps.{none_within}
+use Rattle.iox_lanes_machine.proofs.Sums.{total_is, sum_none}
 use Rattle.iox_lanes_machine.specs.FullLoans.{IsHeld, IsInUse, LoansFindAllUsed}
 use Rattle.iox_lanes_machine.specs.Kept.{IsLinkOf, sender, IsKept}
 use Rattle.iox_lanes_machine.specs.Paces.{after_entry, led}

@@ -2,32 +2,32 @@
 use Rattle.std.proofs.Common.{ℕ, ◌≡◌, ◌+◌, ◌<◌, ◌≤◌, ◌^◌, Bool, true, false, if◌then◌else◌, nat_lt, List, [], ◌∷◌, ◌++◌, slice_get, Option, Some, refl, sym, ◌∙◌, ap, subst, arith}
 use Rattle.std.specs.List.{All}
 use Rattle.std.proofs.lemmas.Bool.{ltb-true}
-use Rattle.iox_lanes_ledger.specs.QueuesSteps.Access.{RingWords, successor, answer_of, after_access}
-use Rattle.iox_lanes_ledger.specs.QueuesSteps.Order.{Acts, after_acts, acts_of, at, Rises}
-use Rattle.iox_lanes_ledger.specs.QueuesSteps.declared.access.Word.TheVariants.{Read}
-use Rattle.iox_lanes_ledger.specs.QueuesSteps.declared.order.Act.{Act}
-use Rattle.iox_lanes_ledger.specs.QueuesSteps.declared.order.Placed.{Placed}
-use Rattle.iox_lanes_ledger.proofs.QueuesSteps.Orders.{acts_more, Acts-append, after_acts-append, rises_more}
-use Rattle.iox_lanes_ledger.specs.QueuesRings.Ends.{Shape, overflows, cells_of, push_next, push_take, placed_by_push, pop_next, pop_take, placed_by_pop}
-use Rattle.iox_lanes_ledger.specs.QueuesRings.declared.ends.RingKind.{RingKind}
-use Rattle.iox_lanes_ledger.specs.QueuesRings.declared.ends.RingKind.TheVariants as kind
-use Rattle.iox_lanes_ledger.specs.QueuesRings.declared.ends.Push.{Push}
-use Rattle.iox_lanes_ledger.specs.QueuesRings.declared.ends.Pop.{Pop}
-use Rattle.iox_lanes_ledger.proofs.QueuesRings.EitherRing.{push_goes, pop_goes, push_grows, pop_grows}
-use Rattle.iox_lanes_ledger.specs.LanesWords.Table.{TableWords, held_by, shared_answer, after_shared}
-use Rattle.iox_lanes_ledger.specs.LanesWords.Words.{on_ring}
-use Rattle.iox_lanes_ledger.specs.LanesWords.declared.word.ConnectionRing.TheVariants.{Submission}
-use Rattle.iox_lanes_ledger.specs.LanesCalls.Answers.{push_answer, pop_answer}
-use Rattle.iox_lanes_ledger.specs.LanesCalls.Publishing.{publisher_next, publisher_take, pushed}
-use Rattle.iox_lanes_ledger.specs.LanesCalls.Subscribing.{subscriber_next, subscriber_take, received}
-use Rattle.iox_lanes_ledger.specs.LanesCalls.declared.publisher.PublisherCall.{PublisherCall}
-use Rattle.iox_lanes_ledger.specs.LanesCalls.declared.publisher.PublisherCall.TheVariants as publishing
-use Rattle.iox_lanes_ledger.specs.LanesCalls.declared.route.Route.{Route}
-use Rattle.iox_lanes_ledger.specs.LanesCalls.declared.publisher.Delivery.{Delivery}
-use Rattle.iox_lanes_ledger.specs.LanesCalls.declared.subscriber.SubscriberCall.{SubscriberCall}
-use Rattle.iox_lanes_ledger.specs.LanesCalls.declared.subscriber.SubscriberCall.TheVariants as subscribing
-use Rattle.iox_lanes_ledger.specs.LanesParties.Within.{IsPublishing, IsSubscribing}
-use Rattle.iox_lanes_ledger.proofs.LanesParties.Rings.{all_at}
+use Rattle.iox_lanes_machine.specs.QueuesSteps.Access.{RingWords, successor, answer_of, after_access}
+use Rattle.iox_lanes_machine.specs.QueuesSteps.Order.{Acts, after_acts, acts_of, at, Rises}
+use Rattle.iox_lanes_machine.specs.QueuesSteps.declared.access.Word.TheVariants.{Read}
+use Rattle.iox_lanes_machine.specs.QueuesSteps.declared.order.Act.{Act}
+use Rattle.iox_lanes_machine.specs.QueuesSteps.declared.order.Placed.{Placed}
+use Rattle.iox_lanes_machine.proofs.QueuesSteps.Orders.{acts_more, Acts-append, after_acts-append, rises_more}
+use Rattle.iox_lanes_machine.specs.QueuesRings.Ends.{Shape, overflows, cells_of, push_next, push_take, placed_by_push, pop_next, pop_take, placed_by_pop}
+use Rattle.iox_lanes_machine.specs.QueuesRings.declared.ends.RingKind.{RingKind}
+use Rattle.iox_lanes_machine.specs.QueuesRings.declared.ends.RingKind.TheVariants as kind
+use Rattle.iox_lanes_machine.specs.QueuesRings.declared.ends.Push.{Push}
+use Rattle.iox_lanes_machine.specs.QueuesRings.declared.ends.Pop.{Pop}
+use Rattle.iox_lanes_machine.proofs.QueuesRings.EitherRing.{push_goes, pop_goes, push_grows, pop_grows}
+use Rattle.iox_lanes_machine.specs.LanesBase.Table.{TableWords, held_by, shared_answer, after_shared}
+use Rattle.iox_lanes_machine.specs.LanesBase.Words.{on_ring}
+use Rattle.iox_lanes_machine.specs.LanesBase.declared.words.word.ConnectionRing.TheVariants.{Submission}
+use Rattle.iox_lanes_machine.specs.LanesBase.Answers.{push_answer, pop_answer}
+use Rattle.iox_lanes_machine.specs.LanesBase.Publishing.{publisher_next, publisher_take, pushed}
+use Rattle.iox_lanes_machine.specs.LanesBase.Subscribing.{subscriber_next, subscriber_take, received}
+use Rattle.iox_lanes_machine.specs.LanesBase.declared.calls.publisher.PublisherCall.{PublisherCall}
+use Rattle.iox_lanes_machine.specs.LanesBase.declared.calls.publisher.PublisherCall.TheVariants as publishing
+use Rattle.iox_lanes_machine.specs.LanesBase.declared.calls.route.Route.{Route}
+use Rattle.iox_lanes_machine.specs.LanesBase.declared.calls.publisher.Delivery.{Delivery}
+use Rattle.iox_lanes_machine.specs.LanesBase.declared.calls.subscriber.SubscriberCall.{SubscriberCall}
+use Rattle.iox_lanes_machine.specs.LanesBase.declared.calls.subscriber.SubscriberCall.TheVariants as subscribing
+use Rattle.iox_lanes_machine.specs.LanesParties.Within.{IsPublishing, IsSubscribing}
+use Rattle.iox_lanes_machine.proofs.LanesParties.Rings.{all_at}
 use Rattle.iox_lanes_machine.specs.Rings.{sent_word, ring_in, push_on, pop_on, waiting}
 use Rattle.iox_lanes_machine.specs.World.{World, publisher_stage, sender_stage, push_at, pushes_to, pops_from, push_acts, pop_acts, placed}
 use Rattle.iox_lanes_machine.specs.Kept.{IsLink, IsLinkOf, sender, receiver, IsWithin, IsKeptAt, FollowsMailbox}

@@ -55,4 +55,22 @@ pub mod Paces
 pub mod FullLoans
 pub mod PermittedLoans
 pub mod Queues
-pub use Rattle.iox_lanes_ledger.proofs.LanesParties as LanesParties
+pub mod Entries
+pub mod Books
+pub mod Rings
+pub mod Changes
+pub mod Sending
+pub mod Samples
+pub mod Sums
+pub mod Rooms
+pub mod RoomSteps
+pub mod LoanCounts
+pub mod BorrowCounts
+pub mod Permitted
+pub mod Pace
+pub mod Queue
+pub mod LedgerFindings
+pub use Rattle.iox_lanes_parties.proofs as LanesParties
+pub use Rattle.iox_lanes_parties.proofs.LanesBase as LanesBase
+pub use Rattle.iox_lanes_parties.proofs.QueuesRings as QueuesRings
+pub use Rattle.iox_lanes_parties.proofs.QueuesSteps as QueuesSteps

@@ -1,10 +1,10 @@
 -- What waits or is remembered is its publisher's own.
 use Rattle.std.proofs.Common.{ℕ, zero, suc, ◌≡◌, ◌<◌, ◌≤◌, ◌^◌, List, [], ◌∷◌, get_or, slice_get, Some, refl, sym, ap, subst, inl, inr, arith}
 use Rattle.std.proofs.lemmas.Bool.Decides.{eqb_tells}
-use Rattle.iox_lanes_ledger.specs.QueuesSteps.declared.order.Placed.{Placed}
-use Rattle.iox_lanes_ledger.specs.LanesParties.Parties.{PublisherLaneState}
-use Rattle.iox_lanes_ledger.specs.Uses.{one_if, count, entry}
-use Rattle.iox_lanes_ledger.proofs.Entries.{entry_own}
+use Rattle.iox_lanes_machine.specs.QueuesSteps.declared.order.Placed.{Placed}
+use Rattle.iox_lanes_machine.specs.LanesParties.Parties.{PublisherLaneState}
+use Rattle.iox_lanes_machine.specs.LedgerUses.{one_if, count, entry}
+use Rattle.iox_lanes_machine.proofs.Entries.{entry_own}
 use Rattle.iox_lanes_machine.specs.Kept.{IsKept}
 use Rattle.iox_lanes_machine.specs.Links.{LinkState}
 use Rattle.iox_lanes_machine.specs.Owned.{IsSlotOf, MailIsOwn, HistoriesAreOwn}

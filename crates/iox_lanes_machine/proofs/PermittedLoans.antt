@@ -1,31 +1,31 @@
 -- A loan ends as its publisher's record says when it begins.
 use Rattle.std.proofs.Common.{ℕ, ◌≡◌, ◌+◌, ◌-◌, ◌*◌, ◌<◌, ◌≤◌, ◌^◌, ◌==◌, Bool, true, false, List, [], ◌∷◌, length, get_or, slice_get, Some, refl, sym, ◌∙◌, ap, subst, inl, inr, arith}
-use Rattle.iox_lanes_ledger.specs.QueuesSteps.Access.{successor}
-use Rattle.iox_lanes_ledger.specs.QueuesRefusing.Refusing as refusing
-use Rattle.iox_lanes_ledger.specs.QueuesRefusing.declared.pop.Pop.TheVariants as pop
-use Rattle.iox_lanes_ledger.specs.LanesWords.declared.sizes.TableSizes.{TableSizes}
-use Rattle.iox_lanes_ledger.specs.LanesCalls.Answers.{refusing_pop_answer}
-use Rattle.iox_lanes_ledger.specs.LanesCalls.Publishing.{publisher_is_idle, publisher_take, publisher_change, taken_back, loan_reclaimed}
-use Rattle.iox_lanes_ledger.specs.LanesCalls.declared.publisher.PublisherCall.{PublisherCall}
-use Rattle.iox_lanes_ledger.specs.LanesCalls.declared.publisher.PublisherCall.TheVariants as publishing
-use Rattle.iox_lanes_ledger.specs.LanesCalls.declared.publisher.PublisherChange.TheVariants as change
-use Rattle.iox_lanes_ledger.specs.LanesCalls.declared.route.Route.{Route}
-use Rattle.iox_lanes_ledger.specs.LanesPublisher.Keeping.{BookState, changed, lent}
-use Rattle.iox_lanes_ledger.specs.LanesPublisher.Publishers.{words_of}
-use Rattle.iox_lanes_ledger.specs.LanesPublisher.declared.slot_book.LoanMark.{LoanMark}
-use Rattle.iox_lanes_ledger.specs.LanesPublisher.declared.slot_book.LoanMark.TheVariants as mark
-use Rattle.iox_lanes_ledger.specs.LanesParties.Parties as parties
-use Rattle.iox_lanes_ledger.specs.LanesParties.Parties.{PublisherLaneState, publisher_begun, publisher_after}
-use Rattle.iox_lanes_ledger.specs.LanesParties.declared.call.Answer.{Answer}
-use Rattle.iox_lanes_ledger.specs.LanesParties.declared.call.Call.TheVariants as call
-use Rattle.iox_lanes_ledger.specs.LanesParties.declared.call.Entry.{Entry}
-use Rattle.iox_lanes_ledger.specs.LanesParties.declared.call.Move.{Move}
-use Rattle.iox_lanes_ledger.specs.LanesParties.declared.call.Move.TheVariants.{Begin, GoOn}
-use Rattle.iox_lanes_ledger.specs.LanesParties.declared.call.Party.{Party}
-use Rattle.iox_lanes_ledger.specs.LanesParties.declared.call.Party.TheVariants.{Publisher}
-use Rattle.iox_lanes_ledger.specs.Rooms.{loans_out, CallGoes, HasRooms}
-use Rattle.iox_lanes_ledger.specs.Uses.{total}
-use Rattle.iox_lanes_ledger.proofs.Rooms.{same_slots}
+use Rattle.iox_lanes_machine.specs.QueuesSteps.Access.{successor}
+use Rattle.iox_lanes_machine.specs.QueuesRings.Refusing as refusing
+use Rattle.iox_lanes_machine.specs.QueuesRings.declared.refusing.pop.Pop.TheVariants as pop
+use Rattle.iox_lanes_machine.specs.LanesBase.declared.words.sizes.TableSizes.{TableSizes}
+use Rattle.iox_lanes_machine.specs.LanesBase.Answers.{refusing_pop_answer}
+use Rattle.iox_lanes_machine.specs.LanesBase.Publishing.{publisher_is_idle, publisher_take, publisher_change, taken_back, loan_reclaimed}
+use Rattle.iox_lanes_machine.specs.LanesBase.declared.calls.publisher.PublisherCall.{PublisherCall}
+use Rattle.iox_lanes_machine.specs.LanesBase.declared.calls.publisher.PublisherCall.TheVariants as publishing
+use Rattle.iox_lanes_machine.specs.LanesBase.declared.calls.publisher.PublisherChange.TheVariants as change
+use Rattle.iox_lanes_machine.specs.LanesBase.declared.calls.route.Route.{Route}
+use Rattle.iox_lanes_machine.specs.LanesParties.PublisherKeeping.{BookState, changed, lent}
+use Rattle.iox_lanes_machine.specs.LanesParties.Publishers.{words_of}
+use Rattle.iox_lanes_machine.specs.LanesParties.declared.publisher.slot_book.LoanMark.{LoanMark}
+use Rattle.iox_lanes_machine.specs.LanesParties.declared.publisher.slot_book.LoanMark.TheVariants as mark
+use Rattle.iox_lanes_machine.specs.LanesParties.Parties as parties
+use Rattle.iox_lanes_machine.specs.LanesParties.Parties.{PublisherLaneState, publisher_begun, publisher_after}
+use Rattle.iox_lanes_machine.specs.LanesParties.declared.call.Answer.{Answer}
+use Rattle.iox_lanes_machine.specs.LanesParties.declared.call.Call.TheVariants as call
+use Rattle.iox_lanes_machine.specs.LanesParties.declared.call.Entry.{Entry}
+use Rattle.iox_lanes_machine.specs.LanesParties.declared.call.Move.{Move}
+use Rattle.iox_lanes_machine.specs.LanesParties.declared.call.Move.TheVariants.{Begin, GoOn}
+use Rattle.iox_lanes_machine.specs.LanesParties.declared.call.Party.{Party}
+use Rattle.iox_lanes_machine.specs.LanesParties.declared.call.Party.TheVariants.{Publisher}
+use Rattle.iox_lanes_machine.specs.LedgerRooms.{loans_out, CallGoes, HasRooms}
+use Rattle.iox_lanes_machine.specs.LedgerUses.{total}
+use Rattle.iox_lanes_machine.proofs.Rooms.{same_slots}
 use Rattle.iox_lanes_machine.specs.Kept.{IsKept}
 use Rattle.iox_lanes_machine.specs.Loans.{worst_case}
 use Rattle.iox_lanes_machine.specs.Paces.{after_entry, led}

@@ -1,30 +1,30 @@
 -- Every step keeps that the words of reads lie one read behind the other.
 use Rattle.std.proofs.Common.{ℕ, ◌≡◌, ◌+◌, ◌*◌, Bool, true, false, if◌then◌else◌, nat_lt, List, [], ◌∷◌, ◌++◌, length, set, slice_get, Option, Some, None, refl, sym, ◌∙◌, ap, subst, inl, inr, arith, append-nil, append_assoc, length-append, length-set}
 use Rattle.std.proofs.lemmas.Bool.Decides.{eqb_tells}
-use Rattle.iox_lanes_ledger.specs.QueuesSteps.declared.order.Placed.{Placed}
-use Rattle.iox_lanes_ledger.specs.LanesWords.declared.sizes.TableSizes.{TableSizes}
-use Rattle.iox_lanes_ledger.specs.LanesCalls.Publishing.{publisher_next}
-use Rattle.iox_lanes_ledger.specs.LanesCalls.Subscribing.{subscriber_next, subscriber_take, subscriber_change}
-use Rattle.iox_lanes_ledger.specs.LanesCalls.declared.publisher.PublisherCall.{PublisherCall}
-use Rattle.iox_lanes_ledger.specs.LanesCalls.declared.publisher.PublisherCall.TheVariants as publishing
-use Rattle.iox_lanes_ledger.specs.LanesCalls.declared.route.Route.{Route}
-use Rattle.iox_lanes_ledger.specs.LanesCalls.declared.subscriber.SubscriberCall.{SubscriberCall}
-use Rattle.iox_lanes_ledger.specs.LanesCalls.declared.subscriber.SubscriberCall.TheVariants as subscribing
-use Rattle.iox_lanes_ledger.specs.LanesCalls.declared.subscriber.SubscriberChange.{SubscriberChange}
-use Rattle.iox_lanes_ledger.specs.LanesCalls.declared.subscriber.SubscriberChange.TheVariants as change
-use Rattle.iox_lanes_ledger.specs.LanesPublisher.declared.slot_book.LoanAnswer.{LoanAnswer}
-use Rattle.iox_lanes_ledger.specs.LanesSubscriber.Keeping.{SubscriberState, changed}
-use Rattle.iox_lanes_ledger.specs.LanesParties.Parties.{PublisherLaneState, SubscriberLaneState, publisher_after, publisher_answer, subscriber_begun, subscriber_after, subscriber_answer, release_begun, place_of, route_at, words_read, lent}
-use Rattle.iox_lanes_ledger.specs.LanesParties.declared.call.Answer.{Answer}
-use Rattle.iox_lanes_ledger.specs.LanesParties.declared.call.Answer.TheVariants as answer
-use Rattle.iox_lanes_ledger.specs.LanesParties.declared.call.Call.{Call}
-use Rattle.iox_lanes_ledger.specs.LanesParties.declared.call.Call.TheVariants as call
-use Rattle.iox_lanes_ledger.specs.LanesParties.declared.call.CallName.{CallName}
-use Rattle.iox_lanes_ledger.specs.LanesParties.declared.call.FinishedCall.{FinishedCall}
-use Rattle.iox_lanes_ledger.specs.LanesParties.declared.call.Move.{Move}
-use Rattle.iox_lanes_ledger.specs.LanesParties.declared.call.Move.TheVariants.{Begin, GoOn}
-use Rattle.iox_lanes_ledger.specs.LanesParties.declared.call.Party.{Party}
-use Rattle.iox_lanes_ledger.specs.LanesParties.declared.call.Party.TheVariants.{Publisher, Subscriber}
+use Rattle.iox_lanes_machine.specs.QueuesSteps.declared.order.Placed.{Placed}
+use Rattle.iox_lanes_machine.specs.LanesBase.declared.words.sizes.TableSizes.{TableSizes}
+use Rattle.iox_lanes_machine.specs.LanesBase.Publishing.{publisher_next}
+use Rattle.iox_lanes_machine.specs.LanesBase.Subscribing.{subscriber_next, subscriber_take, subscriber_change}
+use Rattle.iox_lanes_machine.specs.LanesBase.declared.calls.publisher.PublisherCall.{PublisherCall}
+use Rattle.iox_lanes_machine.specs.LanesBase.declared.calls.publisher.PublisherCall.TheVariants as publishing
+use Rattle.iox_lanes_machine.specs.LanesBase.declared.calls.route.Route.{Route}
+use Rattle.iox_lanes_machine.specs.LanesBase.declared.calls.subscriber.SubscriberCall.{SubscriberCall}
+use Rattle.iox_lanes_machine.specs.LanesBase.declared.calls.subscriber.SubscriberCall.TheVariants as subscribing
+use Rattle.iox_lanes_machine.specs.LanesBase.declared.calls.subscriber.SubscriberChange.{SubscriberChange}
+use Rattle.iox_lanes_machine.specs.LanesBase.declared.calls.subscriber.SubscriberChange.TheVariants as change
+use Rattle.iox_lanes_machine.specs.LanesParties.declared.publisher.slot_book.LoanAnswer.{LoanAnswer}
+use Rattle.iox_lanes_machine.specs.LanesParties.Keeping.{SubscriberState, changed}
+use Rattle.iox_lanes_machine.specs.LanesParties.Parties.{PublisherLaneState, SubscriberLaneState, publisher_after, publisher_answer, subscriber_begun, subscriber_after, subscriber_answer, release_begun, place_of, route_at, words_read, lent}
+use Rattle.iox_lanes_machine.specs.LanesParties.declared.call.Answer.{Answer}
+use Rattle.iox_lanes_machine.specs.LanesParties.declared.call.Answer.TheVariants as answer
+use Rattle.iox_lanes_machine.specs.LanesParties.declared.call.Call.{Call}
+use Rattle.iox_lanes_machine.specs.LanesParties.declared.call.Call.TheVariants as call
+use Rattle.iox_lanes_machine.specs.LanesParties.declared.call.CallName.{CallName}
+use Rattle.iox_lanes_machine.specs.LanesParties.declared.call.FinishedCall.{FinishedCall}
+use Rattle.iox_lanes_machine.specs.LanesParties.declared.call.Move.{Move}
+use Rattle.iox_lanes_machine.specs.LanesParties.declared.call.Move.TheVariants.{Begin, GoOn}
+use Rattle.iox_lanes_machine.specs.LanesParties.declared.call.Party.{Party}
+use Rattle.iox_lanes_machine.specs.LanesParties.declared.call.Party.TheVariants.{Publisher, Subscriber}
 use Rattle.iox_lanes_machine.specs.Reads.{is_read, reads_of, width, ReadsLie}
 use Rattle.iox_lanes_machine.specs.World.{World, ended, happens, publisher_begins, publisher_goes_on, publisher_given, publisher_ending, subscriber_begins, subscriber_goes_on, subscriber_given}
 use Rattle.iox_lanes_machine.proofs.Calls.{set_is}

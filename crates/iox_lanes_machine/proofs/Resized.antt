@@ -3,13 +3,13 @@ use Rattle.std.proofs.Common.{ℕ, ◌≡◌, ◌+◌, ◌≤◌, if◌then◌el
 use Rattle.std.proofs.lemmas.Bool.{leb-true}
 use Rattle.std.proofs.lemmas.List.{length-map, length-set, length-take-le}
 use Rattle.std.proofs.lemmas.List.Elements.{All-map, All-take, All-weaker}
-use Rattle.iox_lanes_ledger.specs.LanesPublisher.Keeping.{BookState, are_unused, may_resize}
-use Rattle.iox_lanes_ledger.specs.LanesPublisher.declared.slot_book.LoanMark.TheVariants as mark
-use Rattle.iox_lanes_ledger.specs.LanesParties.Parties.{PublisherLaneState, is_out, with_origin, lane_resized, lane_named}
-use Rattle.iox_lanes_ledger.specs.LanesParties.Within.{IsPublisher}
-use Rattle.iox_lanes_ledger.proofs.LanesParties.Rings.{all_at, and_left, and_right}
-use Rattle.iox_lanes_ledger.specs.Rooms.{CountsLoans}
-use Rattle.iox_lanes_ledger.specs.Uses.{one_if, entry, UsesCounted}
+use Rattle.iox_lanes_machine.specs.LanesParties.PublisherKeeping.{BookState, are_unused, may_resize}
+use Rattle.iox_lanes_machine.specs.LanesParties.declared.publisher.slot_book.LoanMark.TheVariants as mark
+use Rattle.iox_lanes_machine.specs.LanesParties.Parties.{PublisherLaneState, is_out, with_origin, lane_resized, lane_named}
+use Rattle.iox_lanes_machine.specs.LanesParties.Within.{IsPublisher}
+use Rattle.iox_lanes_machine.proofs.LanesParties.Rings.{all_at, and_left, and_right}
+use Rattle.iox_lanes_machine.specs.LedgerRooms.{CountsLoans}
+use Rattle.iox_lanes_machine.specs.LedgerUses.{one_if, entry, UsesCounted}
 use Rattle.iox_lanes_machine.specs.Findings.{resizes_of, is_there, resized_of, named_of}
 use Rattle.iox_lanes_machine.specs.Fresh.{HasFound, IsFreshPublisher, IsFresh}
 use Rattle.iox_lanes_machine.specs.Kept.{IsWithin}

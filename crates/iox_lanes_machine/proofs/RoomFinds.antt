@@ -3,41 +3,41 @@ use Rattle.std.proofs.Common.{ℕ, ◌≡◌, ◌+◌, ◌-◌, ◌<◌, ◌≤�
 use Rattle.std.proofs.lemmas.Bool.{cases_lt, lt-ltb}
 use Rattle.std.proofs.lemmas.Bool.Decides.{eqb_tells}
 use Rattle.std.proofs.lemmas.Option.{slice_get_within}
-use Rattle.iox_lanes_ledger.specs.QueuesSteps.Access.{RingWords}
-use Rattle.iox_lanes_ledger.specs.QueuesSteps.declared.access.Word.TheVariants.{Read}
-use Rattle.iox_lanes_ledger.specs.QueuesSteps.declared.order.Placed.{Placed}
-use Rattle.iox_lanes_ledger.specs.QueuesRefusing.Refusing as refusing
-use Rattle.iox_lanes_ledger.specs.QueuesRefusing.declared.pop.Pop.{Pop}
-use Rattle.iox_lanes_ledger.specs.QueuesRefusing.declared.pop.Pop.TheVariants as pop
-use Rattle.iox_lanes_ledger.specs.QueuesRefusing.declared.push.Push.{Push}
-use Rattle.iox_lanes_ledger.specs.QueuesRefusing.declared.push.Push.TheVariants as push
-use Rattle.iox_lanes_ledger.specs.QueuesRings.Ends.{Shape, cells_of, push_idle}
-use Rattle.iox_lanes_ledger.specs.QueuesRings.declared.ends.RingKind.{RingKind}
-use Rattle.iox_lanes_ledger.specs.QueuesRings.declared.ends.RingKind.TheVariants as kind
-use Rattle.iox_lanes_ledger.specs.QueuesRings.declared.ends.Push as ring_push_type
-use Rattle.iox_lanes_ledger.specs.QueuesRings.declared.ends.Push.TheVariants as ring_push
-use Rattle.iox_lanes_ledger.specs.QueuesRings.declared.ends.Pop as ring_pop_type
-use Rattle.iox_lanes_ledger.specs.QueuesRings.declared.ends.Pop.TheVariants as ring_pop
-use Rattle.iox_lanes_ledger.specs.LanesWords.Table.{held_by, shared_answer}
-use Rattle.iox_lanes_ledger.specs.LanesWords.Words.{on_ring}
-use Rattle.iox_lanes_ledger.specs.LanesWords.declared.word.ConnectionRing.TheVariants.{Completion}
-use Rattle.iox_lanes_ledger.specs.LanesCalls.declared.publisher.PublisherCall.{PublisherCall}
-use Rattle.iox_lanes_ledger.specs.LanesCalls.declared.subscriber.SubscriberCall.{SubscriberCall}
-use Rattle.iox_lanes_ledger.specs.LanesCalls.declared.subscriber.SubscriberCall.TheVariants as subscribing
-use Rattle.iox_lanes_ledger.specs.LanesCalls.declared.route.Route.{Route}
-use Rattle.iox_lanes_ledger.specs.LanesPublisher.Keeping.{BookState}
-use Rattle.iox_lanes_ledger.specs.LanesParties.Parties.{PublisherLaneState, SubscriberLaneState}
-use Rattle.iox_lanes_ledger.proofs.LanesParties.Rings.{all_at}
-use Rattle.iox_lanes_ledger.specs.Borrowing.{is_at, borrows, UsesBorrowed}
-use Rattle.iox_lanes_ledger.specs.Rooms.{slots_at, borrowed_of}
-use Rattle.iox_lanes_ledger.specs.Stored.{aside}
-use Rattle.iox_lanes_ledger.specs.Uses.{one_if, total, refers_to}
-use Rattle.iox_lanes_ledger.proofs.BorrowCounts.{PushFindsRoom}
-use Rattle.iox_lanes_ledger.proofs.Entries.{total_zero}
-use Rattle.iox_lanes_ledger.proofs.Rings.{between_is, idle_aside}
-use Rattle.iox_lanes_ledger.proofs.Rooms.{slots_most, slots_beside, slots_back}
-use Rattle.iox_lanes_ledger.proofs.RoomSteps.{PopFinds}
-use Rattle.iox_lanes_ledger.proofs.Samples.{borrows_is}
+use Rattle.iox_lanes_machine.specs.QueuesSteps.Access.{RingWords}
+use Rattle.iox_lanes_machine.specs.QueuesSteps.declared.access.Word.TheVariants.{Read}
+use Rattle.iox_lanes_machine.specs.QueuesSteps.declared.order.Placed.{Placed}
+use Rattle.iox_lanes_machine.specs.QueuesRings.Refusing as refusing
+use Rattle.iox_lanes_machine.specs.QueuesRings.declared.refusing.pop.Pop.{Pop}
+use Rattle.iox_lanes_machine.specs.QueuesRings.declared.refusing.pop.Pop.TheVariants as pop
+use Rattle.iox_lanes_machine.specs.QueuesRings.declared.refusing.push.Push.{Push}
+use Rattle.iox_lanes_machine.specs.QueuesRings.declared.refusing.push.Push.TheVariants as push
+use Rattle.iox_lanes_machine.specs.QueuesRings.Ends.{Shape, cells_of, push_idle}
+use Rattle.iox_lanes_machine.specs.QueuesRings.declared.ends.RingKind.{RingKind}
+use Rattle.iox_lanes_machine.specs.QueuesRings.declared.ends.RingKind.TheVariants as kind
+use Rattle.iox_lanes_machine.specs.QueuesRings.declared.ends.Push as ring_push_type
+use Rattle.iox_lanes_machine.specs.QueuesRings.declared.ends.Push.TheVariants as ring_push
+use Rattle.iox_lanes_machine.specs.QueuesRings.declared.ends.Pop as ring_pop_type
+use Rattle.iox_lanes_machine.specs.QueuesRings.declared.ends.Pop.TheVariants as ring_pop
+use Rattle.iox_lanes_machine.specs.LanesBase.Table.{held_by, shared_answer}
+use Rattle.iox_lanes_machine.specs.LanesBase.Words.{on_ring}
+use Rattle.iox_lanes_machine.specs.LanesBase.declared.words.word.ConnectionRing.TheVariants.{Completion}
+use Rattle.iox_lanes_machine.specs.LanesBase.declared.calls.publisher.PublisherCall.{PublisherCall}
+use Rattle.iox_lanes_machine.specs.LanesBase.declared.calls.subscriber.SubscriberCall.{SubscriberCall}
+use Rattle.iox_lanes_machine.specs.LanesBase.declared.calls.subscriber.SubscriberCall.TheVariants as subscribing
+use Rattle.iox_lanes_machine.specs.LanesBase.declared.calls.route.Route.{Route}
+use Rattle.iox_lanes_machine.specs.LanesParties.PublisherKeeping.{BookState}
+use Rattle.iox_lanes_machine.specs.LanesParties.Parties.{PublisherLaneState, SubscriberLaneState}
+use Rattle.iox_lanes_machine.proofs.LanesParties.Rings.{all_at}
+use Rattle.iox_lanes_machine.specs.Borrowing.{is_at, borrows, UsesBorrowed}
+use Rattle.iox_lanes_machine.specs.LedgerRooms.{slots_at, borrowed_of}
+use Rattle.iox_lanes_machine.specs.Stored.{aside}
+use Rattle.iox_lanes_machine.specs.LedgerUses.{one_if, total, refers_to}
+use Rattle.iox_lanes_machine.proofs.BorrowCounts.{PushFindsRoom}
+use Rattle.iox_lanes_machine.proofs.Entries.{total_zero}
+use Rattle.iox_lanes_machine.proofs.Rings.{between_is, idle_aside}
+use Rattle.iox_lanes_machine.proofs.Rooms.{slots_most, slots_beside, slots_back}
+use Rattle.iox_lanes_machine.proofs.RoomSteps.{PopFinds}
+use Rattle.iox_lanes_machine.proofs.Samples.{borrows_is}
 use Rattle.iox_lanes_machine.specs.Kept.{IsLinkOf, sender, receiver, IsKeptAt}
 use Rattle.iox_lanes_machine.specs.Returns.{back_ring, reclaim_on, release_on, IsReturning}
 use Rattle.iox_lanes_machine.specs.Rings.{sent_word, ring_in, waiting, push_on, pop_on}

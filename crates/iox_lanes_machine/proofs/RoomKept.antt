@@ -3,36 +3,36 @@ use Rattle.std.proofs.Common.{ℕ, ◌≡◌, ◌+◌, ◌<◌, ◌≤◌, ◌^�
 use Rattle.std.specs.List.{All}
 use Rattle.std.proofs.lemmas.List.Elements.{All-nil, All-cons, All-head, All-tail}
 use Rattle.std.proofs.lemmas.Bool.Decides.{eqb_tells}
-use Rattle.iox_lanes_ledger.specs.LanesWords.Table.{after_shared}
-use Rattle.iox_lanes_ledger.specs.LanesWords.declared.sizes.TableSizes.{TableSizes}
-use Rattle.iox_lanes_ledger.specs.LanesCalls.Publishing.{publisher_next}
-use Rattle.iox_lanes_ledger.specs.LanesCalls.Subscribing.{subscriber_next, subscriber_change, receive_from, is_full_at}
-use Rattle.iox_lanes_ledger.specs.LanesCalls.declared.publisher.PublisherCall.{PublisherCall}
-use Rattle.iox_lanes_ledger.specs.LanesCalls.declared.publisher.PublisherCall.TheVariants as publishing
-use Rattle.iox_lanes_ledger.specs.LanesCalls.declared.subscriber.SubscriberCall.{SubscriberCall}
-use Rattle.iox_lanes_ledger.specs.LanesCalls.declared.subscriber.SubscriberCall.TheVariants as subscribing
-use Rattle.iox_lanes_ledger.specs.LanesCalls.declared.route.Route.{Route}
-use Rattle.iox_lanes_ledger.specs.LanesPublisher.Keeping.{BookState}
-use Rattle.iox_lanes_ledger.specs.LanesPublisher.Publishers.{words_of}
-use Rattle.iox_lanes_ledger.specs.LanesPublisher.declared.slot_book.LoanAnswer.{LoanAnswer}
-use Rattle.iox_lanes_ledger.specs.LanesParties.Parties.{PublisherLaneState, SubscriberLaneState, publisher_begun, publisher_after, publisher_answer, head_of, subscriber_begun, subscriber_after, subscriber_answer, release_begun, place_of, route_at}
-use Rattle.iox_lanes_ledger.specs.LanesParties.Within.{IsPublisher, IsSubscriber, IsSubscribing}
-use Rattle.iox_lanes_ledger.specs.LanesParties.declared.call.Answer.{Answer}
-use Rattle.iox_lanes_ledger.specs.LanesParties.declared.call.Call.{Call}
-use Rattle.iox_lanes_ledger.specs.LanesParties.declared.call.Call.TheVariants as call
-use Rattle.iox_lanes_ledger.specs.LanesParties.declared.call.CallName.{CallName}
-use Rattle.iox_lanes_ledger.specs.LanesParties.declared.call.CallName.TheVariants as name
-use Rattle.iox_lanes_ledger.specs.LanesParties.declared.call.FinishedCall.{FinishedCall}
-use Rattle.iox_lanes_ledger.specs.LanesParties.declared.call.Move.{Move}
-use Rattle.iox_lanes_ledger.specs.LanesParties.declared.call.Move.TheVariants.{Begin, GoOn}
-use Rattle.iox_lanes_ledger.specs.LanesParties.declared.call.Party.{Party}
-use Rattle.iox_lanes_ledger.specs.LanesParties.declared.call.Party.TheVariants.{Publisher, Subscriber}
-use Rattle.iox_lanes_ledger.proofs.LanesParties.Rings.{all_at}
-use Rattle.iox_lanes_ledger.specs.Borrowing.{UsesBorrowed}
-use Rattle.iox_lanes_ledger.specs.Rooms.{HasRooms, ReleasesOk, CountsBorrowed}
-use Rattle.iox_lanes_ledger.proofs.BorrowCounts.{FitsAt, IsPlaced, ReleaseFindsRoom, from_may, quiet_numbers, borrowed_same, take_counts, numbers_are}
-use Rattle.iox_lanes_ledger.proofs.RoomSteps.{CallFinds, take_rooms, begun_rooms}
-use Rattle.iox_lanes_ledger.proofs.Samples.{gives_fit}
+use Rattle.iox_lanes_machine.specs.LanesBase.Table.{after_shared}
+use Rattle.iox_lanes_machine.specs.LanesBase.declared.words.sizes.TableSizes.{TableSizes}
+use Rattle.iox_lanes_machine.specs.LanesBase.Publishing.{publisher_next}
+use Rattle.iox_lanes_machine.specs.LanesBase.Subscribing.{subscriber_next, subscriber_change, receive_from, is_full_at}
+use Rattle.iox_lanes_machine.specs.LanesBase.declared.calls.publisher.PublisherCall.{PublisherCall}
+use Rattle.iox_lanes_machine.specs.LanesBase.declared.calls.publisher.PublisherCall.TheVariants as publishing
+use Rattle.iox_lanes_machine.specs.LanesBase.declared.calls.subscriber.SubscriberCall.{SubscriberCall}
+use Rattle.iox_lanes_machine.specs.LanesBase.declared.calls.subscriber.SubscriberCall.TheVariants as subscribing
+use Rattle.iox_lanes_machine.specs.LanesBase.declared.calls.route.Route.{Route}
+use Rattle.iox_lanes_machine.specs.LanesParties.PublisherKeeping.{BookState}
+use Rattle.iox_lanes_machine.specs.LanesParties.Publishers.{words_of}
+use Rattle.iox_lanes_machine.specs.LanesParties.declared.publisher.slot_book.LoanAnswer.{LoanAnswer}
+use Rattle.iox_lanes_machine.specs.LanesParties.Parties.{PublisherLaneState, SubscriberLaneState, publisher_begun, publisher_after, publisher_answer, head_of, subscriber_begun, subscriber_after, subscriber_answer, release_begun, place_of, route_at}
+use Rattle.iox_lanes_machine.specs.LanesParties.Within.{IsPublisher, IsSubscriber, IsSubscribing}
+use Rattle.iox_lanes_machine.specs.LanesParties.declared.call.Answer.{Answer}
+use Rattle.iox_lanes_machine.specs.LanesParties.declared.call.Call.{Call}
+use Rattle.iox_lanes_machine.specs.LanesParties.declared.call.Call.TheVariants as call
+use Rattle.iox_lanes_machine.specs.LanesParties.declared.call.CallName.{CallName}
+use Rattle.iox_lanes_machine.specs.LanesParties.declared.call.CallName.TheVariants as name
+use Rattle.iox_lanes_machine.specs.LanesParties.declared.call.FinishedCall.{FinishedCall}
+use Rattle.iox_lanes_machine.specs.LanesParties.declared.call.Move.{Move}
+use Rattle.iox_lanes_machine.specs.LanesParties.declared.call.Move.TheVariants.{Begin, GoOn}
+use Rattle.iox_lanes_machine.specs.LanesParties.declared.call.Party.{Party}
+use Rattle.iox_lanes_machine.specs.LanesParties.declared.call.Party.TheVariants.{Publisher, Subscriber}
+use Rattle.iox_lanes_machine.proofs.LanesParties.Rings.{all_at}
+use Rattle.iox_lanes_machine.specs.Borrowing.{UsesBorrowed}
+use Rattle.iox_lanes_machine.specs.LedgerRooms.{HasRooms, ReleasesOk, CountsBorrowed}
+use Rattle.iox_lanes_machine.proofs.BorrowCounts.{FitsAt, IsPlaced, ReleaseFindsRoom, from_may, quiet_numbers, borrowed_same, take_counts, numbers_are}
+use Rattle.iox_lanes_machine.proofs.RoomSteps.{CallFinds, take_rooms, begun_rooms}
+use Rattle.iox_lanes_machine.proofs.Samples.{gives_fit}
 use Rattle.iox_lanes_machine.specs.Kept.{IsLinkOf, receiver, IsWithin, AreKept}
 use Rattle.iox_lanes_machine.specs.Returns.{ReturnsKept, AreReturning}
 use Rattle.iox_lanes_machine.specs.Rooms.{may_borrow, HasReceived, GaveBack, RoomsKept}

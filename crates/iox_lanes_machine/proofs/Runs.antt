@@ -1,10 +1,10 @@
 -- Runs of lanes, one step after the other.
 use Rattle.std.proofs.Common.{ℕ, ◌≡◌, ◌+◌, ◌≤◌, true, false, List, [], ◌∷◌, length, refl, subst, inl, inr, arith}
-use Rattle.iox_lanes_ledger.specs.QueuesSteps.Schedule.{count_of, is_stopped_of}
-use Rattle.iox_lanes_ledger.specs.QueuesSteps.declared.schedule.Stepped.{Stepped}
-use Rattle.iox_lanes_ledger.specs.QueuesSteps.declared.schedule.Stepped.TheVariants as stepped
+use Rattle.iox_lanes_machine.specs.QueuesSteps.Schedule.{count_of, is_stopped_of}
+use Rattle.iox_lanes_machine.specs.QueuesSteps.declared.schedule.Stepped.{Stepped}
+use Rattle.iox_lanes_machine.specs.QueuesSteps.declared.schedule.Stepped.TheVariants as stepped
 use Rattle.iox_lanes_machine.specs.World.{World, StepsTo, RunsTo}
-use Rattle.iox_lanes_ledger.specs.LanesParties.declared.call.Entry.{Entry}
+use Rattle.iox_lanes_machine.specs.LanesParties.declared.call.Entry.{Entry}
 
 -- a step that didn't stop, and a run of the rest
 pub run_more : (m : World) (entry : Entry) (entries : List Entry) (r : Stepped) (m' n : World) (k made : ℕ)

@@ -3,48 +3,48 @@ use Rattle.std.proofs.Common.{ℕ, ◌≡◌, ◌+◌, ◌<◌, ◌≤◌, ◌^�
 use Rattle.std.specs.List.{All}
 use Rattle.std.proofs.lemmas.Bool.Decides.{eqb_tells}
 use Rattle.std.proofs.lemmas.Option.{slice_get_within, slice_get-get_or}
-use Rattle.iox_lanes_ledger.specs.QueuesSteps.Access.{RingWords, successor, answer_of, after_access}
-use Rattle.iox_lanes_ledger.specs.QueuesSteps.Order.{put_values, PutNow}
-use Rattle.iox_lanes_ledger.specs.QueuesSteps.declared.access.Word.TheVariants.{Read}
-use Rattle.iox_lanes_ledger.specs.QueuesSteps.declared.order.PopAnswer.{PopAnswer}
-use Rattle.iox_lanes_ledger.specs.QueuesSteps.declared.order.PopAnswer.TheVariants.{Got, Saw}
-use Rattle.iox_lanes_ledger.specs.QueuesSteps.declared.order.Placed.{Placed}
-use Rattle.iox_lanes_ledger.specs.QueuesSteps.declared.order.PushAnswer.{PushAnswer}
-use Rattle.iox_lanes_ledger.specs.QueuesRefusing.Refusing as refusing
-use Rattle.iox_lanes_ledger.specs.QueuesRefusing.declared.pop.Pop as refusing_pop_type
-use Rattle.iox_lanes_ledger.specs.QueuesRings.Ends.{Shape, cells_of, push_next, push_take, placed_by_push, put_in_hand, pop_next, placed_by_pop}
-use Rattle.iox_lanes_ledger.specs.QueuesRings.declared.ends.RingKind.{RingKind}
-use Rattle.iox_lanes_ledger.specs.QueuesRings.declared.ends.Push.{Push}
-use Rattle.iox_lanes_ledger.specs.QueuesRings.declared.ends.Pop.{Pop}
-use Rattle.iox_lanes_ledger.proofs.QueuesRings.EitherRing.{push_goes, pop_goes}
-use Rattle.iox_lanes_ledger.specs.LanesWords.Table.{TableWords, held_by, shared_answer, after_shared, IsOfTable}
-use Rattle.iox_lanes_ledger.specs.LanesWords.Words.{on_ring}
-use Rattle.iox_lanes_ledger.specs.LanesWords.declared.word.ConnectionRing.TheVariants.{Submission}
-use Rattle.iox_lanes_ledger.specs.LanesCalls.Answers.{push_answer, refusing_pop_answer}
-use Rattle.iox_lanes_ledger.specs.LanesCalls.Publishing.{publisher_is_idle, publisher_next, publisher_take, loan_from, loan_reclaimed, write_from, head_from, sweep_from, send_reclaimed, pushed}
-use Rattle.iox_lanes_ledger.specs.LanesCalls.Subscribing.{subscriber_next}
-use Rattle.iox_lanes_ledger.specs.LanesCalls.declared.publisher.Delivery.{Delivery}
-use Rattle.iox_lanes_ledger.specs.LanesCalls.declared.publisher.PublisherCall.{PublisherCall}
-use Rattle.iox_lanes_ledger.specs.LanesCalls.declared.publisher.PublisherCall.TheVariants as publishing
-use Rattle.iox_lanes_ledger.specs.LanesCalls.declared.route.Route.{Route}
-use Rattle.iox_lanes_ledger.specs.LanesCalls.declared.subscriber.SubscriberCall.{SubscriberCall}
-use Rattle.iox_lanes_ledger.specs.LanesCalls.declared.subscriber.SubscriberCall.TheVariants as subscribing
-use Rattle.iox_lanes_ledger.specs.LanesPublisher.Publishers.{words_of}
-use Rattle.iox_lanes_ledger.specs.LanesPublisher.declared.slot_book.LoanAnswer.{LoanAnswer}
-use Rattle.iox_lanes_ledger.specs.LanesParties.Parties.{PublisherLaneState, SubscriberLaneState, publisher_may, publisher_begun, publisher_after, publisher_answer, head_of, subscriber_answer, lent}
-use Rattle.iox_lanes_ledger.specs.LanesParties.Within.{IsPublisher, IsSubscribing, IsSubscriber}
-use Rattle.iox_lanes_ledger.specs.LanesParties.declared.call.Answer.TheVariants as answer
-use Rattle.iox_lanes_ledger.specs.LanesParties.declared.call.Call.{Call}
-use Rattle.iox_lanes_ledger.specs.LanesParties.declared.call.Call.TheVariants as call
-use Rattle.iox_lanes_ledger.specs.LanesParties.declared.call.CallName.{CallName}
-use Rattle.iox_lanes_ledger.specs.LanesParties.declared.call.FinishedCall.{FinishedCall}
-use Rattle.iox_lanes_ledger.specs.LanesParties.declared.call.Move.{Move}
-use Rattle.iox_lanes_ledger.specs.LanesParties.declared.call.Move.TheVariants.{Begin, GoOn}
-use Rattle.iox_lanes_ledger.specs.LanesParties.declared.call.Party.{Party}
-use Rattle.iox_lanes_ledger.specs.LanesParties.declared.call.Party.TheVariants.{Publisher, Subscriber}
-use Rattle.iox_lanes_ledger.proofs.LanesParties.Rings.{and_left, all_at}
-use Rattle.iox_lanes_ledger.proofs.LanesParties.PublishersWithin.{publishers_stay_within}
-use Rattle.iox_lanes_ledger.proofs.LanesParties.SubscribersWithin.{subscribers_stay_within}
+use Rattle.iox_lanes_machine.specs.QueuesSteps.Access.{RingWords, successor, answer_of, after_access}
+use Rattle.iox_lanes_machine.specs.QueuesSteps.Order.{put_values, PutNow}
+use Rattle.iox_lanes_machine.specs.QueuesSteps.declared.access.Word.TheVariants.{Read}
+use Rattle.iox_lanes_machine.specs.QueuesSteps.declared.order.PopAnswer.{PopAnswer}
+use Rattle.iox_lanes_machine.specs.QueuesSteps.declared.order.PopAnswer.TheVariants.{Got, Saw}
+use Rattle.iox_lanes_machine.specs.QueuesSteps.declared.order.Placed.{Placed}
+use Rattle.iox_lanes_machine.specs.QueuesSteps.declared.order.PushAnswer.{PushAnswer}
+use Rattle.iox_lanes_machine.specs.QueuesRings.Refusing as refusing
+use Rattle.iox_lanes_machine.specs.QueuesRings.declared.refusing.pop.Pop as refusing_pop_type
+use Rattle.iox_lanes_machine.specs.QueuesRings.Ends.{Shape, cells_of, push_next, push_take, placed_by_push, put_in_hand, pop_next, placed_by_pop}
+use Rattle.iox_lanes_machine.specs.QueuesRings.declared.ends.RingKind.{RingKind}
+use Rattle.iox_lanes_machine.specs.QueuesRings.declared.ends.Push.{Push}
+use Rattle.iox_lanes_machine.specs.QueuesRings.declared.ends.Pop.{Pop}
+use Rattle.iox_lanes_machine.proofs.QueuesRings.EitherRing.{push_goes, pop_goes}
+use Rattle.iox_lanes_machine.specs.LanesBase.Table.{TableWords, held_by, shared_answer, after_shared, IsOfTable}
+use Rattle.iox_lanes_machine.specs.LanesBase.Words.{on_ring}
+use Rattle.iox_lanes_machine.specs.LanesBase.declared.words.word.ConnectionRing.TheVariants.{Submission}
+use Rattle.iox_lanes_machine.specs.LanesBase.Answers.{push_answer, refusing_pop_answer}
+use Rattle.iox_lanes_machine.specs.LanesBase.Publishing.{publisher_is_idle, publisher_next, publisher_take, loan_from, loan_reclaimed, write_from, head_from, sweep_from, send_reclaimed, pushed}
+use Rattle.iox_lanes_machine.specs.LanesBase.Subscribing.{subscriber_next}
+use Rattle.iox_lanes_machine.specs.LanesBase.declared.calls.publisher.Delivery.{Delivery}
+use Rattle.iox_lanes_machine.specs.LanesBase.declared.calls.publisher.PublisherCall.{PublisherCall}
+use Rattle.iox_lanes_machine.specs.LanesBase.declared.calls.publisher.PublisherCall.TheVariants as publishing
+use Rattle.iox_lanes_machine.specs.LanesBase.declared.calls.route.Route.{Route}
+use Rattle.iox_lanes_machine.specs.LanesBase.declared.calls.subscriber.SubscriberCall.{SubscriberCall}
+use Rattle.iox_lanes_machine.specs.LanesBase.declared.calls.subscriber.SubscriberCall.TheVariants as subscribing
+use Rattle.iox_lanes_machine.specs.LanesParties.Publishers.{words_of}
+use Rattle.iox_lanes_machine.specs.LanesParties.declared.publisher.slot_book.LoanAnswer.{LoanAnswer}
+use Rattle.iox_lanes_machine.specs.LanesParties.Parties.{PublisherLaneState, SubscriberLaneState, publisher_may, publisher_begun, publisher_after, publisher_answer, head_of, subscriber_answer, lent}
+use Rattle.iox_lanes_machine.specs.LanesParties.Within.{IsPublisher, IsSubscribing, IsSubscriber}
+use Rattle.iox_lanes_machine.specs.LanesParties.declared.call.Answer.TheVariants as answer
+use Rattle.iox_lanes_machine.specs.LanesParties.declared.call.Call.{Call}
+use Rattle.iox_lanes_machine.specs.LanesParties.declared.call.Call.TheVariants as call
+use Rattle.iox_lanes_machine.specs.LanesParties.declared.call.CallName.{CallName}
+use Rattle.iox_lanes_machine.specs.LanesParties.declared.call.FinishedCall.{FinishedCall}
+use Rattle.iox_lanes_machine.specs.LanesParties.declared.call.Move.{Move}
+use Rattle.iox_lanes_machine.specs.LanesParties.declared.call.Move.TheVariants.{Begin, GoOn}
+use Rattle.iox_lanes_machine.specs.LanesParties.declared.call.Party.{Party}
+use Rattle.iox_lanes_machine.specs.LanesParties.declared.call.Party.TheVariants.{Publisher, Subscriber}
+use Rattle.iox_lanes_machine.proofs.LanesParties.Rings.{and_left, all_at}
+use Rattle.iox_lanes_machine.proofs.LanesParties.PublishersWithin.{publishers_stay_within}
+use Rattle.iox_lanes_machine.proofs.LanesParties.SubscribersWithin.{subscribers_stay_within}
 use Rattle.iox_lanes_machine.specs.Calls.{IsStageOf, CallsFollow}
 use Rattle.iox_lanes_machine.specs.Kept.{IsLinkOf, sender, receiver, IsWithin, IsKeptAt, AreKept}
 use Rattle.iox_lanes_machine.specs.Rings.{sent_word, ring_in, push_on, pop_on, waiting}

@@ -5,13 +5,13 @@ use Rattle.std.proofs.lemmas.Bool.Decides.{eqb_tells}
 use Rattle.std.proofs.lemmas.List.{get_or-take, length-take-le, length-take}
 use Rattle.std.proofs.Math.ListN.{get_or-eq_default}
 use Rattle.std.proofs.Math.Nat.{mul-le-mul_left, mul_comm, mod-lt, mod-add-div, div-lt_iff_lt-mul}
-use Rattle.iox_lanes_ledger.specs.LanesPublisher.Keeping.{BookState, are_unused, resized}
-use Rattle.iox_lanes_ledger.specs.LanesPublisher.declared.slot_book.LoanMark.{LoanMark}
-use Rattle.iox_lanes_ledger.specs.LanesPublisher.declared.slot_book.LoanMark.TheVariants as mark
-use Rattle.iox_lanes_ledger.specs.LanesParties.Parties.{is_out}
-use Rattle.iox_lanes_ledger.specs.Rooms.{loans_out, CountsLoans}
-use Rattle.iox_lanes_ledger.specs.Uses.{one_if, count, total, entry, refers, references, refers_to, UsesCounted}
-use Rattle.iox_lanes_ledger.proofs.Entries.{choose_one, entry_is, refers_is, total_none, total_zero}
+use Rattle.iox_lanes_machine.specs.LanesParties.PublisherKeeping.{BookState, are_unused, resized}
+use Rattle.iox_lanes_machine.specs.LanesParties.declared.publisher.slot_book.LoanMark.{LoanMark}
+use Rattle.iox_lanes_machine.specs.LanesParties.declared.publisher.slot_book.LoanMark.TheVariants as mark
+use Rattle.iox_lanes_machine.specs.LanesParties.Parties.{is_out}
+use Rattle.iox_lanes_machine.specs.LedgerRooms.{loans_out, CountsLoans}
+use Rattle.iox_lanes_machine.specs.LedgerUses.{one_if, count, total, entry, refers, references, refers_to, UsesCounted}
+use Rattle.iox_lanes_machine.proofs.Entries.{choose_one, entry_is, refers_is, total_none, total_zero}
 
 -- no slot has a use
 unused_first : (c : ℕ) (cs : List ℕ) → are_unused (c ∷ cs) ≡ true → (c ≡ 0) × (are_unused cs ≡ true)

@@ -2,26 +2,26 @@
 use Rattle.std.proofs.Common.{ℕ, ◌≡◌, ◌+◌, ◌<◌, ◌^◌, ◌⊎◌, List, ◌++◌, slice_get, Option, Some, refl, sym, ◌∙◌, ap, subst, inl, inr, arith}
 use Rattle.std.specs.List.{All}
 use Rattle.std.proofs.lemmas.Bool.Decides.{eqb_tells}
-use Rattle.iox_lanes_ledger.specs.QueuesSteps.Order.{at}
-use Rattle.iox_lanes_ledger.specs.QueuesSteps.declared.access.Word.TheVariants.{Read}
-use Rattle.iox_lanes_ledger.specs.QueuesSteps.declared.order.Placed.{Placed}
-use Rattle.iox_lanes_ledger.specs.QueuesRefusing.declared.pop.Pop as refusing_pop_type
-use Rattle.iox_lanes_ledger.specs.QueuesRings.Ends.{cells_of}
-use Rattle.iox_lanes_ledger.specs.QueuesRings.declared.ends.Push.{Push}
-use Rattle.iox_lanes_ledger.specs.LanesWords.Table.{held_by, shared_answer, after_shared, IsOfTable}
-use Rattle.iox_lanes_ledger.specs.LanesCalls.Publishing.{publisher_next, publisher_take, publisher_change}
-use Rattle.iox_lanes_ledger.specs.LanesCalls.declared.publisher.Delivery.{Delivery}
-use Rattle.iox_lanes_ledger.specs.LanesCalls.declared.publisher.PublisherCall.{PublisherCall}
-use Rattle.iox_lanes_ledger.specs.LanesCalls.declared.publisher.PublisherCall.TheVariants as publishing
-use Rattle.iox_lanes_ledger.specs.LanesCalls.declared.publisher.PublisherChange.{PublisherChange}
-use Rattle.iox_lanes_ledger.specs.LanesCalls.declared.route.Route.{Route}
-use Rattle.iox_lanes_ledger.specs.LanesParties.Parties.{SubscriberLaneState}
-use Rattle.iox_lanes_ledger.specs.LanesParties.Within.{IsPublishing}
-use Rattle.iox_lanes_ledger.proofs.LanesParties.Rings.{all_at}
-use Rattle.iox_lanes_ledger.specs.Stored.{aside}
-use Rattle.iox_lanes_ledger.specs.Uses.{count}
-use Rattle.iox_lanes_ledger.proofs.Changes.{IsChangeAt, IsElse, put_by, lost_by, back_follows, push_change_at}
-use Rattle.iox_lanes_ledger.proofs.Rings.{idle_aside}
+use Rattle.iox_lanes_machine.specs.QueuesSteps.Order.{at}
+use Rattle.iox_lanes_machine.specs.QueuesSteps.declared.access.Word.TheVariants.{Read}
+use Rattle.iox_lanes_machine.specs.QueuesSteps.declared.order.Placed.{Placed}
+use Rattle.iox_lanes_machine.specs.QueuesRings.declared.refusing.pop.Pop as refusing_pop_type
+use Rattle.iox_lanes_machine.specs.QueuesRings.Ends.{cells_of}
+use Rattle.iox_lanes_machine.specs.QueuesRings.declared.ends.Push.{Push}
+use Rattle.iox_lanes_machine.specs.LanesBase.Table.{held_by, shared_answer, after_shared, IsOfTable}
+use Rattle.iox_lanes_machine.specs.LanesBase.Publishing.{publisher_next, publisher_take, publisher_change}
+use Rattle.iox_lanes_machine.specs.LanesBase.declared.calls.publisher.Delivery.{Delivery}
+use Rattle.iox_lanes_machine.specs.LanesBase.declared.calls.publisher.PublisherCall.{PublisherCall}
+use Rattle.iox_lanes_machine.specs.LanesBase.declared.calls.publisher.PublisherCall.TheVariants as publishing
+use Rattle.iox_lanes_machine.specs.LanesBase.declared.calls.publisher.PublisherChange.{PublisherChange}
+use Rattle.iox_lanes_machine.specs.LanesBase.declared.calls.route.Route.{Route}
+use Rattle.iox_lanes_machine.specs.LanesParties.Parties.{SubscriberLaneState}
+use Rattle.iox_lanes_machine.specs.LanesParties.Within.{IsPublishing}
+use Rattle.iox_lanes_machine.proofs.LanesParties.Rings.{all_at}
+use Rattle.iox_lanes_machine.specs.Stored.{aside}
+use Rattle.iox_lanes_machine.specs.LedgerUses.{count}
+use Rattle.iox_lanes_machine.proofs.Changes.{IsChangeAt, IsElse, put_by, lost_by, back_follows, push_change_at}
+use Rattle.iox_lanes_machine.proofs.Rings.{idle_aside}
 use Rattle.iox_lanes_machine.specs.Rings.{sent_word, waiting}
 use Rattle.iox_lanes_machine.specs.Returns.{AreReturning, GoesRound, IsReturning}
 use Rattle.iox_lanes_machine.specs.World.{World, publisher_stage, subscriber_stage, pushes_to, push_acts, added}

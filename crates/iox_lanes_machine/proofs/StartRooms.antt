@@ -3,12 +3,12 @@ use Rattle.std.proofs.Common.{ℕ, zero, suc, ◌≡◌, ◌+◌, ◌*◌, ◌/�
 use Rattle.std.proofs.lemmas.List.{length-replicate, get_or-replicate}
 use Rattle.std.proofs.lemmas.Nat.{div_below, div-add-mod', div-mul-add}
 use Rattle.std.proofs.lemmas.Option.{slice_get-get_or}
-use Rattle.iox_lanes_ledger.specs.LanesCalls.declared.route.Route.{Route}
-use Rattle.iox_lanes_ledger.specs.LanesPublisher.declared.slot_book.LoanMark.{LoanMark}
-use Rattle.iox_lanes_ledger.specs.LanesPublisher.declared.slot_book.LoanMark.TheVariants as mark
-use Rattle.iox_lanes_ledger.specs.LanesParties.Parties.{SubscriberLaneState, is_out}
-use Rattle.iox_lanes_ledger.specs.Rooms.{loans_out, CountsLoans}
-use Rattle.iox_lanes_ledger.proofs.Entries.{total_zero, get_replicated}
+use Rattle.iox_lanes_machine.specs.LanesBase.declared.calls.route.Route.{Route}
+use Rattle.iox_lanes_machine.specs.LanesParties.declared.publisher.slot_book.LoanMark.{LoanMark}
+use Rattle.iox_lanes_machine.specs.LanesParties.declared.publisher.slot_book.LoanMark.TheVariants as mark
+use Rattle.iox_lanes_machine.specs.LanesParties.Parties.{SubscriberLaneState, is_out}
+use Rattle.iox_lanes_machine.specs.LedgerRooms.{loans_out, CountsLoans}
+use Rattle.iox_lanes_machine.proofs.Entries.{total_zero, get_replicated}
 use Rattle.iox_lanes_machine.specs.Made.{listed, link_at, route_to, receiving_routes, publisher_at, subscriber_at, start}
 use Rattle.iox_lanes_machine.specs.Rooms.{may_borrow, HasReceived}
 use Rattle.iox_lanes_machine.specs.Links.{LinkState}

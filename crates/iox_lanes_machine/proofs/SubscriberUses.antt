@@ -4,35 +4,35 @@ use Rattle.std.specs.List.{All}
 use Rattle.std.proofs.lemmas.Bool.{cases_lt}
 use Rattle.std.proofs.lemmas.Bool.Decides.{eqb_tells}
 use Rattle.std.proofs.lemmas.Option.{slice_get_within, slice_get-get_or}
-use Rattle.iox_lanes_ledger.specs.QueuesSteps.Access.{RingWords}
-use Rattle.iox_lanes_ledger.specs.QueuesSteps.Order.{at}
-use Rattle.iox_lanes_ledger.specs.QueuesSteps.declared.order.Placed.{Placed}
-use Rattle.iox_lanes_ledger.specs.QueuesSteps.declared.order.PopAnswer.{PopAnswer}
-use Rattle.iox_lanes_ledger.specs.QueuesSteps.declared.order.PopAnswer.TheVariants.{Got, Saw}
-use Rattle.iox_lanes_ledger.specs.QueuesRefusing.declared.push.Push as refusing_push_type
-use Rattle.iox_lanes_ledger.specs.QueuesRings.Ends.{cells_of, pop_take}
-use Rattle.iox_lanes_ledger.specs.QueuesRings.declared.ends.RingKind.{RingKind}
-use Rattle.iox_lanes_ledger.specs.QueuesRings.declared.ends.Pop.{Pop}
-use Rattle.iox_lanes_ledger.specs.LanesWords.Table.{shared_answer, after_shared, IsOfTable}
-use Rattle.iox_lanes_ledger.specs.LanesWords.declared.sizes.TableSizes.{TableSizes}
-use Rattle.iox_lanes_ledger.specs.LanesCalls.Answers.{pop_answer}
-use Rattle.iox_lanes_ledger.specs.LanesCalls.Subscribing.{subscriber_next, subscriber_take, subscriber_change, borrowed_by, given_back_by}
-use Rattle.iox_lanes_ledger.specs.LanesCalls.declared.publisher.PublisherCall.{PublisherCall}
-use Rattle.iox_lanes_ledger.specs.LanesCalls.declared.route.Route.{Route}
-use Rattle.iox_lanes_ledger.specs.LanesCalls.declared.subscriber.SubscriberCall.{SubscriberCall}
-use Rattle.iox_lanes_ledger.specs.LanesCalls.declared.subscriber.SubscriberCall.TheVariants as subscribing
-use Rattle.iox_lanes_ledger.specs.LanesParties.Parties.{PublisherLaneState, SubscriberLaneState, subscriber_begun, subscriber_after}
-use Rattle.iox_lanes_ledger.specs.LanesParties.Within.{IsPublisher, IsSubscriber, IsSubscribing}
-use Rattle.iox_lanes_ledger.specs.LanesParties.declared.call.Call.{Call}
-use Rattle.iox_lanes_ledger.specs.LanesParties.declared.call.Move.TheVariants.{Begin, GoOn}
-use Rattle.iox_lanes_ledger.proofs.LanesParties.Rings.{all_at}
-use Rattle.iox_lanes_ledger.proofs.LanesParties.SubscribersWithin.{subscribers_stay_within}
-use Rattle.iox_lanes_ledger.specs.Borrowing.{borrows, ArePlaced, UsesBorrowed}
-use Rattle.iox_lanes_ledger.specs.Stored.{aside}
-use Rattle.iox_lanes_ledger.specs.Uses.{one_if, count, refers_to}
-use Rattle.iox_lanes_ledger.proofs.Changes.{borrowed_in, returned_in, IsOwnChangeAt, release_follows}
-use Rattle.iox_lanes_ledger.proofs.Entries.{refers_own, one_if_le}
-use Rattle.iox_lanes_ledger.proofs.Samples.{samples_after, samples_are, samples_length, take_borrowed, begun_borrowed, begun_samples, borrows_same, OwnFits, Changes, own_there, own_elsewhere, gives_fit, takes_fit, placed_after}
+use Rattle.iox_lanes_machine.specs.QueuesSteps.Access.{RingWords}
+use Rattle.iox_lanes_machine.specs.QueuesSteps.Order.{at}
+use Rattle.iox_lanes_machine.specs.QueuesSteps.declared.order.Placed.{Placed}
+use Rattle.iox_lanes_machine.specs.QueuesSteps.declared.order.PopAnswer.{PopAnswer}
+use Rattle.iox_lanes_machine.specs.QueuesSteps.declared.order.PopAnswer.TheVariants.{Got, Saw}
+use Rattle.iox_lanes_machine.specs.QueuesRings.declared.refusing.push.Push as refusing_push_type
+use Rattle.iox_lanes_machine.specs.QueuesRings.Ends.{cells_of, pop_take}
+use Rattle.iox_lanes_machine.specs.QueuesRings.declared.ends.RingKind.{RingKind}
+use Rattle.iox_lanes_machine.specs.QueuesRings.declared.ends.Pop.{Pop}
+use Rattle.iox_lanes_machine.specs.LanesBase.Table.{shared_answer, after_shared, IsOfTable}
+use Rattle.iox_lanes_machine.specs.LanesBase.declared.words.sizes.TableSizes.{TableSizes}
+use Rattle.iox_lanes_machine.specs.LanesBase.Answers.{pop_answer}
+use Rattle.iox_lanes_machine.specs.LanesBase.Subscribing.{subscriber_next, subscriber_take, subscriber_change, borrowed_by, given_back_by}
+use Rattle.iox_lanes_machine.specs.LanesBase.declared.calls.publisher.PublisherCall.{PublisherCall}
+use Rattle.iox_lanes_machine.specs.LanesBase.declared.calls.route.Route.{Route}
+use Rattle.iox_lanes_machine.specs.LanesBase.declared.calls.subscriber.SubscriberCall.{SubscriberCall}
+use Rattle.iox_lanes_machine.specs.LanesBase.declared.calls.subscriber.SubscriberCall.TheVariants as subscribing
+use Rattle.iox_lanes_machine.specs.LanesParties.Parties.{PublisherLaneState, SubscriberLaneState, subscriber_begun, subscriber_after}
+use Rattle.iox_lanes_machine.specs.LanesParties.Within.{IsPublisher, IsSubscriber, IsSubscribing}
+use Rattle.iox_lanes_machine.specs.LanesParties.declared.call.Call.{Call}
+use Rattle.iox_lanes_machine.specs.LanesParties.declared.call.Move.TheVariants.{Begin, GoOn}
+use Rattle.iox_lanes_machine.proofs.LanesParties.Rings.{all_at}
+use Rattle.iox_lanes_machine.proofs.LanesParties.SubscribersWithin.{subscribers_stay_within}
+use Rattle.iox_lanes_machine.specs.Borrowing.{borrows, ArePlaced, UsesBorrowed}
+use Rattle.iox_lanes_machine.specs.Stored.{aside}
+use Rattle.iox_lanes_machine.specs.LedgerUses.{one_if, count, refers_to}
+use Rattle.iox_lanes_machine.proofs.Changes.{borrowed_in, returned_in, IsOwnChangeAt, release_follows}
+use Rattle.iox_lanes_machine.proofs.Entries.{refers_own, one_if_le}
+use Rattle.iox_lanes_machine.proofs.Samples.{samples_after, samples_are, samples_length, take_borrowed, begun_borrowed, begun_samples, borrows_same, OwnFits, Changes, own_there, own_elsewhere, gives_fit, takes_fit, placed_after}
 use Rattle.iox_lanes_machine.specs.Rings.{waiting, push_on}
 use Rattle.iox_lanes_machine.specs.Returns.{ReturnsKept, AreReturning, GoesRound, IsReturning}
 use Rattle.iox_lanes_machine.specs.Sends.{AllSendsPut, IsAmong}

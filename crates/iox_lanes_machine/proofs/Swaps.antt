@@ -6,11 +6,11 @@ use Rattle.std.proofs.lemmas.Bool.Decides.{eqb_tells}
 use Rattle.std.proofs.lemmas.List.Edits.{swap_is, length-swap}
 use Rattle.std.proofs.lemmas.List.Elements.{All-set}
 use Rattle.std.proofs.lemmas.Option.{slice_get-get_or}
-use Rattle.iox_lanes_ledger.specs.LanesCalls.declared.route.Route.{Route}
-use Rattle.iox_lanes_ledger.specs.LanesParties.Parties.{SubscriberLaneState, receiver_swapped}
-use Rattle.iox_lanes_ledger.specs.LanesParties.Within.{IsRoute, IsSubscribing, IsSubscriber}
-use Rattle.iox_lanes_ledger.proofs.LanesParties.Rings.{all_at, and_left, and_right}
-use Rattle.iox_lanes_ledger.proofs.Entries.{choose_one, choose_other}
+use Rattle.iox_lanes_machine.specs.LanesBase.declared.calls.route.Route.{Route}
+use Rattle.iox_lanes_machine.specs.LanesParties.Parties.{SubscriberLaneState, receiver_swapped}
+use Rattle.iox_lanes_machine.specs.LanesParties.Within.{IsRoute, IsSubscribing, IsSubscriber}
+use Rattle.iox_lanes_machine.proofs.LanesParties.Rings.{all_at, and_left, and_right}
+use Rattle.iox_lanes_machine.proofs.Entries.{choose_one, choose_other}
 use Rattle.iox_lanes_machine.specs.Findings.{swaps_of, swapped_of}
 use Rattle.iox_lanes_machine.specs.Fresh.{IsFreshSubscriber, IsFresh}
 use Rattle.iox_lanes_machine.specs.Kept.{IsLinkOf, receiver, IsWithin}

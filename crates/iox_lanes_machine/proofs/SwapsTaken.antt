@@ -4,7 +4,7 @@ use Rattle.std.specs.List.{swap}
 use Rattle.std.proofs.lemmas.Bool.{lt-ltb}
 use Rattle.std.proofs.lemmas.List.{append-nil, length-set}
 use Rattle.std.proofs.lemmas.List.Edits.{length-swap}
-use Rattle.iox_lanes_ledger.specs.LanesParties.Parties.{SubscriberLaneState, receiver_swapped}
+use Rattle.iox_lanes_machine.specs.LanesParties.Parties.{SubscriberLaneState, receiver_swapped}
 use Rattle.iox_lanes_machine.specs.Findings.{swaps_of, swapped_of}
 use Rattle.iox_lanes_machine.specs.TakenIn.{MayChangePlaces, other_place, place_if, place_before, RoutesKnow, PublisherGrows, SubscriberKnows, IsTakenIn}
 use Rattle.iox_lanes_machine.specs.World.{World}

@@ -4,34 +4,34 @@ use Rattle.std.proofs.lemmas.Bool.{lt-ltb, le-ltb, le-leb}
 use Rattle.std.proofs.lemmas.Bool.Decides.{eqb_tells}
 use Rattle.std.proofs.lemmas.List.{append-nil, length-map, length-set, length-take-le, get_or-set_same, get_or-set_other}
 use Rattle.std.proofs.lemmas.Option.{slice_get_within}
-use Rattle.iox_lanes_ledger.specs.QueuesSteps.Access.{RingWords, successor}
-use Rattle.iox_lanes_ledger.specs.QueuesSteps.declared.access.Word.TheVariants.{Write, Cell}
-use Rattle.iox_lanes_ledger.specs.QueuesRings.Ends.{cells_of}
-use Rattle.iox_lanes_ledger.specs.QueuesRings.RingMachine.{first_words}
-use Rattle.iox_lanes_ledger.specs.QueuesRings.declared.ends.RingKind.{RingKind}
-use Rattle.iox_lanes_ledger.specs.QueuesRings.declared.ends.RingKind.TheVariants as kind
-use Rattle.iox_lanes_ledger.specs.LanesWords.Numbers.{IsWord, number_of}
-use Rattle.iox_lanes_ledger.specs.LanesWords.Table.{TableWords, held_by, stored_in}
-use Rattle.iox_lanes_ledger.specs.LanesWords.declared.access.SharedAccess.TheVariants.{Store}
-use Rattle.iox_lanes_ledger.specs.LanesWords.declared.sizes.TableSizes.{TableSizes}
-use Rattle.iox_lanes_ledger.specs.LanesWords.declared.word.ConnectionRing.{ConnectionRing}
-use Rattle.iox_lanes_ledger.specs.LanesWords.declared.word.ConnectionRing.TheVariants.{Submission, Completion}
-use Rattle.iox_lanes_ledger.specs.LanesWords.declared.word.SharedWord.{SharedWord}
-use Rattle.iox_lanes_ledger.specs.LanesWords.declared.word.SharedWord.TheVariants.{Ring, Slot}
-use Rattle.iox_lanes_ledger.specs.LanesWords.declared.word.SlotWord.{SlotWord}
-use Rattle.iox_lanes_ledger.specs.LanesWords.declared.word.SlotWord.TheVariants.{Header, UserHeader, Payload}
-use Rattle.iox_lanes_ledger.proofs.LanesWords.Numbering.{apart, within}
-use Rattle.iox_lanes_ledger.specs.LanesCalls.declared.route.Route.{Route}
-use Rattle.iox_lanes_ledger.specs.LanesPublisher.Keeping.{BookState, are_unused, is_own, may_have, may_remember, stands_in, counted_up, referred_at}
-use Rattle.iox_lanes_ledger.specs.LanesPublisher.declared.slot_book.LoanMark.TheVariants as mark
-use Rattle.iox_lanes_ledger.specs.LanesParties.Parties.{PublisherLaneState, with_origin, lane_found, lane_remembers, lane_resized, lane_named}
-use Rattle.iox_lanes_ledger.specs.LanesParties.Within.{IsPublisher}
-use Rattle.iox_lanes_ledger.proofs.LanesParties.Rings.{all_at, and_left, and_right}
-use Rattle.iox_lanes_ledger.specs.Stored.{between}
-use Rattle.iox_lanes_ledger.specs.Uses.{one_if, count, entry, refers_to, IsOwn, UsesCounted, MayBeReferred}
-use Rattle.iox_lanes_ledger.proofs.Books.{up_same, uses_few}
-use Rattle.iox_lanes_ledger.proofs.Entries.{choose_one, choose_other, put_at_length, entry_other, refers_is}
-use Rattle.iox_lanes_ledger.proofs.Findings.{lacks_is, newest_is, found_refers, found_refers_elsewhere, newest_refers}
+use Rattle.iox_lanes_machine.specs.QueuesSteps.Access.{RingWords, successor}
+use Rattle.iox_lanes_machine.specs.QueuesSteps.declared.access.Word.TheVariants.{Write, Cell}
+use Rattle.iox_lanes_machine.specs.QueuesRings.Ends.{cells_of}
+use Rattle.iox_lanes_machine.specs.QueuesRings.RingMachine.{first_words}
+use Rattle.iox_lanes_machine.specs.QueuesRings.declared.ends.RingKind.{RingKind}
+use Rattle.iox_lanes_machine.specs.QueuesRings.declared.ends.RingKind.TheVariants as kind
+use Rattle.iox_lanes_machine.specs.LanesBase.Numbers.{IsWord, number_of}
+use Rattle.iox_lanes_machine.specs.LanesBase.Table.{TableWords, held_by, stored_in}
+use Rattle.iox_lanes_machine.specs.LanesBase.declared.words.access.SharedAccess.TheVariants.{Store}
+use Rattle.iox_lanes_machine.specs.LanesBase.declared.words.sizes.TableSizes.{TableSizes}
+use Rattle.iox_lanes_machine.specs.LanesBase.declared.words.word.ConnectionRing.{ConnectionRing}
+use Rattle.iox_lanes_machine.specs.LanesBase.declared.words.word.ConnectionRing.TheVariants.{Submission, Completion}
+use Rattle.iox_lanes_machine.specs.LanesBase.declared.words.word.SharedWord.{SharedWord}
+use Rattle.iox_lanes_machine.specs.LanesBase.declared.words.word.SharedWord.TheVariants.{Ring, Slot}
+use Rattle.iox_lanes_machine.specs.LanesBase.declared.words.word.SlotWord.{SlotWord}
+use Rattle.iox_lanes_machine.specs.LanesBase.declared.words.word.SlotWord.TheVariants.{Header, UserHeader, Payload}
+use Rattle.iox_lanes_machine.proofs.LanesBase.Numbering.{apart, within}
+use Rattle.iox_lanes_machine.specs.LanesBase.declared.calls.route.Route.{Route}
+use Rattle.iox_lanes_machine.specs.LanesParties.PublisherKeeping.{BookState, are_unused, is_own, may_have, may_remember, stands_in, counted_up, referred_at}
+use Rattle.iox_lanes_machine.specs.LanesParties.declared.publisher.slot_book.LoanMark.TheVariants as mark
+use Rattle.iox_lanes_machine.specs.LanesParties.Parties.{PublisherLaneState, with_origin, lane_found, lane_remembers, lane_resized, lane_named}
+use Rattle.iox_lanes_machine.specs.LanesParties.Within.{IsPublisher}
+use Rattle.iox_lanes_machine.proofs.LanesParties.Rings.{all_at, and_left, and_right}
+use Rattle.iox_lanes_machine.specs.Stored.{between}
+use Rattle.iox_lanes_machine.specs.LedgerUses.{one_if, count, entry, refers_to, IsOwn, UsesCounted, MayBeReferred}
+use Rattle.iox_lanes_machine.proofs.Books.{up_same, uses_few}
+use Rattle.iox_lanes_machine.proofs.Entries.{choose_one, choose_other, put_at_length, entry_other, refers_is}
+use Rattle.iox_lanes_machine.proofs.LedgerFindings.{lacks_is, newest_is, found_refers, found_refers_elsewhere, newest_refers}
 use Rattle.iox_lanes_machine.specs.Findings.{laid, back_found, takes_more, may_wait, may_be_back, waits_at, waits_of, back_at, back_of, newest_of, resizes_of, is_there, has_word, finds, finds_now, waiting_in, waiting_of, given_at, given_of, remembered_of, resized_of, named_of, with_found, FindsTo}
 use Rattle.iox_lanes_machine.specs.Fresh.{IsFreshPublisher, IsFresh}
 use Rattle.iox_lanes_machine.specs.Kept.{IsLinkOf, sender, IsWithin, IsKept}

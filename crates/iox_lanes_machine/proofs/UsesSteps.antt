@@ -1,9 +1,9 @@
 -- Every step keeps who has which slot.
 use Rattle.std.proofs.Common.{◌≡◌, ◌<◌, ◌^◌, true, slice_get, refl}
-use Rattle.iox_lanes_ledger.specs.LanesParties.declared.call.Move.{Move}
-use Rattle.iox_lanes_ledger.specs.LanesParties.declared.call.Move.TheVariants.{Begin, GoOn}
-use Rattle.iox_lanes_ledger.specs.LanesParties.declared.call.Party.{Party}
-use Rattle.iox_lanes_ledger.specs.LanesParties.declared.call.Party.TheVariants.{Publisher, Subscriber}
+use Rattle.iox_lanes_machine.specs.LanesParties.declared.call.Move.{Move}
+use Rattle.iox_lanes_machine.specs.LanesParties.declared.call.Move.TheVariants.{Begin, GoOn}
+use Rattle.iox_lanes_machine.specs.LanesParties.declared.call.Party.{Party}
+use Rattle.iox_lanes_machine.specs.LanesParties.declared.call.Party.TheVariants.{Publisher, Subscriber}
 use Rattle.iox_lanes_machine.specs.Kept.{IsWithin, AreKept}
 use Rattle.iox_lanes_machine.specs.Returns.{ReturnsKept, AreReturning}
 use Rattle.iox_lanes_machine.specs.Sends.{AllSendsPut}

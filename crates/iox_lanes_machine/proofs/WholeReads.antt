@@ -1,17 +1,17 @@
 -- A read gives what its slot held when its message was sent.
 use Rattle.std.proofs.Common.{ℕ, zero, suc, ◌≡◌, ◌+◌, ◌-◌, ◌<◌, ◌≤◌, ◌^◌, nat_lt, List, [], ◌∷◌, ◌++◌, length, get_or, refl, sym, ◌∙◌, ap, subst, inl, inr, arith}
 use Rattle.std.proofs.lemmas.List.{get_or-append-add}
-use Rattle.iox_lanes_ledger.specs.QueuesSteps.Access.{successor}
-use Rattle.iox_lanes_ledger.specs.LanesWords.Numbers.{IsWord}
-use Rattle.iox_lanes_ledger.specs.LanesWords.Table.{held_by}
-use Rattle.iox_lanes_ledger.specs.LanesWords.declared.sizes.TableSizes.{TableSizes}
-use Rattle.iox_lanes_ledger.specs.LanesWords.declared.word.SharedWord.{SharedWord}
-use Rattle.iox_lanes_ledger.specs.LanesWords.declared.word.SharedWord.TheVariants.{Slot}
-use Rattle.iox_lanes_ledger.specs.LanesWords.declared.word.SlotWord.{SlotWord}
-use Rattle.iox_lanes_ledger.specs.LanesCalls.Subscribing.{word_at}
-use Rattle.iox_lanes_ledger.specs.LanesParties.declared.call.Entry.{Entry}
-use Rattle.iox_lanes_ledger.specs.LanesParties.Within.{IsPublisher}
-use Rattle.iox_lanes_ledger.proofs.LanesParties.Rings.{all_at}
+use Rattle.iox_lanes_machine.specs.QueuesSteps.Access.{successor}
+use Rattle.iox_lanes_machine.specs.LanesBase.Numbers.{IsWord}
+use Rattle.iox_lanes_machine.specs.LanesBase.Table.{held_by}
+use Rattle.iox_lanes_machine.specs.LanesBase.declared.words.sizes.TableSizes.{TableSizes}
+use Rattle.iox_lanes_machine.specs.LanesBase.declared.words.word.SharedWord.{SharedWord}
+use Rattle.iox_lanes_machine.specs.LanesBase.declared.words.word.SharedWord.TheVariants.{Slot}
+use Rattle.iox_lanes_machine.specs.LanesBase.declared.words.word.SlotWord.{SlotWord}
+use Rattle.iox_lanes_machine.specs.LanesBase.Subscribing.{word_at}
+use Rattle.iox_lanes_machine.specs.LanesParties.declared.call.Entry.{Entry}
+use Rattle.iox_lanes_machine.specs.LanesParties.Within.{IsPublisher}
+use Rattle.iox_lanes_machine.proofs.LanesParties.Rings.{all_at}
 use Rattle.iox_lanes_machine.specs.Alone.{IsAtConnection}
 use Rattle.iox_lanes_machine.specs.Held.{extent_of, slot_held}
 use Rattle.iox_lanes_machine.specs.Kept.{IsKept}

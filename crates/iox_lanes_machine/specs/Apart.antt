@@ -1,20 +1,20 @@
 -- How little a step touches: one party, at most one shared word, at most one call that ended.
 use Rattle.std.specs.Prelude.{ℕ, ◌≡◌, ◌+◌, length, slice_get, Option, Some, None}
-use Rattle.iox_lanes_ledger.specs.QueuesSteps.declared.schedule.Stepped.{Stepped}
-use Rattle.iox_lanes_ledger.specs.QueuesSteps.declared.schedule.Stepped.TheVariants as stepped
-use Rattle.iox_lanes_ledger.specs.LanesWords.Numbers.{IsWord}
-use Rattle.iox_lanes_ledger.specs.LanesWords.Table.{TableWords, held_by}
-use Rattle.iox_lanes_ledger.specs.LanesWords.declared.access.SharedAccess.{SharedAccess}
-use Rattle.iox_lanes_ledger.specs.LanesWords.declared.access.SharedAccess.TheVariants.{Load, Store, Exchange, Local}
-use Rattle.iox_lanes_ledger.specs.LanesWords.declared.word.SharedWord.{SharedWord}
-use Rattle.iox_lanes_ledger.specs.LanesCalls.Publishing.{publisher_next}
-use Rattle.iox_lanes_ledger.specs.LanesCalls.Subscribing.{subscriber_next}
-use Rattle.iox_lanes_ledger.specs.LanesParties.Parties.{PublisherLaneState, SubscriberLaneState}
+use Rattle.iox_lanes_machine.specs.QueuesSteps.declared.schedule.Stepped.{Stepped}
+use Rattle.iox_lanes_machine.specs.QueuesSteps.declared.schedule.Stepped.TheVariants as stepped
+use Rattle.iox_lanes_machine.specs.LanesBase.Numbers.{IsWord}
+use Rattle.iox_lanes_machine.specs.LanesBase.Table.{TableWords, held_by}
+use Rattle.iox_lanes_machine.specs.LanesBase.declared.words.access.SharedAccess.{SharedAccess}
+use Rattle.iox_lanes_machine.specs.LanesBase.declared.words.access.SharedAccess.TheVariants.{Load, Store, Exchange, Local}
+use Rattle.iox_lanes_machine.specs.LanesBase.declared.words.word.SharedWord.{SharedWord}
+use Rattle.iox_lanes_machine.specs.LanesBase.Publishing.{publisher_next}
+use Rattle.iox_lanes_machine.specs.LanesBase.Subscribing.{subscriber_next}
+use Rattle.iox_lanes_machine.specs.LanesParties.Parties.{PublisherLaneState, SubscriberLaneState}
 use Rattle.iox_lanes_machine.specs.World.{World, connection_at}
-use Rattle.iox_lanes_ledger.specs.LanesParties.declared.call.Move.{Move}
-use Rattle.iox_lanes_ledger.specs.LanesParties.declared.call.Move.TheVariants.{Begin, GoOn}
-use Rattle.iox_lanes_ledger.specs.LanesParties.declared.call.Party.{Party}
-use Rattle.iox_lanes_ledger.specs.LanesParties.declared.call.Party.TheVariants.{Publisher, Subscriber}
+use Rattle.iox_lanes_machine.specs.LanesParties.declared.call.Move.{Move}
+use Rattle.iox_lanes_machine.specs.LanesParties.declared.call.Move.TheVariants.{Begin, GoOn}
+use Rattle.iox_lanes_machine.specs.LanesParties.declared.call.Party.{Party}
+use Rattle.iox_lanes_machine.specs.LanesParties.declared.call.Party.TheVariants.{Publisher, Subscriber}
 
 -- the next access of a publisher; one that is not there makes none
 abbrev pub publisher_access : Option PublisherLaneState → SharedAccess

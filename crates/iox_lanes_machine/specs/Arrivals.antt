@@ -1,7 +1,7 @@
 -- What is taken at a connection is part of what was put there, in the order of the puts, and each put at most once.
 use Rattle.std.specs.Prelude.{ℕ, ◌≡◌, ◌≤◌, ◌^◌, ◌⊎◌, List, [], ◌∷◌, ◌++◌, map, slice_get, Some}
-use Rattle.iox_lanes_ledger.specs.QueuesSteps.Order.{puts}
-use Rattle.iox_lanes_ledger.specs.QueuesSteps.declared.order.Placed.{Placed}
+use Rattle.iox_lanes_machine.specs.QueuesSteps.Order.{puts}
+use Rattle.iox_lanes_machine.specs.QueuesSteps.declared.order.Placed.{Placed}
 use Rattle.iox_lanes_machine.specs.Rings.{waiting}
 use Rattle.iox_lanes_machine.specs.Receipts.{slots_taken}
 use Rattle.iox_lanes_machine.specs.World.{World}

@@ -1,6 +1,6 @@
 -- What no step changes: the connections, the sizes of the words, how many ports there are, and which slots each publisher has.
 use Rattle.std.specs.Prelude.{ℕ, ◌≡◌, length, slice_get, Option, option_map}
-use Rattle.iox_lanes_ledger.specs.LanesParties.Parties.{PublisherLaneState}
+use Rattle.iox_lanes_machine.specs.LanesParties.Parties.{PublisherLaneState}
 use Rattle.iox_lanes_machine.specs.World.{World}
 
 -- of a publisher's slots: the number of the first, how many there are, how many may be lent at once, and how many its history may have

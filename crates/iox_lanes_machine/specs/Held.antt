@@ -1,15 +1,15 @@
 -- What a read loads is what its slot holds.
 use Rattle.std.specs.Prelude.{ℕ, ◌≡◌, ◌<◌, ◌≤◌, ◌^◌, List, ◌∷◌, [], ◌++◌, get_or, slice_get, Some}
-use Rattle.iox_lanes_ledger.specs.LanesWords.Table.{TableWords, held_by}
-use Rattle.iox_lanes_ledger.specs.LanesWords.declared.sizes.TableSizes.{TableSizes}
-use Rattle.iox_lanes_ledger.specs.LanesWords.declared.word.SharedWord.TheVariants.{Slot}
-use Rattle.iox_lanes_ledger.specs.LanesCalls.Subscribing.{word_at}
-use Rattle.iox_lanes_ledger.specs.LanesCalls.declared.subscriber.SlotExtent.{SlotExtent}
-use Rattle.iox_lanes_ledger.specs.LanesCalls.declared.subscriber.SubscriberCall.{SubscriberCall}
-use Rattle.iox_lanes_ledger.specs.LanesCalls.declared.subscriber.SubscriberCall.TheVariants as subscribing
-use Rattle.iox_lanes_ledger.specs.LanesParties.Parties.{SubscriberLaneState}
-use Rattle.iox_lanes_ledger.specs.LanesParties.declared.call.CallName.TheVariants as name
-use Rattle.iox_lanes_ledger.specs.LanesParties.declared.call.FinishedCall.{FinishedCall}
+use Rattle.iox_lanes_machine.specs.LanesBase.Table.{TableWords, held_by}
+use Rattle.iox_lanes_machine.specs.LanesBase.declared.words.sizes.TableSizes.{TableSizes}
+use Rattle.iox_lanes_machine.specs.LanesBase.declared.words.word.SharedWord.TheVariants.{Slot}
+use Rattle.iox_lanes_machine.specs.LanesBase.Subscribing.{word_at}
+use Rattle.iox_lanes_machine.specs.LanesBase.declared.calls.subscriber.SlotExtent.{SlotExtent}
+use Rattle.iox_lanes_machine.specs.LanesBase.declared.calls.subscriber.SubscriberCall.{SubscriberCall}
+use Rattle.iox_lanes_machine.specs.LanesBase.declared.calls.subscriber.SubscriberCall.TheVariants as subscribing
+use Rattle.iox_lanes_machine.specs.LanesParties.Parties.{SubscriberLaneState}
+use Rattle.iox_lanes_machine.specs.LanesParties.declared.call.CallName.TheVariants as name
+use Rattle.iox_lanes_machine.specs.LanesParties.declared.call.FinishedCall.{FinishedCall}
 use Rattle.iox_lanes_machine.specs.Alone.{IsAtConnection}
 use Rattle.iox_lanes_machine.specs.Made.{listed}
 use Rattle.iox_lanes_machine.specs.Reads.{width}

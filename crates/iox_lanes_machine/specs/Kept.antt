@@ -1,17 +1,17 @@
 -- What every step of lanes keeps.
 use Rattle.std.specs.Prelude.{ℕ, ◌≡◌, ◌+◌, ◌<◌, ◌≤◌, ◌^◌, List, length, slice_get, Option, Some, None}
 use Rattle.std.specs.List.{All}
-use Rattle.iox_lanes_ledger.specs.QueuesSteps.Order.{Acts, acts_of, Rises}
-use Rattle.iox_lanes_ledger.specs.QueuesSteps.declared.order.Placed.{Placed}
-use Rattle.iox_lanes_ledger.specs.QueuesRings.Ends.{overflows, cells_of, Shape}
-use Rattle.iox_lanes_ledger.specs.LanesWords.Numbers.{words_of}
-use Rattle.iox_lanes_ledger.specs.LanesWords.Table.{TableWords}
-use Rattle.iox_lanes_ledger.specs.LanesWords.declared.sizes.TableSizes.{TableSizes}
-use Rattle.iox_lanes_ledger.specs.LanesCalls.declared.route.Route.{Route}
-use Rattle.iox_lanes_ledger.specs.LanesCalls.declared.publisher.PublisherCall.{PublisherCall}
-use Rattle.iox_lanes_ledger.specs.LanesCalls.declared.subscriber.SubscriberCall.{SubscriberCall}
-use Rattle.iox_lanes_ledger.specs.LanesParties.Parties.{PublisherLaneState, SubscriberLaneState}
-use Rattle.iox_lanes_ledger.specs.LanesParties.Within.{IsPublisher, IsSubscriber}
+use Rattle.iox_lanes_machine.specs.QueuesSteps.Order.{Acts, acts_of, Rises}
+use Rattle.iox_lanes_machine.specs.QueuesSteps.declared.order.Placed.{Placed}
+use Rattle.iox_lanes_machine.specs.QueuesRings.Ends.{overflows, cells_of, Shape}
+use Rattle.iox_lanes_machine.specs.LanesBase.Numbers.{words_of}
+use Rattle.iox_lanes_machine.specs.LanesBase.Table.{TableWords}
+use Rattle.iox_lanes_machine.specs.LanesBase.declared.words.sizes.TableSizes.{TableSizes}
+use Rattle.iox_lanes_machine.specs.LanesBase.declared.calls.route.Route.{Route}
+use Rattle.iox_lanes_machine.specs.LanesBase.declared.calls.publisher.PublisherCall.{PublisherCall}
+use Rattle.iox_lanes_machine.specs.LanesBase.declared.calls.subscriber.SubscriberCall.{SubscriberCall}
+use Rattle.iox_lanes_machine.specs.LanesParties.Parties.{PublisherLaneState, SubscriberLaneState}
+use Rattle.iox_lanes_machine.specs.LanesParties.Within.{IsPublisher, IsSubscriber}
 use Rattle.iox_lanes_machine.specs.Rings.{ring_in, waiting, push_on, pop_on}
 use Rattle.iox_lanes_machine.specs.Calls.{CallsKeepTime}
 use Rattle.iox_lanes_machine.specs.Fresh.{IsFresh}

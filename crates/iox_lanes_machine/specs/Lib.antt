@@ -33,8 +33,13 @@ pub mod Queues
 pub mod Fresh
 pub mod Findings
 pub mod TakenIn
-pub use Rattle.iox_lanes_ledger.specs.LanesCalls as LanesCalls
-pub use Rattle.iox_lanes_ledger.specs.LanesParties as LanesParties
-pub use Rattle.iox_lanes_ledger.specs.LanesPublisher as LanesPublisher
-pub use Rattle.iox_lanes_ledger.specs.LanesWords as LanesWords
-pub use Rattle.iox_lanes_ledger.specs.QueuesSteps as QueuesSteps
+pub mod LedgerUses
+pub mod Stored
+pub mod Sending
+pub mod Borrowing
+pub mod LedgerRooms
+pub mod Pace
+pub use Rattle.iox_lanes_parties.specs.LanesBase as LanesBase
+pub use Rattle.iox_lanes_parties.specs as LanesParties
+pub use Rattle.iox_lanes_parties.specs.QueuesRings as QueuesRings
+pub use Rattle.iox_lanes_parties.specs.QueuesSteps as QueuesSteps

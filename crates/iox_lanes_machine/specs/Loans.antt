@@ -1,14 +1,14 @@
 -- What a loan is answered, by what its publisher's slots are used for.
 use Rattle.std.specs.Prelude.{ℕ, ◌≡◌, ◌+◌, ◌-◌, ◌*◌, ◌<◌, ◌≤◌, ◌^◌, ◌⊎◌, true, false, ◌∷◌, [], ◌++◌, length, slice_get, Some}
-use Rattle.iox_lanes_ledger.specs.LanesPublisher.Keeping.{loan_of}
-use Rattle.iox_lanes_ledger.specs.LanesPublisher.declared.slot_book.LoanAnswer.{LoanAnswer}
-use Rattle.iox_lanes_ledger.specs.LanesPublisher.declared.slot_book.LoanAnswer.TheVariants as loan
-use Rattle.iox_lanes_ledger.specs.LanesParties.Parties.{PublisherLaneState, is_out}
-use Rattle.iox_lanes_ledger.specs.LanesParties.declared.call.Answer.TheVariants as answer
-use Rattle.iox_lanes_ledger.specs.LanesParties.declared.call.FinishedCall.{FinishedCall}
-use Rattle.iox_lanes_ledger.specs.LanesParties.declared.call.Party.TheVariants.{Publisher}
-use Rattle.iox_lanes_ledger.specs.Rooms.{loans_out}
-use Rattle.iox_lanes_ledger.specs.Uses.{count, IsOwn}
+use Rattle.iox_lanes_machine.specs.LanesParties.PublisherKeeping.{loan_of}
+use Rattle.iox_lanes_machine.specs.LanesParties.declared.publisher.slot_book.LoanAnswer.{LoanAnswer}
+use Rattle.iox_lanes_machine.specs.LanesParties.declared.publisher.slot_book.LoanAnswer.TheVariants as loan
+use Rattle.iox_lanes_machine.specs.LanesParties.Parties.{PublisherLaneState, is_out}
+use Rattle.iox_lanes_machine.specs.LanesParties.declared.call.Answer.TheVariants as answer
+use Rattle.iox_lanes_machine.specs.LanesParties.declared.call.FinishedCall.{FinishedCall}
+use Rattle.iox_lanes_machine.specs.LanesParties.declared.call.Party.TheVariants.{Publisher}
+use Rattle.iox_lanes_machine.specs.LedgerRooms.{loans_out}
+use Rattle.iox_lanes_machine.specs.LedgerUses.{count, IsOwn}
 use Rattle.iox_lanes_machine.specs.Alone.{IsAtConnection}
 use Rattle.iox_lanes_machine.specs.Slots.{IsLoanAt}
 use Rattle.iox_lanes_machine.specs.World.{World}

@@ -1,6 +1,6 @@
 -- Whose slots lie where: what waits at a connection, and what a publisher remembers, are slots of the publisher's own.
 use Rattle.std.specs.Prelude.{ℕ, ◌≡◌, ◌+◌, ◌<◌, ◌≤◌, ◌^◌, length, slice_get, Some}
-use Rattle.iox_lanes_ledger.specs.LanesParties.Parties.{PublisherLaneState}
+use Rattle.iox_lanes_machine.specs.LanesParties.Parties.{PublisherLaneState}
 use Rattle.iox_lanes_machine.specs.Links.{LinkState}
 use Rattle.iox_lanes_machine.specs.Resting.{Rests, mail_at}
 use Rattle.iox_lanes_machine.specs.World.{World}

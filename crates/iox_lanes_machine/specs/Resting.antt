@@ -1,11 +1,11 @@
 -- Lanes whose ports are between calls: what waits at a connection, and whether anything is out.
 use Rattle.std.specs.Prelude.{ℕ, ◌≡◌, ◌≤◌, ◌^◌, true, false, List, [], get_or, slice_get, Option, Some, None}
 use Rattle.std.specs.List.{All}
-use Rattle.iox_lanes_ledger.specs.QueuesSteps.declared.order.Placed.{Placed}
-use Rattle.iox_lanes_ledger.specs.LanesCalls.Publishing.{publisher_is_idle}
-use Rattle.iox_lanes_ledger.specs.LanesCalls.Subscribing.{subscriber_is_idle}
-use Rattle.iox_lanes_ledger.specs.LanesPublisher.Keeping.{loan_of}
-use Rattle.iox_lanes_ledger.specs.LanesParties.Parties.{is_out, is_borrowed, place_of}
+use Rattle.iox_lanes_machine.specs.QueuesSteps.declared.order.Placed.{Placed}
+use Rattle.iox_lanes_machine.specs.LanesBase.Publishing.{publisher_is_idle}
+use Rattle.iox_lanes_machine.specs.LanesBase.Subscribing.{subscriber_is_idle}
+use Rattle.iox_lanes_machine.specs.LanesParties.PublisherKeeping.{loan_of}
+use Rattle.iox_lanes_machine.specs.LanesParties.Parties.{is_out, is_borrowed, place_of}
 use Rattle.iox_lanes_machine.specs.Links.{LinkState}
 use Rattle.iox_lanes_machine.specs.Rings.{waiting}
 use Rattle.iox_lanes_machine.specs.World.{World, publisher_stage, subscriber_stage}

@@ -1,23 +1,23 @@
 -- The ring of messages of a connection, as it lies in the table of all words, and the two ends that stand at it.
 use Rattle.std.specs.Prelude.{ℕ, ◌==◌, if◌then◌else◌, List, take, drop}
-use Rattle.iox_lanes_ledger.specs.QueuesSteps.Access.{RingWords}
-use Rattle.iox_lanes_ledger.specs.QueuesSteps.Order.{after_acts, acts_of}
-use Rattle.iox_lanes_ledger.specs.QueuesSteps.declared.access.Word.{Word}
-use Rattle.iox_lanes_ledger.specs.QueuesSteps.declared.access.Word.TheVariants.{Write, Read, Cell}
-use Rattle.iox_lanes_ledger.specs.QueuesSteps.declared.order.Placed.{Placed}
-use Rattle.iox_lanes_ledger.specs.QueuesRings.Ends.{overflows, push_idle, pop_idle}
-use Rattle.iox_lanes_ledger.specs.QueuesRings.declared.ends.RingKind.{RingKind}
-use Rattle.iox_lanes_ledger.specs.QueuesRings.declared.ends.Push.{Push}
-use Rattle.iox_lanes_ledger.specs.QueuesRings.declared.ends.Pop.{Pop}
-use Rattle.iox_lanes_ledger.specs.LanesWords.Numbers.{number_of}
-use Rattle.iox_lanes_ledger.specs.LanesWords.Table.{TableWords, held_by}
-use Rattle.iox_lanes_ledger.specs.LanesWords.declared.word.ConnectionRing.TheVariants.{Submission}
-use Rattle.iox_lanes_ledger.specs.LanesWords.declared.word.SharedWord.{SharedWord}
-use Rattle.iox_lanes_ledger.specs.LanesWords.declared.word.SharedWord.TheVariants.{Ring}
-use Rattle.iox_lanes_ledger.specs.LanesCalls.declared.publisher.PublisherCall.{PublisherCall}
-use Rattle.iox_lanes_ledger.specs.LanesCalls.declared.publisher.PublisherCall.TheVariants as publishing
-use Rattle.iox_lanes_ledger.specs.LanesCalls.declared.subscriber.SubscriberCall.{SubscriberCall}
-use Rattle.iox_lanes_ledger.specs.LanesCalls.declared.subscriber.SubscriberCall.TheVariants as subscribing
+use Rattle.iox_lanes_machine.specs.QueuesSteps.Access.{RingWords}
+use Rattle.iox_lanes_machine.specs.QueuesSteps.Order.{after_acts, acts_of}
+use Rattle.iox_lanes_machine.specs.QueuesSteps.declared.access.Word.{Word}
+use Rattle.iox_lanes_machine.specs.QueuesSteps.declared.access.Word.TheVariants.{Write, Read, Cell}
+use Rattle.iox_lanes_machine.specs.QueuesSteps.declared.order.Placed.{Placed}
+use Rattle.iox_lanes_machine.specs.QueuesRings.Ends.{overflows, push_idle, pop_idle}
+use Rattle.iox_lanes_machine.specs.QueuesRings.declared.ends.RingKind.{RingKind}
+use Rattle.iox_lanes_machine.specs.QueuesRings.declared.ends.Push.{Push}
+use Rattle.iox_lanes_machine.specs.QueuesRings.declared.ends.Pop.{Pop}
+use Rattle.iox_lanes_machine.specs.LanesBase.Numbers.{number_of}
+use Rattle.iox_lanes_machine.specs.LanesBase.Table.{TableWords, held_by}
+use Rattle.iox_lanes_machine.specs.LanesBase.declared.words.word.ConnectionRing.TheVariants.{Submission}
+use Rattle.iox_lanes_machine.specs.LanesBase.declared.words.word.SharedWord.{SharedWord}
+use Rattle.iox_lanes_machine.specs.LanesBase.declared.words.word.SharedWord.TheVariants.{Ring}
+use Rattle.iox_lanes_machine.specs.LanesBase.declared.calls.publisher.PublisherCall.{PublisherCall}
+use Rattle.iox_lanes_machine.specs.LanesBase.declared.calls.publisher.PublisherCall.TheVariants as publishing
+use Rattle.iox_lanes_machine.specs.LanesBase.declared.calls.subscriber.SubscriberCall.{SubscriberCall}
+use Rattle.iox_lanes_machine.specs.LanesBase.declared.calls.subscriber.SubscriberCall.TheVariants as subscribing
 use Rattle.iox_lanes_machine.specs.Links.{LinkState}
 
 -- a word of the ring of messages of a connection

@@ -1,11 +1,11 @@
 -- Room at each connection: no more slots stand there than the ring of samples given back has cells, and one fewer once a call took back all; so no release is refused.
 use Rattle.std.specs.Prelude.{ℕ, ◌≡◌, ◌+◌, ◌<◌, ◌≤◌, ◌^◌, true, List, length, slice_get, Option, Some, None}
 use Rattle.std.specs.List.{All}
-use Rattle.iox_lanes_ledger.specs.LanesCalls.declared.route.Route.{Route}
-use Rattle.iox_lanes_ledger.specs.LanesParties.Parties.{PublisherLaneState, SubscriberLaneState}
-use Rattle.iox_lanes_ledger.specs.LanesParties.declared.call.Answer.{Answer}
-use Rattle.iox_lanes_ledger.specs.LanesParties.declared.call.Answer.TheVariants as answer
-use Rattle.iox_lanes_ledger.specs.Rooms.{HasRooms, CountsBorrowed}
+use Rattle.iox_lanes_machine.specs.LanesBase.declared.calls.route.Route.{Route}
+use Rattle.iox_lanes_machine.specs.LanesParties.Parties.{PublisherLaneState, SubscriberLaneState}
+use Rattle.iox_lanes_machine.specs.LanesParties.declared.call.Answer.{Answer}
+use Rattle.iox_lanes_machine.specs.LanesParties.declared.call.Answer.TheVariants as answer
+use Rattle.iox_lanes_machine.specs.LedgerRooms.{HasRooms, CountsBorrowed}
 use Rattle.iox_lanes_machine.specs.Sends.{IsAmong}
 use Rattle.iox_lanes_machine.specs.World.{World}
 use Rattle.iox_lanes_machine.specs.Links.{LinkState}

@@ -1,15 +1,15 @@
 -- Who has which slot: a publisher's record of it is what stands at its connections.
 use Rattle.std.specs.Prelude.{ℕ, ◌≡◌, ◌+◌, ◌<◌, ◌≤◌, ◌^◌, List, length, slice_get, Option, Some}
-use Rattle.iox_lanes_ledger.specs.QueuesSteps.declared.access.Word.TheVariants.{Read}
-use Rattle.iox_lanes_ledger.specs.QueuesSteps.declared.order.Placed.{Placed}
-use Rattle.iox_lanes_ledger.specs.LanesWords.Table.{TableWords, held_by}
-use Rattle.iox_lanes_ledger.specs.LanesCalls.declared.publisher.PublisherCall.{PublisherCall}
-use Rattle.iox_lanes_ledger.specs.LanesCalls.declared.route.Route.{Route}
-use Rattle.iox_lanes_ledger.specs.LanesParties.Parties.{PublisherLaneState, SubscriberLaneState}
-use Rattle.iox_lanes_ledger.specs.Borrowing.{borrows, UsesBorrowed, ArePlaced}
-use Rattle.iox_lanes_ledger.specs.Sending.{SendsLacking}
-use Rattle.iox_lanes_ledger.specs.Stored.{aside, between}
-use Rattle.iox_lanes_ledger.specs.Uses.{one_if, count, refers_to, UsesCounted}
+use Rattle.iox_lanes_machine.specs.QueuesSteps.declared.access.Word.TheVariants.{Read}
+use Rattle.iox_lanes_machine.specs.QueuesSteps.declared.order.Placed.{Placed}
+use Rattle.iox_lanes_machine.specs.LanesBase.Table.{TableWords, held_by}
+use Rattle.iox_lanes_machine.specs.LanesBase.declared.calls.publisher.PublisherCall.{PublisherCall}
+use Rattle.iox_lanes_machine.specs.LanesBase.declared.calls.route.Route.{Route}
+use Rattle.iox_lanes_machine.specs.LanesParties.Parties.{PublisherLaneState, SubscriberLaneState}
+use Rattle.iox_lanes_machine.specs.Borrowing.{borrows, UsesBorrowed, ArePlaced}
+use Rattle.iox_lanes_machine.specs.Sending.{SendsLacking}
+use Rattle.iox_lanes_machine.specs.Stored.{aside, between}
+use Rattle.iox_lanes_machine.specs.LedgerUses.{one_if, count, refers_to, UsesCounted}
 use Rattle.iox_lanes_machine.specs.Returns.{back_ring}
 use Rattle.iox_lanes_machine.specs.Rings.{sent_word, push_on, waiting}
 use Rattle.iox_lanes_machine.specs.World.{World}

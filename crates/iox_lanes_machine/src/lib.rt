@@ -2,6 +2,7 @@
 //!
 //! - [`link`]: the connections.
 //! - [`found`]: what lanes find before their first step.
+//! - [`ledger`]: what the slots of a publisher are used for, counted.
 //! - [`sizes`]: how many ports there are, and their sizes.
 //! - `made`: the ports as they are made.
 //! - `order`: the order of a connection.
@@ -13,7 +14,7 @@
 //! - [`parts`]: the lanes taken apart.
 //! - [`resting`]: whether a party is inside a call, or something is out.
 //!
-//! First calls. Tests in `iox_lanes_rows` make them.
+//! First calls:
 //!
 //! ```
 //! let mut lanes = Lanes::new(alloc, sizes)?;
@@ -26,6 +27,7 @@
 pub mod found;
 pub mod lanes;
 pub mod laws;
+pub mod ledger;
 pub mod link;
 mod made;
 mod order;

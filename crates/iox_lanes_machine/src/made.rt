@@ -5,12 +5,12 @@ ghost use Rattle.iox_lanes_machine.specs.Made.{listed, link_at, publisher_at, su
 use crate::link::Link;
 use crate::order::Order;
 use crate::sizes::LaneSizes;
-use iox_lanes_calls::Route;
-use iox_lanes_calls::subscriber::SlotExtent;
+use iox_lanes_base::calls::Route;
+use iox_lanes_base::calls::subscriber::SlotExtent;
+use iox_lanes_base::words::TableSizes;
+use iox_lanes_parties::publisher::{LanePublisher, SlotBook};
+use iox_lanes_parties::subscriber::LaneSubscriber;
 use iox_lanes_parties::{Head, PublisherLane, SubscriberLane};
-use iox_lanes_publisher::{LanePublisher, SlotBook};
-use iox_lanes_subscriber::LaneSubscriber;
-use iox_lanes_words::TableSizes;
 use std::alloc::{AllocError, Global};
 
 /// The links that the first connections are.

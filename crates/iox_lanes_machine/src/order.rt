@@ -1,7 +1,7 @@
 //! The order of a connection.
 ghost use Rattle.std.specs.Prelude.{◌≡◌, ◌++◌, ◌<◌, [], length, OnOk, OnErr};
 ghost use Rattle.std.specs.Option.{option_to_list};
-ghost use Rattle.iox_lanes_ledger.specs.QueuesSteps.Order.{at};
+ghost use Rattle.iox_lanes_machine.specs.QueuesSteps.Order.{at};
 
 use iox_queues_steps::{Act, Placed};
 use std::alloc::{AllocError, Global};
@@ -15,7 +15,7 @@ pub(crate) struct Order {
 
 impl Model for Order {
     ghost use Rattle.std.specs.Prelude.{List};
-    ghost use Rattle.iox_lanes_ledger.specs.QueuesSteps.declared.order.Placed.{Placed};
+    ghost use Rattle.iox_lanes_machine.specs.QueuesSteps.declared.order.Placed.{Placed};
 
     ghost Value = { List Placed };
 

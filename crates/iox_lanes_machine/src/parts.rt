@@ -8,8 +8,8 @@ ghost use Rattle.iox_lanes_machine.specs.Slots.{SlotsInRows};
 
 use crate::lanes::Lanes;
 use crate::state::State;
+use iox_lanes_base::words::WordTable;
 use iox_lanes_parties::{PublisherLane, SubscriberLane};
-use iox_lanes_words::WordTable;
 
 impl Lanes {
     /// The shared words.

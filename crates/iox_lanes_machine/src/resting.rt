@@ -1,10 +1,10 @@
 //! Lanes whose parties stand between calls, and nothing of theirs out.
 ghost use Rattle.std.specs.Prelude.{◌≡◌, ◌<◌, ◌≤◌, ◌+◌, ℕ, true, false, IsTrue, ◌↔◌, length, IfSome, IfNone};
 ghost use Rattle.std.specs.List.{All};
-ghost use Rattle.iox_lanes_ledger.specs.LanesCalls.Publishing.{publisher_is_idle};
-ghost use Rattle.iox_lanes_ledger.specs.LanesCalls.Subscribing.{subscriber_is_idle};
-ghost use Rattle.iox_lanes_ledger.specs.LanesPublisher.Keeping.{loan_of};
-ghost use Rattle.iox_lanes_ledger.specs.LanesParties.Parties.{is_out, is_borrowed, place_of};
+ghost use Rattle.iox_lanes_machine.specs.LanesBase.Publishing.{publisher_is_idle};
+ghost use Rattle.iox_lanes_machine.specs.LanesBase.Subscribing.{subscriber_is_idle};
+ghost use Rattle.iox_lanes_machine.specs.LanesParties.PublisherKeeping.{loan_of};
+ghost use Rattle.iox_lanes_machine.specs.LanesParties.Parties.{is_out, is_borrowed, place_of};
 ghost use Rattle.iox_lanes_machine.specs.Resting.{AllBetween, NoneOut, IsUnrest};
 
 use crate::lanes::Lanes;

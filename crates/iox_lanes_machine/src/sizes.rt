@@ -1,11 +1,11 @@
 //! How many ports lanes have, and their sizes.
 ghost use Rattle.std.specs.Prelude.{◌≡◌, IfSome};
-ghost use Rattle.iox_lanes_ledger.specs.QueuesRings.Ends.{cells_of};
+ghost use Rattle.iox_lanes_machine.specs.QueuesRings.Ends.{cells_of};
 ghost use Rattle.iox_lanes_machine.specs.Made.{table_sizes, link_at};
 
 use crate::link::Link;
-use iox_lanes_calls::Route;
-use iox_lanes_words::TableSizes;
+use iox_lanes_base::calls::Route;
+use iox_lanes_base::words::TableSizes;
 use iox_queues_rings::RingKind;
 use std::alloc::Global;
 

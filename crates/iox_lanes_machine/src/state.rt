@@ -1,11 +1,11 @@
 //! The state of lanes, and their steps.
 ghost use Rattle.std.specs.Prelude.{[], IfOk, get_or, ◌≡◌, ◌+◌, ◌≤◌, ◌<◌, ◌++◌, Some, OnOk, OnErr, true, false, length, slice_get, is_some, vec_len, vec_capacity};
 ghost use Rattle.std.specs.Option.{option_to_list};
-ghost use Rattle.iox_lanes_ledger.specs.LanesWords.Numbers.{IsWord};
-ghost use Rattle.iox_lanes_ledger.specs.LanesWords.Table.{held_by, shared_answer, after_shared, IsOfTable};
-ghost use Rattle.iox_lanes_ledger.specs.LanesCalls.Publishing.{publisher_next, publisher_is_over};
-ghost use Rattle.iox_lanes_ledger.specs.LanesCalls.Subscribing.{subscriber_next, subscriber_is_over};
-ghost use Rattle.iox_lanes_ledger.specs.LanesParties.Parties.{publisher_after, subscriber_after, subscriber_answer};
+ghost use Rattle.iox_lanes_machine.specs.LanesBase.Numbers.{IsWord};
+ghost use Rattle.iox_lanes_machine.specs.LanesBase.Table.{held_by, shared_answer, after_shared, IsOfTable};
+ghost use Rattle.iox_lanes_machine.specs.LanesBase.Publishing.{publisher_next, publisher_is_over};
+ghost use Rattle.iox_lanes_machine.specs.LanesBase.Subscribing.{subscriber_next, subscriber_is_over};
+ghost use Rattle.iox_lanes_machine.specs.LanesParties.Parties.{publisher_after, subscriber_after, subscriber_answer};
 ghost use Rattle.iox_lanes_machine.specs.World.{StepsTo, added, acts_at, connection_at, ended, ends, party_ends, fits, goes_on, happens, placed, pop_acts, pops_from, push_acts, push_at, pushes_to, sender_stage, publisher_begins, publisher_given, publisher_ending, publisher_goes_on, subscriber_begins, subscriber_given, subscriber_goes_on, words_ending};
 
 use crate::link::{Link, Positions};
@@ -13,11 +13,11 @@ use crate::made;
 use crate::order::Order;
 use crate::placing::{Placing, late_put, position, push_on};
 use crate::sizes::LaneSizes;
-use iox_lanes_calls::{PublisherCall, SubscriberCall};
+use iox_lanes_base::calls::{PublisherCall, SubscriberCall};
+use iox_lanes_base::words::{ConnectionRing, SharedWord, TableSizes, WordTable};
 use iox_lanes_parties::{
     Answer, Call, CallName, FinishedCall, Move, Party, PublisherLane, SubscriberLane,
 };
-use iox_lanes_words::{ConnectionRing, SharedWord, TableSizes, WordTable};
 use iox_queues_rings::{Push, RingKind};
 use iox_queues_steps::{Placed, Stepped, Word};
 use std::alloc::{AllocError, Global};

@@ -1,8 +1,8 @@
 //! What waits at a connection, read out of its ring.
 ghost use Rattle.std.specs.Prelude.{◌≡◌, ◌+◌, ◌-◌, ◌<◌, ◌≤◌, ◌%◌, length, slice_get, Some};
-ghost use Rattle.iox_lanes_ledger.specs.QueuesRings.Ends.{cells_of};
-ghost use Rattle.iox_lanes_ledger.specs.QueuesSteps.declared.access.Word.TheVariants.{Cell};
-ghost use Rattle.iox_lanes_ledger.specs.LanesWords.Table.{held_by};
+ghost use Rattle.iox_lanes_machine.specs.QueuesRings.Ends.{cells_of};
+ghost use Rattle.iox_lanes_machine.specs.QueuesSteps.declared.access.Word.TheVariants.{Cell};
+ghost use Rattle.iox_lanes_machine.specs.LanesBase.Table.{held_by};
 ghost use Rattle.iox_lanes_machine.specs.Kept.{IsWithin};
 ghost use Rattle.iox_lanes_machine.specs.Links.{LinkState};
 ghost use Rattle.iox_lanes_machine.specs.Mailboxes.{positions_of};
@@ -14,7 +14,7 @@ ghost use Rattle.iox_lanes_machine.specs.State.{world_of};
 use crate::found::cells;
 use crate::lanes::Lanes;
 use crate::state::State;
-use iox_lanes_words::{ConnectionRing, SharedWord};
+use iox_lanes_base::words::{ConnectionRing, SharedWord};
 use iox_queues_steps::Word;
 
 impl State {

@@ -2,8 +2,6 @@
 pub mod Rings
 pub mod PublishersWithin
 pub mod SubscribersWithin
-pub use Rattle.iox_lanes_subscriber.proofs.LanesWords as LanesWords
-pub use Rattle.iox_lanes_subscriber.proofs.QueuesOverflowing as QueuesOverflowing
-pub use Rattle.iox_lanes_subscriber.proofs.QueuesRefusing as QueuesRefusing
-pub use Rattle.iox_lanes_subscriber.proofs.QueuesRings as QueuesRings
-pub use Rattle.iox_lanes_subscriber.proofs.QueuesSteps as QueuesSteps
+pub use Rattle.iox_lanes_base.proofs as LanesBase
+pub use Rattle.iox_lanes_base.proofs.QueuesRings as QueuesRings
+pub use Rattle.iox_lanes_base.proofs.QueuesSteps as QueuesSteps

@@ -5,31 +5,31 @@ use Rattle.std.proofs.lemmas.List.{length-set, length-take, get_or_past}
 use Rattle.std.proofs.lemmas.List.Elements.{All-get_or, All-set}
 use Rattle.std.proofs.lemmas.Option.{slice_get_within}
 use Rattle.std.specs.List.{All}
-use Rattle.iox_lanes_subscriber.specs.QueuesSteps.Access.{successor}
-use Rattle.iox_lanes_subscriber.specs.QueuesSteps.declared.order.PushAnswer.{PushAnswer}
-use Rattle.iox_lanes_subscriber.specs.QueuesSteps.declared.order.PopAnswer.{PopAnswer}
-use Rattle.iox_lanes_subscriber.specs.QueuesSteps.declared.order.PopAnswer.TheVariants.{Got, Saw}
-use Rattle.iox_lanes_subscriber.specs.QueuesRefusing.Refusing.{pop_next, pop_take}
-use Rattle.iox_lanes_subscriber.specs.QueuesRefusing.declared.pop.Pop.{Pop}
-use Rattle.iox_lanes_subscriber.specs.QueuesRings.Ends.{push_next, push_take}
-use Rattle.iox_lanes_subscriber.specs.QueuesRings.declared.ends.Push.{Push}
-use Rattle.iox_lanes_subscriber.specs.LanesWords.Table.{IsOfTable}
-use Rattle.iox_lanes_subscriber.specs.LanesWords.Numbers.{IsSlotWord}
-use Rattle.iox_lanes_subscriber.specs.LanesWords.declared.sizes.TableSizes.{TableSizes}
-use Rattle.iox_lanes_subscriber.specs.LanesWords.declared.word.ConnectionRing.TheVariants.{Submission, Completion}
-use Rattle.iox_lanes_subscriber.specs.LanesWords.declared.word.SlotWord.TheVariants.{Header, UserHeader}
-use Rattle.iox_lanes_subscriber.specs.LanesCalls.Answers.{refusing_pop_answer, push_answer}
-use Rattle.iox_lanes_subscriber.specs.LanesCalls.Publishing.{publisher_next, publisher_take, publisher_change, publisher_is_idle, loan_from, loan_reclaimed, write_from, head_from, push_from, sweep_from, send_reclaimed, pushed, counted, nothing_sent}
-use Rattle.iox_lanes_subscriber.specs.LanesCalls.declared.publisher.Delivery.{Delivery}
-use Rattle.iox_lanes_subscriber.specs.LanesCalls.declared.publisher.PublisherCall.{PublisherCall}
-use Rattle.iox_lanes_subscriber.specs.LanesCalls.declared.publisher.PublisherCall.TheVariants as publishing
-use Rattle.iox_lanes_subscriber.specs.LanesCalls.declared.publisher.PublisherChange.{PublisherChange}
-use Rattle.iox_lanes_subscriber.specs.LanesCalls.declared.publisher.PublisherChange.TheVariants as change
-use Rattle.iox_lanes_subscriber.specs.LanesCalls.declared.route.Route.{Route}
-use Rattle.iox_lanes_publisher.specs.Keeping.{BookState, loan_of, put_at, lent_from, unlent, dropped, newest_of, changed, first_free}
-use Rattle.iox_lanes_publisher.specs.Publishers.{words_of}
-use Rattle.iox_lanes_publisher.specs.declared.slot_book.LoanMark.{LoanMark}
-use Rattle.iox_lanes_publisher.specs.declared.slot_book.LoanMark.TheVariants as mark
+use Rattle.iox_lanes_parties.specs.QueuesSteps.Access.{successor}
+use Rattle.iox_lanes_parties.specs.QueuesSteps.declared.order.PushAnswer.{PushAnswer}
+use Rattle.iox_lanes_parties.specs.QueuesSteps.declared.order.PopAnswer.{PopAnswer}
+use Rattle.iox_lanes_parties.specs.QueuesSteps.declared.order.PopAnswer.TheVariants.{Got, Saw}
+use Rattle.iox_lanes_parties.specs.QueuesRings.Refusing.{pop_next, pop_take}
+use Rattle.iox_lanes_parties.specs.QueuesRings.declared.refusing.pop.Pop.{Pop}
+use Rattle.iox_lanes_parties.specs.QueuesRings.Ends.{push_next, push_take}
+use Rattle.iox_lanes_parties.specs.QueuesRings.declared.ends.Push.{Push}
+use Rattle.iox_lanes_parties.specs.LanesBase.Table.{IsOfTable}
+use Rattle.iox_lanes_parties.specs.LanesBase.Numbers.{IsSlotWord}
+use Rattle.iox_lanes_parties.specs.LanesBase.declared.words.sizes.TableSizes.{TableSizes}
+use Rattle.iox_lanes_parties.specs.LanesBase.declared.words.word.ConnectionRing.TheVariants.{Submission, Completion}
+use Rattle.iox_lanes_parties.specs.LanesBase.declared.words.word.SlotWord.TheVariants.{Header, UserHeader}
+use Rattle.iox_lanes_parties.specs.LanesBase.Answers.{refusing_pop_answer, push_answer}
+use Rattle.iox_lanes_parties.specs.LanesBase.Publishing.{publisher_next, publisher_take, publisher_change, publisher_is_idle, loan_from, loan_reclaimed, write_from, head_from, push_from, sweep_from, send_reclaimed, pushed, counted, nothing_sent}
+use Rattle.iox_lanes_parties.specs.LanesBase.declared.calls.publisher.Delivery.{Delivery}
+use Rattle.iox_lanes_parties.specs.LanesBase.declared.calls.publisher.PublisherCall.{PublisherCall}
+use Rattle.iox_lanes_parties.specs.LanesBase.declared.calls.publisher.PublisherCall.TheVariants as publishing
+use Rattle.iox_lanes_parties.specs.LanesBase.declared.calls.publisher.PublisherChange.{PublisherChange}
+use Rattle.iox_lanes_parties.specs.LanesBase.declared.calls.publisher.PublisherChange.TheVariants as change
+use Rattle.iox_lanes_parties.specs.LanesBase.declared.calls.route.Route.{Route}
+use Rattle.iox_lanes_parties.specs.PublisherKeeping.{BookState, loan_of, put_at, lent_from, unlent, dropped, newest_of, changed, first_free}
+use Rattle.iox_lanes_parties.specs.Publishers.{words_of}
+use Rattle.iox_lanes_parties.specs.declared.publisher.slot_book.LoanMark.{LoanMark}
+use Rattle.iox_lanes_parties.specs.declared.publisher.slot_book.LoanMark.TheVariants as mark
 use Rattle.iox_lanes_parties.specs.Parties.{PublisherLaneState, is_out, is_written, index_of, head_of, with_user_header, publisher_may, publisher_fits, publisher_begun, publisher_after}
 use Rattle.iox_lanes_parties.specs.Within.{IsRoute, IsAt, IsPublishing, IsPublisher, PublishersStayWithin}
 use Rattle.iox_lanes_parties.specs.declared.call.Call.{Call}

@@ -4,15 +4,15 @@ use Rattle.std.proofs.lemmas.Nat.{mod_below}
 use Rattle.std.proofs.lemmas.Option.{slice_get_within, get_or_from_slice_get}
 use Rattle.std.proofs.lemmas.List.Elements.{All-get_or}
 use Rattle.std.specs.List.{All}
-use Rattle.iox_lanes_subscriber.specs.QueuesSteps.declared.access.Word.{Word}
-use Rattle.iox_lanes_subscriber.specs.QueuesSteps.declared.access.Word.TheVariants.{Write, Read, Cell}
-use Rattle.iox_lanes_subscriber.specs.QueuesSteps.declared.access.Access.{Access}
-use Rattle.iox_lanes_subscriber.specs.QueuesSteps.declared.access.Access.TheVariants as own
-use Rattle.iox_lanes_subscriber.specs.LanesWords.Numbers.{most_cells, IsRingWord}
-use Rattle.iox_lanes_subscriber.specs.LanesWords.Table.{IsOfTable}
-use Rattle.iox_lanes_subscriber.specs.LanesWords.Words.{cell_word, on_ring}
-use Rattle.iox_lanes_subscriber.specs.LanesWords.declared.sizes.TableSizes.{TableSizes}
-use Rattle.iox_lanes_subscriber.specs.LanesWords.declared.word.ConnectionRing.{ConnectionRing}
+use Rattle.iox_lanes_parties.specs.QueuesSteps.declared.access.Word.{Word}
+use Rattle.iox_lanes_parties.specs.QueuesSteps.declared.access.Word.TheVariants.{Write, Read, Cell}
+use Rattle.iox_lanes_parties.specs.QueuesSteps.declared.access.Access.{Access}
+use Rattle.iox_lanes_parties.specs.QueuesSteps.declared.access.Access.TheVariants as own
+use Rattle.iox_lanes_parties.specs.LanesBase.Numbers.{most_cells, IsRingWord}
+use Rattle.iox_lanes_parties.specs.LanesBase.Table.{IsOfTable}
+use Rattle.iox_lanes_parties.specs.LanesBase.Words.{cell_word, on_ring}
+use Rattle.iox_lanes_parties.specs.LanesBase.declared.words.sizes.TableSizes.{TableSizes}
+use Rattle.iox_lanes_parties.specs.LanesBase.declared.words.word.ConnectionRing.{ConnectionRing}
 
 pub and_left : (a b : Bool) → (a && b) ≡ true → a ≡ true
 and_left true b h = refl

@@ -3,29 +3,29 @@ use Rattle.std.proofs.Common.{ℕ, ◌≡◌, ◌+◌, ◌-◌, ◌<◌, ◌||�
 use Rattle.std.proofs.lemmas.Bool.{cases_lt, ltb-true, ltb-false}
 use Rattle.std.proofs.lemmas.List.{length-set, get_or_past}
 use Rattle.std.specs.List.{All}
-use Rattle.iox_lanes_subscriber.specs.QueuesSteps.Access.{successor}
-use Rattle.iox_lanes_subscriber.specs.QueuesSteps.declared.order.PushAnswer.{PushAnswer}
-use Rattle.iox_lanes_subscriber.specs.QueuesSteps.declared.order.PushAnswer.TheVariants.{Kept, LeftOut, Refused}
-use Rattle.iox_lanes_subscriber.specs.QueuesSteps.declared.order.PopAnswer.{PopAnswer}
-use Rattle.iox_lanes_subscriber.specs.QueuesSteps.declared.order.PopAnswer.TheVariants.{Got, Saw}
-use Rattle.iox_lanes_subscriber.specs.QueuesRefusing.Refusing as refusing
-use Rattle.iox_lanes_subscriber.specs.QueuesRefusing.declared.push.Push.{Push}
-use Rattle.iox_lanes_subscriber.specs.QueuesRings.Ends.{pop_next, pop_take}
-use Rattle.iox_lanes_subscriber.specs.QueuesRings.declared.ends.Pop.{Pop}
-use Rattle.iox_lanes_subscriber.specs.LanesWords.Table.{IsOfTable}
-use Rattle.iox_lanes_subscriber.specs.LanesWords.Numbers.{IsSlotWord}
-use Rattle.iox_lanes_subscriber.specs.LanesWords.declared.sizes.TableSizes.{TableSizes}
-use Rattle.iox_lanes_subscriber.specs.LanesWords.declared.word.ConnectionRing.TheVariants.{Submission, Completion}
-use Rattle.iox_lanes_subscriber.specs.LanesWords.declared.word.SlotWord.TheVariants.{Header, UserHeader, Payload}
-use Rattle.iox_lanes_subscriber.specs.LanesCalls.Answers.{pop_answer, refusing_push_answer}
-use Rattle.iox_lanes_subscriber.specs.LanesCalls.Subscribing.{subscriber_next, subscriber_take, subscriber_change, subscriber_is_idle, receive_from, received, is_full_at, released}
-use Rattle.iox_lanes_subscriber.specs.LanesCalls.declared.route.Route.{Route}
-use Rattle.iox_lanes_subscriber.specs.LanesCalls.declared.subscriber.SlotExtent.{SlotExtent}
-use Rattle.iox_lanes_subscriber.specs.LanesCalls.declared.subscriber.SubscriberCall.{SubscriberCall}
-use Rattle.iox_lanes_subscriber.specs.LanesCalls.declared.subscriber.SubscriberCall.TheVariants as subscribing
-use Rattle.iox_lanes_subscriber.specs.LanesCalls.declared.subscriber.SubscriberChange.{SubscriberChange}
-use Rattle.iox_lanes_subscriber.specs.LanesCalls.declared.subscriber.SubscriberChange.TheVariants as change
-use Rattle.iox_lanes_subscriber.specs.Keeping.{SubscriberState, put_at, changed}
+use Rattle.iox_lanes_parties.specs.QueuesSteps.Access.{successor}
+use Rattle.iox_lanes_parties.specs.QueuesSteps.declared.order.PushAnswer.{PushAnswer}
+use Rattle.iox_lanes_parties.specs.QueuesSteps.declared.order.PushAnswer.TheVariants.{Kept, LeftOut, Refused}
+use Rattle.iox_lanes_parties.specs.QueuesSteps.declared.order.PopAnswer.{PopAnswer}
+use Rattle.iox_lanes_parties.specs.QueuesSteps.declared.order.PopAnswer.TheVariants.{Got, Saw}
+use Rattle.iox_lanes_parties.specs.QueuesRings.Refusing as refusing
+use Rattle.iox_lanes_parties.specs.QueuesRings.declared.refusing.push.Push.{Push}
+use Rattle.iox_lanes_parties.specs.QueuesRings.Ends.{pop_next, pop_take}
+use Rattle.iox_lanes_parties.specs.QueuesRings.declared.ends.Pop.{Pop}
+use Rattle.iox_lanes_parties.specs.LanesBase.Table.{IsOfTable}
+use Rattle.iox_lanes_parties.specs.LanesBase.Numbers.{IsSlotWord}
+use Rattle.iox_lanes_parties.specs.LanesBase.declared.words.sizes.TableSizes.{TableSizes}
+use Rattle.iox_lanes_parties.specs.LanesBase.declared.words.word.ConnectionRing.TheVariants.{Submission, Completion}
+use Rattle.iox_lanes_parties.specs.LanesBase.declared.words.word.SlotWord.TheVariants.{Header, UserHeader, Payload}
+use Rattle.iox_lanes_parties.specs.LanesBase.Answers.{pop_answer, refusing_push_answer}
+use Rattle.iox_lanes_parties.specs.LanesBase.Subscribing.{subscriber_next, subscriber_take, subscriber_change, subscriber_is_idle, receive_from, received, is_full_at, released}
+use Rattle.iox_lanes_parties.specs.LanesBase.declared.calls.route.Route.{Route}
+use Rattle.iox_lanes_parties.specs.LanesBase.declared.calls.subscriber.SlotExtent.{SlotExtent}
+use Rattle.iox_lanes_parties.specs.LanesBase.declared.calls.subscriber.SubscriberCall.{SubscriberCall}
+use Rattle.iox_lanes_parties.specs.LanesBase.declared.calls.subscriber.SubscriberCall.TheVariants as subscribing
+use Rattle.iox_lanes_parties.specs.LanesBase.declared.calls.subscriber.SubscriberChange.{SubscriberChange}
+use Rattle.iox_lanes_parties.specs.LanesBase.declared.calls.subscriber.SubscriberChange.TheVariants as change
+use Rattle.iox_lanes_parties.specs.Keeping.{SubscriberState, put_at, changed}
 use Rattle.iox_lanes_parties.specs.Parties.{SubscriberLaneState, place_of, route_at, is_borrowed, subscriber_may, subscriber_fits, subscriber_begun, subscriber_after, release_begun}
 use Rattle.iox_lanes_parties.specs.Within.{IsRoute, IsAt, IsExtent, IsSubscribing, IsSubscriber, SubscribersStayWithin}
 use Rattle.iox_lanes_parties.specs.declared.call.Call.{Call}

@@ -1,21 +1,21 @@
 -- A publisher and a subscriber with the call that each is in: which calls fit, what a step leaves, what a call answers.
 use Rattle.std.specs.Prelude.{ℕ, ◌+◌, ◌-◌, Bool, true, false, not, ◌&&◌, ◌==◌, if◌then◌else◌, nat_lt, List, [], ◌++◌, length, map, take, set, get_or, slice_get, Option, Some, None}
-use Rattle.iox_lanes_subscriber.specs.LanesCalls.Publishing.{publisher_is_idle}
-use Rattle.iox_lanes_subscriber.specs.LanesCalls.Subscribing.{subscriber_is_idle}
-use Rattle.iox_lanes_subscriber.specs.LanesCalls.declared.publisher.PublisherCall.{PublisherCall}
-use Rattle.iox_lanes_subscriber.specs.LanesCalls.declared.publisher.PublisherCall.TheVariants as publishing
-use Rattle.iox_lanes_subscriber.specs.LanesCalls.declared.route.Route.{Route}
-use Rattle.iox_lanes_subscriber.specs.LanesCalls.declared.subscriber.SubscriberCall.{SubscriberCall}
-use Rattle.iox_lanes_subscriber.specs.LanesCalls.declared.subscriber.SubscriberCall.TheVariants as subscribing
-use Rattle.iox_lanes_publisher.specs.Keeping.{loan_of}
-use Rattle.iox_lanes_publisher.specs.Publishers as publishers
-use Rattle.iox_lanes_publisher.specs.Publishers.{PublisherState}
-use Rattle.iox_lanes_publisher.specs.declared.slot_book.LoanMark.{LoanMark}
-use Rattle.iox_lanes_publisher.specs.declared.slot_book.LoanMark.TheVariants as mark
-use Rattle.iox_lanes_publisher.specs.declared.slot_book.LoanAnswer.{LoanAnswer}
-use Rattle.iox_lanes_publisher.specs.declared.slot_book.LoanAnswer.TheVariants as loan_answer
-use Rattle.iox_lanes_subscriber.specs.Keeping as subscribers
-use Rattle.iox_lanes_subscriber.specs.Keeping.{SubscriberState}
+use Rattle.iox_lanes_parties.specs.LanesBase.Publishing.{publisher_is_idle}
+use Rattle.iox_lanes_parties.specs.LanesBase.Subscribing.{subscriber_is_idle}
+use Rattle.iox_lanes_parties.specs.LanesBase.declared.calls.publisher.PublisherCall.{PublisherCall}
+use Rattle.iox_lanes_parties.specs.LanesBase.declared.calls.publisher.PublisherCall.TheVariants as publishing
+use Rattle.iox_lanes_parties.specs.LanesBase.declared.calls.route.Route.{Route}
+use Rattle.iox_lanes_parties.specs.LanesBase.declared.calls.subscriber.SubscriberCall.{SubscriberCall}
+use Rattle.iox_lanes_parties.specs.LanesBase.declared.calls.subscriber.SubscriberCall.TheVariants as subscribing
+use Rattle.iox_lanes_parties.specs.PublisherKeeping.{loan_of}
+use Rattle.iox_lanes_parties.specs.Publishers as publishers
+use Rattle.iox_lanes_parties.specs.Publishers.{PublisherState}
+use Rattle.iox_lanes_parties.specs.declared.publisher.slot_book.LoanMark.{LoanMark}
+use Rattle.iox_lanes_parties.specs.declared.publisher.slot_book.LoanMark.TheVariants as mark
+use Rattle.iox_lanes_parties.specs.declared.publisher.slot_book.LoanAnswer.{LoanAnswer}
+use Rattle.iox_lanes_parties.specs.declared.publisher.slot_book.LoanAnswer.TheVariants as loan_answer
+use Rattle.iox_lanes_parties.specs.Keeping as subscribers
+use Rattle.iox_lanes_parties.specs.Keeping.{SubscriberState}
 use Rattle.iox_lanes_parties.specs.declared.call.Call.{Call}
 use Rattle.iox_lanes_parties.specs.declared.call.Call.TheVariants as call
 use Rattle.iox_lanes_parties.specs.declared.call.CallName.{CallName}

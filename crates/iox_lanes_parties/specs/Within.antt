@@ -1,17 +1,17 @@
 -- Ports that keep to their own service: each call names connections, slots and words of the service alone.
 use Rattle.std.specs.Prelude.{ℕ, ◌≡◌, ◌+◌, ◌<◌, ◌≤◌, true, List, length, slice_get, Some}
 use Rattle.std.specs.List.{All}
-use Rattle.iox_lanes_subscriber.specs.LanesWords.Table.{IsOfTable}
-use Rattle.iox_lanes_subscriber.specs.LanesWords.declared.sizes.TableSizes.{TableSizes}
-use Rattle.iox_lanes_subscriber.specs.LanesCalls.Publishing.{publisher_next}
-use Rattle.iox_lanes_subscriber.specs.LanesCalls.Subscribing.{subscriber_next}
-use Rattle.iox_lanes_subscriber.specs.LanesCalls.declared.publisher.PublisherCall.{PublisherCall}
-use Rattle.iox_lanes_subscriber.specs.LanesCalls.declared.publisher.PublisherCall.TheVariants as publishing
-use Rattle.iox_lanes_subscriber.specs.LanesCalls.declared.route.Route.{Route}
-use Rattle.iox_lanes_subscriber.specs.LanesCalls.declared.subscriber.SlotExtent.{SlotExtent}
-use Rattle.iox_lanes_subscriber.specs.LanesCalls.declared.subscriber.SubscriberCall.{SubscriberCall}
-use Rattle.iox_lanes_subscriber.specs.LanesCalls.declared.subscriber.SubscriberCall.TheVariants as subscribing
-use Rattle.iox_lanes_publisher.specs.Publishers.{words_of}
+use Rattle.iox_lanes_parties.specs.LanesBase.Table.{IsOfTable}
+use Rattle.iox_lanes_parties.specs.LanesBase.declared.words.sizes.TableSizes.{TableSizes}
+use Rattle.iox_lanes_parties.specs.LanesBase.Publishing.{publisher_next}
+use Rattle.iox_lanes_parties.specs.LanesBase.Subscribing.{subscriber_next}
+use Rattle.iox_lanes_parties.specs.LanesBase.declared.calls.publisher.PublisherCall.{PublisherCall}
+use Rattle.iox_lanes_parties.specs.LanesBase.declared.calls.publisher.PublisherCall.TheVariants as publishing
+use Rattle.iox_lanes_parties.specs.LanesBase.declared.calls.route.Route.{Route}
+use Rattle.iox_lanes_parties.specs.LanesBase.declared.calls.subscriber.SlotExtent.{SlotExtent}
+use Rattle.iox_lanes_parties.specs.LanesBase.declared.calls.subscriber.SubscriberCall.{SubscriberCall}
+use Rattle.iox_lanes_parties.specs.LanesBase.declared.calls.subscriber.SubscriberCall.TheVariants as subscribing
+use Rattle.iox_lanes_parties.specs.Publishers.{words_of}
 use Rattle.iox_lanes_parties.specs.Parties.{PublisherLaneState, SubscriberLaneState, publisher_fits, publisher_begun, publisher_after, subscriber_fits, subscriber_begun, subscriber_after}
 use Rattle.iox_lanes_parties.specs.declared.call.Call.{Call}
 use Rattle.iox_lanes_parties.specs.declared.call.Move.TheVariants.{Begin}

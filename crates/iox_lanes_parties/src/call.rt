@@ -1,6 +1,6 @@
 //! What may be asked of lanes, and what they answered.
-use iox_lanes_calls::{Delivery, Receipt};
-use iox_lanes_publisher::LoanAnswer;
+use crate::publisher::LoanAnswer;
+use iox_lanes_base::calls::{Delivery, Receipt};
 
 /// A publisher or a subscriber, by its number among those of its kind.
 #[derive(Clone, Copy, Debug, PartialEq, Eq)]

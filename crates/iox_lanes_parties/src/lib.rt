@@ -2,6 +2,7 @@
 //!
 //! - [`call`]: what may be asked, and what was answered.
 //! - [`head`]: the header and user header of a slot.
+//! - [`publisher`], [`subscriber`]: a port, and what it keeps for itself.
 //! - [`laws`]: ports keep to their own service.
 //! - [`publisher_lane`], [`subscriber_lane`]: a port with the call that it began last.
 //!
@@ -17,7 +18,9 @@
 pub mod call;
 pub mod head;
 pub mod laws;
+pub mod publisher;
 pub mod publisher_lane;
+pub mod subscriber;
 pub mod subscriber_lane;
 
 pub use call::{Answer, Call, CallName, Entry, FinishedCall, Move, Party};

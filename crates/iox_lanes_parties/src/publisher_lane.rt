@@ -1,16 +1,16 @@
 //! A publisher, its call in hand, and the headers of its slots.
 ghost use Rattle.std.specs.Prelude.{◌≡◌, ◌+◌, ◌<◌, ◌&&◌, ◌==◌, true, false, [], length, slice_get, IsSome, is_some};
 ghost use Rattle.std.specs.List.{All};
-ghost use Rattle.iox_lanes_subscriber.specs.LanesCalls.Publishing.{publisher_next, publisher_is_idle, publisher_is_over};
-ghost use Rattle.iox_lanes_publisher.specs.Keeping.{may_have, may_remember, may_resize};
-ghost use Rattle.iox_lanes_publisher.specs.Publishers.{words_of};
+ghost use Rattle.iox_lanes_parties.specs.LanesBase.Publishing.{publisher_next, publisher_is_idle, publisher_is_over};
+ghost use Rattle.iox_lanes_parties.specs.PublisherKeeping.{may_have, may_remember, may_resize};
+ghost use Rattle.iox_lanes_parties.specs.Publishers.{words_of};
 ghost use Rattle.iox_lanes_parties.specs.Parties.{lane_found, lane_meets, lane_named, lane_remembers, lane_resized, name_of, is_out, is_written, publisher_may, publisher_fits, publisher_begun, publisher_after, publisher_answer, lent, index_of, head_of, kept, send_begun};
 
 use crate::call::{Answer, Call, CallName, Move};
 use crate::head::Head;
-use iox_lanes_calls::{PublisherCall, Route};
-use iox_lanes_publisher::{LanePublisher, LoanAnswer, LoanMark};
-use iox_lanes_words::SharedAccess;
+use crate::publisher::{LanePublisher, LoanAnswer, LoanMark};
+use iox_lanes_base::calls::{PublisherCall, Route};
+use iox_lanes_base::words::SharedAccess;
 use std::alloc::{AllocError, Global};
 use std::marker::Model;
 

@@ -1,14 +1,14 @@
 //! A subscriber and its call in hand.
 ghost use Rattle.std.specs.Prelude.{◌≡◌, ◌<◌, ◌&&◌, true, false, length, is_some};
-ghost use Rattle.iox_lanes_subscriber.specs.LanesCalls.Subscribing.{subscriber_next, subscriber_is_idle, subscriber_is_over};
-ghost use Rattle.iox_lanes_subscriber.specs.LanesCalls.declared.subscriber.SubscriberChange.TheVariants as SubscriberChange;
-ghost use Rattle.iox_lanes_subscriber.specs.Keeping.{changed};
+ghost use Rattle.iox_lanes_parties.specs.LanesBase.Subscribing.{subscriber_next, subscriber_is_idle, subscriber_is_over};
+ghost use Rattle.iox_lanes_parties.specs.LanesBase.declared.calls.subscriber.SubscriberChange.TheVariants as SubscriberChange;
+ghost use Rattle.iox_lanes_parties.specs.Keeping.{changed};
 ghost use Rattle.iox_lanes_parties.specs.Parties.{receiver_meets, receiver_swapped, subscriber_may, subscriber_fits, subscriber_begun, subscriber_after, subscriber_answer, words_read, place_of, route_at, is_route, is_borrowed, release_begun};
 
 use crate::call::{Answer, Call, CallName, Move};
-use iox_lanes_calls::{Route, SubscriberCall};
-use iox_lanes_subscriber::LaneSubscriber;
-use iox_lanes_words::SharedAccess;
+use crate::subscriber::LaneSubscriber;
+use iox_lanes_base::calls::{Route, SubscriberCall};
+use iox_lanes_base::words::SharedAccess;
 use std::marker::Model;
 
 /// A subscriber, and the call that it began last.

@@ -7,10 +7,10 @@ ghost use Rattle.std.specs.Prelude.{◌≡◌};
 use crate::known::{
     Known, NOTHING, are_mailboxes, begun, is_answered, kept, last_at, receiving, sending, sizes,
 };
-use iox_lanes_calls::Receipt;
+use iox_lanes_base::calls::Receipt;
 use iox_lanes_machine::{LaneSizes, Lanes};
 use iox_lanes_parties::{Answer, Call, Move, Party};
-use iox_lanes_publisher::LoanAnswer;
+use iox_lanes_parties::publisher::LoanAnswer;
 use iox_queues_rings::RingKind;
 use iox_queues_steps::Stepped;
 use std::alloc::{AllocError, Global};

@@ -1,9 +1,9 @@
 //! Lanes that threads take over in mid-stream, and ports that stand still again.
 use crate::service::{lanes, read_back, sent};
-use iox_lanes_calls::{Delivery, Receipt};
+use iox_lanes_base::calls::{Delivery, Receipt};
 use iox_lanes_machine::Lanes;
 use iox_lanes_parties::{Answer, Call, Move, Party};
-use iox_lanes_publisher::LoanAnswer;
+use iox_lanes_parties::publisher::LoanAnswer;
 use iox_lanes_threads::{LanePublisher, LaneSubscriber, LaneThreads, end, open_threads};
 use iox_queues_rings::RingKind;
 use std::alloc::{AllocError, Global};

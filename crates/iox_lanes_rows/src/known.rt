@@ -1,10 +1,10 @@
 //! What is known of the ports of lanes beside them: what was written, sent and received, and a plain mailbox for each connection.
 ghost use Rattle.std.specs.Prelude.{◌≡◌};
 
-use iox_lanes_calls::Receipt;
+use iox_lanes_base::calls::Receipt;
 use iox_lanes_machine::{LaneSizes, Lanes, Link};
 use iox_lanes_parties::{Answer, Call, CallName, FinishedCall, Move, Party};
-use iox_lanes_publisher::LoanAnswer;
+use iox_lanes_parties::publisher::LoanAnswer;
 use iox_queues_rings::RingKind;
 use iox_queues_steps::{Act, Placed, PopAnswer, PushAnswer};
 use std::alloc::{AllocError, Global};

@@ -1,9 +1,9 @@
 //! A service of two publishers and two subscribers, with payloads of 8 words.
 ghost use Rattle.std.specs.Prelude.{◌≡◌};
 
-use iox_lanes_calls::Delivery;
+use iox_lanes_base::calls::Delivery;
 use iox_lanes_machine::{LaneSizes, Lanes};
-use iox_lanes_publisher::LoanAnswer;
+use iox_lanes_parties::publisher::LoanAnswer;
 use iox_lanes_threads::{LanePublisher, LaneSubscriber};
 use iox_queues_rings::RingKind;
 use std::alloc::{AllocError, Global};

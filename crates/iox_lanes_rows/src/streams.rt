@@ -1,8 +1,8 @@
 //! Numbers through four threads: two publishers and two subscribers.
 use crate::service::lanes;
 use crate::start::Start;
-use iox_lanes_calls::{Delivery, Receipt};
-use iox_lanes_publisher::LoanAnswer;
+use iox_lanes_base::calls::{Delivery, Receipt};
+use iox_lanes_parties::publisher::LoanAnswer;
 use iox_lanes_threads::{LanePublisher, LaneSubscriber, LaneThreads, end, open_threads};
 use iox_queues_rings::RingKind;
 use std::alloc::{AllocError, Global};

@@ -1,7 +1,7 @@
 //! Two threads that answer each other, each with a publisher and a subscriber.
 use crate::service::{narrow_lanes, read_back, sent};
 use crate::start::Start;
-use iox_lanes_calls::Receipt;
+use iox_lanes_base::calls::Receipt;
 use iox_lanes_threads::{LanePublisher, LaneSubscriber, LaneThreads, end, open_threads};
 use iox_queues_rings::RingKind;
 use std::alloc::{AllocError, Global};

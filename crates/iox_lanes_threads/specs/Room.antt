@@ -2,7 +2,7 @@
 use Rattle.std.specs.Prelude.{◌≡◌, ◌≤◌, [], length, vec_capacity}
 use Rattle.atomic_table.specs.Seated.{TableId}
 use Rattle.std.specs.List.{All}
-use Rattle.iox_lanes_machine.specs.LanesWords.Numbers.{words_of, IsSmall}
+use Rattle.iox_lanes_machine.specs.LanesBase.Numbers.{words_of, IsSmall}
 use Rattle.iox_lanes_machine.specs.World.{World}
 use Rattle.iox_lanes_threads_ports.specs.Values.{HasRoom}
 use Rattle.iox_lanes_threads.specs.Opening.{first_view}

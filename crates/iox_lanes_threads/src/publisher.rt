@@ -7,9 +7,9 @@ ghost use Rattle.iox_lanes_threads.specs.Ports.{StaysPublisher};
 
 use crate::table::Share;
 use crate::threads::OnBoard;
-use iox_lanes_calls::Delivery;
+use iox_lanes_base::calls::Delivery;
 use iox_lanes_parties::PublisherLane;
-use iox_lanes_publisher::LoanAnswer;
+use iox_lanes_parties::publisher::LoanAnswer;
 use iox_lanes_threads_ports::ThreadedPublisher;
 use std::marker::Model;
 

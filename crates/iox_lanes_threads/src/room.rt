@@ -1,8 +1,8 @@
 //! The room for ports in threads, and how they take their seats.
 ghost use Rattle.std.specs.Prelude.{◌≡◌, ◌<◌, ◌≤◌, ◌+◌, ◌++◌, ℕ, List, [], length, IfOk, vec_len, vec_capacity};
 ghost use Rattle.std.specs.List.{All};
-ghost use Rattle.iox_lanes_machine.specs.LanesWords.Numbers.{words_of, IsSmall};
-ghost use Rattle.iox_lanes_machine.specs.LanesCalls.declared.subscriber.SubscriberCall.TheVariants as subscribing;
+ghost use Rattle.iox_lanes_machine.specs.LanesBase.Numbers.{words_of, IsSmall};
+ghost use Rattle.iox_lanes_machine.specs.LanesBase.declared.calls.subscriber.SubscriberCall.TheVariants as subscribing;
 ghost use Rattle.iox_lanes_threads_ports.specs.LanesThreadsRule.Acts.{first_port};
 ghost use Rattle.iox_lanes_threads_ports.specs.LanesThreadsRule.declared.view.Port.{Port};
 ghost use Rattle.iox_lanes_threads_ports.specs.Ports.{PublisherStands, SubscriberStands};
@@ -17,11 +17,11 @@ use crate::publisher::LanePublisher;
 use crate::subscriber::LaneSubscriber;
 use crate::table::{Share, next_seat, open_table};
 use crate::threads::{Board, LaneThreads};
+use iox_lanes_base::words::TableSizes;
 use iox_lanes_machine::Lanes;
 use iox_lanes_parties::{Move, PublisherLane, SubscriberLane};
 use iox_lanes_threads_ports::{ThreadedPublisher, ThreadedSubscriber, write_room};
 use iox_lanes_threads_rule::WordSeat;
-use iox_lanes_words::TableSizes;
 use std::alloc::{AllocError, Global};
 use std::snapshot::Snapshot;
 

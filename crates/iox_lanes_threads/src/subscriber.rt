@@ -8,7 +8,7 @@ ghost use Rattle.iox_lanes_threads.specs.Ports.{StaysSubscriber};
 
 use crate::table::Share;
 use crate::threads::OnBoard;
-use iox_lanes_calls::Receipt;
+use iox_lanes_base::calls::Receipt;
 use iox_lanes_parties::{Answer, Call, SubscriberLane};
 use iox_lanes_threads_ports::ThreadedSubscriber;
 use std::marker::Model;

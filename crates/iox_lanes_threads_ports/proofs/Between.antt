@@ -1,33 +1,33 @@
 -- A subscriber between calls, and its calls that end after a number of steps that is known.
 use Rattle.std.proofs.Common.{ℕ, ◌≡◌, ◌+◌, ◌-◌, ◌<◌, ◌||◌, ◌&&◌, Bool, true, false, if◌then◌else◌, nat_lt, List, slice_get, Option, Some, None, refl, sym, ◌∙◌, ap, subst, arith}
 use Rattle.std.proofs.lemmas.Bool.{ltb-true}
-use Rattle.iox_lanes_ledger.specs.QueuesSteps.Access.{successor}
-use Rattle.iox_lanes_ledger.specs.QueuesSteps.declared.order.PopAnswer.{PopAnswer}
-use Rattle.iox_lanes_ledger.specs.QueuesSteps.declared.order.PopAnswer.TheVariants.{Got, Saw}
-use Rattle.iox_lanes_ledger.specs.QueuesSteps.declared.order.PushAnswer.{PushAnswer}
-use Rattle.iox_lanes_ledger.specs.QueuesSteps.declared.order.PushAnswer.TheVariants.{Kept, LeftOut, Refused}
-use Rattle.iox_lanes_ledger.specs.QueuesRefusing.Refusing as refusing
-use Rattle.iox_lanes_ledger.specs.QueuesRefusing.declared.push.Push as push_type
-use Rattle.iox_lanes_ledger.specs.QueuesRefusing.declared.push.Push.TheVariants as push
-use Rattle.iox_lanes_ledger.specs.QueuesRings.Ends.{pop_take}
-use Rattle.iox_lanes_ledger.specs.QueuesRings.declared.ends.Pop.{Pop}
-use Rattle.iox_lanes_ledger.specs.LanesWords.Numbers.{IsSmall}
-use Rattle.iox_lanes_ledger.specs.LanesWords.declared.sizes.TableSizes.{TableSizes}
-use Rattle.iox_lanes_ledger.specs.LanesCalls.Answers.{pop_answer, refusing_push_answer}
-use Rattle.iox_lanes_ledger.specs.LanesCalls.Subscribing.{subscriber_is_idle, subscriber_is_over, subscriber_take, subscriber_change, is_full_at, receive_from, received, released}
-use Rattle.iox_lanes_ledger.specs.LanesCalls.declared.route.Route.{Route}
-use Rattle.iox_lanes_ledger.specs.LanesCalls.declared.subscriber.Receipt.{Receipt}
-use Rattle.iox_lanes_ledger.specs.LanesCalls.declared.subscriber.SlotExtent.{SlotExtent}
-use Rattle.iox_lanes_ledger.specs.LanesCalls.declared.subscriber.SubscriberCall.{SubscriberCall}
-use Rattle.iox_lanes_ledger.specs.LanesCalls.declared.subscriber.SubscriberCall.TheVariants as subscribing
-use Rattle.iox_lanes_ledger.specs.LanesParties.Parties.{SubscriberLaneState, subscriber_may, subscriber_fits, subscriber_begun, subscriber_after, subscriber_answer, words_read, release_begun, place_of, route_at, is_route}
-use Rattle.iox_lanes_ledger.specs.LanesParties.Within.{IsSubscribing, IsSubscriber}
-use Rattle.iox_lanes_ledger.specs.LanesParties.declared.call.Answer.{Answer}
-use Rattle.iox_lanes_ledger.specs.LanesParties.declared.call.Answer.TheVariants as answer
-use Rattle.iox_lanes_ledger.specs.LanesParties.declared.call.Call.{Call}
-use Rattle.iox_lanes_ledger.specs.LanesParties.declared.call.Call.TheVariants as call
-use Rattle.iox_lanes_ledger.specs.LanesParties.declared.call.Move.TheVariants.{Begin}
-use Rattle.iox_lanes_ledger.proofs.LanesParties.Rings.{and_right}
+use Rattle.iox_lanes_machine.specs.QueuesSteps.Access.{successor}
+use Rattle.iox_lanes_machine.specs.QueuesSteps.declared.order.PopAnswer.{PopAnswer}
+use Rattle.iox_lanes_machine.specs.QueuesSteps.declared.order.PopAnswer.TheVariants.{Got, Saw}
+use Rattle.iox_lanes_machine.specs.QueuesSteps.declared.order.PushAnswer.{PushAnswer}
+use Rattle.iox_lanes_machine.specs.QueuesSteps.declared.order.PushAnswer.TheVariants.{Kept, LeftOut, Refused}
+use Rattle.iox_lanes_machine.specs.QueuesRings.Refusing as refusing
+use Rattle.iox_lanes_machine.specs.QueuesRings.declared.refusing.push.Push as push_type
+use Rattle.iox_lanes_machine.specs.QueuesRings.declared.refusing.push.Push.TheVariants as push
+use Rattle.iox_lanes_machine.specs.QueuesRings.Ends.{pop_take}
+use Rattle.iox_lanes_machine.specs.QueuesRings.declared.ends.Pop.{Pop}
+use Rattle.iox_lanes_machine.specs.LanesBase.Numbers.{IsSmall}
+use Rattle.iox_lanes_machine.specs.LanesBase.declared.words.sizes.TableSizes.{TableSizes}
+use Rattle.iox_lanes_machine.specs.LanesBase.Answers.{pop_answer, refusing_push_answer}
+use Rattle.iox_lanes_machine.specs.LanesBase.Subscribing.{subscriber_is_idle, subscriber_is_over, subscriber_take, subscriber_change, is_full_at, receive_from, received, released}
+use Rattle.iox_lanes_machine.specs.LanesBase.declared.calls.route.Route.{Route}
+use Rattle.iox_lanes_machine.specs.LanesBase.declared.calls.subscriber.Receipt.{Receipt}
+use Rattle.iox_lanes_machine.specs.LanesBase.declared.calls.subscriber.SlotExtent.{SlotExtent}
+use Rattle.iox_lanes_machine.specs.LanesBase.declared.calls.subscriber.SubscriberCall.{SubscriberCall}
+use Rattle.iox_lanes_machine.specs.LanesBase.declared.calls.subscriber.SubscriberCall.TheVariants as subscribing
+use Rattle.iox_lanes_machine.specs.LanesParties.Parties.{SubscriberLaneState, subscriber_may, subscriber_fits, subscriber_begun, subscriber_after, subscriber_answer, words_read, release_begun, place_of, route_at, is_route}
+use Rattle.iox_lanes_machine.specs.LanesParties.Within.{IsSubscribing, IsSubscriber}
+use Rattle.iox_lanes_machine.specs.LanesParties.declared.call.Answer.{Answer}
+use Rattle.iox_lanes_machine.specs.LanesParties.declared.call.Answer.TheVariants as answer
+use Rattle.iox_lanes_machine.specs.LanesParties.declared.call.Call.{Call}
+use Rattle.iox_lanes_machine.specs.LanesParties.declared.call.Call.TheVariants as call
+use Rattle.iox_lanes_machine.specs.LanesParties.declared.call.Move.TheVariants.{Begin}
+use Rattle.iox_lanes_machine.proofs.LanesParties.Rings.{and_right}
 use Rattle.atomic_table.specs.Seated.{TableId}
 use Rattle.atomic_table.specs.Table.{Me}
 use Rattle.iox_lanes_threads_rule.specs.Acts.{single, port_of}

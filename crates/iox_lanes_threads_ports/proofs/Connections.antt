@@ -7,10 +7,10 @@ use Rattle.std.proofs.lemmas.List.{length-map}
 use Rattle.std.proofs.lemmas.List.Elements.{All-head, All-tail}
 use Rattle.std.proofs.lemmas.Map.Steps.{length-le_from_distinct_below}
 use Rattle.std.proofs.Math.Nat.{mul-le-mul_left}
-use Rattle.iox_lanes_ledger.specs.LanesWords.Numbers.{connection_words, slot_words, IsSmall}
-use Rattle.iox_lanes_ledger.specs.LanesWords.declared.sizes.TableSizes.{TableSizes}
-use Rattle.iox_lanes_ledger.specs.LanesCalls.declared.route.Route.{Route}
-use Rattle.iox_lanes_ledger.specs.LanesParties.Within.{IsRoute}
+use Rattle.iox_lanes_machine.specs.LanesBase.Numbers.{connection_words, slot_words, IsSmall}
+use Rattle.iox_lanes_machine.specs.LanesBase.declared.words.sizes.TableSizes.{TableSizes}
+use Rattle.iox_lanes_machine.specs.LanesBase.declared.calls.route.Route.{Route}
+use Rattle.iox_lanes_machine.specs.LanesParties.Within.{IsRoute}
 use Rattle.iox_lanes_threads_ports.specs.Ports.{EachOnce}
 
 abbrev connection_of : Route → ℕ

@@ -1,23 +1,23 @@
 -- What a loan of a port in threads answers.
 use Rattle.std.proofs.Common.{ℕ, ◌≡◌, true, List, slice_get, Option, Some, None, sym, subst, inl, inr}
-use Rattle.iox_lanes_ledger.specs.QueuesSteps.Access.{successor}
-use Rattle.iox_lanes_ledger.specs.QueuesSteps.declared.order.PopAnswer.{PopAnswer}
-use Rattle.iox_lanes_ledger.specs.QueuesSteps.declared.order.PopAnswer.TheVariants.{Got, Saw}
-use Rattle.iox_lanes_ledger.specs.QueuesRefusing.Refusing as refusing
-use Rattle.iox_lanes_ledger.specs.QueuesRefusing.declared.pop.Pop.{Pop}
-use Rattle.iox_lanes_ledger.specs.LanesCalls.Answers.{refusing_pop_answer}
-use Rattle.iox_lanes_ledger.specs.LanesCalls.Publishing.{publisher_take, publisher_is_over, loan_from, loan_reclaimed}
-use Rattle.iox_lanes_ledger.specs.LanesCalls.declared.publisher.PublisherCall.{PublisherCall}
-use Rattle.iox_lanes_ledger.specs.LanesCalls.declared.publisher.PublisherCall.TheVariants as publishing
-use Rattle.iox_lanes_ledger.specs.LanesCalls.declared.route.Route.{Route}
-use Rattle.iox_lanes_ledger.specs.LanesPublisher.Publishers.{words_of as call_words}
-use Rattle.iox_lanes_ledger.specs.LanesPublisher.declared.slot_book.LoanAnswer.{LoanAnswer}
-use Rattle.iox_lanes_ledger.specs.LanesPublisher.declared.slot_book.LoanAnswer.TheVariants as loan_answer
-use Rattle.iox_lanes_ledger.specs.LanesParties.Parties.{PublisherLaneState, publisher_fits, publisher_begun, publisher_answer, lent}
-use Rattle.iox_lanes_ledger.specs.LanesParties.declared.call.Answer.{Answer}
-use Rattle.iox_lanes_ledger.specs.LanesParties.declared.call.Answer.TheVariants as answer
-use Rattle.iox_lanes_ledger.specs.LanesParties.declared.call.Call.TheVariants as call
-use Rattle.iox_lanes_ledger.specs.LanesParties.declared.call.Move.TheVariants.{Begin}
+use Rattle.iox_lanes_machine.specs.QueuesSteps.Access.{successor}
+use Rattle.iox_lanes_machine.specs.QueuesSteps.declared.order.PopAnswer.{PopAnswer}
+use Rattle.iox_lanes_machine.specs.QueuesSteps.declared.order.PopAnswer.TheVariants.{Got, Saw}
+use Rattle.iox_lanes_machine.specs.QueuesRings.Refusing as refusing
+use Rattle.iox_lanes_machine.specs.QueuesRings.declared.refusing.pop.Pop.{Pop}
+use Rattle.iox_lanes_machine.specs.LanesBase.Answers.{refusing_pop_answer}
+use Rattle.iox_lanes_machine.specs.LanesBase.Publishing.{publisher_take, publisher_is_over, loan_from, loan_reclaimed}
+use Rattle.iox_lanes_machine.specs.LanesBase.declared.calls.publisher.PublisherCall.{PublisherCall}
+use Rattle.iox_lanes_machine.specs.LanesBase.declared.calls.publisher.PublisherCall.TheVariants as publishing
+use Rattle.iox_lanes_machine.specs.LanesBase.declared.calls.route.Route.{Route}
+use Rattle.iox_lanes_machine.specs.LanesParties.Publishers.{words_of as call_words}
+use Rattle.iox_lanes_machine.specs.LanesParties.declared.publisher.slot_book.LoanAnswer.{LoanAnswer}
+use Rattle.iox_lanes_machine.specs.LanesParties.declared.publisher.slot_book.LoanAnswer.TheVariants as loan_answer
+use Rattle.iox_lanes_machine.specs.LanesParties.Parties.{PublisherLaneState, publisher_fits, publisher_begun, publisher_answer, lent}
+use Rattle.iox_lanes_machine.specs.LanesParties.declared.call.Answer.{Answer}
+use Rattle.iox_lanes_machine.specs.LanesParties.declared.call.Answer.TheVariants as answer
+use Rattle.iox_lanes_machine.specs.LanesParties.declared.call.Call.TheVariants as call
+use Rattle.iox_lanes_machine.specs.LanesParties.declared.call.Move.TheVariants.{Begin}
 use Rattle.iox_lanes_threads_rule.specs.declared.view.Port.{Port}
 use Rattle.iox_lanes_threads_ports.specs.Paces.{loan_steps, PublisherEnds}
 use Rattle.iox_lanes_threads_ports.specs.Ports.{PublisherStands}

@@ -1,42 +1,42 @@
 -- After a send the port knows header and user header in the slot, whose payload is as it was.
 use Rattle.std.proofs.Common.{ℕ, ◌≡◌, ◌+◌, ◌-◌, ◌*◌, ◌<◌, ◌≤◌, ◌⊎◌, ◌==◌, Bool, true, false, if◌then◌else◌, nat_lt, List, length, set, slice_get, slice_index, Option, Some, None, is_some, refl, sym, ◌∙◌, ap, subst, inl, inr, arith}
 use Rattle.std.proofs.lemmas.Bool.{cases_order, ltb-true, ltb-false}
-use Rattle.iox_lanes_ledger.specs.QueuesSteps.Access.{successor}
-use Rattle.iox_lanes_ledger.specs.QueuesSteps.declared.access.Word.{Word}
-use Rattle.iox_lanes_ledger.specs.QueuesSteps.declared.access.Access.{Access}
-use Rattle.iox_lanes_ledger.specs.QueuesSteps.declared.access.Access.TheVariants as own
-use Rattle.iox_lanes_ledger.specs.QueuesSteps.declared.order.PushAnswer.{PushAnswer}
-use Rattle.iox_lanes_ledger.specs.QueuesSteps.declared.order.PopAnswer.{PopAnswer}
-use Rattle.iox_lanes_ledger.specs.QueuesSteps.declared.order.PopAnswer.TheVariants.{Got, Saw}
-use Rattle.iox_lanes_ledger.specs.QueuesRefusing.Refusing as refusing
-use Rattle.iox_lanes_ledger.specs.QueuesRefusing.declared.pop.Pop as refusing_pop_type
-use Rattle.iox_lanes_ledger.specs.QueuesRings.Ends.{push_next, push_take}
-use Rattle.iox_lanes_ledger.specs.QueuesRings.declared.ends.Push.{Push}
-use Rattle.iox_lanes_ledger.specs.LanesWords.Numbers.{slot_words, slots_first, slot_word_number, number_of, words_of, IsSlotWord, IsWord}
-use Rattle.iox_lanes_ledger.specs.LanesWords.Table.{IsOfTable}
-use Rattle.iox_lanes_ledger.specs.LanesWords.Words.{cell_word, on_ring}
-use Rattle.iox_lanes_ledger.specs.LanesWords.declared.sizes.TableSizes.{TableSizes}
-use Rattle.iox_lanes_ledger.specs.LanesWords.declared.word.ConnectionRing.{ConnectionRing}
-use Rattle.iox_lanes_ledger.specs.LanesWords.declared.word.ConnectionRing.TheVariants.{Submission, Completion}
-use Rattle.iox_lanes_ledger.specs.LanesWords.declared.word.SlotWord.{SlotWord}
-use Rattle.iox_lanes_ledger.specs.LanesWords.declared.word.SlotWord.TheVariants.{Header, UserHeader, Payload}
-use Rattle.iox_lanes_ledger.specs.LanesWords.declared.word.SharedWord.TheVariants.{Ring, Slot}
-use Rattle.iox_lanes_ledger.specs.LanesCalls.Answers.{refusing_pop_answer, push_answer}
-use Rattle.iox_lanes_ledger.specs.LanesCalls.Publishing.{header_word, publisher_next, publisher_take, publisher_is_over, head_from, push_from, sweep_from, send_reclaimed, pushed, counted, nothing_sent}
-use Rattle.iox_lanes_ledger.specs.LanesCalls.declared.publisher.Delivery.{Delivery}
-use Rattle.iox_lanes_ledger.specs.LanesCalls.declared.publisher.PublisherCall.{PublisherCall}
-use Rattle.iox_lanes_ledger.specs.LanesCalls.declared.publisher.PublisherCall.TheVariants as publishing
-use Rattle.iox_lanes_ledger.specs.LanesCalls.declared.route.Route.{Route}
-use Rattle.iox_lanes_ledger.specs.LanesPublisher.Publishers.{words_of as call_words}
-use Rattle.iox_lanes_ledger.specs.LanesPublisher.declared.slot_book.LoanAnswer.{LoanAnswer}
-use Rattle.iox_lanes_ledger.specs.LanesParties.Parties.{PublisherLaneState, publisher_fits, publisher_begun, publisher_after, publisher_answer, head_of}
-use Rattle.iox_lanes_ledger.specs.LanesParties.Within.{IsPublishing}
-use Rattle.iox_lanes_ledger.specs.LanesParties.declared.call.Answer.{Answer}
-use Rattle.iox_lanes_ledger.specs.LanesParties.declared.call.Answer.TheVariants as answer
-use Rattle.iox_lanes_ledger.specs.LanesParties.declared.call.Call.TheVariants as call
-use Rattle.iox_lanes_ledger.specs.LanesParties.declared.call.Move.TheVariants.{Begin}
-use Rattle.iox_lanes_ledger.specs.LanesParties.declared.call.Party.{Party}
-use Rattle.iox_lanes_ledger.specs.LanesParties.declared.call.Party.TheVariants.{Publisher, Subscriber}
+use Rattle.iox_lanes_machine.specs.QueuesSteps.Access.{successor}
+use Rattle.iox_lanes_machine.specs.QueuesSteps.declared.access.Word.{Word}
+use Rattle.iox_lanes_machine.specs.QueuesSteps.declared.access.Access.{Access}
+use Rattle.iox_lanes_machine.specs.QueuesSteps.declared.access.Access.TheVariants as own
+use Rattle.iox_lanes_machine.specs.QueuesSteps.declared.order.PushAnswer.{PushAnswer}
+use Rattle.iox_lanes_machine.specs.QueuesSteps.declared.order.PopAnswer.{PopAnswer}
+use Rattle.iox_lanes_machine.specs.QueuesSteps.declared.order.PopAnswer.TheVariants.{Got, Saw}
+use Rattle.iox_lanes_machine.specs.QueuesRings.Refusing as refusing
+use Rattle.iox_lanes_machine.specs.QueuesRings.declared.refusing.pop.Pop as refusing_pop_type
+use Rattle.iox_lanes_machine.specs.QueuesRings.Ends.{push_next, push_take}
+use Rattle.iox_lanes_machine.specs.QueuesRings.declared.ends.Push.{Push}
+use Rattle.iox_lanes_machine.specs.LanesBase.Numbers.{slot_words, slots_first, slot_word_number, number_of, words_of, IsSlotWord, IsWord}
+use Rattle.iox_lanes_machine.specs.LanesBase.Table.{IsOfTable}
+use Rattle.iox_lanes_machine.specs.LanesBase.Words.{cell_word, on_ring}
+use Rattle.iox_lanes_machine.specs.LanesBase.declared.words.sizes.TableSizes.{TableSizes}
+use Rattle.iox_lanes_machine.specs.LanesBase.declared.words.word.ConnectionRing.{ConnectionRing}
+use Rattle.iox_lanes_machine.specs.LanesBase.declared.words.word.ConnectionRing.TheVariants.{Submission, Completion}
+use Rattle.iox_lanes_machine.specs.LanesBase.declared.words.word.SlotWord.{SlotWord}
+use Rattle.iox_lanes_machine.specs.LanesBase.declared.words.word.SlotWord.TheVariants.{Header, UserHeader, Payload}
+use Rattle.iox_lanes_machine.specs.LanesBase.declared.words.word.SharedWord.TheVariants.{Ring, Slot}
+use Rattle.iox_lanes_machine.specs.LanesBase.Answers.{refusing_pop_answer, push_answer}
+use Rattle.iox_lanes_machine.specs.LanesBase.Publishing.{header_word, publisher_next, publisher_take, publisher_is_over, head_from, push_from, sweep_from, send_reclaimed, pushed, counted, nothing_sent}
+use Rattle.iox_lanes_machine.specs.LanesBase.declared.calls.publisher.Delivery.{Delivery}
+use Rattle.iox_lanes_machine.specs.LanesBase.declared.calls.publisher.PublisherCall.{PublisherCall}
+use Rattle.iox_lanes_machine.specs.LanesBase.declared.calls.publisher.PublisherCall.TheVariants as publishing
+use Rattle.iox_lanes_machine.specs.LanesBase.declared.calls.route.Route.{Route}
+use Rattle.iox_lanes_machine.specs.LanesParties.Publishers.{words_of as call_words}
+use Rattle.iox_lanes_machine.specs.LanesParties.declared.publisher.slot_book.LoanAnswer.{LoanAnswer}
+use Rattle.iox_lanes_machine.specs.LanesParties.Parties.{PublisherLaneState, publisher_fits, publisher_begun, publisher_after, publisher_answer, head_of}
+use Rattle.iox_lanes_machine.specs.LanesParties.Within.{IsPublishing}
+use Rattle.iox_lanes_machine.specs.LanesParties.declared.call.Answer.{Answer}
+use Rattle.iox_lanes_machine.specs.LanesParties.declared.call.Answer.TheVariants as answer
+use Rattle.iox_lanes_machine.specs.LanesParties.declared.call.Call.TheVariants as call
+use Rattle.iox_lanes_machine.specs.LanesParties.declared.call.Move.TheVariants.{Begin}
+use Rattle.iox_lanes_machine.specs.LanesParties.declared.call.Party.{Party}
+use Rattle.iox_lanes_machine.specs.LanesParties.declared.call.Party.TheVariants.{Publisher, Subscriber}
 use Rattle.iox_lanes_threads_rule.specs.Steps.{known_lost}
 use Rattle.iox_lanes_threads_rule.specs.Rule.{held}
 use Rattle.iox_lanes_threads_rule.specs.Acts.{stepped, ToldBy}

@@ -1,20 +1,20 @@
 -- A publisher's pops and pushes on its rings, each at once.
 use Rattle.std.proofs.Common.{ℕ, ◌≡◌, ◌-◌, ◌<◌, ◌==◌, Bool, true, false, if◌then◌else◌, nat_lt, ap}
 use Rattle.std.proofs.lemmas.Bool.{false_from_ne_true, eqb-true, lt-ltb}
-use Rattle.iox_lanes_ledger.specs.QueuesSteps.Access.{successor}
-use Rattle.iox_lanes_ledger.specs.QueuesSteps.declared.order.PushAnswer.TheVariants.{Refused}
-use Rattle.iox_lanes_ledger.specs.QueuesRefusing.Refusing as refusing
-use Rattle.iox_lanes_ledger.specs.QueuesRefusing.declared.pop.Pop.TheVariants as refusing_pop
-use Rattle.iox_lanes_ledger.specs.QueuesRefusing.declared.push.Push.TheVariants as refusing_push
-use Rattle.iox_lanes_ledger.specs.QueuesRings.declared.ends.Push.{Push}
-use Rattle.iox_lanes_ledger.specs.QueuesRings.declared.ends.Push.TheVariants as ring_push
-use Rattle.iox_lanes_ledger.specs.LanesCalls.Answers.{refusing_pop_answer, push_answer}
-use Rattle.iox_lanes_ledger.specs.LanesCalls.Publishing.{loan_reclaimed, send_reclaimed, pushed, taken_back}
-use Rattle.iox_lanes_ledger.specs.LanesCalls.declared.publisher.Delivery.{Delivery}
-use Rattle.iox_lanes_ledger.specs.LanesCalls.declared.publisher.PublisherCall.TheVariants as publishing
-use Rattle.iox_lanes_ledger.specs.LanesCalls.declared.route.Route.{Route}
-use Rattle.iox_lanes_ledger.specs.LanesPublisher.Keeping.{changed}
-use Rattle.iox_lanes_ledger.specs.LanesParties.Parties.{PublisherLaneState, publisher_after}
+use Rattle.iox_lanes_machine.specs.QueuesSteps.Access.{successor}
+use Rattle.iox_lanes_machine.specs.QueuesSteps.declared.order.PushAnswer.TheVariants.{Refused}
+use Rattle.iox_lanes_machine.specs.QueuesRings.Refusing as refusing
+use Rattle.iox_lanes_machine.specs.QueuesRings.declared.refusing.pop.Pop.TheVariants as refusing_pop
+use Rattle.iox_lanes_machine.specs.QueuesRings.declared.refusing.push.Push.TheVariants as refusing_push
+use Rattle.iox_lanes_machine.specs.QueuesRings.declared.ends.Push.{Push}
+use Rattle.iox_lanes_machine.specs.QueuesRings.declared.ends.Push.TheVariants as ring_push
+use Rattle.iox_lanes_machine.specs.LanesBase.Answers.{refusing_pop_answer, push_answer}
+use Rattle.iox_lanes_machine.specs.LanesBase.Publishing.{loan_reclaimed, send_reclaimed, pushed, taken_back}
+use Rattle.iox_lanes_machine.specs.LanesBase.declared.calls.publisher.Delivery.{Delivery}
+use Rattle.iox_lanes_machine.specs.LanesBase.declared.calls.publisher.PublisherCall.TheVariants as publishing
+use Rattle.iox_lanes_machine.specs.LanesBase.declared.calls.route.Route.{Route}
+use Rattle.iox_lanes_machine.specs.LanesParties.PublisherKeeping.{changed}
+use Rattle.iox_lanes_machine.specs.LanesParties.Parties.{PublisherLaneState, publisher_after}
 use Rattle.iox_lanes_threads_ports.specs.Strides.{called}
 
 pub unequal : (a b : ℕ) → (a ≡ b → ⊥) → (a == b) ≡ false

@@ -1,21 +1,21 @@
 -- A port that goes on step by step.
 use Rattle.std.proofs.Common.{ℕ, ◌≡◌, ◌+◌, ◌<◌, ◌≤◌, ◌⊎◌, true, false, List, Option, Some, None, is_some, refl, sym, ◌∙◌, ap, subst, inl, inr, arith}
 use Rattle.atomic_table.specs.Table.{Me}
-use Rattle.iox_lanes_ledger.specs.LanesWords.Numbers.{IsSmall}
-use Rattle.iox_lanes_ledger.specs.LanesWords.declared.sizes.TableSizes.{TableSizes}
-use Rattle.iox_lanes_ledger.specs.LanesCalls.Publishing.{publisher_next, publisher_is_over, publisher_change}
-use Rattle.iox_lanes_ledger.specs.LanesCalls.declared.route.Route.{Route}
-use Rattle.iox_lanes_ledger.specs.LanesCalls.Subscribing.{subscriber_next, subscriber_is_over}
-use Rattle.iox_lanes_ledger.specs.LanesCalls.declared.publisher.PublisherCall.{PublisherCall}
-use Rattle.iox_lanes_ledger.specs.LanesCalls.declared.publisher.PublisherCall.TheVariants as publishing
-use Rattle.iox_lanes_ledger.specs.LanesCalls.declared.subscriber.SubscriberCall.{SubscriberCall}
-use Rattle.iox_lanes_ledger.specs.LanesCalls.declared.subscriber.SubscriberCall.TheVariants as subscribing
-use Rattle.iox_lanes_ledger.specs.LanesWords.declared.access.SharedAccess.{SharedAccess}
-use Rattle.iox_lanes_ledger.specs.LanesWords.declared.access.SharedAccess.TheVariants.{Local}
-use Rattle.iox_lanes_ledger.specs.LanesParties.Parties.{PublisherLaneState, SubscriberLaneState, publisher_after, publisher_answer, publisher_fits, subscriber_after}
-use Rattle.iox_lanes_ledger.specs.LanesParties.Within.{IsPublisher}
-use Rattle.iox_lanes_ledger.specs.LanesParties.declared.call.Answer.{Answer}
-use Rattle.iox_lanes_ledger.specs.LanesPublisher.Publishers.{words_of as call_words}
+use Rattle.iox_lanes_machine.specs.LanesBase.Numbers.{IsSmall}
+use Rattle.iox_lanes_machine.specs.LanesBase.declared.words.sizes.TableSizes.{TableSizes}
+use Rattle.iox_lanes_machine.specs.LanesBase.Publishing.{publisher_next, publisher_is_over, publisher_change}
+use Rattle.iox_lanes_machine.specs.LanesBase.declared.calls.route.Route.{Route}
+use Rattle.iox_lanes_machine.specs.LanesBase.Subscribing.{subscriber_next, subscriber_is_over}
+use Rattle.iox_lanes_machine.specs.LanesBase.declared.calls.publisher.PublisherCall.{PublisherCall}
+use Rattle.iox_lanes_machine.specs.LanesBase.declared.calls.publisher.PublisherCall.TheVariants as publishing
+use Rattle.iox_lanes_machine.specs.LanesBase.declared.calls.subscriber.SubscriberCall.{SubscriberCall}
+use Rattle.iox_lanes_machine.specs.LanesBase.declared.calls.subscriber.SubscriberCall.TheVariants as subscribing
+use Rattle.iox_lanes_machine.specs.LanesBase.declared.words.access.SharedAccess.{SharedAccess}
+use Rattle.iox_lanes_machine.specs.LanesBase.declared.words.access.SharedAccess.TheVariants.{Local}
+use Rattle.iox_lanes_machine.specs.LanesParties.Parties.{PublisherLaneState, SubscriberLaneState, publisher_after, publisher_answer, publisher_fits, subscriber_after}
+use Rattle.iox_lanes_machine.specs.LanesParties.Within.{IsPublisher}
+use Rattle.iox_lanes_machine.specs.LanesParties.declared.call.Answer.{Answer}
+use Rattle.iox_lanes_machine.specs.LanesParties.Publishers.{words_of as call_words}
 use Rattle.iox_lanes_threads_rule.specs.declared.service.Service.{Service}
 use Rattle.iox_lanes_threads_rule.specs.Acts.{single, port_of, stepped, ToldBy}
 use Rattle.iox_lanes_threads_rule.specs.declared.view.Port.{Port}
@@ -26,8 +26,8 @@ use Rattle.iox_lanes_threads_ports.specs.Pace.{IsGoing, steps_to_go, StartsWithi
 use Rattle.iox_lanes_threads_ports.specs.Paces.{back_at, steps_in, taken_in, PublisherEnds, StaysInside, PublisherRuns}
 use Rattle.iox_lanes_threads_ports.specs.Courses.PublisherGoes.{stays as publisher_stays, goes as publisher_goes}
 use Rattle.iox_lanes_threads_ports.specs.Courses.SubscriberGoes.{stays as subscriber_stays, goes as subscriber_goes}
-use Rattle.iox_lanes_ledger.specs.LanesParties.declared.call.Move.{Move}
-use Rattle.iox_lanes_ledger.specs.LanesParties.declared.call.Move.TheVariants.{Begin, GoOn}
+use Rattle.iox_lanes_machine.specs.LanesParties.declared.call.Move.{Move}
+use Rattle.iox_lanes_machine.specs.LanesParties.declared.call.Move.TheVariants.{Begin, GoOn}
 use Rattle.iox_lanes_threads_ports.specs.Ports.{PublisherStands, SubscriberStands}
 use Rattle.iox_lanes_threads_ports.specs.Values.{publisher_begins}
 use Rattle.iox_lanes_threads_ports.proofs.Connections.{few_connections, small_connections}

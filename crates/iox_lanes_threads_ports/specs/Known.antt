@@ -1,20 +1,20 @@
 -- What a port knows of the words of a slot.
 use Rattle.std.specs.Prelude.{ℕ, ◌≡◌, ◌+◌, ◌<◌, ◌%◌, Bool, true, false, not, List, length, slice_get, slice_index, Some}
-use Rattle.iox_lanes_ledger.specs.QueuesSteps.Access.{successor}
-use Rattle.iox_lanes_ledger.specs.QueuesSteps.declared.access.Word.TheVariants.{Write, Cell}
-use Rattle.iox_lanes_ledger.specs.QueuesRings.declared.ends.RingKind.TheVariants.{Refusing}
-use Rattle.iox_lanes_ledger.specs.LanesWords.declared.word.ConnectionRing.{ConnectionRing}
-use Rattle.iox_lanes_ledger.specs.LanesWords.declared.word.ConnectionRing.TheVariants.{Submission, Completion}
-use Rattle.iox_lanes_ledger.specs.LanesWords.declared.word.SharedWord.{SharedWord}
-use Rattle.iox_lanes_ledger.specs.LanesWords.declared.word.SharedWord.TheVariants.{Ring, Slot}
-use Rattle.iox_lanes_ledger.specs.LanesWords.declared.word.SlotWord.TheVariants.{Payload}
-use Rattle.iox_lanes_ledger.specs.LanesCalls.Publishing.{header_word}
-use Rattle.iox_lanes_ledger.specs.LanesCalls.Subscribing.{word_at}
-use Rattle.iox_lanes_ledger.specs.LanesCalls.declared.publisher.Delivery.{Delivery}
-use Rattle.iox_lanes_ledger.specs.LanesCalls.declared.route.Route.{Route}
-use Rattle.iox_lanes_ledger.specs.LanesCalls.declared.subscriber.SlotExtent.{SlotExtent}
-use Rattle.iox_lanes_ledger.specs.Uses.{total}
-use Rattle.iox_lanes_ledger.specs.LanesParties.Parties.{SubscriberLaneState, place_of}
+use Rattle.iox_lanes_machine.specs.QueuesSteps.Access.{successor}
+use Rattle.iox_lanes_machine.specs.QueuesSteps.declared.access.Word.TheVariants.{Write, Cell}
+use Rattle.iox_lanes_machine.specs.QueuesRings.declared.ends.RingKind.TheVariants.{Refusing}
+use Rattle.iox_lanes_machine.specs.LanesBase.declared.words.word.ConnectionRing.{ConnectionRing}
+use Rattle.iox_lanes_machine.specs.LanesBase.declared.words.word.ConnectionRing.TheVariants.{Submission, Completion}
+use Rattle.iox_lanes_machine.specs.LanesBase.declared.words.word.SharedWord.{SharedWord}
+use Rattle.iox_lanes_machine.specs.LanesBase.declared.words.word.SharedWord.TheVariants.{Ring, Slot}
+use Rattle.iox_lanes_machine.specs.LanesBase.declared.words.word.SlotWord.TheVariants.{Payload}
+use Rattle.iox_lanes_machine.specs.LanesBase.Publishing.{header_word}
+use Rattle.iox_lanes_machine.specs.LanesBase.Subscribing.{word_at}
+use Rattle.iox_lanes_machine.specs.LanesBase.declared.calls.publisher.Delivery.{Delivery}
+use Rattle.iox_lanes_machine.specs.LanesBase.declared.calls.route.Route.{Route}
+use Rattle.iox_lanes_machine.specs.LanesBase.declared.calls.subscriber.SlotExtent.{SlotExtent}
+use Rattle.iox_lanes_machine.specs.LedgerUses.{total}
+use Rattle.iox_lanes_machine.specs.LanesParties.Parties.{SubscriberLaneState, place_of}
 use Rattle.iox_lanes_threads_rule.specs.declared.view.Port.{Port}
 use Rattle.iox_lanes_threads_ports.specs.Ends.{knows}
 

@@ -1,12 +1,12 @@
 -- How many steps a publisher's call makes, and how it ends.
 use Rattle.std.specs.Prelude.{ℕ, ◌≡◌, ◌+◌, ◌*◌, ◌<◌, ◌==◌, if◌then◌else◌, true, slice_get, Option, None, Some}
-use Rattle.iox_lanes_ledger.specs.LanesWords.declared.sizes.TableSizes.{TableSizes}
-use Rattle.iox_lanes_ledger.specs.LanesCalls.Publishing.{publisher_is_over, publisher_change}
-use Rattle.iox_lanes_ledger.specs.LanesCalls.declared.publisher.PublisherChange.{PublisherChange}
-use Rattle.iox_lanes_ledger.specs.LanesCalls.declared.publisher.PublisherChange.TheVariants as change
-use Rattle.iox_lanes_ledger.specs.LanesCalls.declared.route.Route.{Route}
-use Rattle.iox_lanes_ledger.specs.LanesParties.Parties.{PublisherLaneState, publisher_after, publisher_answer}
-use Rattle.iox_lanes_ledger.specs.LanesParties.declared.call.Answer.{Answer}
+use Rattle.iox_lanes_machine.specs.LanesBase.declared.words.sizes.TableSizes.{TableSizes}
+use Rattle.iox_lanes_machine.specs.LanesBase.Publishing.{publisher_is_over, publisher_change}
+use Rattle.iox_lanes_machine.specs.LanesBase.declared.calls.publisher.PublisherChange.{PublisherChange}
+use Rattle.iox_lanes_machine.specs.LanesBase.declared.calls.publisher.PublisherChange.TheVariants as change
+use Rattle.iox_lanes_machine.specs.LanesBase.declared.calls.route.Route.{Route}
+use Rattle.iox_lanes_machine.specs.LanesParties.Parties.{PublisherLaneState, publisher_after, publisher_answer}
+use Rattle.iox_lanes_machine.specs.LanesParties.declared.call.Answer.{Answer}
 use Rattle.iox_lanes_threads_rule.specs.declared.view.Port.{Port}
 use Rattle.iox_lanes_threads_ports.specs.Courses.{PublisherGoes}
 use Rattle.iox_lanes_threads_ports.specs.Courses.PublisherGoes.{stays, goes}

@@ -1,19 +1,19 @@
 //! Accesses of a publisher ahead of its lane, which makes up for them at once.
 ghost use Rattle.std.specs.Prelude.{◌≡◌, ◌+◌, ℕ};
-ghost use Rattle.iox_lanes_ledger.specs.LanesWords.Numbers.{words_of, IsSmall};
-ghost use Rattle.iox_lanes_ledger.specs.LanesWords.declared.access.SharedAccess.TheVariants as access;
-ghost use Rattle.iox_lanes_ledger.specs.LanesCalls.Publishing.{publisher_next};
-ghost use Rattle.iox_lanes_ledger.specs.LanesParties.Parties.{PublisherLaneState, publisher_after};
+ghost use Rattle.iox_lanes_machine.specs.LanesBase.Numbers.{words_of, IsSmall};
+ghost use Rattle.iox_lanes_machine.specs.LanesBase.declared.words.access.SharedAccess.TheVariants as access;
+ghost use Rattle.iox_lanes_machine.specs.LanesBase.Publishing.{publisher_next};
+ghost use Rattle.iox_lanes_machine.specs.LanesParties.Parties.{PublisherLaneState, publisher_after};
 ghost use Rattle.iox_lanes_threads_rule.specs.Acts.{single, port_of, stepped, ToldBy};
 ghost use Rattle.iox_lanes_threads_rule.specs.declared.view.Port.{Port};
 ghost use Rattle.iox_lanes_threads_ports.specs.Courses.{publisher_party};
 ghost use Rattle.iox_lanes_threads_ports.specs.Ports.{PublisherStands};
 ghost use Rattle.iox_lanes_threads_ports.specs.Strides.{called, PublisherStrode};
 
-use iox_lanes_calls::PublisherCall;
+use iox_lanes_base::calls::PublisherCall;
+use iox_lanes_base::words::{SharedWord, TableSizes};
 use iox_lanes_parties::PublisherLane;
 use iox_lanes_threads_rule::{Doing, Opening, WordSeat, Words, load, store};
-use iox_lanes_words::{SharedWord, TableSizes};
 use std::marker::Brand;
 
 fn load_as<K: Opening, M: Doing>(

@@ -1,8 +1,8 @@
 //! A publisher that steps in threads.
 ghost use Rattle.std.specs.Prelude.{◌≡◌, true, false, length, is_some, IfOk, IfSome};
-ghost use Rattle.iox_lanes_ledger.specs.LanesWords.Numbers.{IsSmall};
+ghost use Rattle.iox_lanes_machine.specs.LanesBase.Numbers.{IsSmall};
 ghost use Rattle.std.specs.List.{All};
-ghost use Rattle.iox_lanes_ledger.specs.LanesParties.Parties.{head_of, with_user_header, publisher_fits};
+ghost use Rattle.iox_lanes_machine.specs.LanesParties.Parties.{head_of, with_user_header, publisher_fits};
 ghost use Rattle.iox_lanes_threads_rule.specs.Acts.{single, port_of};
 ghost use Rattle.iox_lanes_threads_ports.specs.Known.{KeepsPayload, KnowsHead, KnowsPayload, KnowsSent};
 ghost use Rattle.iox_lanes_threads_ports.specs.Ports.{PublisherStands};
@@ -11,11 +11,11 @@ ghost use Rattle.iox_lanes_threads_ports.specs.Paces.{sweep_steps, loan_steps, w
 ghost use Rattle.iox_lanes_threads_ports.specs.Values.{IsSeated, HasRoom, Asks, PublisherDoes, publisher_begins, SamePublisher, lent_of, sent_of, Loans, Sends, Writes};
 
 use crate::publishing::run;
-use iox_lanes_calls::Delivery;
+use iox_lanes_base::calls::Delivery;
+use iox_lanes_base::words::TableSizes;
+use iox_lanes_parties::publisher::LoanAnswer;
 use iox_lanes_parties::{Answer, Call, Move, PublisherLane};
-use iox_lanes_publisher::LoanAnswer;
 use iox_lanes_threads_rule::{Opening, WordSeat, Words};
-use iox_lanes_words::TableSizes;
 use std::alloc::{AllocError, Global};
 use std::marker::Model;
 

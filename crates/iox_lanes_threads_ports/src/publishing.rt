@@ -1,8 +1,8 @@
 //! The steps of a publisher's call.
 ghost use Rattle.std.specs.Prelude.{◌≡◌, Some, is_some};
-ghost use Rattle.iox_lanes_ledger.specs.LanesWords.Numbers.{words_of, IsSmall};
-ghost use Rattle.iox_lanes_ledger.specs.LanesCalls.Publishing.{publisher_is_over};
-ghost use Rattle.iox_lanes_ledger.specs.LanesParties.Parties.{publisher_answer};
+ghost use Rattle.iox_lanes_machine.specs.LanesBase.Numbers.{words_of, IsSmall};
+ghost use Rattle.iox_lanes_machine.specs.LanesBase.Publishing.{publisher_is_over};
+ghost use Rattle.iox_lanes_machine.specs.LanesParties.Parties.{publisher_answer};
 ghost use Rattle.iox_lanes_threads_rule.specs.Acts.{single, port_of};
 ghost use Rattle.iox_lanes_threads_ports.specs.Courses.{publisher_party, PublisherSteps};
 ghost use Rattle.iox_lanes_threads_ports.specs.Pace.{StartsWithin};
@@ -10,9 +10,9 @@ ghost use Rattle.iox_lanes_threads_ports.specs.Paces.{PublisherRuns};
 ghost use Rattle.iox_lanes_threads_ports.specs.Ports.{PublisherStands};
 
 use crate::strides::stride;
+use iox_lanes_base::words::TableSizes;
 use iox_lanes_parties::{Answer, PublisherLane};
 use iox_lanes_threads_rule::{Doing, Opening, WordSeat, Words, act};
-use iox_lanes_words::TableSizes;
 use std::marker::Brand;
 
 fn step_as<K: Opening, M: Doing>(

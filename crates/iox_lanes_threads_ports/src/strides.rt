@@ -1,9 +1,9 @@
 //! Several steps of a publisher's call at once: its lane makes up for them behind the last one.
 ghost use Rattle.std.specs.Prelude.{◌≡◌, ◌<◌, ◌≤◌, true, false, length, slice_get, Some};
-ghost use Rattle.iox_lanes_ledger.specs.LanesWords.Numbers.{words_of, IsSmall};
-ghost use Rattle.iox_lanes_ledger.specs.LanesCalls.Publishing.{header_word, publisher_is_over};
-ghost use Rattle.iox_lanes_ledger.specs.LanesCalls.declared.publisher.PublisherCall.TheVariants as call;
-ghost use Rattle.iox_lanes_ledger.specs.LanesPublisher.Publishers.{words_of as call_words};
+ghost use Rattle.iox_lanes_machine.specs.LanesBase.Numbers.{words_of, IsSmall};
+ghost use Rattle.iox_lanes_machine.specs.LanesBase.Publishing.{header_word, publisher_is_over};
+ghost use Rattle.iox_lanes_machine.specs.LanesBase.declared.calls.publisher.PublisherCall.TheVariants as call;
+ghost use Rattle.iox_lanes_machine.specs.LanesParties.Publishers.{words_of as call_words};
 ghost use Rattle.iox_lanes_threads_rule.specs.Acts.{single, port_of};
 ghost use Rattle.iox_lanes_threads_ports.specs.Ports.{PublisherStands};
 ghost use Rattle.iox_lanes_threads_ports.specs.Strides.{PublisherStrode};
@@ -11,13 +11,13 @@ ghost use Rattle.iox_lanes_threads_ports.specs.Strides.{PublisherStrode};
 use crate::ahead::store_ahead;
 use crate::publishing::step;
 use crate::ring_strides::{push, push_over, sweep, take_back};
-use iox_lanes_calls::PublisherCall;
+use iox_lanes_base::calls::PublisherCall;
+use iox_lanes_base::words::{SharedWord, SlotWord, TableSizes};
 use iox_lanes_parties::PublisherLane;
 use iox_lanes_threads_rule::{Opening, WordSeat, Words};
-use iox_lanes_words::{SharedWord, SlotWord, TableSizes};
-use iox_queues_overflowing::Push as OverflowingPush;
-use iox_queues_refusing::{Pop as RefusingPop, Push as RefusingPush};
 use iox_queues_rings::Push;
+use iox_queues_rings::overflowing::Push as OverflowingPush;
+use iox_queues_rings::refusing::{Pop as RefusingPop, Push as RefusingPush};
 
 // Whether a list begins with a number.
 fn begins_with(list: &[u64], number: u64) -> bool

@@ -1,7 +1,7 @@
 //! A subscriber that steps in threads.
 ghost use Rattle.std.specs.Prelude.{◌≡◌, ◌+◌, ◌||◌, true, false, length, None, Some};
-ghost use Rattle.iox_lanes_ledger.specs.LanesCalls.Subscribing.{subscriber_is_idle, subscriber_is_over};
-ghost use Rattle.iox_lanes_ledger.specs.LanesParties.Parties.{subscriber_begun, words_read};
+ghost use Rattle.iox_lanes_machine.specs.LanesBase.Subscribing.{subscriber_is_idle, subscriber_is_over};
+ghost use Rattle.iox_lanes_machine.specs.LanesParties.Parties.{subscriber_begun, words_read};
 ghost use Rattle.iox_lanes_threads_rule.specs.Acts.{single, port_of};
 ghost use Rattle.iox_lanes_threads_ports.specs.Courses.{SubscriberEnds};
 ghost use Rattle.iox_lanes_threads_ports.specs.Known.{KnowsRead, KnowsGivenBack, KeepsGivenBack};
@@ -9,10 +9,10 @@ ghost use Rattle.iox_lanes_threads_ports.specs.Ports.{SubscriberStands};
 ghost use Rattle.iox_lanes_threads_ports.specs.Values.{IsSeated, IsBetween, SameSubscriber, received_of, released_of, settled, Releases, Reads};
 
 use crate::subscribing::{finish, run_on};
-use iox_lanes_calls::Receipt;
+use iox_lanes_base::calls::Receipt;
+use iox_lanes_base::words::TableSizes;
 use iox_lanes_parties::{Answer, Call, Move, SubscriberLane};
 use iox_lanes_threads_rule::{Opening, WordSeat, Words};
-use iox_lanes_words::TableSizes;
 use std::marker::Model;
 use std::sync::Wait;
 
@@ -28,7 +28,7 @@ pub struct ThreadedSubscriber {
 impl Model for ThreadedSubscriber {
     ghost use Rattle.iox_lanes_threads_rule.specs.Acts.{port_of};
     ghost use Rattle.iox_lanes_threads_ports.specs.Ports.{SubscriberStands};
-    ghost use Rattle.iox_lanes_ledger.specs.LanesParties.Parties.{words_read};
+    ghost use Rattle.iox_lanes_machine.specs.LanesParties.Parties.{words_read};
     ghost use Rattle.iox_lanes_threads_ports.specs.Values.{SubscriberPort, IsSeated, IsBetween, settled};
 
     ghost Value = { SubscriberPort };

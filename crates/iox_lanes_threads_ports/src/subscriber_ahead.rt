@@ -1,19 +1,19 @@
 //! Accesses of a subscriber ahead of its lane, which makes up for them at once.
 ghost use Rattle.std.specs.Prelude.{◌≡◌};
-ghost use Rattle.iox_lanes_ledger.specs.LanesWords.Numbers.{words_of, IsSmall};
-ghost use Rattle.iox_lanes_ledger.specs.LanesWords.declared.access.SharedAccess.TheVariants as access;
-ghost use Rattle.iox_lanes_ledger.specs.LanesCalls.Subscribing.{subscriber_next};
-ghost use Rattle.iox_lanes_ledger.specs.LanesParties.Parties.{SubscriberLaneState, subscriber_after};
+ghost use Rattle.iox_lanes_machine.specs.LanesBase.Numbers.{words_of, IsSmall};
+ghost use Rattle.iox_lanes_machine.specs.LanesBase.declared.words.access.SharedAccess.TheVariants as access;
+ghost use Rattle.iox_lanes_machine.specs.LanesBase.Subscribing.{subscriber_next};
+ghost use Rattle.iox_lanes_machine.specs.LanesParties.Parties.{SubscriberLaneState, subscriber_after};
 ghost use Rattle.iox_lanes_threads_rule.specs.Acts.{single, port_of, stepped, ToldBy};
 ghost use Rattle.iox_lanes_threads_rule.specs.declared.view.Port.{Port};
 ghost use Rattle.iox_lanes_threads_ports.specs.Courses.{subscriber_party};
 ghost use Rattle.iox_lanes_threads_ports.specs.Ports.{SubscriberStands};
 ghost use Rattle.iox_lanes_threads_ports.specs.Strides.{subscriber_called, SubscriberStrode};
 
-use iox_lanes_calls::SubscriberCall;
+use iox_lanes_base::calls::SubscriberCall;
+use iox_lanes_base::words::{SharedWord, TableSizes};
 use iox_lanes_parties::SubscriberLane;
 use iox_lanes_threads_rule::{Doing, Opening, WordSeat, Words, load, store};
-use iox_lanes_words::{SharedWord, TableSizes};
 use std::marker::Brand;
 
 fn load_as<K: Opening, M: Doing>(

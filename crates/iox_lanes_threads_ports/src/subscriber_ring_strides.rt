@@ -1,23 +1,23 @@
 //! A subscriber's pops and pushes on its rings, each at once: its lane makes up for one behind its last access.
 ghost use Rattle.std.specs.Prelude.{◌≡◌, Bool};
-ghost use Rattle.iox_lanes_ledger.specs.QueuesRefusing.declared.pop.Pop.TheVariants as refusing_pop;
-ghost use Rattle.iox_lanes_ledger.specs.QueuesRefusing.declared.push.Push.TheVariants as refusing_push;
-ghost use Rattle.iox_lanes_ledger.specs.QueuesOverflowing.declared.pop.Pop.TheVariants as overflowing_pop;
-ghost use Rattle.iox_lanes_ledger.specs.QueuesRings.declared.ends.Pop.TheVariants as ring_pop;
-ghost use Rattle.iox_lanes_ledger.specs.LanesWords.Numbers.{words_of, IsSmall};
-ghost use Rattle.iox_lanes_ledger.specs.LanesCalls.declared.subscriber.SubscriberCall.TheVariants as call;
+ghost use Rattle.iox_lanes_machine.specs.QueuesRings.declared.refusing.pop.Pop.TheVariants as refusing_pop;
+ghost use Rattle.iox_lanes_machine.specs.QueuesRings.declared.refusing.push.Push.TheVariants as refusing_push;
+ghost use Rattle.iox_lanes_machine.specs.QueuesRings.declared.overflowing.pop.Pop.TheVariants as overflowing_pop;
+ghost use Rattle.iox_lanes_machine.specs.QueuesRings.declared.ends.Pop.TheVariants as ring_pop;
+ghost use Rattle.iox_lanes_machine.specs.LanesBase.Numbers.{words_of, IsSmall};
+ghost use Rattle.iox_lanes_machine.specs.LanesBase.declared.calls.subscriber.SubscriberCall.TheVariants as call;
 ghost use Rattle.iox_lanes_threads_rule.specs.Acts.{single, port_of};
 ghost use Rattle.iox_lanes_threads_ports.specs.Ports.{SubscriberStands};
 ghost use Rattle.iox_lanes_threads_ports.specs.Strides.{SubscriberStrode};
 
 use crate::subscriber_ahead::{load_ahead, store_ahead};
-use iox_lanes_calls::{Route, SubscriberCall};
+use iox_lanes_base::calls::{Route, SubscriberCall};
+use iox_lanes_base::words::{ConnectionRing, SharedWord, TableSizes};
 use iox_lanes_parties::SubscriberLane;
 use iox_lanes_threads_rule::{Opening, WordSeat, Words};
-use iox_lanes_words::{ConnectionRing, SharedWord, TableSizes};
-use iox_queues_overflowing::Pop as OverflowingPop;
-use iox_queues_refusing::{Pop as RefusingPop, Push as RefusingPush};
 use iox_queues_rings::Pop;
+use iox_queues_rings::overflowing::Pop as OverflowingPop;
+use iox_queues_rings::refusing::{Pop as RefusingPop, Push as RefusingPush};
 use iox_queues_steps::Word;
 
 /// Takes a message out of the ring of a connection that refuses, or finds none.

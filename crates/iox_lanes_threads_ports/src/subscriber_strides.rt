@@ -1,8 +1,8 @@
 //! Several steps of a subscriber's call at once: its lane makes up for them behind the last one.
 ghost use Rattle.std.specs.Prelude.{◌≡◌};
-ghost use Rattle.iox_lanes_ledger.specs.LanesWords.Numbers.{words_of, IsSmall};
-ghost use Rattle.iox_lanes_ledger.specs.LanesCalls.Subscribing.{word_at};
-ghost use Rattle.iox_lanes_ledger.specs.LanesCalls.declared.subscriber.SubscriberCall.TheVariants as call;
+ghost use Rattle.iox_lanes_machine.specs.LanesBase.Numbers.{words_of, IsSmall};
+ghost use Rattle.iox_lanes_machine.specs.LanesBase.Subscribing.{word_at};
+ghost use Rattle.iox_lanes_machine.specs.LanesBase.declared.calls.subscriber.SubscriberCall.TheVariants as call;
 ghost use Rattle.iox_lanes_threads_rule.specs.Acts.{single, port_of};
 ghost use Rattle.iox_lanes_threads_ports.specs.Ports.{SubscriberStands};
 ghost use Rattle.iox_lanes_threads_ports.specs.Strides.{SubscriberStrode};
@@ -11,14 +11,14 @@ ghost use Rattle.iox_lanes_threads_ports.specs.Values.{IsShort};
 use crate::subscriber_ahead::load_ahead;
 use crate::subscriber_ring_strides::{give_back, pop, pop_over};
 use crate::subscribing::step;
-use iox_lanes_calls::SubscriberCall;
-use iox_lanes_calls::subscriber::SlotExtent;
+use iox_lanes_base::calls::SubscriberCall;
+use iox_lanes_base::calls::subscriber::SlotExtent;
+use iox_lanes_base::words::{SharedWord, SlotWord, TableSizes};
 use iox_lanes_parties::SubscriberLane;
 use iox_lanes_threads_rule::{Opening, WordSeat, Words};
-use iox_lanes_words::{SharedWord, SlotWord, TableSizes};
-use iox_queues_overflowing::Pop as OverflowingPop;
-use iox_queues_refusing::{Pop as RefusingPop, Push as RefusingPush};
 use iox_queues_rings::Pop;
+use iox_queues_rings::overflowing::Pop as OverflowingPop;
+use iox_queues_rings::refusing::{Pop as RefusingPop, Push as RefusingPush};
 
 // A word of header, user header and payload, which lie one behind the other.
 fn word_at(extent: SlotExtent, word: u64) -> SlotWord

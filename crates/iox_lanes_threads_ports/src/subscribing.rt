@@ -1,16 +1,16 @@
 //! The steps of a subscriber's call.
 ghost use Rattle.std.specs.Prelude.{◌≡◌, true};
-ghost use Rattle.iox_lanes_ledger.specs.LanesWords.Numbers.{words_of, IsSmall};
-ghost use Rattle.iox_lanes_ledger.specs.LanesCalls.Subscribing.{subscriber_is_over};
+ghost use Rattle.iox_lanes_machine.specs.LanesBase.Numbers.{words_of, IsSmall};
+ghost use Rattle.iox_lanes_machine.specs.LanesBase.Subscribing.{subscriber_is_over};
 ghost use Rattle.iox_lanes_threads_rule.specs.Acts.{single, port_of};
 ghost use Rattle.iox_lanes_threads_ports.specs.Courses.{subscriber_party, SubscriberSteps, SubscriberGoes};
 ghost use Rattle.iox_lanes_threads_ports.specs.Ports.{SubscriberStands};
 ghost use Rattle.iox_lanes_threads_ports.specs.Values.{IsShort};
 
 use crate::subscriber_strides::{receive_on, stride_on};
+use iox_lanes_base::words::TableSizes;
 use iox_lanes_parties::SubscriberLane;
 use iox_lanes_threads_rule::{Doing, Opening, WordSeat, Words, act};
-use iox_lanes_words::TableSizes;
 use std::marker::Brand;
 use std::sync::Wait;
 

@@ -6,10 +6,10 @@ use prog.Atomic.{either}
 use Rattle.atomic_table.specs.Table.{State, Me, step, Allows}
 use Rattle.atomic_table.specs.Table.Act.{keeps}
 use Rattle.atomic_table.proofs.Lists.{at_set, set_here, set_else}
-use Rattle.iox_lanes_parties.specs.LanesWords.Numbers.{number_of, words_of, IsWord}
-use Rattle.iox_lanes_parties.specs.LanesWords.declared.sizes.TableSizes.{TableSizes}
-use Rattle.iox_lanes_parties.specs.LanesWords.declared.word.SharedWord.{SharedWord}
-use Rattle.iox_lanes_parties.proofs.LanesWords.Numbering.{apart, within}
+use Rattle.iox_lanes_parties.specs.LanesBase.Numbers.{number_of, words_of, IsWord}
+use Rattle.iox_lanes_parties.specs.LanesBase.declared.words.sizes.TableSizes.{TableSizes}
+use Rattle.iox_lanes_parties.specs.LanesBase.declared.words.word.SharedWord.{SharedWord}
+use Rattle.iox_lanes_parties.proofs.LanesBase.Numbering.{apart, within}
 use Rattle.iox_lanes_threads_rule.specs.Rule.{held, Fits, Sits, Ruled, one}
 use Rattle.iox_lanes_threads_rule.specs.Steps.{learned, known_exchanged, Told, MayStore, MayExchange}
 use Rattle.iox_lanes_threads_rule.specs.Acts.{FitSome, Holds, single, loaded, stored, exchanged}

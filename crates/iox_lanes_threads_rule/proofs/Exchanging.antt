@@ -4,8 +4,8 @@ use Rattle.std.proofs.lemmas.Bool.{eqb-true, eqb-false}
 use mathlib.Core.Option.{some}
 use lib.ListN.{get_elem?}
 use Rattle.atomic_table.proofs.Lists.{at_set}
-use Rattle.iox_lanes_parties.specs.LanesWords.Numbers.{number_of, words_of, IsWord}
-use Rattle.iox_lanes_parties.specs.LanesWords.declared.word.SharedWord.{SharedWord}
+use Rattle.iox_lanes_parties.specs.LanesBase.Numbers.{number_of, words_of, IsWord}
+use Rattle.iox_lanes_parties.specs.LanesBase.declared.words.word.SharedWord.{SharedWord}
 use Rattle.iox_lanes_parties.specs.declared.call.Party.{Party}
 use Rattle.iox_lanes_parties.specs.declared.call.Party.TheVariants.{Publisher, Subscriber}
 use Rattle.iox_lanes_threads_rule.specs.Service.{IsSender, Stores, IsPosition, write_word, read_word}

@@ -4,11 +4,11 @@ use Rattle.std.proofs.lemmas.Bool.Decides.{eqb_tells}
 use Rattle.std.proofs.lemmas.List.{get_or-set_same, get_or-set_other}
 use Rattle.std.proofs.lemmas.Bool.{cases_order}
 use Rattle.iox_lanes_parties.specs.QueuesSteps.declared.access.Word.TheVariants.{Write, Read, Cell}
-use Rattle.iox_lanes_parties.specs.LanesWords.Numbers.{number_of, words_of, IsWord}
-use Rattle.iox_lanes_parties.specs.LanesWords.declared.word.ConnectionRing.TheVariants.{Submission, Completion}
-use Rattle.iox_lanes_parties.specs.LanesWords.declared.word.SharedWord.{SharedWord}
-use Rattle.iox_lanes_parties.specs.LanesWords.declared.word.SharedWord.TheVariants.{Ring, Slot}
-use Rattle.iox_lanes_parties.proofs.LanesWords.Numbering.{apart, within}
+use Rattle.iox_lanes_parties.specs.LanesBase.Numbers.{number_of, words_of, IsWord}
+use Rattle.iox_lanes_parties.specs.LanesBase.declared.words.word.ConnectionRing.TheVariants.{Submission, Completion}
+use Rattle.iox_lanes_parties.specs.LanesBase.declared.words.word.SharedWord.{SharedWord}
+use Rattle.iox_lanes_parties.specs.LanesBase.declared.words.word.SharedWord.TheVariants.{Ring, Slot}
+use Rattle.iox_lanes_parties.proofs.LanesBase.Numbering.{apart, within}
 use Rattle.iox_lanes_parties.specs.declared.call.Party.{Party}
 use Rattle.iox_lanes_parties.specs.declared.call.Party.TheVariants.{Publisher, Subscriber}
 use Rattle.iox_lanes_threads_rule.specs.Service.{IsSender, IsReceiver, IsLoneReader, HasSlot, Stores, RangesInRows}

@@ -6,9 +6,9 @@ use lib.ListN.{get_elem?}
 use Rattle.atomic_table.proofs.Lists.{at_set}
 use Rattle.iox_lanes_parties.specs.QueuesRings.declared.ends.RingKind.{RingKind}
 use Rattle.iox_lanes_parties.specs.QueuesRings.declared.ends.RingKind.TheVariants.{Overflowing}
-use Rattle.iox_lanes_parties.specs.LanesWords.Numbers.{number_of, words_of, IsWord}
-use Rattle.iox_lanes_parties.specs.LanesWords.declared.word.SharedWord.{SharedWord}
-use Rattle.iox_lanes_parties.proofs.LanesWords.Numbering.{within}
+use Rattle.iox_lanes_parties.specs.LanesBase.Numbers.{number_of, words_of, IsWord}
+use Rattle.iox_lanes_parties.specs.LanesBase.declared.words.word.SharedWord.{SharedWord}
+use Rattle.iox_lanes_parties.proofs.LanesBase.Numbering.{within}
 use Rattle.iox_lanes_parties.specs.declared.call.Party.{Party}
 use Rattle.iox_lanes_parties.specs.declared.call.Party.TheVariants.{Subscriber}
 use Rattle.iox_lanes_threads_rule.specs.Service.{number_among, Refuses, IsLoneReader, Stores, IsPosition, IsCell, write_word, read_word}

@@ -1,11 +1,11 @@
 -- One access of a port to the words that threads share: when it may be made, what it tells, and what the port knows then.
 use Rattle.std.specs.Prelude.{ℕ, ◌≡◌, ◌<◌, ◌≤◌, ◌^◌, List, [], ◌∷◌, set}
 use Rattle.atomic_table.specs.Table.{State, Me, Step}
-use Rattle.iox_lanes_parties.specs.LanesWords.Numbers.{number_of, IsWord}
-use Rattle.iox_lanes_parties.specs.LanesWords.declared.access.SharedAccess.{SharedAccess}
-use Rattle.iox_lanes_parties.specs.LanesWords.declared.access.SharedAccess.TheVariants.{Load, Store, Exchange, Local}
-use Rattle.iox_lanes_parties.specs.LanesWords.declared.word.SharedWord.{SharedWord}
-use Rattle.iox_lanes_parties.specs.LanesSubscriber.Keeping.{new_subscriber}
+use Rattle.iox_lanes_parties.specs.LanesBase.Numbers.{number_of, IsWord}
+use Rattle.iox_lanes_parties.specs.LanesBase.declared.words.access.SharedAccess.{SharedAccess}
+use Rattle.iox_lanes_parties.specs.LanesBase.declared.words.access.SharedAccess.TheVariants.{Load, Store, Exchange, Local}
+use Rattle.iox_lanes_parties.specs.LanesBase.declared.words.word.SharedWord.{SharedWord}
+use Rattle.iox_lanes_parties.specs.Keeping.{new_subscriber}
 use Rattle.iox_lanes_parties.specs.declared.call.CallName.TheVariants as name
 use Rattle.iox_lanes_parties.specs.declared.call.Party.TheVariants.{Publisher}
 use Rattle.iox_lanes_threads_rule.specs.Rule.{held, Fits, Ruled, one}

@@ -4,8 +4,8 @@ use mathlib.Core.Option.{some}
 use lib.ListN.{get_elem?}
 use Rattle.atomic_table.specs.Table.{State}
 use Rattle.iox_lanes_parties.specs.QueuesRings.declared.ends.RingKind.TheVariants.{Overflowing}
-use Rattle.iox_lanes_parties.specs.LanesWords.Numbers.{number_of, words_of, IsWord}
-use Rattle.iox_lanes_parties.specs.LanesWords.declared.word.SharedWord.{SharedWord}
+use Rattle.iox_lanes_parties.specs.LanesBase.Numbers.{number_of, words_of, IsWord}
+use Rattle.iox_lanes_parties.specs.LanesBase.declared.words.word.SharedWord.{SharedWord}
 use Rattle.iox_lanes_parties.specs.declared.call.Party.TheVariants.{Subscriber}
 use Rattle.iox_lanes_threads_rule.specs.Service.{number_among, Stores, IsPosition, IsCell, RangesInRows, write_word, read_word}
 use Rattle.iox_lanes_threads_rule.specs.declared.service.Line.{Line}

@@ -2,8 +2,8 @@
 use Rattle.std.specs.Prelude.{ℕ, ◌≡◌, ◌+◌, ◌-◌, ◌<◌, ◌≤◌, ◌^◌, max, List, set, slice_index, if◌then◌else◌, ◌==◌}
 use mathlib.Core.Option.{some}
 use lib.ListN.{get_elem?}
-use Rattle.iox_lanes_parties.specs.LanesWords.Numbers.{number_of, IsWord}
-use Rattle.iox_lanes_parties.specs.LanesWords.declared.word.SharedWord.{SharedWord}
+use Rattle.iox_lanes_parties.specs.LanesBase.Numbers.{number_of, IsWord}
+use Rattle.iox_lanes_parties.specs.LanesBase.declared.words.word.SharedWord.{SharedWord}
 use Rattle.iox_lanes_parties.specs.declared.call.Party.{Party}
 use Rattle.iox_lanes_parties.specs.declared.call.Party.TheVariants.{Publisher, Subscriber}
 use Rattle.iox_lanes_threads_rule.specs.Service.{Stores, IsPosition, IsCell, write_word, read_word}

@@ -1,12 +1,12 @@
 //! The words that threads share, and one step on one of them.
 ghost use Rattle.std.specs.Prelude.{◌≡◌};
-ghost use Rattle.iox_lanes_parties.specs.LanesWords.Numbers.{words_of, IsSmall};
-ghost use Rattle.iox_lanes_parties.specs.LanesWords.declared.access.SharedAccess.TheVariants as access;
+ghost use Rattle.iox_lanes_parties.specs.LanesBase.Numbers.{words_of, IsSmall};
+ghost use Rattle.iox_lanes_parties.specs.LanesBase.declared.words.access.SharedAccess.TheVariants as access;
 ghost use Rattle.iox_lanes_threads_rule.specs.Acts.{single, stepped, MayAct, ToldBy};
 
 use crate::view::{Port, PortParty, View};
 use atomic_table::{Play, Seat, Shared, TableRule};
-use iox_lanes_words::{SharedAccess, SharedWord, TableSizes};
+use iox_lanes_base::words::{SharedAccess, SharedWord, TableSizes};
 use std::marker::{Brand, PhantomData};
 
 /// What the words start from.

@@ -1,5 +1,5 @@
 //! Which ports and connections a service has.
-use iox_lanes_words::TableSizes;
+use iox_lanes_base::words::TableSizes;
 use iox_queues_rings::RingKind;
 use std::collections::LinkedList;
 

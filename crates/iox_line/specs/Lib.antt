@@ -6,5 +6,5 @@ pub mod Spelling
 pub mod Reading
 pub mod Outcome
 pub mod ReplyText
-pub use Rattle.iox_line_attributes.specs.DescribeBase as DescribeBase
-pub use Rattle.iox_line_attributes.specs.DomainValues as DomainValues
+pub use Rattle.iox_line_base.specs.DescribeBase as DescribeBase
+pub use Rattle.iox_line_base.specs.DomainValues as DomainValues

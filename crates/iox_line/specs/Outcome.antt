@@ -1,10 +1,10 @@
 -- What is answered of a line.
 use Rattle.std.specs.Prelude.{ℕ, ◌<◌, ◌≤◌, ◌≡◌, Bool, true, false, ◌||◌, List, length, Result, Ok, Err}
 use Rattle.std.specs.declared.alloc.AllocError.{AllocError}
-use Rattle.iox_line_steps.specs.Command.declared.command.Command.{Command}
-use Rattle.iox_line_steps.specs.Command.declared.command.Command.TheVariants as command
-use Rattle.iox_line_attributes.specs.CommandText.Memory.{some}
-use Rattle.iox_line_attributes.specs.Reading.{requires_some}
+use Rattle.iox_line_base.specs.Command.declared.command.Command.{Command}
+use Rattle.iox_line_base.specs.Command.declared.command.Command.TheVariants as command
+use Rattle.iox_line_base.specs.Memory.{some}
+use Rattle.iox_line_base.specs.AttributesReading.{requires_some}
 use Rattle.iox_line.specs.declared.error.LineError.{LineError}
 use Rattle.iox_line.specs.declared.error.LineError.TheVariants as fault
 use Rattle.iox_line.specs.Spelling.{Spells}

@@ -1,11 +1,11 @@
 -- How the options of a publisher and of a subscriber are written.
 use Rattle.std.specs.Prelude.{ℕ, List, [], ◌∷◌, Option, codes, decimal}
 use Rattle.std.specs.Option.{option_map}
-use Rattle.iox_line_steps.specs.Command.declared.port.PublisherOptions.{PublisherOptions}
-use Rattle.iox_line_steps.specs.Command.declared.port.SubscriberOptions.{SubscriberOptions}
-use Rattle.iox_line_attributes.specs.CommandText.Numbers.{IfNumber}
-use Rattle.iox_line_attributes.specs.CommandText.Options.{option_words}
-use Rattle.iox_line_attributes.specs.CommandText.Values.{strategy_word, allocation_word, handler_word, degradation_word}
+use Rattle.iox_line_base.specs.Command.declared.port.PublisherOptions.{PublisherOptions}
+use Rattle.iox_line_base.specs.Command.declared.port.SubscriberOptions.{SubscriberOptions}
+use Rattle.iox_line_base.specs.Numbers.{IfNumber}
+use Rattle.iox_line_base.specs.Options.{option_words}
+use Rattle.iox_line_base.specs.Values.{strategy_word, allocation_word, handler_word, degradation_word}
 
 -- the keys of a publisher's options
 abbrev pub publisher_keys : List (List ℕ)

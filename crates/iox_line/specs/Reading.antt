@@ -1,29 +1,29 @@
 -- How a line is read, word for word.
 use Rattle.std.specs.Prelude.{ℕ, ◌+◌, ◌==◌, length, codes, List, [], ◌∷◌, Option, None, Some, Result, Ok, Err, if◌then◌else◌}
 use Rattle.std.specs.Option.{option_map}
-use Rattle.iox_line_steps.specs.Command.declared.command.Command.{Command}
-use Rattle.iox_line_steps.specs.Command.declared.command.Command.TheVariants as command
-use Rattle.iox_line_steps.specs.Command.declared.port.PortNumber.{PortNumber}
-use Rattle.iox_line_steps.specs.Command.declared.port.PortNumber.TheVariants as port
-use Rattle.iox_line_attributes.specs.CommandText.Words.{no_words}
-use Rattle.iox_line_attributes.specs.CommandText.Numbers.{number_of, tagged}
-use Rattle.iox_line_steps.specs.Command.declared.port.PublisherOptions.{PublisherOptions}
-use Rattle.iox_line_steps.specs.Command.declared.port.SubscriberOptions.{SubscriberOptions}
-use Rattle.iox_line_attributes.specs.DomainValues.declared.backpressure_strategy.BackpressureStrategy.{BackpressureStrategy}
-use Rattle.iox_line_attributes.specs.DomainValues.declared.data_segment.AllocationStrategy.{AllocationStrategy}
-use Rattle.iox_line_attributes.specs.DomainValues.declared.backpressure.BackpressureAction.{BackpressureAction}
-use Rattle.iox_line_attributes.specs.DomainValues.declared.degradation.DegradationAction.{DegradationAction}
-use Rattle.iox_line_attributes.specs.CommandText.Options.{or_else, find, named, one}
-use Rattle.iox_line_attributes.specs.CommandText.Values.{strategy_of, allocation_of, handler_of, degradation_of}
-use Rattle.iox_line_attributes.specs.CommandText.Letters.{factory_letter, loan_letter, publisher_letter, sample_letter, subscriber_letter}
+use Rattle.iox_line_base.specs.Command.declared.command.Command.{Command}
+use Rattle.iox_line_base.specs.Command.declared.command.Command.TheVariants as command
+use Rattle.iox_line_base.specs.Command.declared.port.PortNumber.{PortNumber}
+use Rattle.iox_line_base.specs.Command.declared.port.PortNumber.TheVariants as port
+use Rattle.iox_line_base.specs.Words.{no_words}
+use Rattle.iox_line_base.specs.Numbers.{number_of, tagged}
+use Rattle.iox_line_base.specs.Command.declared.port.PublisherOptions.{PublisherOptions}
+use Rattle.iox_line_base.specs.Command.declared.port.SubscriberOptions.{SubscriberOptions}
+use Rattle.iox_line_base.specs.DomainValues.declared.backpressure_strategy.BackpressureStrategy.{BackpressureStrategy}
+use Rattle.iox_line_base.specs.DomainValues.declared.data_segment.AllocationStrategy.{AllocationStrategy}
+use Rattle.iox_line_base.specs.DomainValues.declared.backpressure.BackpressureAction.{BackpressureAction}
+use Rattle.iox_line_base.specs.DomainValues.declared.degradation.DegradationAction.{DegradationAction}
+use Rattle.iox_line_base.specs.Options.{or_else, find, named, one}
+use Rattle.iox_line_base.specs.Values.{strategy_of, allocation_of, handler_of, degradation_of}
+use Rattle.iox_line_base.specs.Letters.{factory_letter, loan_letter, publisher_letter, sample_letter, subscriber_letter}
 use Rattle.std.specs.declared.alloc.AllocError.{AllocError}
-use Rattle.iox_line_attributes.specs.DescribeBase.declared.pattern.MessagingPattern.{MessagingPattern}
-use Rattle.iox_line_steps.specs.Command.declared.step.StepBefore.{StepBefore}
-use Rattle.iox_line_steps.specs.Command.Patterns.{pattern_of}
-use Rattle.iox_line_steps.specs.LineServices.declared.service.NamedService.{NamedService}
-use Rattle.iox_line_steps.specs.LineServices.Reading.{pattern_named, name_of, service_of}
-use Rattle.iox_line_attributes.specs.Reading.{specifier_of, verifier_of}
-use Rattle.iox_line_steps.specs.Reading.{steps_of, lists_of}
+use Rattle.iox_line_base.specs.DescribeBase.declared.pattern.MessagingPattern.{MessagingPattern}
+use Rattle.iox_line_base.specs.Command.declared.step.StepBefore.{StepBefore}
+use Rattle.iox_line_base.specs.Command.Patterns.{pattern_of}
+use Rattle.iox_line_base.specs.declared.services.service.NamedService.{NamedService}
+use Rattle.iox_line_base.specs.Reading.{pattern_named, name_of, service_of}
+use Rattle.iox_line_base.specs.AttributesReading.{specifier_of, verifier_of}
+use Rattle.iox_line_base.specs.StepsReading.{steps_of, lists_of}
 use Rattle.iox_line.specs.declared.verb.Verb.{Verb}
 use Rattle.iox_line.specs.declared.verb.Verb.TheVariants as verb
 use Rattle.iox_line.specs.declared.verb.ServiceVerb.{ServiceVerb}

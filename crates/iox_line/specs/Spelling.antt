@@ -1,17 +1,17 @@
 -- Which bytes spell a command: how a command is written, word for word.
 use Rattle.std.specs.Prelude.{ℕ, ◌<◌, ◌≡◌, List, [], ◌∷◌, length, codes, decimal, map}
-use Rattle.iox_line_steps.specs.Command.declared.command.Command.{Command}
-use Rattle.iox_line_steps.specs.Command.declared.command.Command.TheVariants as command
-use Rattle.iox_line_steps.specs.Command.declared.port.PortNumber.{PortNumber}
-use Rattle.iox_line_steps.specs.Command.declared.port.PortNumber.TheVariants as port
-use Rattle.iox_line_steps.specs.Command.Patterns.{pattern_of}
-use Rattle.iox_line_attributes.specs.CommandText.Words.{AllOf, AreWords, spaced}
-use Rattle.iox_line_attributes.specs.CommandText.Numbers.{IsNumber, IfNumber, tag}
-use Rattle.iox_line_attributes.specs.CommandText.Options.{AnyOrder}
-use Rattle.iox_line_attributes.specs.CommandText.Letters.{factory_letter, loan_letter, publisher_letter, sample_letter, subscriber_letter}
-use Rattle.iox_line_steps.specs.LineServices.Services.{pattern_word, IsName, ServiceFits, Names}
-use Rattle.iox_line_attributes.specs.Attributes.{SpecifierFits, VerifierFits, Defines, Requires}
-use Rattle.iox_line_steps.specs.Steps.{StepFits, WritesSteps, WritesLists, ListsFit}
+use Rattle.iox_line_base.specs.Command.declared.command.Command.{Command}
+use Rattle.iox_line_base.specs.Command.declared.command.Command.TheVariants as command
+use Rattle.iox_line_base.specs.Command.declared.port.PortNumber.{PortNumber}
+use Rattle.iox_line_base.specs.Command.declared.port.PortNumber.TheVariants as port
+use Rattle.iox_line_base.specs.Command.Patterns.{pattern_of}
+use Rattle.iox_line_base.specs.Words.{AllOf, AreWords, spaced}
+use Rattle.iox_line_base.specs.Numbers.{IsNumber, IfNumber, tag}
+use Rattle.iox_line_base.specs.Options.{AnyOrder}
+use Rattle.iox_line_base.specs.Letters.{factory_letter, loan_letter, publisher_letter, sample_letter, subscriber_letter}
+use Rattle.iox_line_base.specs.Services.{pattern_word, IsName, ServiceFits, Names}
+use Rattle.iox_line_base.specs.Attributes.{SpecifierFits, VerifierFits, Defines, Requires}
+use Rattle.iox_line_base.specs.Steps.{StepFits, WritesSteps, WritesLists, ListsFit}
 use Rattle.iox_line.specs.PortOptions.{PublisherFits, publisher_words, subscriber_words}
 
 -- numbers of 64 bits

@@ -1,6 +1,6 @@
 -- The first word of a line.
 use Rattle.std.specs.Prelude.{ℕ, List, [], ◌∷◌, Option, codes}
-use Rattle.iox_line_attributes.specs.CommandText.Words.{choice}
+use Rattle.iox_line_base.specs.Words.{choice}
 use Rattle.iox_line.specs.declared.verb.Verb.{Verb}
 use Rattle.iox_line.specs.declared.verb.Verb.TheVariants as verb
 use Rattle.iox_line.specs.declared.verb.ServiceVerb.{ServiceVerb}

@@ -4,8 +4,8 @@ ghost use Rattle.iox_line.specs.Reading.{only, with_number, with_two, numbers, w
 
 use crate::scratch::Scratch;
 use iox_command::{PortNumber, Values};
-use iox_command_text::Words;
-use iox_command_text::number::{number, numbered};
+use iox_line_base::text::Words;
+use iox_line_base::text::number::{number, numbered};
 
 /// One made value.
 pub(crate) fn only(letter: u8, words: Words) -> Option<u64>

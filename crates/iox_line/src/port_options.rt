@@ -3,9 +3,9 @@ ghost use Rattle.std.specs.Prelude.{◌≡◌};
 ghost use Rattle.iox_line.specs.Reading.{publisher_of, subscriber_of};
 
 use iox_command::{PublisherOptions, SubscriberOptions};
-use iox_command_text::Words;
-use iox_command_text::options::one;
-use iox_command_text::value::{
+use iox_line_base::text::Words;
+use iox_line_base::text::options::one;
+use iox_line_base::text::value::{
     named_allocation, named_degradation, named_handler, named_number, named_strategy,
 };
 

@@ -1,22 +1,22 @@
 -- One more step of an end goes on with its call in hand, or ends it.
 use Rattle.std.proofs.Common.{◌≡◌, ℕ, ◌-◌, Bool, true, false, if◌then◌else◌, ◌==◌, ◌%◌, nat_lt, Some, None, slice_index, List, [], ◌∷◌, ◌++◌, map, length, refl, sym, ◌∙◌, ap, subst, arith, append-nil}
-use Rattle.iox_queues_overflowing.specs.QueuesSteps.Access.{RingWords, answer_of, successor}
-use Rattle.iox_queues_overflowing.specs.QueuesSteps.Order.{push_call, pop_call}
-use Rattle.iox_queues_overflowing.specs.QueuesSteps.Told.{Timed, InHand, local, own, own_one}
-use Rattle.iox_queues_overflowing.specs.QueuesSteps.declared.order.PushAnswer.TheVariants.{Kept, Refused}
-use Rattle.iox_queues_overflowing.specs.QueuesSteps.declared.order.PopAnswer.TheVariants.{Got, Saw}
-use Rattle.iox_queues_overflowing.specs.QueuesSteps.declared.order.PushCall.{PushCall}
-use Rattle.iox_queues_overflowing.specs.QueuesSteps.declared.order.PopCall.{PopCall}
-use Rattle.iox_queues_overflowing.specs.QueuesSteps.declared.schedule.Event.{Event}
-use Rattle.iox_queues_overflowing.specs.QueuesSteps.declared.schedule.Party.{Party}
-use Rattle.iox_queues_overflowing.specs.QueuesSteps.declared.schedule.Party.TheVariants.{Producer, Consumer}
-use Rattle.iox_queues_overflowing.proofs.QueuesSteps.Told.{own_more, spans_on, spans_end, open_begun, open_more, open_end}
-use Rattle.iox_queues_overflowing.specs.Overflowing as overflowing
-use Rattle.iox_queues_overflowing.specs.declared.push.Push.TheVariants as ov_push
-use Rattle.iox_queues_overflowing.specs.declared.pop.Pop.TheVariants as ov_pop
-use Rattle.iox_queues_refusing.specs.Refusing as refusing
-use Rattle.iox_queues_refusing.specs.declared.push.Push.TheVariants as re_push
-use Rattle.iox_queues_refusing.specs.declared.pop.Pop.TheVariants as re_pop
+use Rattle.iox_queues_rings.specs.QueuesSteps.Access.{RingWords, answer_of, successor}
+use Rattle.iox_queues_rings.specs.QueuesSteps.Order.{push_call, pop_call}
+use Rattle.iox_queues_rings.specs.QueuesSteps.Told.{Timed, InHand, local, own, own_one}
+use Rattle.iox_queues_rings.specs.QueuesSteps.declared.order.PushAnswer.TheVariants.{Kept, Refused}
+use Rattle.iox_queues_rings.specs.QueuesSteps.declared.order.PopAnswer.TheVariants.{Got, Saw}
+use Rattle.iox_queues_rings.specs.QueuesSteps.declared.order.PushCall.{PushCall}
+use Rattle.iox_queues_rings.specs.QueuesSteps.declared.order.PopCall.{PopCall}
+use Rattle.iox_queues_rings.specs.QueuesSteps.declared.schedule.Event.{Event}
+use Rattle.iox_queues_rings.specs.QueuesSteps.declared.schedule.Party.{Party}
+use Rattle.iox_queues_rings.specs.QueuesSteps.declared.schedule.Party.TheVariants.{Producer, Consumer}
+use Rattle.iox_queues_rings.proofs.QueuesSteps.Told.{own_more, spans_on, spans_end, open_begun, open_more, open_end}
+use Rattle.iox_queues_rings.specs.Overflowing as overflowing
+use Rattle.iox_queues_rings.specs.declared.overflowing.push.Push.TheVariants as ov_push
+use Rattle.iox_queues_rings.specs.declared.overflowing.pop.Pop.TheVariants as ov_pop
+use Rattle.iox_queues_rings.specs.Refusing as refusing
+use Rattle.iox_queues_rings.specs.declared.refusing.push.Push.TheVariants as re_push
+use Rattle.iox_queues_rings.specs.declared.refusing.pop.Pop.TheVariants as re_pop
 use Rattle.iox_queues_rings.specs.Ends.{push_begun, push_kind, push_next, push_take, push_is_idle, push_value, push_ended, pop_begun, pop_look, pop_first, pop_kind, pop_next, pop_take, pop_is_idle, pop_looks, pop_ended}
 use Rattle.iox_queues_rings.specs.RingMachine.{RingState, IsTold, IsPushTold, IsPopTold, ArePushesTold, ArePopsTold}
 use Rattle.iox_queues_rings.specs.declared.ends.RingKind.{RingKind}

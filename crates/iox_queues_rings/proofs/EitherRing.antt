@@ -3,18 +3,18 @@ use Rattle.std.proofs.Common.{◌≡◌, ℕ, ◌+◌, ◌-◌, ◌^◌, ◌%◌
 use Rattle.std.proofs.Math.ListN.{get_or-append}
 use Rattle.std.proofs.lemmas.List.{length-replicate}
 use Rattle.std.proofs.lemmas.Bool.{ltb-true, ltb-false}
-use Rattle.iox_queues_overflowing.specs.QueuesSteps.Access.{RingWords, answer_of, after_access}
-use Rattle.iox_queues_overflowing.specs.QueuesSteps.Order.{Acts, after_acts, put_values, take_values, PutNow}
-use Rattle.iox_queues_overflowing.specs.QueuesSteps.declared.order.Act.{Act}
-use Rattle.iox_queues_overflowing.specs.OverflowingRing as overflowing_ring
-use Rattle.iox_queues_overflowing.specs.declared.push.Push.TheVariants as overflowing_push
-use Rattle.iox_queues_overflowing.specs.declared.pop.Pop.TheVariants as overflowing_pop
-use Rattle.iox_queues_overflowing.proofs.OverflowingPush as overflowing_pushes
-use Rattle.iox_queues_overflowing.proofs.OverflowingPop as overflowing_pops
-use Rattle.iox_queues_refusing.specs.Refusing as refusing
-use Rattle.iox_queues_refusing.specs.declared.push.Push.TheVariants as refusing_push
-use Rattle.iox_queues_refusing.specs.declared.pop.Pop.TheVariants as refusing_pop
-use Rattle.iox_queues_refusing.proofs.RefusingSteps as refusing_steps
+use Rattle.iox_queues_rings.specs.QueuesSteps.Access.{RingWords, answer_of, after_access}
+use Rattle.iox_queues_rings.specs.QueuesSteps.Order.{Acts, after_acts, put_values, take_values, PutNow}
+use Rattle.iox_queues_rings.specs.QueuesSteps.declared.order.Act.{Act}
+use Rattle.iox_queues_rings.specs.OverflowingRing as overflowing_ring
+use Rattle.iox_queues_rings.specs.declared.overflowing.push.Push.TheVariants as overflowing_push
+use Rattle.iox_queues_rings.specs.declared.overflowing.pop.Pop.TheVariants as overflowing_pop
+use Rattle.iox_queues_rings.proofs.OverflowingPush as overflowing_pushes
+use Rattle.iox_queues_rings.proofs.OverflowingPop as overflowing_pops
+use Rattle.iox_queues_rings.specs.Refusing as refusing
+use Rattle.iox_queues_rings.specs.declared.refusing.push.Push.TheVariants as refusing_push
+use Rattle.iox_queues_rings.specs.declared.refusing.pop.Pop.TheVariants as refusing_pop
+use Rattle.iox_queues_rings.proofs.RefusingSteps as refusing_steps
 use Rattle.iox_queues_rings.specs.Ends.{overflows, push_kind, pop_kind, push_is_over, pop_is_over, push_idle, push_begun, push_next, push_take, push_is_idle, push_ended, put_in_hand, placed_by_push, pop_idle, pop_first, pop_next, pop_take, pop_is_idle, pop_ended, placed_by_pop, Shape}
 use Rattle.iox_queues_rings.specs.RingMachine.{first_words}
 use Rattle.iox_queues_rings.specs.declared.ends.RingKind.{RingKind}

@@ -1,5 +1,10 @@
 pub mod EitherRing
 pub mod Calls
 pub mod Runs
-pub use Rattle.iox_queues_overflowing.proofs as QueuesOverflowing
-pub use Rattle.iox_queues_refusing.proofs as QueuesRefusing
+pub mod OverflowingPush
+pub mod OverflowingPop
+pub mod RefusingSteps
+pub mod PushSteps
+pub mod PopSteps
+pub mod EitherStep
+pub use Rattle.iox_queues_steps.proofs as QueuesSteps

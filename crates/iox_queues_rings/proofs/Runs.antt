@@ -2,23 +2,23 @@
 use Rattle.std.proofs.Common.{◌≡◌, ℕ, ◌+◌, ◌^◌, ◌<◌, ◌≤◌, Bool, true, false, not, if◌then◌else◌, List, [], ◌∷◌, ◌++◌, map, length, refl, sym, ◌∙◌, ap, subst, arith, append-nil, length-append, inl, inr}
 use Rattle.std.proofs.lemmas.List.{length-map}
 use Rattle.std.specs.List.{AllZip}
-use Rattle.iox_queues_overflowing.specs.QueuesSteps.Access.{answer_of, after_access}
-use Rattle.iox_queues_overflowing.specs.QueuesSteps.Order.{Acts, after_acts, acts_of, at, puts, takes, push_call, pop_call, PutInside, TakeInside, PutNow}
-use Rattle.iox_queues_overflowing.specs.QueuesSteps.Schedule.{count_of, is_stopped_of}
-use Rattle.iox_queues_overflowing.specs.QueuesSteps.Told.{Timed, InHand, same_party, own}
-use Rattle.iox_queues_overflowing.specs.QueuesSteps.declared.access.Access.TheVariants.{Local}
-use Rattle.iox_queues_overflowing.specs.QueuesSteps.declared.order.Act.{Act}
-use Rattle.iox_queues_overflowing.specs.QueuesSteps.declared.order.Placed.{Placed}
-use Rattle.iox_queues_overflowing.specs.QueuesSteps.declared.order.PopAnswer.{PopAnswer}
-use Rattle.iox_queues_overflowing.specs.QueuesSteps.declared.schedule.Event.{Event}
-use Rattle.iox_queues_overflowing.specs.QueuesSteps.declared.schedule.Party.TheVariants.{Producer, Consumer}
-use Rattle.iox_queues_overflowing.specs.QueuesSteps.declared.schedule.Call.TheVariants as call
-use Rattle.iox_queues_overflowing.specs.QueuesSteps.declared.schedule.Move.{Move}
-use Rattle.iox_queues_overflowing.specs.QueuesSteps.declared.schedule.Move.TheVariants.{Begin, GoOn}
-use Rattle.iox_queues_overflowing.specs.QueuesSteps.declared.schedule.Stepped.{Stepped}
-use Rattle.iox_queues_overflowing.specs.QueuesSteps.declared.schedule.Stepped.TheVariants as stepped
-use Rattle.iox_queues_overflowing.proofs.QueuesSteps.Orders.{acts_more, Acts-append, after_acts-append, rises_more, put_step, put_keep, take_step, take_keep}
-use Rattle.iox_queues_overflowing.proofs.QueuesSteps.Told.{answered_more}
+use Rattle.iox_queues_rings.specs.QueuesSteps.Access.{answer_of, after_access}
+use Rattle.iox_queues_rings.specs.QueuesSteps.Order.{Acts, after_acts, acts_of, at, puts, takes, push_call, pop_call, PutInside, TakeInside, PutNow}
+use Rattle.iox_queues_rings.specs.QueuesSteps.Schedule.{count_of, is_stopped_of}
+use Rattle.iox_queues_rings.specs.QueuesSteps.Told.{Timed, InHand, same_party, own}
+use Rattle.iox_queues_rings.specs.QueuesSteps.declared.access.Access.TheVariants.{Local}
+use Rattle.iox_queues_rings.specs.QueuesSteps.declared.order.Act.{Act}
+use Rattle.iox_queues_rings.specs.QueuesSteps.declared.order.Placed.{Placed}
+use Rattle.iox_queues_rings.specs.QueuesSteps.declared.order.PopAnswer.{PopAnswer}
+use Rattle.iox_queues_rings.specs.QueuesSteps.declared.schedule.Event.{Event}
+use Rattle.iox_queues_rings.specs.QueuesSteps.declared.schedule.Party.TheVariants.{Producer, Consumer}
+use Rattle.iox_queues_rings.specs.QueuesSteps.declared.schedule.Call.TheVariants as call
+use Rattle.iox_queues_rings.specs.QueuesSteps.declared.schedule.Move.{Move}
+use Rattle.iox_queues_rings.specs.QueuesSteps.declared.schedule.Move.TheVariants.{Begin, GoOn}
+use Rattle.iox_queues_rings.specs.QueuesSteps.declared.schedule.Stepped.{Stepped}
+use Rattle.iox_queues_rings.specs.QueuesSteps.declared.schedule.Stepped.TheVariants as stepped
+use Rattle.iox_queues_rings.proofs.QueuesSteps.Orders.{acts_more, Acts-append, after_acts-append, rises_more, put_step, put_keep, take_step, take_keep}
+use Rattle.iox_queues_rings.proofs.QueuesSteps.Told.{answered_more}
 use Rattle.iox_queues_rings.specs.Ends.{overflows, push_idle, push_value, pop_idle, pop_looks, push_begun, push_next, push_take, push_is_idle, push_is_over, push_ended, put_in_hand, placed_by_push, pop_first, pop_next, pop_take, pop_is_idle, pop_is_over, pop_ended, placed_by_pop, Shape}
 use Rattle.iox_queues_rings.specs.RingMachine.{RingState, IsKept, IsTold, IsMade, Tells, StepsTo, RunsTo, ArePushesTold, ArePopsTold, ended_calls, first_words, start, fits, ends, happens, waiting, push_goes_on, pop_goes_on, push_begins, pop_begins}
 use Rattle.iox_queues_rings.specs.declared.ends.RingKind.{RingKind}

@@ -1,19 +1,19 @@
 -- The two ends of a ring of either kind, by the stage where each stands.
 use Rattle.std.specs.Prelude.{ℕ, ◌+◌, ◌++◌, Bool, true, false, if◌then◌else◌, List, []}
-use Rattle.iox_queues_overflowing.specs.QueuesSteps.Access.{RingWords}
-use Rattle.iox_queues_overflowing.specs.QueuesSteps.Order.{PutNow}
-use Rattle.iox_queues_overflowing.specs.QueuesSteps.declared.access.Access.{Access}
-use Rattle.iox_queues_overflowing.specs.QueuesSteps.declared.order.PushAnswer.{PushAnswer}
-use Rattle.iox_queues_overflowing.specs.QueuesSteps.declared.order.PopAnswer.{PopAnswer}
-use Rattle.iox_queues_overflowing.specs.QueuesSteps.declared.order.PopAnswer.TheVariants.{Got, Saw}
-use Rattle.iox_queues_overflowing.specs.QueuesSteps.declared.order.Act.{Act}
-use Rattle.iox_queues_overflowing.specs.Overflowing as overflowing
-use Rattle.iox_queues_overflowing.specs.OverflowingRing as overflowing_ring
-use Rattle.iox_queues_overflowing.specs.declared.push.Push.TheVariants as overflowing_push
-use Rattle.iox_queues_overflowing.specs.declared.pop.Pop.TheVariants as overflowing_pop
-use Rattle.iox_queues_refusing.specs.Refusing as refusing
-use Rattle.iox_queues_refusing.specs.declared.push.Push.TheVariants as refusing_push
-use Rattle.iox_queues_refusing.specs.declared.pop.Pop.TheVariants as refusing_pop
+use Rattle.iox_queues_rings.specs.QueuesSteps.Access.{RingWords}
+use Rattle.iox_queues_rings.specs.QueuesSteps.Order.{PutNow}
+use Rattle.iox_queues_rings.specs.QueuesSteps.declared.access.Access.{Access}
+use Rattle.iox_queues_rings.specs.QueuesSteps.declared.order.PushAnswer.{PushAnswer}
+use Rattle.iox_queues_rings.specs.QueuesSteps.declared.order.PopAnswer.{PopAnswer}
+use Rattle.iox_queues_rings.specs.QueuesSteps.declared.order.PopAnswer.TheVariants.{Got, Saw}
+use Rattle.iox_queues_rings.specs.QueuesSteps.declared.order.Act.{Act}
+use Rattle.iox_queues_rings.specs.Overflowing as overflowing
+use Rattle.iox_queues_rings.specs.OverflowingRing as overflowing_ring
+use Rattle.iox_queues_rings.specs.declared.overflowing.push.Push.TheVariants as overflowing_push
+use Rattle.iox_queues_rings.specs.declared.overflowing.pop.Pop.TheVariants as overflowing_pop
+use Rattle.iox_queues_rings.specs.Refusing as refusing
+use Rattle.iox_queues_rings.specs.declared.refusing.push.Push.TheVariants as refusing_push
+use Rattle.iox_queues_rings.specs.declared.refusing.pop.Pop.TheVariants as refusing_pop
 use Rattle.iox_queues_rings.specs.declared.ends.RingKind.{RingKind}
 use Rattle.iox_queues_rings.specs.declared.ends.RingKind.TheVariants as kind
 use Rattle.iox_queues_rings.specs.declared.ends.Push.{Push}

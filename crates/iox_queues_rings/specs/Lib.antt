@@ -2,5 +2,8 @@
 pub mod Ends
 pub mod RingMachine
 pub mod Machine
-pub use Rattle.iox_queues_overflowing.specs as QueuesOverflowing
-pub use Rattle.iox_queues_refusing.specs as QueuesRefusing
+pub mod Overflowing
+pub mod OverflowingRing
+pub mod Refusing
+pub mod Moves
+pub use Rattle.iox_queues_steps.specs as QueuesSteps

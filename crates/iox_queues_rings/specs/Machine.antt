@@ -1,11 +1,11 @@
 -- The fields of a ring machine, as lists and numbers.
 use Rattle.std.specs.Prelude.{ℕ, ◌+◌, ◌≤◌, [], length, if◌then◌else◌, vec_len, vec_capacity}
 use Rattle.iox_queues_rings.specs.RingMachine.{RingState}
-use Rattle.iox_queues_overflowing.specs.QueuesSteps.Recorded.{log_of, HasRoom}
+use Rattle.iox_queues_rings.specs.QueuesSteps.Recorded.{log_of, HasRoom}
 use Rattle.iox_queues_rings.specs.Ends.{placed_by_push, taken_by_pop, pop_moves, late_put, push_ended, pop_ended}
-use Rattle.iox_queues_overflowing.specs.QueuesSteps.declared.schedule.Party.TheVariants.{Producer, Consumer}
-use Rattle.iox_queues_overflowing.specs.QueuesSteps.declared.schedule.Move.{Move}
-use Rattle.iox_queues_overflowing.specs.QueuesSteps.declared.schedule.Move.TheVariants.{Begin, GoOn}
+use Rattle.iox_queues_rings.specs.QueuesSteps.declared.schedule.Party.TheVariants.{Producer, Consumer}
+use Rattle.iox_queues_rings.specs.QueuesSteps.declared.schedule.Move.{Move}
+use Rattle.iox_queues_rings.specs.QueuesSteps.declared.schedule.Move.TheVariants.{Begin, GoOn}
 use Rattle.iox_queues_rings.specs.declared.state.State.{State}
 
 abbrev pub machine_of : State → RingState

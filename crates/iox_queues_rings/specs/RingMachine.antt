@@ -1,21 +1,21 @@
 -- A ring of either kind as a machine: what each step does, and what it keeps.
 use Rattle.std.specs.Prelude.{ℕ, ◌≡◌, ◌+◌, ◌-◌, ◌≤◌, ◌⊎◌, Bool, true, false, not, List, [], ◌∷◌, ◌++◌, map, length, replicate}
 use Rattle.std.specs.List.{AllZip}
-use Rattle.iox_queues_overflowing.specs.QueuesSteps.Access.{RingWords, answer_of, after_access}
-use Rattle.iox_queues_overflowing.specs.QueuesSteps.Order.{Acts, after_acts, acts_of, Rises, puts, takes, push_call, pop_call, PutInside, TakeInside, Log, logged}
-use Rattle.iox_queues_overflowing.specs.QueuesSteps.Told.{Answered, Timed, own, IsWhole, InHand, Spans}
+use Rattle.iox_queues_rings.specs.QueuesSteps.Access.{RingWords, answer_of, after_access}
+use Rattle.iox_queues_rings.specs.QueuesSteps.Order.{Acts, after_acts, acts_of, Rises, puts, takes, push_call, pop_call, PutInside, TakeInside, Log, logged}
+use Rattle.iox_queues_rings.specs.QueuesSteps.Told.{Answered, Timed, own, IsWhole, InHand, Spans}
 use Rattle.iox_queues_rings.specs.Ends.{overflows, cells_of, push_idle, push_begun, push_done, push_next, push_take, push_is_idle, push_is_over, push_value, push_ended, put_in_hand, placed_by_push, pop_idle, pop_begun, pop_look, pop_done, pop_asked, pop_first, pop_next, pop_take, pop_is_idle, pop_is_over, pop_looks, pop_ended, placed_by_pop, Shape}
-use Rattle.iox_queues_overflowing.specs.QueuesSteps.declared.access.Access.TheVariants.{Local}
-use Rattle.iox_queues_overflowing.specs.QueuesSteps.declared.order.PushCall.{PushCall}
-use Rattle.iox_queues_overflowing.specs.QueuesSteps.declared.order.PopCall.{PopCall}
-use Rattle.iox_queues_overflowing.specs.QueuesSteps.declared.schedule.Event.{Event}
-use Rattle.iox_queues_overflowing.specs.QueuesSteps.declared.schedule.Party.{Party}
-use Rattle.iox_queues_overflowing.specs.QueuesSteps.declared.schedule.Party.TheVariants.{Producer, Consumer}
-use Rattle.iox_queues_overflowing.specs.QueuesSteps.declared.schedule.Call.TheVariants as call
-use Rattle.iox_queues_overflowing.specs.QueuesSteps.declared.schedule.Move.{Move}
-use Rattle.iox_queues_overflowing.specs.QueuesSteps.declared.schedule.Move.TheVariants.{Begin, GoOn}
-use Rattle.iox_queues_overflowing.specs.QueuesSteps.declared.schedule.Stepped.{Stepped}
-use Rattle.iox_queues_overflowing.specs.QueuesSteps.declared.schedule.Stepped.TheVariants as stepped
+use Rattle.iox_queues_rings.specs.QueuesSteps.declared.access.Access.TheVariants.{Local}
+use Rattle.iox_queues_rings.specs.QueuesSteps.declared.order.PushCall.{PushCall}
+use Rattle.iox_queues_rings.specs.QueuesSteps.declared.order.PopCall.{PopCall}
+use Rattle.iox_queues_rings.specs.QueuesSteps.declared.schedule.Event.{Event}
+use Rattle.iox_queues_rings.specs.QueuesSteps.declared.schedule.Party.{Party}
+use Rattle.iox_queues_rings.specs.QueuesSteps.declared.schedule.Party.TheVariants.{Producer, Consumer}
+use Rattle.iox_queues_rings.specs.QueuesSteps.declared.schedule.Call.TheVariants as call
+use Rattle.iox_queues_rings.specs.QueuesSteps.declared.schedule.Move.{Move}
+use Rattle.iox_queues_rings.specs.QueuesSteps.declared.schedule.Move.TheVariants.{Begin, GoOn}
+use Rattle.iox_queues_rings.specs.QueuesSteps.declared.schedule.Stepped.{Stepped}
+use Rattle.iox_queues_rings.specs.QueuesSteps.declared.schedule.Stepped.TheVariants as stepped
 use Rattle.iox_queues_rings.specs.declared.ends.RingKind.{RingKind}
 use Rattle.iox_queues_rings.specs.declared.ends.Push.{Push}
 use Rattle.iox_queues_rings.specs.declared.ends.Pop.{Pop}

@@ -3,8 +3,8 @@ ghost use Rattle.std.specs.Prelude.{◌≡◌, if◌then◌else◌, [], map, len
 ghost use Rattle.std.specs.Option.{option_to_list};
 ghost use Rattle.iox_queues_rings.specs.Ends.{late_put, placed_by_push, pop_begun, pop_ended, pop_idle, pop_is_idle, pop_is_over, pop_look, pop_moves, pop_next, pop_take, push_begun, push_ended, push_idle, push_is_idle, push_is_over, push_next, push_take, taken_by_pop};
 
-use iox_queues_overflowing::{Pop as OverflowingPop, Push as OverflowingPush};
-use iox_queues_refusing::{Pop as RefusingPop, Push as RefusingPush};
+use crate::overflowing::{Pop as OverflowingPop, Push as OverflowingPush};
+use crate::refusing::{Pop as RefusingPop, Push as RefusingPush};
 use iox_queues_steps::{Access, Act, PopAnswer, PushAnswer};
 
 /// What a full ring does with a push.

@@ -1,9 +1,11 @@
 //! Rings of either kind, one word at a time: their two ends, and a machine that runs them.
 //!
-//! - [`ends`]: what each end does next, free of any ring.
+//! - [`overflowing`], [`refusing`]: the two ends of each kind, free of any ring.
+//! - [`ends`]: an end of either kind.
 //! - [`machine`]: a ring with its two ends, which go in any order.
+//! - [`waiting`]: what one step does to the numbers that wait.
 //!
-//! First calls. Tests in `iox_queues_rows` make them.
+//! First calls:
 //!
 //! ```
 //! let mut machine = RingMachine::overflowing(alloc, 2, &[])?;
@@ -14,7 +16,10 @@
 
 pub mod ends;
 pub mod machine;
+pub mod overflowing;
+pub mod refusing;
 mod state;
+pub mod waiting;
 
 pub use ends::{Pop, Push, RingKind};
 pub use machine::RingMachine;

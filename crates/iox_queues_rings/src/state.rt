@@ -1,13 +1,13 @@
 //! The state of a ring machine, and its steps.
 ghost use Rattle.std.specs.Prelude.{◌≡◌, ◌+◌, ◌<◌, ◌≤◌, ◌^◌, ◌++◌, [], if◌then◌else◌, true, false, OnOk, OnErr, length, map, replicate, ◌-◌, vec_len, vec_capacity};
 ghost use Rattle.std.specs.Option.{option_to_list};
-ghost use Rattle.iox_queues_overflowing.specs.QueuesSteps.Order.{push_call, pop_call};
+ghost use Rattle.iox_queues_rings.specs.QueuesSteps.Order.{push_call, pop_call};
 ghost use Rattle.iox_queues_rings.specs.Ends.{cells_of, push_ended, pop_ended, placed_by_pop, placed_by_push, late_put};
 ghost use Rattle.iox_queues_rings.specs.RingMachine.{fits, ends, happens, push_goes_on, pop_goes_on, push_begins, pop_begins, StepsTo, start};
 
 use crate::ends::{Pop, Push, RingKind};
-use iox_queues_overflowing::{Pop as OverflowingPop, Push as OverflowingPush};
-use iox_queues_refusing::{Pop as RefusingPop, Push as RefusingPush};
+use crate::overflowing::{Pop as OverflowingPop, Push as OverflowingPush};
+use crate::refusing::{Pop as RefusingPop, Push as RefusingPush};
 use iox_queues_steps::log::Record;
 use iox_queues_steps::{
     Access, Act, Call, Event, Move, Party, PopAnswer, PopCall, PushCall, Ring, Stepped,
@@ -31,7 +31,7 @@ pub(crate) struct State {
 
 impl State {
     ghost use Rattle.iox_queues_rings.specs.Machine.{machine_of, StateRoom, new_acts, new_pushes, new_pops};
-    ghost use Rattle.iox_queues_overflowing.specs.QueuesSteps.Recorded.{HasRoom};
+    ghost use Rattle.iox_queues_rings.specs.QueuesSteps.Recorded.{HasRoom};
 
     /// Nothing was done yet: `initial` waits in the first cells.
     pub(crate) fn new(

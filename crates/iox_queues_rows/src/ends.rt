@@ -1,90 +1,128 @@
-//! The ends of shared queues, by traits: one that refuses what it has no room for, and one that overflows.
+//! The ends of shared queues of numbers, by a trait.
 use iox_queues::shared::SharedQueue;
 use iox_queues::{
     Consumer, FixedSizeIndexQueue, FixedSizeSafelyOverflowingIndexQueue, IndexQueue, Producer,
     Queue, SafelyOverflowingIndexQueue, Share, Shared,
 };
-use std::alloc::Global;
-use std::test::Fail;
+use std::alloc::{AllocError, Global};
 
 /// A queue of numbers.
 pub(crate) trait Numbers: SharedQueue {
+    /// Whether a full queue hands its oldest number out, or refuses the new one.
+    const OVERFLOWS: bool;
+
+    /// Puts a number behind the rest before the queue is shared.
+    fn put_before(&mut self, value: u64);
+
+    /// Puts a number behind the rest; the answer is the number that doesn't stay.
+    fn put(producer: &mut Producer<'_, Self>, value: u64) -> Option<u64>;
+
     fn take_next(consumer: &mut Consumer<'_, Self>) -> Option<u64>;
 }
 
-/// One that refuses; true once the number stands.
-pub(crate) trait Refuses: Numbers {
-    fn put(producer: &mut Producer<'_, Self>, value: u64) -> bool;
-}
-
-/// One that hands out the number that had to leave.
-pub(crate) trait Overflows: Numbers {
-    fn put(producer: &mut Producer<'_, Self>, value: u64) -> Option<u64>;
+fn refused(value: u64, is_kept: bool) -> Option<u64> {
+    if is_kept { None } else { Some(value) }
 }
 
 impl Numbers for IndexQueue {
+    const OVERFLOWS: bool = false;
+
+    fn put_before(&mut self, value: u64) {
+        let _ = self.push(value);
+    }
+
+    fn put(producer: &mut Producer<'_, Self>, value: u64) -> Option<u64> {
+        refused(value, producer.push(value))
+    }
+
     fn take_next(consumer: &mut Consumer<'_, Self>) -> Option<u64> {
         consumer.pop()
-    }
-}
-
-impl Refuses for IndexQueue {
-    fn put(producer: &mut Producer<'_, Self>, value: u64) -> bool {
-        producer.push(value)
     }
 }
 
 impl<const CAPACITY: usize> Numbers for FixedSizeIndexQueue<CAPACITY> {
+    const OVERFLOWS: bool = false;
+
+    fn put_before(&mut self, value: u64) {
+        let _ = self.push(value);
+    }
+
+    fn put(producer: &mut Producer<'_, Self>, value: u64) -> Option<u64> {
+        refused(value, producer.push(value))
+    }
+
     fn take_next(consumer: &mut Consumer<'_, Self>) -> Option<u64> {
         consumer.pop()
     }
 }
 
-impl<const CAPACITY: usize> Refuses for FixedSizeIndexQueue<CAPACITY> {
-    fn put(producer: &mut Producer<'_, Self>, value: u64) -> bool {
-        producer.push(value)
-    }
+/// The number as a value of two words, both of which say something of it.
+fn wide(value: u64) -> u128 {
+    u128::from(value) << 40
 }
 
 impl<const CAPACITY: usize> Numbers for Queue<u128, CAPACITY> {
-    fn take_next(consumer: &mut Consumer<'_, Self>) -> Option<u64> {
-        u64::try_from(consumer.pop()? >> 40).ok()
-    }
-}
+    const OVERFLOWS: bool = false;
 
-impl<const CAPACITY: usize> Refuses for Queue<u128, CAPACITY> {
-    fn put(producer: &mut Producer<'_, Self>, value: u64) -> bool {
-        producer.push(&(u128::from(value) << 40))
+    fn put_before(&mut self, value: u64) {
+        let _ = self.push(&wide(value));
+    }
+
+    fn put(producer: &mut Producer<'_, Self>, value: u64) -> Option<u64> {
+        refused(value, producer.push(&wide(value)))
+    }
+
+    fn take_next(consumer: &mut Consumer<'_, Self>) -> Option<u64> {
+        match consumer.pop() {
+            Some(value) => u64::try_from(value >> 40).ok(),
+            None => None,
+        }
     }
 }
 
 impl Numbers for SafelyOverflowingIndexQueue {
-    fn take_next(consumer: &mut Consumer<'_, Self>) -> Option<u64> {
-        consumer.pop()
-    }
-}
+    const OVERFLOWS: bool = true;
 
-impl Overflows for SafelyOverflowingIndexQueue {
+    fn put_before(&mut self, value: u64) {
+        let _ = self.push(value);
+    }
+
     fn put(producer: &mut Producer<'_, Self>, value: u64) -> Option<u64> {
         producer.push(value)
+    }
+
+    fn take_next(consumer: &mut Consumer<'_, Self>) -> Option<u64> {
+        consumer.pop()
     }
 }
 
 impl<const CAPACITY: usize> Numbers for FixedSizeSafelyOverflowingIndexQueue<CAPACITY> {
+    const OVERFLOWS: bool = true;
+
+    fn put_before(&mut self, value: u64) {
+        let _ = self.push(value);
+    }
+
+    fn put(producer: &mut Producer<'_, Self>, value: u64) -> Option<u64> {
+        producer.push(value)
+    }
+
     fn take_next(consumer: &mut Consumer<'_, Self>) -> Option<u64> {
         consumer.pop()
     }
 }
 
-impl<const CAPACITY: usize> Overflows for FixedSizeSafelyOverflowingIndexQueue<CAPACITY> {
-    fn put(producer: &mut Producer<'_, Self>, value: u64) -> Option<u64> {
-        producer.push(value)
+/// The queue, shared, in which the numbers from 0 on wait, so many of them.
+pub(crate) fn shared<Q: Numbers>(
+    alloc: Global,
+    queue: Result<Q, AllocError>,
+    waiting: u64,
+) -> Result<Shared<Q>, AllocError> {
+    let mut queue = queue?;
+    for value in 0..waiting {
+        queue.put_before(value);
     }
-}
-
-/// The queue, shared.
-pub(crate) fn shared<Q: Share>(alloc: Global, queue: Q) -> Result<Shared<Q>, Fail> {
-    queue.share(alloc).map_err(|_| Fail::from("no memory"))
+    queue.share(alloc).map_err(|_| AllocError)
 }
 
 /// Both ends of a shared queue, where neither is held.

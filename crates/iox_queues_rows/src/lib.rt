@@ -1,29 +1,28 @@
-//! What no contract of the queue crates can say, tested one word at a time.
+//! Queues, bit sets, sets of indices and containers of members: what no contract of theirs can say.
 //!
-//! It has no items of its own, only tests: `known` holds two schedules known beforehand with their
-//! answers, `memory` calls where a request for memory is refused, `schedules` every order in which two
-//! calls may go, against a plain list, `sets` bit sets and counting bit sets, `resets` what their plain forms answer; `turns` has party values whose memory
-//! answers by a script. Of the shared forms `answers` holds each answer, `roles` who may hold an end, and `streams`
-//! 100,000 numbers through two threads; `ends` is what they share.
+//! It has no items of its own, only tests: `sizes` holds that ample memory is enough at each size, `again` that a step
+//! without memory goes when it is asked again, `schedules` and `sets` every order in which two calls may go, `texts` what
+//! errors are displayed as. Of what threads share `shared` holds each answer of queues and single values, `indices` those
+//! of sets of indices, and `streams` 100,000 numbers through two threads; `ends` and `answers` are what they share.
 #![tactic(auto)]
 
+#[cfg(test)]
+mod again;
 #[cfg(test)]
 mod answers;
 #[cfg(test)]
 mod ends;
 #[cfg(test)]
-mod known;
-#[cfg(test)]
-mod memory;
-#[cfg(test)]
-mod resets;
-#[cfg(test)]
-mod roles;
+mod indices;
 #[cfg(test)]
 mod schedules;
 #[cfg(test)]
 mod sets;
 #[cfg(test)]
+mod shared;
+#[cfg(test)]
+mod sizes;
+#[cfg(test)]
 mod streams;
 #[cfg(test)]
-mod turns;
+mod texts;

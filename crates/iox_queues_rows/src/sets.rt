@@ -7,55 +7,49 @@ use std::test::Fail;
 // A call has at most this many steps here.
 const STEPS: u32 = 8;
 
-// What two calls answered, and what is in places 0 and 1 afterwards; whether each step was told, and each call ended.
-#[derive(Clone, Copy)]
-struct Ends {
-    whole: bool,
-    first: Answer,
-    second: Answer,
-    places: [u64; 2],
+// What the first call answered, what the second did, and what is in place 0 afterwards.
+type Ends = (Answer, Answer, u64);
+
+// Counts place 0 once.
+const COUNTED: [Move; 4] = [
+    Move::Begin(0, Call::Set(0)),
+    Move::GoOn(0),
+    Move::GoOn(0),
+    Move::GoOn(0),
+];
+
+// Party 0 makes one call and party 1 the other, in the turns that `mask` names.
+fn take_turns(machine: &mut SetMachine, mask: u32, first: Call, second: Call) -> bool {
+    let mut moves = [Move::Begin(1, second), Move::Begin(0, first)];
+    for turn in 0..2 * STEPS {
+        let party = ((mask >> turn) % 2) as usize;
+        if machine.step(moves[party]) == Stepped::NoMemory {
+            return false;
+        }
+        moves[party] = Move::GoOn(1 - party);
+    }
+    true
 }
 
-// Place 0 is counted once. Then party 0 makes one call and party 1 the other, in the turns that
-// `mask` names, and both go to their ends.
-fn moves(alloc: Global, mask: u32, first: Call, second: Call) -> Result<Vec<Move>, AllocError> {
-    let mut moves = Vec::new(alloc);
-    moves.push(Move::Begin(0, Call::Set(0)))?;
-    for _ in 0..3 {
-        moves.push(Move::GoOn(0))?;
+// Both go to their ends.
+fn go_on(machine: &mut SetMachine) {
+    for _ in 0..2 * STEPS {
+        let _ = machine.run(&[Move::GoOn(0), Move::GoOn(1)]);
     }
-    let mut first_began = false;
-    let mut second_began = false;
-    for turn in 0..2 * STEPS {
-        if (mask >> turn) % 2 == 1 {
-            moves.push(if first_began {
-                Move::GoOn(0)
-            } else {
-                Move::Begin(0, first)
-            })?;
-            first_began = true;
-        } else {
-            moves.push(if second_began {
-                Move::GoOn(1)
-            } else {
-                Move::Begin(1, second)
-            })?;
-            second_began = true;
+}
+
+// The two calls that ended behind the one that counted place 0.
+fn ends_of(machine: &SetMachine) -> Option<Ends> {
+    let mut answers = [Answer::Swept; 2];
+    for finished in machine.finished().iter().skip(1) {
+        if finished.party < 2 {
+            answers[finished.party] = finished.answer;
         }
     }
-    for _ in 0..2 * STEPS {
-        moves.push(Move::GoOn(0))?;
-        moves.push(Move::GoOn(1))?;
+    if machine.finished().len() != 3 || machine.capacity() != 2 {
+        return None;
     }
-    Ok(moves)
-}
-
-fn held(machine: &SetMachine, place: usize) -> u64 {
-    if (place as u64) < machine.capacity() {
-        machine.count(place)
-    } else {
-        u64::MAX
-    }
+    Some((answers[0], answers[1], machine.count(0)))
 }
 
 fn both_calls(
@@ -64,104 +58,90 @@ fn both_calls(
     max: u64,
     first: Call,
     second: Call,
-) -> Result<Ends, AllocError> {
+) -> Result<Option<Ends>, AllocError> {
     let mut machine = SetMachine::new(alloc, max, 2, 2)?;
-    let moves = moves(alloc, mask, first, second)?;
-    let made = machine.run(moves.as_slice());
-    let mut answers = [Answer::Swept; 2];
-    // The first call that ended is the one that counted place 0.
-    for finished in machine.finished().iter().skip(1) {
-        if finished.party < 2 {
-            answers[finished.party] = finished.answer;
-        }
+    if machine.run(&COUNTED) != 4 || !take_turns(&mut machine, mask, first, second) {
+        return Err(AllocError);
     }
-    Ok(Ends {
-        whole: made == machine.events().len() && machine.finished().len() == 3,
-        first: answers[0],
-        second: answers[1],
-        places: [held(&machine, 0), held(&machine, 1)],
-    })
+    go_on(&mut machine);
+    Ok(ends_of(&machine))
 }
 
-// Whether what can't begin is skipped, and a set goes step by step to its end.
-fn is_stepped(machine: &mut SetMachine) -> bool {
-    machine.step(Move::GoOn(0)) == Stepped::Skipped
-        && machine.step(Move::Begin(0, Call::Set(2))) == Stepped::Skipped
-        && machine.step(Move::Begin(1, Call::Set(0))) == Stepped::Skipped
-        && machine.step(Move::Begin(0, Call::Set(1))) == Stepped::Went
-        && machine.step(Move::GoOn(0)) == Stepped::Went
-        && machine.step(Move::GoOn(0)) == Stepped::Went
-        && held(machine, 1) == 1
-        && machine.step(Move::GoOn(0)) == Stepped::Finished
-        && machine.stage(0).is_idle()
-}
+// A kind of set by its largest count, the two calls, and how they may end.
+type Row = (u64, Call, Call, [Ends; 2]);
 
-#[test]
-fn a_step_begins_and_goes_on(rt: HostRuntime) -> Result<(), Fail> {
-    assert!(rt; is_stepped(&mut SetMachine::new(rt.alloc(), 1, 2, 1)?));
-    Ok(())
-}
+const TAKEN: Answer = Answer::Taken(Some(0));
 
-// A bit that is set, and reset: the set finds it set, or sets it after the reset.
-fn is_bit(bit: Ends) -> bool {
-    bit.whole
-        && bit.second == Answer::Taken(Some(0))
-        && bit.first == Answer::Added(bit.places[0] == 1)
-}
+const NONE: Answer = Answer::Taken(None);
 
-// A count: the reset takes both out, or the first alone.
-fn is_count(count: Ends) -> bool {
-    count.whole
-        && count.first == Answer::Added(true)
-        && count.second == Answer::Taken(Some(0))
-        && count.places[0] <= 1
-}
+const ADDED: Answer = Answer::Added(true);
 
-#[test]
-fn a_set_and_a_reset_go_one_after_the_other(rt: HostRuntime) -> Result<(), Fail> {
-    let mut before = 0u32;
-    let mut behind = 0u32;
+const ROWS: [Row; 4] = [
+    // A bit that is set, and reset: the set finds it set, or sets it after the reset.
+    (
+        1,
+        Call::Set(0),
+        Call::ResetNext,
+        [(Answer::Added(false), TAKEN, 0), (ADDED, TAKEN, 1)],
+    ),
+    // A count: the reset takes both out, or the first alone.
+    (
+        2,
+        Call::Set(0),
+        Call::ResetNext,
+        [(ADDED, TAKEN, 0), (ADDED, TAKEN, 1)],
+    ),
+    // One of two resets takes the place, and the other nothing.
+    (
+        1,
+        Call::ResetNext,
+        Call::ResetNext,
+        [(TAKEN, NONE, 0), (NONE, TAKEN, 0)],
+    ),
+    // A reset of all and a set of the other place both go, which leaves no choice.
+    (
+        1,
+        Call::ResetAll,
+        Call::Set(1),
+        [(Answer::Swept, ADDED, 0), (Answer::Swept, ADDED, 0)],
+    ),
+];
+
+// How often each end came, in every schedule, or none where another came.
+fn counted(alloc: Global, row: &Row) -> Result<Option<[u32; 2]>, AllocError> {
+    let mut counts = [0u32; 2];
     for mask in 0..1u32 << 16 {
         if mask.count_ones() != STEPS {
             continue;
         }
-        let bit = both_calls(rt.alloc(), mask, 1, Call::Set(0), Call::ResetNext)?;
-        let count = both_calls(rt.alloc(), mask, 2, Call::Set(0), Call::ResetNext)?;
-        assert!(rt; is_bit(bit) && is_count(count), "turns {mask}");
-        if count.places[0] == 0 {
-            before = before.saturating_add(1);
+        let found = both_calls(alloc, mask, row.0, row.1, row.2)?;
+        if found == Some(row.3[0]) {
+            counts[0] = counts[0].saturating_add(1);
+        } else if found == Some(row.3[1]) {
+            counts[1] = counts[1].saturating_add(1);
         } else {
-            behind = behind.saturating_add(1);
+            return Ok(None);
         }
     }
-    // Both come to pass.
-    assert!(rt; 0 < before && 0 < behind && before.saturating_add(behind) == 12_870);
-    Ok(())
+    Ok(Some(counts))
 }
 
-// Whether one of two resets took place 0, and the other nothing.
-fn is_taken_once(both: Ends) -> bool {
-    let first = both.first == Answer::Taken(Some(0)) && both.second == Answer::Taken(None);
-    let second = both.first == Answer::Taken(None) && both.second == Answer::Taken(Some(0));
-    both.whole && (first || second)
-}
-
-// Whether a reset of all and a set of the other place both went.
-fn is_swept(all: Ends) -> bool {
-    all.whole
-        && all.first == Answer::Swept
-        && all.second == Answer::Added(true)
-        && all.places[0] == 0
+// Whether each schedule ended in one of its ways, and each way came, where there are two.
+fn is_whole(row: &Row, counts: Option<[u32; 2]>) -> bool {
+    match counts {
+        Some([first, second]) => {
+            first.saturating_add(second) == 12_870
+                && 0 < first
+                && (0 < second || row.3[0] == row.3[1])
+        }
+        None => false,
+    }
 }
 
 #[test]
-fn two_resets_take_one_place_once(rt: HostRuntime) -> Result<(), Fail> {
-    for mask in 0..1u32 << 16 {
-        if mask.count_ones() == STEPS {
-            let both = both_calls(rt.alloc(), mask, 1, Call::ResetNext, Call::ResetNext)?;
-            let all = both_calls(rt.alloc(), mask, 1, Call::ResetAll, Call::Set(1))?;
-            assert!(rt; is_taken_once(both) && is_swept(all), "turns {mask}");
-        }
+fn two_calls_go_one_after_the_other_in_every_schedule(rt: HostRuntime) -> Result<(), Fail> {
+    for (place, row) in ROWS.iter().enumerate() {
+        assert!(rt; is_whole(row, counted(rt.alloc(), row)?), "row {place}");
     }
     Ok(())
 }

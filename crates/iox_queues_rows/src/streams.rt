@@ -1,67 +1,19 @@
 //! 100,000 numbers through two threads.
-use crate::ends::{Numbers, Overflows, Refuses, ends, shared};
+use crate::answers::hold;
+use crate::ends::{Numbers, ends, shared};
 use iox_queues::{
     Consumer, FixedSizeIndexQueue, FixedSizeSafelyOverflowingIndexQueue, IndexQueue, Producer,
-    Queue, SafelyOverflowingIndexQueue, Shared, UnrestrictedAtomic,
+    Queue, SafelyOverflowingIndexQueue, Share, Shared, UnrestrictedAtomic,
 };
-use std::alloc::Global;
+use std::alloc::{AllocError, Global};
 use std::test::Fail;
 use std::thread;
 use std::thread::Threads;
 
 const COUNT: u64 = 100_000;
 
-fn push_all<Q: Refuses>(producer: &mut Producer<'_, Q>) -> bool {
-    let mut next = 0u64;
-    for _ in 0..1_000_000_000u64 {
-        if next == COUNT {
-            return true;
-        }
-        if Q::put(producer, next) {
-            next = next.saturating_add(1);
-        } else {
-            thread::yield_now();
-        }
-    }
-    false
-}
-
-// All numbers come out, each in its turn.
-fn pop_all<Q: Numbers>(consumer: &mut Consumer<'_, Q>) -> bool {
-    let mut next = 0u64;
-    for _ in 0..1_000_000_000u64 {
-        if next == COUNT {
-            return true;
-        }
-        match Q::take_next(consumer) {
-            Some(value) if value == next => next = next.saturating_add(1),
-            Some(_) => return false,
-            None => thread::yield_now(),
-        }
-    }
-    false
-}
-
-// Whether all went in and came out.
-fn all_come_out<Q: Refuses + Send>(rt: &impl Threads, shared: &Shared<Q>) -> bool {
-    let Some((mut producer, mut consumer)) = ends(shared) else {
-        return false;
-    };
-    let (pushed, popped) = thread::join(rt, || push_all(&mut producer), || pop_all(&mut consumer));
-    pushed && popped
-}
-
-#[test]
-fn numbers_come_out_of_a_queue_in_order(rt: HostRuntime) -> Result<(), Fail> {
-    let alloc: Global = rt.alloc();
-    assert!(&rt; all_come_out(&rt, &shared(alloc, IndexQueue::new(alloc, 64)?)?));
-    assert!(&rt; all_come_out(&rt, &shared(alloc, FixedSizeIndexQueue::<64>::new(alloc)?)?));
-    assert!(&rt; all_come_out(&rt, &shared(alloc, Queue::<u128, 64>::new(alloc)?)?));
-    Ok(())
-}
-
 // Numbers that rise: how many, and their sum.
-#[derive(Drop)]
+#[derive(Clone, Copy)]
 struct Rising {
     rises: bool,
     next: u64,
@@ -95,18 +47,28 @@ impl Rising {
     }
 }
 
-fn push_over<Q: Overflows>(producer: &mut Producer<'_, Q>) -> Rising {
-    let mut left = Rising::new();
-    for value in 0..COUNT {
-        if let Some(oldest) = Q::put(producer, value) {
-            left.note(oldest);
+// Puts all numbers in, each again and again until it isn't refused. The answer is what was handed out for them.
+fn put_all<Q: Numbers>(producer: &mut Producer<'_, Q>) -> Rising {
+    let mut out = Rising::new();
+    let mut next = 0u64;
+    for _ in 0..1_000_000_000u64 {
+        if next == COUNT {
+            break;
+        }
+        match Q::put(producer, next) {
+            None => next = next.saturating_add(1),
+            Some(left) if left == next => thread::yield_now(),
+            Some(oldest) => {
+                out.note(oldest);
+                next = next.saturating_add(1);
+            }
         }
     }
-    left
+    out
 }
 
 // Takes numbers until the last one came, which is never handed out.
-fn pop_until_last<Q: Numbers>(consumer: &mut Consumer<'_, Q>) -> Rising {
+fn take_all<Q: Numbers>(consumer: &mut Consumer<'_, Q>) -> Rising {
     let mut got = Rising::new();
     for _ in 0..1_000_000_000u64 {
         if got.next == COUNT {
@@ -120,27 +82,38 @@ fn pop_until_last<Q: Numbers>(consumer: &mut Consumer<'_, Q>) -> Rising {
     got
 }
 
-// Whether each number came out at one of both ends.
-fn none_is_lost<Q: Overflows + Send>(rt: &impl Threads, shared: &Shared<Q>) -> bool {
+// Whether each number came out at one of both ends, where it was taken in order.
+fn none_is_lost<Q: Numbers + Send>(rt: &impl Threads, shared: &Shared<Q>) -> bool {
     let Some((mut producer, mut consumer)) = ends(shared) else {
         return false;
     };
-    let (left, got) = thread::join(
-        rt,
-        || push_over(&mut producer),
-        || pop_until_last(&mut consumer),
-    );
-    got.is_all_with(&left)
+    let (out, got) = thread::join(rt, || put_all(&mut producer), || take_all(&mut consumer));
+    got.is_all_with(&out) && (Q::OVERFLOWS || out.count == 0)
+}
+
+fn goes<Q: Numbers + Send>(
+    rt: &impl Threads,
+    alloc: Global,
+    queue: Result<Q, AllocError>,
+) -> Result<bool, AllocError> {
+    Ok(none_is_lost(rt, &shared(alloc, queue, 0)?))
 }
 
 #[test]
-fn an_overflowing_queue_loses_no_number(rt: HostRuntime) -> Result<(), Fail> {
+fn queues_lose_no_number_and_keep_their_order(rt: HostRuntime) -> Result<(), Fail> {
     let alloc: Global = rt.alloc();
-    let chosen = SafelyOverflowingIndexQueue::new(alloc, 8)?;
-    assert!(&rt; none_is_lost(&rt, &shared(alloc, chosen)?));
-    let fixed = FixedSizeSafelyOverflowingIndexQueue::<8>::new(alloc)?;
-    assert!(&rt; none_is_lost(&rt, &shared(alloc, fixed)?));
-    Ok(())
+    let answers = [
+        goes(&rt, alloc, IndexQueue::new(alloc, 64)),
+        goes(&rt, alloc, FixedSizeIndexQueue::<64>::new(alloc)),
+        goes(&rt, alloc, Queue::<u128, 64>::new(alloc)),
+        goes(&rt, alloc, SafelyOverflowingIndexQueue::new(alloc, 8)),
+        goes(
+            &rt,
+            alloc,
+            FixedSizeSafelyOverflowingIndexQueue::<8>::new(alloc),
+        ),
+    ];
+    Ok(hold(&rt, &answers)?)
 }
 
 // Stores 0, 1, 2, .. with the same number in both words.
@@ -175,21 +148,21 @@ fn load_all(shared: &Shared<UnrestrictedAtomic<u128>>) -> bool {
 
 // Whether all were stored, and each load was whole.
 fn is_loaded_whole(rt: &impl Threads, shared: &Shared<UnrestrictedAtomic<u128>>) -> bool {
-    match shared.acquire_producer() {
-        Some(mut producer) => {
-            let (stored, loaded) = thread::join(
-                rt,
-                || store_all(&mut producer),
-                || load_all(shared),
-            );
-            stored && loaded
-        }
-        None => false,
+    let Some(mut producer) = shared.acquire_producer() else {
+        return false;
+    };
+    let (stored, loaded) = thread::join(rt, || store_all(&mut producer), || load_all(shared));
+    stored && loaded
+}
+
+fn loads_whole(rt: &impl Threads, alloc: Global) -> Result<bool, AllocError> {
+    match UnrestrictedAtomic::new(0u128).share(alloc) {
+        Ok(shared) => Ok(is_loaded_whole(rt, &shared)),
+        Err(_) => Err(AllocError),
     }
 }
 
 #[test]
 fn a_shared_value_is_loaded_whole(rt: HostRuntime) -> Result<(), Fail> {
-    assert!(&rt; is_loaded_whole(&rt, &shared(rt.alloc(), UnrestrictedAtomic::new(0))?));
-    Ok(())
+    Ok(hold(&rt, &[loads_whole(&rt, rt.alloc())])?)
 }

@@ -1,10 +1,10 @@
 //! Calls of the parties of lanes, by steps and whole.
 use crate::said::Said;
 use crate::words::{number, word};
-use iox_lanes_calls::Receipt;
+use iox_lanes_base::calls::Receipt;
 use iox_lanes_machine::Lanes;
 use iox_lanes_parties::{Answer, Call, Move, Party};
-use iox_lanes_publisher::LoanAnswer;
+use iox_lanes_parties::publisher::LoanAnswer;
 use iox_queues_steps::Stepped;
 use std::alloc::{AllocError, Global};
 use std::str::SplitWhitespace;

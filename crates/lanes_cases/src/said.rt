@@ -1,6 +1,6 @@
 //! What a line answers.
 use iox_domain_publisher::Sent;
-use iox_domain_threads::{EndError, OpenError};
+use iox_lanes::threads::{EndError, OpenError};
 use iox_lanes::{IntoDomainError, IntoLanesError};
 use iox_lanes_machine::Positions;
 use iox_lanes_parties::Answer;

@@ -3,7 +3,7 @@ use crate::calling;
 use crate::said::Said;
 use crate::words::{number, party, word};
 use iox_lanes_machine::{Found, Lanes};
-use iox_lanes_words::SlotWord;
+use iox_lanes_base::words::SlotWord;
 use std::alloc::{AllocError, Global};
 use std::str::SplitWhitespace;
 

@@ -1,6 +1,6 @@
 use Rattle.std.proofs.Common.{le_refl, refl}
-use Rattle.iox_hub_ports.specs.DomainHome.Steps.{why_no_subscriber}
-use Rattle.iox_hub_ports.specs.Making.{with_subscriber}
+use Rattle.iox_hub_commands.specs.DomainHome.Steps.{why_no_subscriber}
+use Rattle.iox_hub_commands.specs.Making.{with_subscriber}
 use Rattle.iox_hub_commands.specs.Naming.{subscriber_config}
 use Rattle.iox_hub_commands.proofs.Refused.{refused}
 use Rattle.iox_hub_commands.proofs.arriving.subscriber_refused.Goals as goal

@@ -1,6 +1,6 @@
 use Rattle.std.proofs.Common.{ℕ, ◌≡◌, ◌<◌, false}
-use Rattle.iox_lanes_ledger.specs.LanesPublisher.Keeping.{loan_of}
-use Rattle.iox_lanes_ledger.specs.LanesParties.Parties.{is_out}
+use Rattle.iox_lanes_machine.specs.LanesParties.PublisherKeeping.{loan_of}
+use Rattle.iox_lanes_machine.specs.LanesParties.Parties.{is_out}
 use Rattle.iox_lanes_machine.proofs.resting.has_loan.Given as goal
 
 abbrev pub invariant-loop-slot : goal.invariant-loop-slot

@@ -1,5 +1,5 @@
 use Rattle.std.proofs.Common.{ℕ, ◌≡◌, ◌<◌, false}
-use Rattle.iox_lanes_ledger.specs.LanesParties.Parties.{is_borrowed, place_of}
+use Rattle.iox_lanes_machine.specs.LanesParties.Parties.{is_borrowed, place_of}
 use Rattle.iox_lanes_machine.proofs.resting.has_sample.Given as goal
 
 abbrev pub invariant-loop-slot : goal.invariant-loop-slot

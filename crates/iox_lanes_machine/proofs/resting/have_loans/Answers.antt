@@ -1,8 +1,8 @@
 use Rattle.std.proofs.Common.{ℕ, ◌≡◌, ◌+◌, ◌≤◌, false, length, sym, subst}
 use Rattle.std.proofs.lemmas.List.{take_all}
 use Rattle.std.proofs.lemmas.List.Elements.{All-get_or, All-more, All-same}
-use Rattle.iox_lanes_ledger.specs.LanesPublisher.Keeping.{loan_of}
-use Rattle.iox_lanes_ledger.specs.LanesParties.Parties.{PublisherLaneState, is_out}
+use Rattle.iox_lanes_machine.specs.LanesParties.PublisherKeeping.{loan_of}
+use Rattle.iox_lanes_machine.specs.LanesParties.Parties.{PublisherLaneState, is_out}
 use Rattle.iox_lanes_machine.proofs.FreeSlots.{free_beyond}
 use Rattle.iox_lanes_machine.proofs.resting.have_loans.Goals as goal
 

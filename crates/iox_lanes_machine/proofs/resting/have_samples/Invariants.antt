@@ -1,6 +1,6 @@
 use Rattle.std.proofs.Common.{ℕ, ◌≡◌, false, take}
 use Rattle.std.specs.List.{All}
-use Rattle.iox_lanes_ledger.specs.LanesParties.Parties.{SubscriberLaneState, is_borrowed, place_of}
+use Rattle.iox_lanes_machine.specs.LanesParties.Parties.{SubscriberLaneState, is_borrowed, place_of}
 use Rattle.iox_lanes_machine.proofs.resting.have_samples.Given as goal
 
 abbrev pub invariant-loop-lane : goal.invariant-loop-lane

@@ -1,5 +1,5 @@
 use Rattle.std.proofs.Common.{ℕ, ◌≡◌, refl, sym, subst, ◌∙◌, arith}
-use Rattle.iox_lanes_ledger.specs.LanesWords.Numbers.{IsSmall}
+use Rattle.iox_lanes_machine.specs.LanesBase.Numbers.{IsSmall}
 use Rattle.iox_lanes_threads_rule.specs.Acts.{port_of}
 use Rattle.iox_lanes_threads_ports.proofs.Running.{Paced, publishes, publishes_on, paced, publisher_stops, publisher_stays_inside, ends_alone}
 use Rattle.iox_lanes_threads_ports.proofs.Striding.{paced_along, publishes_along}

@@ -1,8 +1,8 @@
 use Rattle.std.proofs.Common.{ℕ, refl, sym, ap, subst}
-use Rattle.iox_lanes_ledger.specs.QueuesOverflowing.declared.push.Push.TheVariants as overflowing_push
-use Rattle.iox_lanes_ledger.specs.QueuesRings.declared.ends.Push.TheVariants as ring_push
-use Rattle.iox_lanes_ledger.specs.LanesCalls.declared.publisher.PublisherCall.TheVariants as publishing
-use Rattle.iox_lanes_ledger.specs.LanesParties.Parties.{PublisherLaneState}
+use Rattle.iox_lanes_machine.specs.QueuesRings.declared.overflowing.push.Push.TheVariants as overflowing_push
+use Rattle.iox_lanes_machine.specs.QueuesRings.declared.ends.Push.TheVariants as ring_push
+use Rattle.iox_lanes_machine.specs.LanesBase.declared.calls.publisher.PublisherCall.TheVariants as publishing
+use Rattle.iox_lanes_machine.specs.LanesParties.Parties.{PublisherLaneState}
 use Rattle.iox_lanes_threads_rule.specs.Acts.{port_of}
 use Rattle.iox_lanes_threads_rule.specs.declared.view.Port.{Port}
 use Rattle.iox_lanes_threads_ports.specs.Strides.{called, PublisherStrode}

@@ -1,8 +1,8 @@
 use Rattle.std.proofs.Common.{ℕ, ◌+◌, ◌<◌, ◌^◌, List, length, get_or, refl, sym, ap, subst, ◌∙◌, arith}
-use Rattle.iox_lanes_ledger.specs.LanesWords.Numbers.{IsSmall}
-use Rattle.iox_lanes_ledger.specs.LanesCalls.Publishing.{head_from, head_at}
-use Rattle.iox_lanes_ledger.specs.LanesCalls.declared.publisher.PublisherCall.TheVariants as publishing
-use Rattle.iox_lanes_ledger.specs.LanesPublisher.Publishers.{words_of as call_words}
+use Rattle.iox_lanes_machine.specs.LanesBase.Numbers.{IsSmall}
+use Rattle.iox_lanes_machine.specs.LanesBase.Publishing.{head_from, head_at}
+use Rattle.iox_lanes_machine.specs.LanesBase.declared.calls.publisher.PublisherCall.TheVariants as publishing
+use Rattle.iox_lanes_machine.specs.LanesParties.Publishers.{words_of as call_words}
 use Rattle.iox_lanes_threads_rule.specs.Acts.{port_of}
 use Rattle.iox_lanes_threads_ports.specs.Strides.{called, PublisherStrode}
 use Rattle.iox_lanes_threads_ports.proofs.Striding.{strode_none, at_first, head_here, head_next, few_heads}

@@ -1,6 +1,6 @@
 use Rattle.std.proofs.Common.{◌≡◌}
-use Rattle.iox_lanes_ledger.specs.LanesCalls.Publishing.{head_at}
-use Rattle.iox_lanes_ledger.specs.LanesPublisher.Publishers.{words_of as call_words}
+use Rattle.iox_lanes_machine.specs.LanesBase.Publishing.{head_at}
+use Rattle.iox_lanes_machine.specs.LanesParties.Publishers.{words_of as call_words}
 use Rattle.iox_lanes_threads_rule.specs.Acts.{port_of}
 use Rattle.iox_lanes_threads_ports.specs.Strides.{called, PublisherStrode}
 use Rattle.iox_lanes_threads_ports.proofs.strides.head_words.Given as goal

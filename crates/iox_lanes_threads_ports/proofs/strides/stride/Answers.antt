@@ -1,5 +1,5 @@
 use Rattle.std.proofs.Common.{sym, ap, ◌∙◌}
-use Rattle.iox_lanes_ledger.specs.LanesCalls.Publishing.{publisher_next}
+use Rattle.iox_lanes_machine.specs.LanesBase.Publishing.{publisher_next}
 use Rattle.iox_lanes_threads_ports.proofs.Running.{steps_alone}
 use Rattle.iox_lanes_threads_ports.proofs.Striding.{strode_once}
 use Rattle.iox_lanes_threads_ports.proofs.strides.stride.Goals as goal

@@ -1,5 +1,5 @@
 use Rattle.std.proofs.Common.{subst}
-use Rattle.iox_lanes_ledger.specs.LanesWords.declared.access.SharedAccess.{SharedAccess}
+use Rattle.iox_lanes_machine.specs.LanesBase.declared.words.access.SharedAccess.{SharedAccess}
 use Rattle.iox_lanes_threads_rule.specs.Acts.{MayAct}
 use Rattle.iox_lanes_threads_ports.specs.Strides.{subscriber_called}
 use Rattle.iox_lanes_threads_ports.proofs.SubscriberSteps.{may_act}

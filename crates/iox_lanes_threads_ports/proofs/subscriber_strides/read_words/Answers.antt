@@ -1,6 +1,6 @@
 use Rattle.std.proofs.Common.{◌+◌, ◌<◌, refl, subst, arith}
-use Rattle.iox_lanes_ledger.specs.LanesCalls.Subscribing.{read_at}
-use Rattle.iox_lanes_ledger.specs.LanesCalls.declared.subscriber.SubscriberCall.TheVariants as subscribing
+use Rattle.iox_lanes_machine.specs.LanesBase.Subscribing.{read_at}
+use Rattle.iox_lanes_machine.specs.LanesBase.declared.calls.subscriber.SubscriberCall.TheVariants as subscribing
 use Rattle.iox_lanes_threads_rule.specs.Acts.{port_of}
 use Rattle.iox_lanes_threads_ports.specs.Strides.{SubscriberStrode}
 use Rattle.iox_lanes_threads_ports.proofs.SubscriberStriding.{strode_none, at_first, reads_at}

@@ -1,5 +1,5 @@
 use Rattle.std.proofs.Common.{◌≡◌}
-use Rattle.iox_lanes_ledger.specs.LanesCalls.Subscribing.{read_at}
+use Rattle.iox_lanes_machine.specs.LanesBase.Subscribing.{read_at}
 use Rattle.iox_lanes_threads_rule.specs.Acts.{port_of}
 use Rattle.iox_lanes_threads_ports.specs.Strides.{subscriber_called, SubscriberStrode}
 use Rattle.iox_lanes_threads_ports.proofs.subscriber_strides.read_words.Given as goal

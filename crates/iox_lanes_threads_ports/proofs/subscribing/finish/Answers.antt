@@ -1,6 +1,6 @@
 use Rattle.std.proofs.Common.{sym, ap, subst, ◌∙◌, ◌≡◌}
-use Rattle.iox_lanes_ledger.specs.LanesWords.Numbers.{IsSmall}
-use Rattle.iox_lanes_ledger.specs.LanesParties.Parties.{SubscriberLaneState}
+use Rattle.iox_lanes_machine.specs.LanesBase.Numbers.{IsSmall}
+use Rattle.iox_lanes_machine.specs.LanesParties.Parties.{SubscriberLaneState}
 use Rattle.iox_lanes_threads_rule.specs.Acts.{port_of}
 use Rattle.iox_lanes_threads_rule.specs.declared.service.Service.{Service}
 use Rattle.iox_lanes_threads_ports.specs.Values.{IsShort}

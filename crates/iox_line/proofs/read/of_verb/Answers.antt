@@ -1,5 +1,5 @@
 use Rattle.std.proofs.Common.{◌∙◌, Some, ap, sym}
-use Rattle.iox_command_ports.specs.Ports.{command_of}
+use Rattle.iox_command.specs.Ports.{command_of}
 use Rattle.iox_line.specs.Reading.{of_verb}
 use Rattle.iox_line.proofs.PortLemmas.{stayed}
 use Rattle.iox_line.proofs.read.of_verb.Goals as goal

@@ -1,6 +1,6 @@
 use Rattle.std.proofs.Common.{rules, arith, ℕ, ◌≡◌, ◌+◌, ◌≤◌, length, List, [], ◌∷◌, refl, sym, subst, ap, ◌∙◌}
 use Rattle.iox_lanes_machine.specs.World.{RunsTo}
-use Rattle.iox_lanes_ledger.specs.LanesParties.declared.call.Entry.{Entry}
+use Rattle.iox_lanes_machine.specs.LanesParties.declared.call.Entry.{Entry}
 use Rattle.iox_lanes_machine.proofs.Fixed.{fixed_on}
 use Rattle.iox_lanes_machine.proofs.Runs.{run_more, run_stops, counts_one, none_left}
 use Rattle.iox_lanes_machine.proofs.lanes.Lanes.run.Goals as goal

@@ -1,6 +1,6 @@
 use Rattle.std.proofs.Common.{ℕ, ◌≡◌, true, set, slice_get, Option, Some, sym, ◌∙◌, ap, subst}
-use Rattle.iox_lanes_ledger.specs.LanesCalls.declared.route.Route.{Route}
-use Rattle.iox_lanes_ledger.specs.LanesParties.Parties.{PublisherLaneState, lane_meets}
+use Rattle.iox_lanes_machine.specs.LanesBase.declared.calls.route.Route.{Route}
+use Rattle.iox_lanes_machine.specs.LanesParties.Parties.{PublisherLaneState, lane_meets}
 use Rattle.iox_lanes_machine.specs.Findings.{buffers_of, with_buffer, subscribers_meet, buffered_in, buffered_at, buffered_of}
 use Rattle.iox_lanes_machine.specs.Links.{LinkState}
 use Rattle.iox_lanes_machine.specs.State.{world_of}

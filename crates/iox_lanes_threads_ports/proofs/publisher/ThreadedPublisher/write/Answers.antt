@@ -1,5 +1,5 @@
 use Rattle.std.proofs.Common.{ℕ, refl, false, sym, ap, subst, ◌∙◌}
-use Rattle.iox_lanes_ledger.specs.LanesWords.declared.sizes.TableSizes.{TableSizes}
+use Rattle.iox_lanes_machine.specs.LanesBase.declared.words.sizes.TableSizes.{TableSizes}
 use Rattle.iox_lanes_threads_rule.specs.Acts.{port_of}
 use Rattle.iox_lanes_threads_ports.specs.Paces.{write_steps}
 use Rattle.iox_lanes_threads_ports.specs.Ports.{PublisherStands}

@@ -1,6 +1,6 @@
 use Rattle.std.proofs.Common.{refl, sym, ap, subst, ◌∙◌}
-use Rattle.iox_lanes_ledger.specs.LanesParties.Parties.{words_read}
-use Rattle.iox_lanes_ledger.specs.LanesParties.declared.call.Call.TheVariants as call
+use Rattle.iox_lanes_machine.specs.LanesParties.Parties.{words_read}
+use Rattle.iox_lanes_machine.specs.LanesParties.declared.call.Call.TheVariants as call
 use Rattle.iox_lanes_threads_rule.specs.Acts.{port_of}
 use Rattle.iox_lanes_threads_ports.specs.Ports.{SubscriberStands}
 use Rattle.iox_lanes_threads_ports.specs.Values.{SubscriberPort, settled}

@@ -1,8 +1,8 @@
 use Rattle.std.proofs.Common.{sym, ap, subst, ◌∙◌}
-use Rattle.iox_lanes_ledger.specs.LanesCalls.declared.subscriber.Receipt.{Receipt}
-use Rattle.iox_lanes_ledger.specs.LanesParties.Parties.{subscriber_begun}
-use Rattle.iox_lanes_ledger.specs.LanesParties.declared.call.Answer.TheVariants as answer
-use Rattle.iox_lanes_ledger.specs.LanesParties.declared.call.Call.TheVariants as call
+use Rattle.iox_lanes_machine.specs.LanesBase.declared.calls.subscriber.Receipt.{Receipt}
+use Rattle.iox_lanes_machine.specs.LanesParties.Parties.{subscriber_begun}
+use Rattle.iox_lanes_machine.specs.LanesParties.declared.call.Answer.TheVariants as answer
+use Rattle.iox_lanes_machine.specs.LanesParties.declared.call.Call.TheVariants as call
 use Rattle.iox_lanes_threads_rule.specs.Acts.{port_of}
 use Rattle.iox_lanes_threads_ports.specs.Courses.{SubscriberEnds}
 use Rattle.iox_lanes_threads_ports.specs.Values.{SubscriberPort, settled}

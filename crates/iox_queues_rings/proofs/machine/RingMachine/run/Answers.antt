@@ -1,6 +1,6 @@
 use Rattle.std.proofs.Common.{rules, arith, ℕ, ◌≡◌, ◌+◌, ◌≤◌, length, List, [], ◌∷◌, refl, sym, subst, ap, ◌∙◌}
 use Rattle.iox_queues_rings.specs.RingMachine.{RunsTo}
-use Rattle.iox_queues_overflowing.specs.QueuesSteps.declared.schedule.Move.{Move}
+use Rattle.iox_queues_rings.specs.QueuesSteps.declared.schedule.Move.{Move}
 use Rattle.iox_queues_rings.proofs.Runs.{run_more, run_stops, steps_moments, counts_one, none_left}
 use Rattle.iox_queues_rings.proofs.machine.RingMachine.run.Goals as goal
 

@@ -1,9 +1,0 @@
-pub mod WordLemmas
-pub mod SpacedLemmas
-pub mod AfterLemmas
-pub mod MarkLemmas
-pub mod NumberLemmas
-pub mod VisibleLemmas
-pub mod OptionLemmas
-pub mod ChoiceLemmas
-pub mod GatherLemmas

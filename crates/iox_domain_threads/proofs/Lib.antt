@@ -1,2 +1,0 @@
--- Lemmas on publishers that forget their messages.
-pub mod Forgetting

@@ -1,0 +1,25 @@
+use Rattle.iox_hub_run.specs.HubCommands.DescribeBase.Detail.{detail}
+use Rattle.iox_hub_run.specs.HubCommands.DescribeBase.declared.type_detail.TypeVariant.TheVariants.{FixedSize}
+use Rattle.iox_hub_run.specs.HubFactories.Asked.{types_of}
+use Rattle.iox_hub_run.proofs.AsAgreed.{are_as_agreed}
+use Rattle.iox_hub_run.proofs.StepChanges.{changes_count}
+use Rattle.iox_hub.proofs.RunWords.{changes_by_step, grows_by_step, apart_by_step, agrees_by_step}
+use Rattle.iox_hub.proofs.stepping.step.Goals as goal
+
+pub returns-clause-one : goal.returns-clause-one
+returns-clause-one g c = changes_by_step (detail FixedSize g.T.ZeroCopySend.name g.T.ZeroCopySend.size g.T.ZeroCopySend.alignment) (detail FixedSize g.U.ZeroCopySend.name g.U.ZeroCopySend.size g.U.ZeroCopySend.alignment) (types_of g.T.ZeroCopySend.name g.T.ZeroCopySend.size g.T.ZeroCopySend.alignment g.U.ZeroCopySend.name g.U.ZeroCopySend.size g.U.ZeroCopySend.alignment) (λ value. g.T.Default.is_default value) (λ value. g.U.Default.is_default value) g.B.PublisherHandlers.fixed (λ strategy action degrading at_full at_failure. g.B.TakesHandlers.handled strategy action degrading at_full at_failure) (λ handlers. g.B.Degrades.degrades handlers) (λ handlers. g.B.Decides.decides handlers) g.D.SubscriberHandler.fixed (λ handler. g.D.Degrades.degrades handler) c.args.command (c.args.hub.now, c.args.given.now.places.items) (c.carry_out.new.hub, c.carry_out.new.given.places.items) c.carry_out.result c.carry_out.ensures.steps
+
+pub returns-clause-grows : goal.returns-clause-grows
+returns-clause-grows g c = grows_by_step (detail FixedSize g.T.ZeroCopySend.name g.T.ZeroCopySend.size g.T.ZeroCopySend.alignment) (detail FixedSize g.U.ZeroCopySend.name g.U.ZeroCopySend.size g.U.ZeroCopySend.alignment) (types_of g.T.ZeroCopySend.name g.T.ZeroCopySend.size g.T.ZeroCopySend.alignment g.U.ZeroCopySend.name g.U.ZeroCopySend.size g.U.ZeroCopySend.alignment) (λ value. g.T.Default.is_default value) (λ value. g.U.Default.is_default value) g.B.PublisherHandlers.fixed (λ strategy action degrading at_full at_failure. g.B.TakesHandlers.handled strategy action degrading at_full at_failure) (λ handlers. g.B.Degrades.degrades handlers) (λ handlers. g.B.Decides.decides handlers) g.D.SubscriberHandler.fixed (λ handler. g.D.Degrades.degrades handler) c.args.command (c.args.hub.now, c.args.given.now.places.items) (c.carry_out.new.hub, c.carry_out.new.given.places.items) c.carry_out.result c.carry_out.ensures.steps
+
+pub returns-clause-apart : goal.returns-clause-apart
+returns-clause-apart g c = apart_by_step (detail FixedSize g.T.ZeroCopySend.name g.T.ZeroCopySend.size g.T.ZeroCopySend.alignment) (detail FixedSize g.U.ZeroCopySend.name g.U.ZeroCopySend.size g.U.ZeroCopySend.alignment) (types_of g.T.ZeroCopySend.name g.T.ZeroCopySend.size g.T.ZeroCopySend.alignment g.U.ZeroCopySend.name g.U.ZeroCopySend.size g.U.ZeroCopySend.alignment) (λ value. g.T.Default.is_default value) (λ value. g.U.Default.is_default value) g.B.PublisherHandlers.fixed (λ strategy action degrading at_full at_failure. g.B.TakesHandlers.handled strategy action degrading at_full at_failure) (λ handlers. g.B.Degrades.degrades handlers) (λ handlers. g.B.Decides.decides handlers) g.D.SubscriberHandler.fixed (λ handler. g.D.Degrades.degrades handler) c.args.command (c.args.hub.now, c.args.given.now.places.items) (c.carry_out.new.hub, c.carry_out.new.given.places.items) c.carry_out.result c.carry_out.ensures.steps
+
+pub returns-clause-one_agreement : goal.returns-clause-one_agreement
+returns-clause-one_agreement g c = agrees_by_step (detail FixedSize g.T.ZeroCopySend.name g.T.ZeroCopySend.size g.T.ZeroCopySend.alignment) (detail FixedSize g.U.ZeroCopySend.name g.U.ZeroCopySend.size g.U.ZeroCopySend.alignment) (types_of g.T.ZeroCopySend.name g.T.ZeroCopySend.size g.T.ZeroCopySend.alignment g.U.ZeroCopySend.name g.U.ZeroCopySend.size g.U.ZeroCopySend.alignment) (λ value. g.T.Default.is_default value) (λ value. g.U.Default.is_default value) g.B.PublisherHandlers.fixed (λ strategy action degrading at_full at_failure. g.B.TakesHandlers.handled strategy action degrading at_full at_failure) (λ handlers. g.B.Degrades.degrades handlers) (λ handlers. g.B.Decides.decides handlers) g.D.SubscriberHandler.fixed (λ handler. g.D.Degrades.degrades handler) c.args.command (c.args.hub.now, c.args.given.now.places.items) (c.carry_out.new.hub, c.carry_out.new.given.places.items) c.carry_out.result c.carry_out.ensures.steps
+
+pub returns-clause-counts : goal.returns-clause-counts
+returns-clause-counts g c = changes_count c.args.hub.now c.carry_out.new.hub (returns-clause-one g c)
+
+pub returns-clause-agreed : goal.returns-clause-agreed
+returns-clause-agreed g c = λ grown. are_as_agreed c.carry_out.new.hub.hub.services.domains (returns-clause-grows g c grown)

@@ -1,0 +1,56 @@
+//! The hub: a run of commands with handlers that are handed in, and the names that a program needs, by the modules of iceoryx2.
+//!
+//! A command that makes a port names handlers by their places, and takes them.
+//!
+//! | Module | What it has |
+//! |---|---|
+//! | `prelude` | what a first program needs |
+//! | `node` | nodes, and the hub that keeps them with all services in one value |
+//! | `service` | names, attributes, descriptions, builders, open services, storages for them, domains, and builders of ports |
+//! | `port` | publishers and subscribers, one publisher with its messages, and what ports take and answer |
+//! | `sample_mut_uninit`, `sample_mut`, `sample` | a loan that is to be written, one that is written, and a message that was received |
+//! | `slice` | publishers, subscribers, loans and messages of slices |
+//! | `container` | vectors, strings, queues, options, maps, semantic strings, byte cells |
+//! | `lock_free` | sets of indices, containers of members, queues and bit sets |
+//! | `given` | handlers that are handed in, by their places |
+//! | `handlers` | who decides for a publisher, made of such handlers |
+//! | `handled_command` | what may be asked |
+//! | `making` | ports come, with the handlers that are named |
+//! | `room` | how many numbers commands may want |
+//! | `stepping` | one command, and its reply |
+//! | `running` | a list of commands |
+//! | `laws` | what a run comes to in other words |
+//!
+//! First calls, on a hub of `iox_hub_run` whose ports boxed handlers may decide for.
+//!
+//! ```
+//! let mut given = GivenHandlers::new(alloc);
+//! let place = given.hand_in(GivenHandler::Backpressure(handler))?;
+//! let report = run(&mut hub, alloc, commands, &mut given);
+//! ```
+#![tactic(auto)]
+
+pub mod container;
+pub mod given;
+pub mod handled_command;
+pub mod handlers;
+pub mod laws;
+pub mod lock_free;
+mod making;
+pub mod node;
+pub mod port;
+pub mod prelude;
+mod room;
+pub mod running;
+pub mod sample;
+pub mod sample_mut;
+pub mod sample_mut_uninit;
+pub mod service;
+pub mod slice;
+pub mod stepping;
+
+pub use given::{GivenHandler, GivenHandlers};
+pub use handled_command::HandledCommand;
+pub use handlers::TakesHandlers;
+pub use running::run;
+pub use stepping::step;

@@ -1,0 +1,90 @@
+//! One command, and its reply.
+ghost use Rattle.std.specs.Prelude.{◌+◌, ◌<◌, ◌≤◌, ◌^◌, OnErr};
+ghost use Rattle.iox_hub_run.specs.Agreements.{AreOfOneAgreement};
+ghost use Rattle.iox_hub_run.specs.Grown.{GrowsOn, HaveGrown, AreAsAgreed, OneDomainMoves};
+ghost use Rattle.iox_hub_run.specs.HubCommands.DescribeBase.Detail.{detail};
+ghost use Rattle.iox_hub_run.specs.HubCommands.DescribeBase.declared.type_detail.TypeVariant.TheVariants.{FixedSize};
+ghost use Rattle.iox_hub_run.specs.HubFactories.Asked.{types_of};
+ghost use Rattle.iox_hub_run.specs.Lives.{ChangesOneThing};
+ghost use Rattle.iox_hub_run.specs.Numbers.{numbers_used};
+ghost use Rattle.iox_hub_run.specs.PortRoom.{HasRoom, KeepsRoom};
+ghost use Rattle.iox_hub.specs.Room.{HandledLacks};
+ghost use Rattle.iox_hub.specs.Steps.{HandledStep};
+
+use crate::given::GivenHandlers;
+use crate::handled_command::HandledCommand;
+use crate::handlers::TakesHandlers;
+use crate::making::{publisher, subscriber};
+use iox_command::Reply;
+use iox_describe_base::ZeroCopySend;
+use iox_hub_commands::SubscriberHandler;
+use iox_hub_run::NumberedHub;
+use iox_queues_base::Words;
+use std::alloc::{AllocError, Global};
+
+/// Carries out one command, and answers the reply to it: as `NumberedHub::step` does where it names no handler. A port takes the handlers
+/// that its command names by their places, also where it is then refused, and they are dropped.
+///
+/// A command is skipped, and nothing happens, also where a place doesn't exist, or is empty, or has a handler of the other kind. The handlers
+/// that a skipped command names stay where they are.
+///
+/// Fails as `NumberedHub::step` does, and never where a handler is named.
+pub fn step<
+    T: Words + ZeroCopySend + Default,
+    U: Copy + ZeroCopySend + Default,
+    B: TakesHandlers<P, D>,
+    D: SubscriberHandler,
+    P: Drop,
+>(
+    hub: &mut NumberedHub<T, U, B, D>,
+    alloc: Global,
+    command: HandledCommand<T>,
+    given: &mut GivenHandlers<P, D>,
+) -> Result<Reply<T>, AllocError>
+    requires { numbers_used hub.old + 1 < 2 ^ 64 }
+    ensures steps { HandledStep (detail FixedSize T.name T.size T.alignment) (detail FixedSize U.name U.size U.alignment) (types_of T.name T.size T.alignment U.name U.size U.alignment) T.is_default U.is_default B.fixed (λ strategy action degrading at_full at_failure. B.handled strategy action degrading at_full at_failure) (λ handlers. B.degrades handlers) (λ handlers. B.decides handlers) D.fixed (λ handler. D.degrades handler) command.entry (hub.old, given.old.places.items) result (hub.new, given.new.places.items) }
+    ensures counts { numbers_used hub.new ≤ numbers_used hub.old + 1 }
+    ensures one { ChangesOneThing hub.old hub.new }
+    ensures grows { GrowsOn hub.old.hub hub.new.hub }
+    ensures agreed { HaveGrown hub.old.hub.services.domains → AreAsAgreed hub.new.hub.services.domains }
+    ensures one_agreement { AreOfOneAgreement hub.old.factories.made hub.old.hub → AreOfOneAgreement hub.new.factories.made hub.new.hub }
+    ensures apart { OneDomainMoves hub.old.hub hub.new.hub }
+    ensures room { KeepsRoom hub.old hub.new }
+    ensures lacks { HasRoom hub.old → OnErr result (HandledLacks command.entry hub.old hub.new) }
+{
+    carry_out(hub, alloc, command, given)
+}
+
+// The same, without what it comes to in other words.
+fn carry_out<
+    T: Words + ZeroCopySend + Default,
+    U: Copy + ZeroCopySend + Default,
+    B: TakesHandlers<P, D>,
+    D: SubscriberHandler,
+    P: Drop,
+>(
+    hub: &mut NumberedHub<T, U, B, D>,
+    alloc: Global,
+    command: HandledCommand<T>,
+    given: &mut GivenHandlers<P, D>,
+) -> Result<Reply<T>, AllocError>
+    requires { numbers_used hub.old + 1 < 2 ^ 64 }
+    ensures room { KeepsRoom hub.old hub.new }
+    ensures lacks { HasRoom hub.old → OnErr result (HandledLacks command.entry hub.old hub.new) }
+    ensures steps { HandledStep (detail FixedSize T.name T.size T.alignment) (detail FixedSize U.name U.size U.alignment) (types_of T.name T.size T.alignment U.name U.size U.alignment) T.is_default U.is_default B.fixed (λ strategy action degrading at_full at_failure. B.handled strategy action degrading at_full at_failure) (λ handlers. B.degrades handlers) (λ handlers. B.decides handlers) D.fixed (λ handler. D.degrades handler) command.entry (hub.old, given.old.places.items) result (hub.new, given.new.places.items) }
+{
+    match command {
+        HandledCommand::Plain(command) => hub.step(alloc, command),
+        HandledCommand::Publisher {
+            factory,
+            options,
+            at_full,
+            at_failure,
+        } => Ok(publisher(hub, alloc, factory, &options, (at_full, at_failure), given)),
+        HandledCommand::Subscriber {
+            factory,
+            options,
+            at_failure,
+        } => Ok(subscriber(hub, alloc, factory, &options, at_failure, given)),
+    }
+}

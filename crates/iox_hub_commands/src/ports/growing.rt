@@ -1,0 +1,77 @@
+//! Loans and samples that come where there may be no room for one more.
+ghost use Rattle.std.specs.Prelude.{◌≡◌, ◌<◌, ◌+◌, ◌^◌, length, OnOk, OnErr};
+ghost use Rattle.iox_numbered.specs.NumberTable.{value_at};
+ghost use Rattle.iox_hub_commands.specs.Calls.{ready};
+ghost use Rattle.iox_hub_commands.specs.Growing.{GrowsFirst};
+ghost use Rattle.iox_hub_commands.specs.Numbering.{LendsNumbered, LendsWrittenNumbered, ReceivesNumbered};
+ghost use Rattle.iox_hub_commands.specs.Tables.{SameNumbers, IsFull, lender};
+
+use crate::ports::made::Made;
+use iox_domain_home::Home;
+use iox_domain_values::{LoanError, ReceiveError};
+use iox_numbered::Numbered;
+use std::alloc::{AllocError, Global};
+
+impl Made {
+    /// As `loan_uninit`, and room is made first for one more loan, if there is none. Fails only where an allocation fails for that; then nothing
+    /// has changed.
+    pub fn loan_uninit_growing<T: Copy, U: Copy, H: Home<T, U>>(
+        &mut self,
+        alloc: Global,
+        home: &mut H,
+        publisher: u64,
+        elements: u64,
+    ) -> Result<Option<Result<u64, LoanError>>, AllocError>
+        requires number { self.old.loans.next + 1 < 2 ^ 64 }
+        ensures { GrowsFirst (IsFull self.old.loans) (LendsNumbered H.ports_of H.with_ports elements (lender elements (value_at self.old.publishers publisher))) self.old home.old result self.new home.new }
+    {
+        room_for_one(&mut self.loans)?;
+        Ok(self.loan_uninit(alloc, home, publisher, elements))
+    }
+
+    /// As `loan`, and room is made first for one more loan, if there is none. Fails only where an allocation fails for that; then nothing has
+    /// changed.
+    pub fn loan_growing<T: Copy, U: Copy, H: Home<T, U>>(
+        &mut self,
+        alloc: Global,
+        home: &mut H,
+        publisher: u64,
+        elements: u64,
+        value: T,
+    ) -> Result<Option<Result<u64, LoanError>>, AllocError>
+        requires number { self.old.loans.next + 1 < 2 ^ 64 }
+        ensures { GrowsFirst (IsFull self.old.loans) (LendsWrittenNumbered H.ports_of H.with_ports elements value (ready H.ports_of (lender elements (value_at self.old.publishers publisher)) home.old)) self.old home.old result self.new home.new }
+    {
+        room_for_one(&mut self.loans)?;
+        Ok(self.loan(alloc, home, publisher, elements, value))
+    }
+
+    /// As `receive`, and room is made first for one more sample, if there is none. Fails only where an allocation fails for that; then nothing has
+    /// changed, and what waits is there still.
+    pub fn receive_growing<T: Copy, U: Copy, H: Home<T, U>>(
+        &mut self,
+        alloc: Global,
+        home: &mut H,
+        subscriber: u64,
+    ) -> Result<Option<Result<Option<u64>, ReceiveError>>, AllocError>
+        requires number { self.old.samples.next + 1 < 2 ^ 64 }
+        ensures { GrowsFirst (IsFull self.old.samples) (ReceivesNumbered H.ports_of H.with_ports H.subscriber_degrades (value_at self.old.subscribers subscriber)) self.old home.old result self.new home.new }
+    {
+        room_for_one(&mut self.samples)?;
+        Ok(self.receive(alloc, home, subscriber))
+    }
+}
+
+// Makes room for one value more, if there is none.
+pub(crate) fn room_for_one<V>(numbers: &mut Numbered<V>) -> Result<(), AllocError>
+    ensures same { SameNumbers numbers.old numbers.new }
+    ensures room { OnOk result (length numbers.new.entries < numbers.new.room) }
+    ensures full { OnErr result (IsFull numbers.old) }
+    ensures unchanged { OnErr result (numbers.new ≡ numbers.old) }
+{
+    if numbers.len() < numbers.room() {
+        return Ok(());
+    }
+    let room = numbers.room().checked_add(1).ok_or(AllocError)?;
+    numbers.reserve(room)
+}

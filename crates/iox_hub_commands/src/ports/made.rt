@@ -1,0 +1,122 @@
+//! The tables: which port, loan or sample goes by a number.
+ghost use Rattle.std.specs.Prelude.{◌≡◌, true, false, IfSome};
+ghost use Rattle.iox_delivery_slices.specs.Delivery.Holding.{publisher_stands, publisher_blocked};
+ghost use Rattle.iox_numbered.specs.NumberTable.{value_at};
+ghost use Rattle.iox_hub_commands.specs.Calls.{ready};
+ghost use Rattle.iox_hub_commands.specs.Tables.{IsEmpty, port_under, lender};
+
+use iox_delivery::{PortId, publishing};
+use iox_domain_home::Home;
+use iox_domain_subscriber::Taken;
+use iox_numbered::Numbered;
+use std::alloc::Global;
+
+/// A publisher, and whether its messages are slices.
+#[derive(Clone, Copy, Debug, PartialEq, Eq)]
+pub struct MadePublisher {
+    /// Which port it is.
+    pub port: PortId,
+    /// Whether its messages are slices: else each is one value.
+    pub holds_slices: bool,
+}
+
+/// A loan that is out.
+#[derive(Clone, Copy, Debug, PartialEq, Eq)]
+pub struct MadeLoan {
+    /// Of which publisher.
+    pub port: PortId,
+    /// In which of its slots.
+    pub slot: usize,
+}
+
+/// A sample that is held.
+#[derive(Clone, Copy, Debug, PartialEq, Eq)]
+pub struct MadeSample {
+    /// By which subscriber.
+    pub port: PortId,
+    /// Which of its samples.
+    pub taken: Taken,
+}
+
+/// The ports, loans and samples that a run of commands made, each kind under numbers that are counted from 1. A number is spent when what
+/// goes by it ends: the port leaves, the loan is sent or given up, the sample is released.
+///
+/// The calls of a port are asked of a home, which is handed in: it holds the domains. Each answers None, and nothing happens, where a
+/// number stands for nothing. This port's own.
+#[derive(Drop)]
+pub struct Made {
+    /// The publishers that didn't leave.
+    pub publishers: Numbered<MadePublisher>,
+    /// The subscribers that didn't leave.
+    pub subscribers: Numbered<PortId>,
+    /// The loans that are out.
+    pub loans: Numbered<MadeLoan>,
+    /// The samples that are held.
+    pub samples: Numbered<MadeSample>,
+}
+
+impl Made {
+    /// Nothing was made yet. It takes no memory.
+    pub fn new(alloc: Global) -> Self
+        ensures { IsEmpty result }
+    {
+        Made {
+            publishers: Numbered::new(alloc),
+            subscribers: Numbered::new(alloc),
+            loans: Numbered::new(alloc),
+            samples: Numbered::new(alloc),
+        }
+    }
+
+    /// Which port goes by a publisher's number.
+    pub fn publisher(&self, publisher: u64) -> Option<PortId>
+        ensures { result ≡ port_under (value_at self.now.publishers publisher) }
+    {
+        match self.publishers.get(publisher) {
+            Some(made) => Some(made.port),
+            None => None,
+        }
+    }
+
+    /// Which port goes by a subscriber's number.
+    pub fn subscriber(&self, subscriber: u64) -> Option<PortId>
+        ensures { result ≡ value_at self.now.subscribers subscriber }
+    {
+        self.subscribers.get(subscriber).copied()
+    }
+
+    /// Which port goes by a publisher's number, if its messages may have so many elements: where they aren't slices, they have one.
+    pub fn lender(&self, publisher: u64, elements: u64) -> Option<PortId>
+        ensures { result ≡ lender elements (value_at self.now.publishers publisher) }
+    {
+        match self.publishers.get(publisher) {
+            Some(made) => {
+                if made.holds_slices || elements == 1 {
+                    Some(made.port)
+                } else {
+                    None
+                }
+            }
+            None => None,
+        }
+    }
+
+    // The same, if that publisher may lend: its domain is here, it didn't leave, and no send of it waits.
+    pub(crate) fn ready_lender<T: Copy, U: Copy, H: Home<T, U>>(
+        &self,
+        home: &H,
+        publisher: u64,
+        elements: u64,
+    ) -> Option<PortId>
+        ensures port { result ≡ ready H.ports_of (lender elements (value_at self.now.publishers publisher)) home.now }
+        ensures stands { IfSome result (λ port. publisher_stands port.number (H.ports_of port.domain home.now) ≡ true) }
+        ensures free { IfSome result (λ port. publisher_blocked port.number (H.ports_of port.domain home.now) ≡ false) }
+    {
+        let port = self.lender(publisher, elements)?;
+        if publishing::holds(port, home) && !publishing::is_blocked(port, home) {
+            Some(port)
+        } else {
+            None
+        }
+    }
+}

@@ -1,0 +1,48 @@
+//! A sample is read, and released.
+ghost use Rattle.std.specs.Prelude.{◌≡◌, option_copied};
+ghost use Rattle.iox_numbered.specs.NumberTable.{value_at};
+ghost use Rattle.iox_hub_commands.specs.Numbering.{removed_if};
+ghost use Rattle.iox_hub_commands.specs.Reading.{values_under, is_held, ReleasesUnder};
+ghost use Rattle.iox_hub_commands.specs.Tables.{without_sample};
+
+use crate::ports::made::Made;
+use iox_delivery::subscribing;
+use iox_domain_home::Home;
+
+impl Made {
+    /// The values of a sample that is held. None where no sample goes by the number, or where its domain isn't here.
+    pub fn read<'a, T: Copy, U: Copy, H: Home<T, U>>(
+        &self,
+        home: &'a H,
+        sample: u64,
+    ) -> Option<&'a [T]>
+    where
+        T: 'a,
+        U: 'a,
+        ensures { option_copied result ≡ values_under H.ports_of (value_at self.now.samples sample) home.now }
+    {
+        let held = self.samples.get(sample).copied()?;
+        match home.ports(held.port.domain) {
+            Some(ports) => ports.payload(held.taken),
+            None => None,
+        }
+    }
+
+    /// A sample is released, and its number is spent. Answers false, and nothing happens, where no sample goes by the number, or where
+    /// its domain isn't here.
+    pub fn release<T: Copy, U: Copy, H: Home<T, U>>(&mut self, home: &mut H, sample: u64) -> bool
+        ensures answer { result ≡ is_held H.ports_of (value_at self.old.samples sample) home.old }
+        ensures home { ReleasesUnder H.ports_of H.with_ports (value_at self.old.samples sample) home.old result home.new }
+        ensures number { self.new ≡ removed_if result (without_sample sample) self.old }
+    {
+        let Some(held) = self.samples.get(sample).copied() else {
+            return false;
+        };
+        if !subscribing::holds_message(held.port, held.taken, home) {
+            return false;
+        }
+        subscribing::release(held.port, held.taken, home);
+        self.samples.remove(sample);
+        true
+    }
+}

@@ -1,0 +1,84 @@
+//! Subscribers follow, receive, and leave.
+ghost use Rattle.std.specs.Prelude.{◌≡◌, ◌<◌, ◌+◌, ◌^◌, length};
+ghost use Rattle.iox_numbered.specs.NumberTable.{value_at};
+ghost use Rattle.iox_hub_commands.specs.Calls.{AtPort, AtPortIf, FollowsPublishers, Tells, SubscriberGoes};
+ghost use Rattle.iox_hub_commands.specs.Numbering.{ReceivesNumbered, removed_if};
+ghost use Rattle.iox_hub_commands.specs.Tables.{without_subscriber};
+
+use crate::ports::made::{Made, MadeSample};
+use iox_domain_home::Home;
+use iox_domain_values::{ConnectionFailure, ReceiveError};
+use std::alloc::Global;
+
+impl Made {
+    /// A subscriber follows the list of publishers. None, and nothing happens, where no subscriber goes by the number, or where its
+    /// domain isn't here. Refused as `Home::update_subscriber` refuses it.
+    pub fn update_subscriber<T: Copy, U: Copy, H: Home<T, U>>(
+        &self,
+        alloc: Global,
+        home: &mut H,
+        subscriber: u64,
+    ) -> Option<Result<(), ConnectionFailure>>
+        ensures { AtPort (FollowsPublishers H.ports_of H.with_ports H.subscriber_degrades) (value_at self.now.subscribers subscriber) home.old result home.new }
+    {
+        let port = self.subscriber(subscriber)?;
+        home.update_subscriber(alloc, port.domain, port.number)
+    }
+
+    /// Whether some connection of a subscriber has data, after an update. None, and nothing happens, where no subscriber goes by the
+    /// number, or where its domain isn't here. Refused as `Home::has_samples` refuses it.
+    pub fn has_samples<T: Copy, U: Copy, H: Home<T, U>>(
+        &self,
+        alloc: Global,
+        home: &mut H,
+        subscriber: u64,
+    ) -> Option<Result<bool, ConnectionFailure>>
+        ensures { AtPort (Tells H.ports_of H.with_ports H.subscriber_degrades) (value_at self.now.subscribers subscriber) home.old result home.new }
+    {
+        let port = self.subscriber(subscriber)?;
+        home.has_samples(alloc, port.domain, port.number)
+    }
+
+    /// A subscriber receives, after an update; the answer is the number of the sample that came, if one came. It takes no memory here:
+    /// there must be room for one more sample.
+    ///
+    /// None, and nothing happens, where no subscriber goes by the number, or where its domain isn't here. Refused as `Home::receive`
+    /// refuses it.
+    pub fn receive<T: Copy, U: Copy, H: Home<T, U>>(
+        &mut self,
+        alloc: Global,
+        home: &mut H,
+        subscriber: u64,
+    ) -> Option<Result<Option<u64>, ReceiveError>>
+        requires room { length self.old.samples.entries < self.old.samples.room }
+        requires number { self.old.samples.next + 1 < 2 ^ 64 }
+        ensures { ReceivesNumbered H.ports_of H.with_ports H.subscriber_degrades (value_at self.old.subscribers subscriber) self.old home.old result self.new home.new }
+    {
+        let port = self.subscriber(subscriber)?;
+        match home.receive(alloc, port.domain, port.number)? {
+            Ok(Some(taken)) => Some(Ok(Some(self.samples.insert_next(MadeSample { port, taken })))),
+            Ok(None) => Some(Ok(None)),
+            Err(error) => Some(Err(error)),
+        }
+    }
+
+    /// A subscriber leaves, and its number is spent. Answers false, and nothing happens, where no subscriber goes by the number, or where
+    /// its domain isn't here.
+    pub fn leave_subscriber<T: Copy, U: Copy, H: Home<T, U>>(
+        &mut self,
+        home: &mut H,
+        subscriber: u64,
+    ) -> bool
+        ensures home { AtPortIf (SubscriberGoes H.ports_of H.with_ports H.without_subscriber) (value_at self.old.subscribers subscriber) home.old result home.new }
+        ensures number { self.new ≡ removed_if result (without_subscriber subscriber) self.old }
+    {
+        let Some(port) = self.subscriber(subscriber) else {
+            return false;
+        };
+        if !home.leave_subscriber(port.domain, port.number) {
+            return false;
+        }
+        self.subscribers.remove(subscriber);
+        true
+    }
+}

@@ -1,6 +1,0 @@
-pub mod Misfit
-pub mod Answering
-pub mod Refused
-pub mod Written
-pub use Rattle.iox_delivery_slices.proofs.DomainLaws as DomainLaws
-pub use Rattle.iox_numbered.proofs as Numbered

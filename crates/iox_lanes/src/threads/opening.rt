@@ -1,0 +1,75 @@
+//! From the lanes of a domain to threads.
+ghost use Rattle.std.specs.Prelude.{◌≡◌, IfOk, IfErr};
+ghost use Rattle.iox_lanes_threads.specs.Ports.{MayOpen};
+ghost use Rattle.iox_lanes_threads.specs.Threads.{RefusesToOpen};
+ghost use Rattle.iox_lanes.specs.Opened.{IsOpened};
+
+use crate::DomainLanes;
+use crate::threads::threads::{DomainBoard, DomainThreads};
+use iox_domain::Domain;
+use iox_lanes_threads::{LaneThreads, OpenError};
+use iox_queues_base::Words;
+use std::alloc::Global;
+
+/// Threads take over from the lanes of a domain, as `open_threads` of `iox_lanes_threads` has it, and the board keeps the domain as it was when the lanes began.
+///
+/// The board has this number, by which it knows its ports: whoever opens two gives them two. The lanes come back as they were where a party is inside a call
+/// (`PartyInCall`), a loan or a sample is out (`SamplesOut`), more than 2^63 steps were made (`TooManySteps`), or an allocation fails (`OutOfMemory`), in this order.
+/// The ports take no memory from here on. This port's own.
+pub fn open_threads<T: Words, U: Words>(
+    alloc: Global,
+    board: u64,
+    lanes: DomainLanes<T, U>,
+) -> Result<DomainThreads<T, U>, (OpenError, DomainLanes<T, U>)>
+    ensures opened { IfOk result (λ threads. MayOpen lanes.lanes × IsOpened board lanes.lanes lanes.domain lanes.publishers.items threads) }
+    ensures refused { IfErr result (λ refused. RefusesToOpen refused.0 lanes.lanes × (refused.1 ≡ lanes)) }
+{
+    let DomainLanes {
+        lanes,
+        domain,
+        publishers,
+        subscribers,
+        connections,
+        one,
+    } = lanes;
+    match iox_lanes_threads::open_threads(alloc, board, lanes) {
+        Ok(threads) => Ok(with(threads, domain, publishers)),
+        Err((error, lanes)) => {
+            let lanes = DomainLanes {
+                lanes,
+                domain,
+                publishers,
+                subscribers,
+                connections,
+                one,
+            };
+            Err((error, lanes))
+        }
+    }
+}
+
+// The threads of lanes, with the domain and the numbers of its publishers beside the board.
+fn with<T, U, B, D>(
+    threads: LaneThreads,
+    domain: Domain<T, U, B, D>,
+    numbers: Vec<u64>,
+) -> DomainThreads<T, U, B, D>
+    ensures board { result.board ≡ record { board = threads.board; domain = domain; publishers = numbers.items } }
+    ensures publishers { result.publishers ≡ threads.publishers }
+    ensures subscribers { result.subscribers ≡ threads.subscribers }
+{
+    let LaneThreads {
+        board,
+        publishers,
+        subscribers,
+    } = threads;
+    DomainThreads {
+        board: DomainBoard {
+            board,
+            domain,
+            publishers: numbers,
+        },
+        publishers,
+        subscribers,
+    }
+}

@@ -1,0 +1,55 @@
+//! All ports of a domain in threads.
+ghost use Rattle.std.specs.Prelude.{◌≡◌, ◌==◌};
+
+use iox_domain::Domain;
+use iox_domain_values::{DegradationHandler, Handlers};
+use iox_lanes_threads::{Board, LanePublisher, LaneSubscriber, OnBoard};
+use std::marker::Model;
+
+/// The board of a domain's ports in threads, with the domain as it was when its lanes began.
+///
+/// This port's own.
+#[derive(Drop)]
+pub struct DomainBoard<T, U, B = Handlers, D = DegradationHandler> {
+    pub(crate) board: Board,
+    pub(crate) domain: Domain<T, U, B, D>,
+    // The numbers of the publishers, by their places.
+    pub(crate) publishers: Vec<u64>,
+}
+
+impl<T, U, B, D> Model for DomainBoard<T, U, B, D> {
+    ghost use Rattle.iox_lanes.specs.Boards.{DomainBoardState};
+
+    ghost Value = { DomainBoardState T U B D };
+
+    ghost view = { λ b. record { board = b.board; domain = b.domain; publishers = b.publishers.items } };
+}
+
+impl<T, U, B, D> DomainBoard<T, U, B, D> {
+    /// Whether the port is one of this board's: whether both were opened with one number.
+    pub fn knows<P: OnBoard>(&self, port: &P) -> bool
+        ensures { result ≡ (P.board_of port.now == self.now.board.number) }
+    {
+        self.board.knows(port)
+    }
+
+    /// The domain as it was when its lanes began.
+    pub fn domain(&self) -> &Domain<T, U, B, D>
+        ensures { result.now ≡ self.now.domain }
+    {
+        &self.domain
+    }
+}
+
+/// All ports of a domain, each with its share of the words, and the board with the domain.
+///
+/// This port's own.
+#[derive(Drop)]
+pub struct DomainThreads<T, U, B = Handlers, D = DegradationHandler> {
+    /// The board that they were opened on.
+    pub board: DomainBoard<T, U, B, D>,
+    /// The publishers, by their places in the lanes.
+    pub publishers: Vec<LanePublisher>,
+    /// The subscribers, by their places in the lanes.
+    pub subscribers: Vec<LaneSubscriber>,
+}

@@ -1,0 +1,5 @@
+-- The lemmas on shared words.
+pub mod Rounds
+pub mod Numbering
+pub use Rattle.iox_queues_steps.proofs as QueuesSteps
+pub use Rattle.iox_queues_rings.proofs as QueuesRings

@@ -1,0 +1,5 @@
+use Rattle.iox_lanes_base.proofs.Numbering as numbering
+use Rattle.iox_lanes_base.proofs.words.sizes.words_are_within.Goals as goal
+
+pub returns : goal.returns
+returns c = numbering.within

@@ -1,0 +1,26 @@
+//! The calls of one publisher and of one subscriber, one shared word at a time.
+//!
+//! Each call is plain data, free of any words: it says which access comes next, takes that access's answer, and says what the answer changes of what its
+//! port keeps for itself. Rings are worked by the ends of `iox_queues`.
+//!
+//! - [`route`]: a connection as its two ports know it.
+//! - [`answers`]: what an end of a ring was answered.
+//! - [`publisher`]: a loan, a write, a send and the dropping of a loan.
+//! - [`subscriber`]: a receive, a read and a release.
+//!
+//! First calls, of a write of one word; `Lanes` of `iox_lanes_machine` makes them with the words of a service.
+//!
+//! ```
+//! let mut call = PublisherCall::write(&[word], slot);
+//! let access = call.next();
+//! let change = call.take(0, &[], &[word]);
+//! ```
+
+pub mod answers;
+pub mod publisher;
+pub mod route;
+pub mod subscriber;
+
+pub use publisher::{Delivery, PublisherCall, PublisherChange};
+pub use route::{Route, reroute};
+pub use subscriber::{Receipt, SubscriberCall, SubscriberChange};

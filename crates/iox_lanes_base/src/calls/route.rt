@@ -1,0 +1,39 @@
+//! A connection as its two ports know it.
+ghost use Rattle.std.specs.Prelude.{◌≡◌};
+ghost use Rattle.iox_lanes_base.specs.Routes.{known_as, rerouted};
+
+use iox_queues_rings::RingKind;
+
+/// A connection: its number, and the sizes of its two rings.
+#[derive(Clone, Copy, Debug, PartialEq, Eq)]
+pub struct Route {
+    /// The number of the connection.
+    pub connection: u64,
+    /// What its full ring of messages does with one more.
+    pub kind: RingKind,
+    /// How many messages may wait.
+    pub limit: u64,
+    /// How many cells the ring of messages has.
+    pub submission_cells: u64,
+    /// How many cells the ring of samples given back has, and how many of them may lie there.
+    pub completion_cells: u64,
+}
+
+/// Each of a port's connections that has this one's number is this one from now on.
+pub fn reroute(routes: &mut [Route], route: Route)
+    ensures { routes.new ≡ rerouted route routes.old }
+{
+    for own in routes.iter_mut() {
+        *own = known_as(route, *own);
+    }
+}
+
+fn known_as(route: Route, own: Route) -> Route
+    ensures { result ≡ known_as route own }
+{
+    if own.connection == route.connection {
+        route
+    } else {
+        own
+    }
+}

@@ -1,0 +1,8 @@
+//! What the ports of one service do with the words that they share, free of any port.
+//!
+//! - [`words`]: the shared words of a service, and one access to one of them.
+//! - [`calls`]: the calls of one publisher and of one subscriber, one shared word at a time.
+#![tactic(auto)]
+
+pub mod calls;
+pub mod words;

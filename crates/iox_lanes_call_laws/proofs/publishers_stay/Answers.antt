@@ -1,5 +1,0 @@
-use Rattle.iox_lanes_call_laws.proofs.SeatLaws as laws
-use Rattle.iox_lanes_call_laws.proofs.publishers_stay.Goals as goal
-
-pub returns : goal.returns
-returns c = laws.publishers_stay

@@ -1,5 +1,0 @@
-use Rattle.iox_lanes_call_laws.proofs.ReceiveLaws as laws
-use Rattle.iox_lanes_call_laws.proofs.releases_push.Goals as goal
-
-pub returns : goal.returns
-returns c = laws.releases_push

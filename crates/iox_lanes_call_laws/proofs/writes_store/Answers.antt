@@ -1,5 +1,0 @@
-use Rattle.iox_lanes_call_laws.proofs.CourseLaws as laws
-use Rattle.iox_lanes_call_laws.proofs.writes_store.Goals as goal
-
-pub returns : goal.returns
-returns c = laws.writes_store

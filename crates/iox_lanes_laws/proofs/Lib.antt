@@ -1,0 +1,24 @@
+-- The proofs of the laws on calls.
+pub mod SeatLaws
+pub mod CourseLaws
+pub mod SendLaws
+pub mod ReceiveLaws
+pub mod ChangeLaws
+pub mod Books
+pub mod Orders
+pub mod Chains
+pub mod Publishers
+pub mod Mail
+pub mod PublisherLaws
+pub mod Pops
+pub mod Subscribers
+pub mod Receives
+pub mod Samples
+pub mod Ends
+pub mod MessagesBooks
+pub mod Stages
+pub mod Words
+pub mod Lanes
+pub mod Sent
+pub mod Whole
+pub mod Records

@@ -1,0 +1,5 @@
+use Rattle.iox_lanes_laws.proofs.ReceiveLaws as laws
+use Rattle.iox_lanes_laws.proofs.calls.reads_load.Goals as goal
+
+pub returns : goal.returns
+returns c = laws.reads_load

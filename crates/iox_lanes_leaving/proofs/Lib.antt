@@ -1,8 +1,0 @@
--- Lemmas on what lanes leave.
-pub mod SlotWords
-pub mod Losing
-pub mod Left
-pub mod Waits
-pub mod Returning
-pub mod Remembering
-pub mod Filling

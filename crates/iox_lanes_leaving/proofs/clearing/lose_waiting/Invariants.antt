@@ -1,5 +1,0 @@
-use Rattle.iox_lanes_leaving.proofs.Losing.{Losing}
-use Rattle.iox_lanes_leaving.proofs.clearing.lose_waiting.Given as goal
-
-abbrev pub invariant-loop-index : goal.invariant-loop-index
-invariant-loop-index g l = Losing l.fn.sender l.sender l.index

@@ -1,6 +1,0 @@
-use Rattle.std.proofs.Common.{◌≡◌, vec_capacity}
-use Rattle.iox_lanes_leaving.proofs.Remembering.{Remembering}
-use Rattle.iox_lanes_leaving.proofs.restoring.restore_history.Given as goal
-
-abbrev pub invariant-loop-at : goal.invariant-loop-at
-invariant-loop-at g l = Remembering g.T.Words.of_parts g.U.Words.of_parts l.table l.history l.fn.first l.fn.sender l.sender l.at × (vec_capacity l.one ≡ vec_capacity l.fn.one)

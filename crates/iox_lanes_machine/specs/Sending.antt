@@ -1,0 +1,66 @@
+-- What a send that is under way knows of its slot: the connections that it has not come to lack it.
+use Rattle.std.specs.Prelude.{ℕ, ◌≡◌, ◌+◌, ◌<◌, ◌≤◌, false}
+use Rattle.iox_lanes_parties.specs.QueuesRings.declared.overflowing.push.Push as overflowing_type
+use Rattle.iox_lanes_parties.specs.QueuesRings.declared.overflowing.push.Push.TheVariants as overflowing
+use Rattle.iox_lanes_parties.specs.QueuesRings.declared.refusing.push.Push as refusing_type
+use Rattle.iox_lanes_parties.specs.QueuesRings.declared.refusing.push.Push.TheVariants as refusing
+use Rattle.iox_lanes_parties.specs.QueuesRings.declared.ends.Push.{Push}
+use Rattle.iox_lanes_parties.specs.QueuesRings.declared.ends.Push.TheVariants as ring
+use Rattle.iox_lanes_parties.specs.LanesBase.declared.calls.publisher.PublisherCall.{PublisherCall}
+use Rattle.iox_lanes_parties.specs.LanesBase.declared.calls.publisher.PublisherCall.TheVariants as publishing
+use Rattle.iox_lanes_parties.specs.PublisherKeeping.{BookState, loan_of}
+use Rattle.iox_lanes_parties.specs.Parties.{is_out}
+use Rattle.iox_lanes_machine.specs.LedgerUses.{refers_to, IsOwn}
+
+-- a slot that a send puts is the publisher's, and no loan any longer
+pub record IsSending (book : BookState) (slot : ℕ) : Type 0 where
+  pub own : IsOwn book slot
+  pub not_out : is_out (loan_of slot book) ≡ false
+
+-- the value that a push has not stored yet is the slot of the send, which the connection lacks
+pub record IsLacking (book : BookState) (place slot value : ℕ) : Type 0 where
+  pub same : value ≡ slot
+  pub lacks : refers_to book place slot ≡ false
+
+-- until a push stores its value, the connection lacks it: on a ring that lets its oldest go
+abbrev pub OverflowingLacks : BookState → ℕ → ℕ → overflowing_type.Push → Type 0
+OverflowingLacks book place slot overflowing.Idle = Unit {0}
+OverflowingLacks book place slot (overflowing.Begun limit value) = IsLacking book place slot value
+OverflowingLacks book place slot (overflowing.SawWrite limit value write next) = IsLacking book place slot value
+OverflowingLacks book place slot (overflowing.SawRead limit value write next seen) = IsLacking book place slot value
+OverflowingLacks book place slot (overflowing.Filled limit value write next seen) = IsLacking book place slot value
+OverflowingLacks book place slot (overflowing.Full value seen next) = Unit {0}
+OverflowingLacks book place slot (overflowing.SawOldest value seen next oldest) = Unit {0}
+OverflowingLacks book place slot (overflowing.Pushed value answer) = Unit {0}
+
+-- on a ring that refuses
+abbrev pub RefusingLacks : BookState → ℕ → ℕ → refusing_type.Push → Type 0
+RefusingLacks book place slot refusing.Idle = Unit {0}
+RefusingLacks book place slot (refusing.Begun limit value) = IsLacking book place slot value
+RefusingLacks book place slot (refusing.SawWrite limit value write next) = IsLacking book place slot value
+RefusingLacks book place slot (refusing.SawRoom value write next) = IsLacking book place slot value
+RefusingLacks book place slot (refusing.Filled value next) = IsLacking book place slot value
+RefusingLacks book place slot (refusing.Pushed value answer) = Unit {0}
+
+-- on a ring of either kind
+abbrev pub PushLacks : BookState → ℕ → ℕ → Push → Type 0
+PushLacks book place slot (ring.Overflowing push) = OverflowingLacks book place slot push
+PushLacks book place slot (ring.Refusing push) = RefusingLacks book place slot push
+
+-- the connections from a place on lack a slot
+abbrev pub LacksFrom : ℕ → BookState → ℕ → ℕ → Type 0
+LacksFrom connections book place slot = (later : ℕ) → place ≤ later → later < connections → refers_to book later slot ≡ false
+
+-- the connections that a send has not come to lack its slot
+abbrev pub SendsLacking : ℕ → BookState → PublisherCall → Type 0
+SendsLacking connections book publishing.Idle = Unit {0}
+SendsLacking connections book (publishing.LoanReclaims place route pop) = Unit {0}
+SendsLacking connections book publishing.Lending = Unit {0}
+SendsLacking connections book (publishing.Writing slot word value) = Unit {0}
+SendsLacking connections book (publishing.Written slot) = Unit {0}
+SendsLacking connections book (publishing.Heading slot word value) = Unit {0}
+SendsLacking connections book (publishing.Remembering slot) = Unit {0}
+SendsLacking connections book (publishing.SendReclaims slot place route pop) = IsSending book slot × LacksFrom connections book 0 slot
+SendsLacking connections book (publishing.Pushing slot place route push delivery) = IsSending book slot × PushLacks book place slot push × LacksFrom connections book (place + 1) slot
+SendsLacking connections book (publishing.Sent slot delivery) = IsSending book slot
+SendsLacking connections book (publishing.Dropping slot) = Unit {0}

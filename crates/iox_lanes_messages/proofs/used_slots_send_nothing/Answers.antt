@@ -1,5 +1,0 @@
-use Rattle.iox_lanes_messages.proofs.Whole as laws
-use Rattle.iox_lanes_messages.proofs.used_slots_send_nothing.Goals as goal
-
-pub returns : goal.returns
-returns c = laws.used_slots_send_nothing

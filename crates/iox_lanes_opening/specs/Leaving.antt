@@ -1,0 +1,28 @@
+-- The messages that lie in the words of slots.
+use Rattle.std.specs.Prelude.{ℕ, ◌+◌, List, [], ◌∷◌, take, drop}
+use Rattle.iox_domain_sender.specs.Messages.{Message}
+use Rattle.iox_lanes_machine.specs.LanesBase.Numbers.{number_of}
+use Rattle.iox_lanes_machine.specs.LanesBase.Table.{TableWords, held_by}
+use Rattle.iox_lanes_machine.specs.LanesBase.declared.words.word.SharedWord.TheVariants.{Slot}
+use Rattle.iox_lanes_machine.specs.LanesBase.declared.words.word.SlotWord.TheVariants.{Header, UserHeader, Payload}
+
+-- how many elements the header of a slot says
+abbrev pub elements_in : TableWords → ℕ → ℕ
+elements_in table slot = held_by table (Slot slot (Header 2))
+
+-- the words of the user header in a slot
+abbrev pub user_header_in : TableWords → ℕ → List ℕ
+user_header_in table slot = take table.sizes.user_header_words (drop (number_of table.sizes (Slot slot (UserHeader 0))) table.words)
+
+-- the words of the payload in a slot
+abbrev pub payload_in : TableWords → ℕ → List ℕ
+payload_in table slot = take table.sizes.payload_words (drop (number_of table.sizes (Slot slot (Payload 0))) table.words)
+
+-- The message that lies in a slot of the lanes, as one of a publisher whose slots begin at `first` there.
+abbrev pub message_in : {T U : Type 0} → (List ℕ → T) → (List ℕ → U) → TableWords → ℕ → ℕ → Message T U
+message_in value_of header_of table first slot = record {
+  slot = slot;
+  elements = elements_in table (first + slot);
+  user_header = header_of (user_header_in table (first + slot));
+  values = value_of (payload_in table (first + slot)) ∷ [];
+}

@@ -1,0 +1,13 @@
+-- What lanes leave.
+pub mod Texts
+pub mod Listed
+pub mod UpToDate
+pub mod Deciding
+pub mod Lingering
+pub mod Slices
+pub mod Refusals
+pub mod Leaving
+pub mod Clearing
+pub mod Restoring
+pub mod Restored
+pub use Rattle.iox_domain_sender.specs as DomainSender

@@ -1,0 +1,58 @@
+-- What is still out, and who left and isn't gone.
+use Rattle.std.specs.Prelude.{ℕ, ◌||◌, Bool, true, false, not, nat_lt, List, length, get_or, Option, None, Some}
+use Rattle.std.specs.List.{list_any}
+use Rattle.iox_domain.specs.DomainPorts.DomainSlots.Uses.{Connection}
+use Rattle.iox_domain.specs.DomainPorts.DomainSlots.declared.stage.Stage.{Stage}
+use Rattle.iox_domain.specs.DomainPorts.DomainSlots.declared.stage.Stage.TheVariants as stage
+use Rattle.iox_domain.specs.DomainPorts.DomainSubscriber.Publishers.{stands_in}
+use Rattle.iox_domain.specs.DomainPorts.DomainSubscriber.declared.attached.Attached.{Attached}
+use Rattle.iox_domain.specs.DomainPorts.DomainSubscriber.declared.publisher_entry.PublisherEntry.{PublisherEntry}
+use Rattle.iox_domain.specs.DomainPorts.DomainSubscriber.declared.subscriber_port.SubscriberPort.{SubscriberPort}
+use Rattle.iox_domain.specs.DomainPublisher.declared.publisher_port.PublisherPort.{PublisherPort}
+use Rattle.iox_domain.specs.DomainPublisher.declared.subscriber_entry.SubscriberEntry.{SubscriberEntry}
+use Rattle.iox_domain.specs.DomainPorts.Rolls.{RollState}
+use Rattle.iox_domain.specs.DomainPorts.declared.service_ports.ServicePorts.{ServicePorts}
+use Rattle.iox_lanes_opening.specs.Listed.{is_member}
+
+-- whether a connection ended that is still there
+abbrev pub has_ended : Stage → Bool
+has_ended stage.Vacant = false
+has_ended stage.Live = false
+has_ended stage.Ended = true
+
+-- whether a connection ended, and is still there, or a message of it is borrowed
+abbrev pub connection_lingers : {X : Type 0} → Connection X → Bool
+connection_lingers connection = has_ended connection.stage || nat_lt 0 (length connection.borrowed)
+
+-- whether a loan of a publisher is out, or a connection of it lingers
+abbrev pub has_out : {T U : Type 0} → PublisherPort T U → Bool
+has_out port = nat_lt 0 (length port.sender.uses.loans) || list_any connection_lingers port.sender.uses.connections
+
+-- whether the publisher of a number is on the list, at its place
+abbrev pub is_listed_publisher : {T U : Type 0} → RollState PublisherEntry → ℕ → PublisherPort T U → Bool
+is_listed_publisher list number port = is_member (λ entry. entry.publisher) number (get_or list.places port.place None)
+
+-- whether a publisher left, or something of it is out
+abbrev pub publisher_lingers : {T U : Type 0} → RollState PublisherEntry → ℕ × PublisherPort T U → Bool
+publisher_lingers list entry = not entry.1.stands || (not (is_listed_publisher list entry.0 entry.1) || has_out entry.1)
+
+-- whether the publisher of a connection left
+abbrev pub leads_nowhere : {T U : Type 0} → List (ℕ × PublisherPort T U) → Option Attached → Bool
+leads_nowhere publishers None = false
+leads_nowhere publishers (Some attached) = not (stands_in attached.publisher publishers)
+
+-- whether a subscriber holds a sample, or a connection of it expired or leads to a publisher that left
+abbrev pub has_left_over : {T U : Type 0} → List (ℕ × PublisherPort T U) → SubscriberPort → Bool
+has_left_over publishers port = nat_lt 0 port.held || (nat_lt 0 (length port.expired.items) || list_any (leads_nowhere publishers) port.connections.values)
+
+-- whether the subscriber of a number is on the list, at its place
+abbrev pub is_listed_subscriber : RollState SubscriberEntry → ℕ → SubscriberPort → Bool
+is_listed_subscriber list number port = is_member (λ entry. entry.subscriber) number (get_or list.places port.place None)
+
+-- whether a subscriber left, or something is left over of it
+abbrev pub subscriber_lingers : {T U : Type 0} → RollState SubscriberEntry → List (ℕ × PublisherPort T U) → ℕ × SubscriberPort → Bool
+subscriber_lingers list publishers entry = not entry.1.stands || (not (is_listed_subscriber list entry.0 entry.1) || has_left_over publishers entry.1)
+
+-- A loan or a sample is out, a connection whose publisher left still stands, expired or at its place, or a port that left isn't gone.
+abbrev pub is_lingering : {T U : Type 0} → ServicePorts T U → Bool
+is_lingering ports = list_any (publisher_lingers ports.publisher_list) ports.publishers || list_any (subscriber_lingers ports.subscriber_list ports.publishers) ports.subscribers

@@ -1,0 +1,42 @@
+-- The first reason why a domain can't become lanes.
+use Rattle.std.specs.Prelude.{Bool, true, false, not, Option, None, Some, if◌then◌else◌}
+use Rattle.std.specs.List.{list_any}
+use Rattle.iox_domain.specs.DomainValues.declared.data_segment.AllocationStrategy.{AllocationStrategy}
+use Rattle.iox_domain.specs.DomainValues.declared.data_segment.AllocationStrategy.TheVariants as strategy
+use Rattle.iox_domain.specs.DomainValues.declared.degradation_handler.DegradationHandler.{DegradationHandler}
+use Rattle.iox_domain.specs.DomainValues.declared.handlers.Handlers.{Handlers}
+use Rattle.iox_domain.specs.DomainPorts.Publishing as publishing
+use Rattle.iox_domain.specs.DomainPorts.declared.service_ports.ServicePorts.{ServicePorts}
+use Rattle.iox_domain.specs.declared.domain.Domain.{Domain}
+use Rattle.iox_lanes_opening.specs.UpToDate.{is_up_to_date}
+use Rattle.iox_lanes_opening.specs.Deciding.{has_handlers, is_retrying}
+use Rattle.iox_lanes_opening.specs.Lingering.{is_lingering}
+use Rattle.iox_lanes_opening.specs.Slices.{has_slices}
+use Rattle.iox_lanes_opening.specs.declared.refusals.into_lanes_error.IntoLanesError.{IntoLanesError}
+use Rattle.iox_lanes_opening.specs.declared.refusals.into_lanes_error.IntoLanesError.TheVariants as reason
+
+-- A send of some publisher waits at a full mailbox.
+abbrev pub is_blocked : {T U : Type 0} → ServicePorts T U → Bool
+is_blocked ports = list_any (λ entry. publishing.is_blocked entry.1) ports.publishers
+
+-- whether room of this strategy may grow
+abbrev pub may_grow : AllocationStrategy → Bool
+may_grow strategy.BestFit = true
+may_grow strategy.PowerOfTwo = true
+may_grow strategy.Static = false
+
+-- The room of some publisher may grow.
+abbrev pub has_growing : {T U : Type 0} → ServicePorts T U → Bool
+has_growing ports = list_any (λ entry. may_grow entry.1.allocation) ports.publishers
+
+-- The first of the reasons that applies; none where none does.
+abbrev pub first_reason : {T U X Y Z : Type 0} {F : X → Type 0} {G : Y → Type 0} {H : Z → Type 0} → Domain T U (Handlers X Y F G) (DegradationHandler Z H) → Option IntoLanesError
+first_reason domain =
+    if is_blocked domain.ports then Some reason.Blocked
+    else if not (is_up_to_date domain.ports) then Some reason.ConnectionsNotUpToDate
+    else if has_growing domain.ports then Some reason.NotStatic
+    else if has_handlers domain then Some reason.HasHandlers
+    else if is_retrying domain then Some reason.Retrying
+    else if is_lingering domain.ports then Some reason.Lingering
+    else if has_slices domain then Some reason.HasSlices
+    else None

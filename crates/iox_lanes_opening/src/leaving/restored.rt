@@ -1,0 +1,109 @@
+//! A publisher of a domain gets all that lanes leave of it.
+ghost use Rattle.std.specs.Prelude.{◌≡◌, ◌+◌, ◌<◌, ◌≤◌, [], ℕ, length, false, vec_capacity, IfSome};
+ghost use Rattle.std.specs.Bool.{OnTrue};
+ghost use Rattle.iox_domain_sender.specs.Sending.{with_uses};
+ghost use Rattle.iox_domain_sender.specs.DomainSlots.Uses.{connection_at};
+ghost use Rattle.iox_lanes_opening.specs.Restoring.{IsWhole, IsQuiet, AreLeft, OnlyWaits};
+ghost use Rattle.iox_lanes_opening.specs.Restored.{IsRested, IsRestored, MayWaitAt, left_at, place_of, with_waiting};
+
+use crate::leaving::clearing::{forget_messages, is_rested};
+use crate::leaving::restoring::{restore_history, restore_waiting};
+use iox_domain_sender::Sender;
+use iox_lanes_machine::Lanes;
+use iox_queues_base::Words;
+
+/// A publisher of a domain gets all that lanes leave of it, in place of what waited at its connections and of its history: what waits at each connection of the
+/// lanes waits at the one of its index, and the slots of the lanes' history are its history, each message in its slot. The first connection of the lanes is `from`, and
+/// `indices` are those of the domain's; the slots begin at `first` in the lanes. Answers false where the publisher sends or lends something, where something is
+/// borrowed of a connection, or where a slot has no room for a value; then nothing has changed. `one` has room for one value, which is taken there; no memory is.
+pub fn restore<T: Words, U: Words>(
+    lanes: &Lanes,
+    from: u64,
+    indices: &[usize],
+    first: u64,
+    history: &[u64],
+    sender: &mut Sender<T, U>,
+    one: &mut Vec<T>,
+) -> bool
+    requires room { 0 < vec_capacity one.old }
+    requires connections { from + length indices.now ≤ length lanes.now.links }
+    requires whole { IsWhole T.WORDS U.WORDS lanes.now.table }
+    ensures same { result ≡ false → sender.new ≡ sender.old }
+    ensures not { result ≡ false → IsRested sender.old → ⊥ }
+    ensures rested { OnTrue result (IsRested sender.old) }
+    ensures restored { OnTrue result (IsRestored T.of_parts U.of_parts lanes.now from indices.now first history.now sender.old sender.new) }
+    ensures room { vec_capacity one.new ≡ vec_capacity one.old }
+{
+    if !is_rested(sender) {
+        return false;
+    }
+    forget_messages(sender);
+    restore_connections(lanes, from, indices, first, sender, one);
+    restore_history(lanes.table(), history, first, sender, one);
+    true
+}
+
+// What the lanes leave at each connection of a publisher at which nothing waits.
+fn restore_connections<T: Words, U: Words>(
+    lanes: &Lanes,
+    from: u64,
+    indices: &[usize],
+    first: u64,
+    sender: &mut Sender<T, U>,
+    one: &mut Vec<T>,
+)
+    requires room { 0 < vec_capacity one.old }
+    requires connections { from + length indices.now ≤ length lanes.now.links }
+    requires whole { IsWhole T.WORDS U.WORDS lanes.now.table }
+    requires quiet { IsQuiet sender.old }
+    requires left { AreLeft T.of_parts U.of_parts lanes.now.table first sender.old.uses }
+    requires empty { (index : ℕ) → (connection_at index sender.old.uses).waiting ≡ [] }
+    ensures rest { sender.new ≡ with_uses (record sender.old.uses { connections = sender.new.uses.connections }) sender.old }
+    ensures count { length sender.new.uses.connections ≡ length sender.old.uses.connections }
+    ensures each { (index : ℕ) → connection_at index sender.new.uses ≡ with_waiting (connection_at index sender.old.uses) (connection_at index sender.new.uses).waiting }
+    ensures waits { (index : ℕ) → MayWaitAt lanes.now from first index sender.old (place_of index indices.now)
+        → (connection_at index sender.new.uses).waiting ≡ left_at T.of_parts U.of_parts lanes.now from first (place_of index indices.now) }
+    ensures left { AreLeft T.of_parts U.of_parts lanes.now.table first sender.new.uses }
+    ensures room { vec_capacity one.new ≡ vec_capacity one.old }
+{
+    for index in 0..sender.indices() {
+        restore_at(lanes, from, indices, first, index, sender, one);
+    }
+}
+
+// What the lanes leave at the connection of an index, at which nothing waits.
+fn restore_at<T: Words, U: Words>(
+    lanes: &Lanes,
+    from: u64,
+    indices: &[usize],
+    first: u64,
+    index: usize,
+    sender: &mut Sender<T, U>,
+    one: &mut Vec<T>,
+)
+    requires room { 0 < vec_capacity one.old }
+    requires connections { from + length indices.now ≤ length lanes.now.links }
+    requires whole { IsWhole T.WORDS U.WORDS lanes.now.table }
+    requires quiet { IsQuiet sender.old }
+    requires left { AreLeft T.of_parts U.of_parts lanes.now.table first sender.old.uses }
+    requires empty { (connection_at index sender.old.uses).waiting ≡ [] }
+    ensures waits { MayWaitAt lanes.now from first index sender.old (place_of index indices.now)
+        → (connection_at index sender.new.uses).waiting ≡ left_at T.of_parts U.of_parts lanes.now from first (place_of index indices.now) }
+    ensures rest { OnlyWaits index sender.old sender.new }
+    ensures left { AreLeft T.of_parts U.of_parts lanes.now.table first sender.new.uses }
+    ensures room { vec_capacity one.new ≡ vec_capacity one.old }
+{
+    // The number of a connection is below how many there are, and that has 64 bits.
+    let _links = lanes.links().len();
+    if let Some(place) = place_of(indices, index) {
+        restore_waiting(lanes, from + place as u64, first, index, sender, one);
+    }
+}
+
+// Where an index is first in a list.
+fn place_of(indices: &[usize], index: usize) -> Option<usize>
+    ensures value { result ≡ place_of index indices.now }
+    ensures within { IfSome result (λ place. place < length indices.now) }
+{
+    indices.iter().position(|it| *it == index)
+}

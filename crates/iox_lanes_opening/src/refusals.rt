@@ -1,0 +1,25 @@
+//! Why the domain of a service can't become lanes.
+//!
+//! - [`into_lanes_error`]: the reasons.
+//! - [`up_to_date`]: whether each port follows the others as they are, and is connected to them.
+//! - [`deciding`]: who decides by an object, and who waits at a full mailbox.
+//! - [`lingering`]: what is still out, and who left and isn't gone.
+//! - [`slices`]: what isn't one value.
+//! - [`reasons`]: the first reason that applies.
+//!
+//! First calls, of a domain:
+//!
+//! ```
+//! let error = refusal(domain)?;
+//! Some(error.text())
+//! ```
+
+pub mod deciding;
+pub mod into_lanes_error;
+pub mod lingering;
+pub mod reasons;
+pub mod slices;
+pub mod up_to_date;
+
+pub use into_lanes_error::IntoLanesError;
+pub use reasons::refusal;

@@ -1,0 +1,45 @@
+//! Why a domain doesn't become lanes.
+ghost use Rattle.std.specs.Prelude.{◌≡◌};
+ghost use Rattle.iox_lanes_opening.specs.Texts.{into_lanes_text};
+
+use thiserror::Error;
+
+/// Why a domain doesn't become lanes. This port's own.
+#[derive(Clone, Copy, Debug, PartialEq, Eq, Hash, Error)]
+#[error("{}", self.text())]
+pub enum IntoLanesError {
+    /// A send of some publisher waits at a full mailbox.
+    Blocked,
+    /// A listed port didn't follow the list of the others as it is, or a listed publisher and a listed subscriber aren't connected.
+    ConnectionsNotUpToDate,
+    /// The room of some publisher may grow.
+    NotStatic,
+    /// An object that the caller made decides for some port.
+    HasHandlers,
+    /// A full mailbox doesn't drop its oldest message, and a send of some publisher would wait there.
+    Retrying,
+    /// A loan or a sample is out, a connection whose publisher left still stands, or a port that left isn't gone.
+    Lingering,
+    /// The messages are slices, or some publisher has room for another number of values than one.
+    HasSlices,
+    /// No memory was found.
+    OutOfMemory,
+}
+
+impl IntoLanesError {
+    /// What it displays as.
+    pub fn text(&self) -> &'static str
+        ensures { result.now ≡ into_lanes_text self.now }
+    {
+        match self {
+            IntoLanesError::Blocked => "IntoLanesError::Blocked",
+            IntoLanesError::ConnectionsNotUpToDate => "IntoLanesError::ConnectionsNotUpToDate",
+            IntoLanesError::NotStatic => "IntoLanesError::NotStatic",
+            IntoLanesError::HasHandlers => "IntoLanesError::HasHandlers",
+            IntoLanesError::Retrying => "IntoLanesError::Retrying",
+            IntoLanesError::Lingering => "IntoLanesError::Lingering",
+            IntoLanesError::HasSlices => "IntoLanesError::HasSlices",
+            IntoLanesError::OutOfMemory => "IntoLanesError::OutOfMemory",
+        }
+    }
+}

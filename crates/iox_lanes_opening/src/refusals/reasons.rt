@@ -1,0 +1,79 @@
+//! The first reason why a domain can't become lanes.
+ghost use Rattle.std.specs.Prelude.{◌≡◌};
+ghost use Rattle.iox_lanes_opening.specs.Refusals.{is_blocked, may_grow, has_growing, first_reason};
+
+use crate::refusals::deciding::{has_handlers, is_retrying};
+use crate::refusals::into_lanes_error::IntoLanesError;
+use crate::refusals::lingering::is_lingering;
+use crate::refusals::slices::has_slices;
+use crate::refusals::up_to_date::is_up_to_date;
+use iox_domain::Domain;
+use iox_domain_ports::ServicePorts;
+use iox_domain_values::AllocationStrategy;
+
+/// Why a domain can't become lanes, where memory is ample: the first of these reasons that applies, and None where none does.
+///
+/// `Blocked`: a send of some publisher waits at a full mailbox. `ConnectionsNotUpToDate`: a listed port didn't follow the list of the
+/// others as it is, or a listed publisher and a listed subscriber share no connection. `NotStatic`: the room of some publisher may grow.
+/// `HasHandlers`: an object that the caller made decides for some port. `Retrying`: a full mailbox doesn't drop its oldest message, and a
+/// send of some publisher would wait there. `Lingering`: a loan or a sample is out, a connection whose publisher left still stands, or a
+/// port that left isn't gone. `HasSlices`: the messages are slices, or some publisher deals in another number of values than one.
+/// `OutOfMemory` is not told here.
+pub fn refusal<T: Copy, U: Copy>(domain: &Domain<T, U>) -> Option<IntoLanesError>
+    ensures { result ≡ first_reason domain.now }
+{
+    if is_blocked(&domain.ports) {
+        return Some(IntoLanesError::Blocked);
+    }
+    if !is_up_to_date(&domain.ports) {
+        return Some(IntoLanesError::ConnectionsNotUpToDate);
+    }
+    if has_growing(&domain.ports) {
+        return Some(IntoLanesError::NotStatic);
+    }
+    if has_handlers(domain) {
+        return Some(IntoLanesError::HasHandlers);
+    }
+    if is_retrying(domain) {
+        return Some(IntoLanesError::Retrying);
+    }
+    if is_lingering(&domain.ports) {
+        return Some(IntoLanesError::Lingering);
+    }
+    if has_slices(domain) {
+        return Some(IntoLanesError::HasSlices);
+    }
+    None
+}
+
+fn is_blocked<T: Copy, U: Copy>(ports: &ServicePorts<T, U>) -> bool
+    ensures { result ≡ is_blocked ports.now }
+{
+    for (_number, port) in ports.publishers.iter() {
+        if port.sender.is_sending() {
+            return true;
+        }
+    }
+    false
+}
+
+// Whether the room of some publisher may grow.
+fn has_growing<T: Copy, U: Copy>(ports: &ServicePorts<T, U>) -> bool
+    ensures { result ≡ has_growing ports.now }
+{
+    for (_number, port) in ports.publishers.iter() {
+        if may_grow(port.allocation) {
+            return true;
+        }
+    }
+    false
+}
+
+fn may_grow(allocation: AllocationStrategy) -> bool
+    ensures { result ≡ may_grow allocation }
+{
+    match allocation {
+        AllocationStrategy::BestFit | AllocationStrategy::PowerOfTwo => true,
+        AllocationStrategy::Static => false,
+    }
+}

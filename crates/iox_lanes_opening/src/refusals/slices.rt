@@ -1,0 +1,113 @@
+//! What isn't one value.
+ghost use Rattle.std.specs.Prelude.{◌≡◌, ◌<◌, true, length, slice_get};
+ghost use Rattle.std.specs.List.{list_any};
+ghost use Rattle.iox_domain.specs.DomainPorts.DomainSlots.Uses.{is_there};
+ghost use Rattle.iox_domain.specs.DomainPublisher.Ports.{connection_of};
+ghost use Rattle.iox_lanes_opening.specs.Slices.{is_dynamic, is_slice, is_slice_in, slice_waits, keeps_slice, deals_in_slices, has_slices};
+
+use iox_describe_base::TypeVariant;
+use iox_domain::Domain;
+use iox_domain_publisher::{PublisherPort, Stage};
+
+/// Whether the messages of a domain are slices, or some publisher deals in slices: an element of it has another number of values than one,
+/// its slots have room for another, or a message that waits or is kept has another.
+pub fn has_slices<T: Copy, U: Copy>(domain: &Domain<T, U>) -> bool
+    ensures { result ≡ has_slices domain.now }
+{
+    is_dynamic(domain.agreed.types.payload.variant()) || has_slice_dealer(domain)
+}
+
+fn is_dynamic(variant: TypeVariant) -> bool
+    ensures { result ≡ is_dynamic variant }
+{
+    match variant {
+        TypeVariant::Dynamic => true,
+        TypeVariant::FixedSize => false,
+    }
+}
+
+fn has_slice_dealer<T: Copy, U: Copy>(domain: &Domain<T, U>) -> bool
+    ensures { result ≡ list_any (λ entry. deals_in_slices entry.1) domain.now.ports.publishers }
+{
+    for (_number, port) in domain.ports.publishers.iter() {
+        if deals_in_slices(port) {
+            return true;
+        }
+    }
+    false
+}
+
+fn deals_in_slices<T: Copy, U: Copy>(port: &PublisherPort<T, U>) -> bool
+    ensures { result ≡ deals_in_slices port.now }
+{
+    port.unit != 1 || port.sender.room() != 1 || keeps_slice(port)
+}
+
+fn keeps_slice<T: Copy, U: Copy>(port: &PublisherPort<T, U>) -> bool
+    ensures { result ≡ keeps_slice port.now }
+{
+    remembers_slice(port) || has_slice_waiting(port)
+}
+
+fn remembers_slice<T: Copy, U: Copy>(port: &PublisherPort<T, U>) -> bool
+    ensures { result ≡ list_any is_slice port.now.sender.uses.history }
+{
+    for place in 0..port.sender.history() {
+        if is_slice_remembered(port, place) {
+            return true;
+        }
+    }
+    false
+}
+
+// Whether the message at a place of the history isn't one value.
+fn is_slice_remembered<T: Copy, U: Copy>(port: &PublisherPort<T, U>, place: usize) -> bool
+    requires { place < length port.now.sender.uses.history }
+    ensures { result ≡ is_slice_in (slice_get port.now.sender.uses.history place) }
+{
+    let slot = port.sender.remembered(place);
+    port.sender.payload(slot).len() != 1
+}
+
+fn has_slice_waiting<T: Copy, U: Copy>(port: &PublisherPort<T, U>) -> bool
+    ensures { result ≡ list_any slice_waits port.now.sender.uses.connections }
+{
+    for index in 0..port.sender.indices() {
+        if slice_waits_at(port, index) {
+            return true;
+        }
+    }
+    false
+}
+
+fn slice_waits_at<T: Copy, U: Copy>(port: &PublisherPort<T, U>, index: usize) -> bool
+    ensures { result ≡ slice_waits (connection_of index port.now) }
+{
+    match port.sender.stage(index) {
+        Stage::Vacant => false,
+        Stage::Live | Stage::Ended => slice_waits(port, index),
+    }
+}
+
+// Whether a message that waits at a connection isn't one value.
+fn slice_waits<T: Copy, U: Copy>(port: &PublisherPort<T, U>, index: usize) -> bool
+    requires { is_there (connection_of index port.now) ≡ true }
+    ensures { result ≡ slice_waits (connection_of index port.now) }
+{
+    for at in 0..port.sender.waiting(index) {
+        if is_slice_waiting(port, index, at) {
+            return true;
+        }
+    }
+    false
+}
+
+// Whether the message that waits at a place of a connection isn't one value.
+fn is_slice_waiting<T: Copy, U: Copy>(port: &PublisherPort<T, U>, index: usize, at: usize) -> bool
+    requires there { is_there (connection_of index port.now) ≡ true }
+    requires waits { at < length (connection_of index port.now).waiting }
+    ensures { result ≡ is_slice_in (slice_get (connection_of index port.now).waiting at) }
+{
+    let slot = port.sender.waiting_slot(index, at);
+    port.sender.payload(slot).len() != 1
+}

@@ -1,0 +1,199 @@
+//! Whether each port follows the others as they are, and is connected to them.
+ghost use Rattle.std.specs.Prelude.{◌≡◌, get_or, None};
+ghost use Rattle.iox_domain.specs.DomainPublisher.Ports.{is_live};
+ghost use Rattle.iox_lanes_opening.specs.Listed.{holds_at, of_each_listed};
+ghost use Rattle.iox_lanes_opening.specs.UpToDate.{is_reader, is_read_by, reads_from, is_joined_to, is_connected, is_current_publisher, is_current_subscriber, is_up_to_date};
+
+use iox_domain_ports::ServicePorts;
+use iox_domain_publisher::{Member, PublisherPort, Stage};
+use iox_domain_subscriber::{PublisherEntry, SubscriberEntry, SubscriberPort};
+
+/// Whether each listed port followed the list of the others as it is, and each listed publisher is connected to each listed subscriber: a
+/// place is tied to a connection that goes on, and the subscriber reads there by the key that it has for the publisher's place.
+pub fn is_up_to_date<T: Copy, U: Copy>(ports: &ServicePorts<T, U>) -> bool
+    ensures { result ≡ is_up_to_date ports.now }
+{
+    are_publishers_current(ports) && are_subscribers_current(ports)
+}
+
+fn are_publishers_current<T: Copy, U: Copy>(ports: &ServicePorts<T, U>) -> bool
+    ensures { result ≡ of_each_listed (is_current_publisher ports.now) 0 ports.now.publisher_list.places }
+{
+    let listed = ports.publisher_list.listed();
+    for place in 0..listed.len() {
+        if !is_current_publisher_at(ports, place, listed[place]) {
+            return false;
+        }
+    }
+    true
+}
+
+fn is_current_publisher_at<T: Copy, U: Copy>(
+    ports: &ServicePorts<T, U>,
+    place: usize,
+    listed: Option<Member<PublisherEntry>>,
+) -> bool
+    ensures { result ≡ holds_at (is_current_publisher ports.now) place listed }
+{
+    match listed {
+        Some(member) => is_current_publisher(ports, place, member.value),
+        None => true,
+    }
+}
+
+fn is_current_publisher<T: Copy, U: Copy>(
+    ports: &ServicePorts<T, U>,
+    place: usize,
+    entry: PublisherEntry,
+) -> bool
+    ensures { result ≡ is_current_publisher ports.now place entry }
+{
+    match ports.publishers.get(entry.publisher) {
+        Some(port) => port.seen == ports.subscriber_list.changes()
+            && is_connected_to_all(ports, place, entry.publisher, port),
+        None => false,
+    }
+}
+
+// Whether a publisher is connected to each listed subscriber.
+fn is_connected_to_all<T: Copy, U: Copy>(
+    ports: &ServicePorts<T, U>,
+    place: usize,
+    number: u64,
+    port: &PublisherPort<T, U>,
+) -> bool
+    ensures { result ≡ of_each_listed (is_connected place number port.now ports.now.subscribers) 0 ports.now.subscriber_list.places }
+{
+    let listed = ports.subscriber_list.listed();
+    for other in 0..listed.len() {
+        if !is_connected_at(ports, place, number, port, other, listed[other]) {
+            return false;
+        }
+    }
+    true
+}
+
+fn is_connected_at<T: Copy, U: Copy>(
+    ports: &ServicePorts<T, U>,
+    place: usize,
+    number: u64,
+    port: &PublisherPort<T, U>,
+    other: usize,
+    listed: Option<Member<SubscriberEntry>>,
+) -> bool
+    ensures { result ≡ holds_at (is_connected place number port.now ports.now.subscribers) other listed }
+{
+    match listed {
+        Some(member) => is_connected(ports, place, number, port, other, member.value),
+        None => true,
+    }
+}
+
+fn is_connected<T: Copy, U: Copy>(
+    ports: &ServicePorts<T, U>,
+    place: usize,
+    number: u64,
+    port: &PublisherPort<T, U>,
+    other: usize,
+    entry: SubscriberEntry,
+) -> bool
+    ensures { result ≡ is_connected place number port.now ports.now.subscribers other entry }
+{
+    match ports.subscribers.get(entry.subscriber) {
+        Some(subscriber) => is_joined_to(place, number, port, other, entry.subscriber, subscriber),
+        None => false,
+    }
+}
+
+// Whether a publisher and a subscriber have a connection in common.
+fn is_joined_to<T: Copy, U: Copy>(
+    place: usize,
+    number: u64,
+    port: &PublisherPort<T, U>,
+    other: usize,
+    reader: u64,
+    subscriber: &SubscriberPort,
+) -> bool
+    ensures { result ≡ is_joined_to place number port.now other reader subscriber.now }
+{
+    match port.ties.get(other) {
+        Some(index) => is_read_by(port, reader, index)
+            && reads_from(subscriber, place, number, index),
+        None => false,
+    }
+}
+
+// Whether a connection goes on, and this subscriber reads there.
+fn is_read_by<T: Copy, U: Copy>(port: &PublisherPort<T, U>, reader: u64, index: usize) -> bool
+    ensures { result ≡ is_read_by reader port.now index }
+{
+    is_live(port, index) && is_reader(port, reader, index)
+}
+
+fn is_live<T: Copy, U: Copy>(port: &PublisherPort<T, U>, index: usize) -> bool
+    ensures { result ≡ is_live index port.now }
+{
+    match port.sender.stage(index) {
+        Stage::Live => true,
+        Stage::Vacant | Stage::Ended => false,
+    }
+}
+
+fn is_reader<T: Copy, U: Copy>(port: &PublisherPort<T, U>, number: u64, index: usize) -> bool
+    ensures { result ≡ is_reader number (get_or port.now.readers index None) }
+{
+    match port.readers.get(index) {
+        Some(reader) => reader.subscriber == number && reader.attached,
+        None => false,
+    }
+}
+
+// Whether a subscriber has this connection by the key that it has for a place of the list of publishers.
+fn reads_from(subscriber: &SubscriberPort, place: usize, publisher: u64, index: usize) -> bool
+    ensures { result ≡ reads_from publisher index subscriber.now (get_or subscriber.now.places.items place None) }
+{
+    match subscriber.places.get(place) {
+        Some(key) => match subscriber.attached(key) {
+            Some(attached) => attached.publisher == publisher && attached.index == index,
+            None => false,
+        },
+        None => false,
+    }
+}
+
+fn are_subscribers_current<T: Copy, U: Copy>(ports: &ServicePorts<T, U>) -> bool
+    ensures { result ≡ of_each_listed (λ at entry. is_current_subscriber ports.now entry) 0 ports.now.subscriber_list.places }
+{
+    let listed = ports.subscriber_list.listed();
+    for place in 0..listed.len() {
+        if !is_current_subscriber_at(ports, place, listed[place]) {
+            return false;
+        }
+    }
+    true
+}
+
+fn is_current_subscriber_at<T: Copy, U: Copy>(
+    ports: &ServicePorts<T, U>,
+    place: usize,
+    listed: Option<Member<SubscriberEntry>>,
+) -> bool
+    ensures { result ≡ holds_at (λ at entry. is_current_subscriber ports.now entry) place listed }
+{
+    match listed {
+        Some(member) => is_current_subscriber(ports, member.value),
+        None => true,
+    }
+}
+
+fn is_current_subscriber<T: Copy, U: Copy>(
+    ports: &ServicePorts<T, U>,
+    entry: SubscriberEntry,
+) -> bool
+    ensures { result ≡ is_current_subscriber ports.now entry }
+{
+    match ports.subscribers.get(entry.subscriber) {
+        Some(port) => port.seen == ports.publisher_list.changes() && !port.again,
+        None => false,
+    }
+}

@@ -1,0 +1,81 @@
+-- A subscriber with the call that it is in, and what it keeps for itself.
+use Rattle.std.specs.Prelude.{ℕ, ◌-◌, List, length, set, get_or, replicate, Option, None, Some, if◌then◌else◌, nat_lt, false}
+use Rattle.std.specs.List.{swap}
+use Rattle.iox_lanes_base.specs.QueuesSteps.Access.{successor}
+use Rattle.iox_lanes_base.specs.QueuesRings.declared.refusing.push.Push.TheVariants.{Begun}
+use Rattle.iox_lanes_base.specs.Subscribing.{subscriber_take, subscriber_change, receive_at, read_at}
+use Rattle.iox_lanes_base.specs.Routes.{rerouted}
+use Rattle.iox_lanes_base.specs.declared.calls.route.Route.{Route}
+use Rattle.iox_lanes_base.specs.declared.calls.subscriber.SlotExtent.{SlotExtent}
+use Rattle.iox_lanes_base.specs.declared.calls.subscriber.SubscriberCall.{SubscriberCall}
+use Rattle.iox_lanes_base.specs.declared.calls.subscriber.SubscriberCall.TheVariants.{Idle, Releasing}
+use Rattle.iox_lanes_base.specs.declared.calls.subscriber.SubscriberChange.{SubscriberChange}
+use Rattle.iox_lanes_base.specs.declared.calls.subscriber.SubscriberChange.TheVariants.{Nothing, Borrow, Note, GiveBack}
+
+-- A subscriber. `routes` are its connections, `borrowed` how many samples of each it borrows, `samples` for each slot the place of the connection that it
+-- is borrowed of, `words` what it read last.
+pub record SubscriberState : Type 0 where
+  pub routes : List Route
+  pub extent : SlotExtent
+  pub most_borrowed : ℕ
+  pub borrowed : List ℕ
+  pub samples : List (Option ℕ)
+  pub words : List ℕ
+  pub call : SubscriberCall
+
+-- it borrows nothing
+abbrev pub new_subscriber : List Route → ℕ → SlotExtent → ℕ → ℕ → SubscriberState
+new_subscriber routes slots extent words most = record {
+  routes = routes;
+  extent = extent;
+  most_borrowed = most;
+  borrowed = replicate (length routes) 0;
+  samples = replicate slots None;
+  words = replicate words 0;
+  call = Idle;
+}
+
+-- one of its connections is known anew
+abbrev pub met_anew : Route → SubscriberState → SubscriberState
+met_anew route state = record state { routes = rerouted route state.routes }
+
+-- the connections at two places change places
+abbrev pub swapped : ℕ → ℕ → SubscriberState → SubscriberState
+swapped one other state = record state { routes = swap state.routes one other }
+
+-- another value at a place; beyond the end nothing happens
+abbrev pub put_at : {X : Type 0} → List X → ℕ → X → List X
+put_at list at value = if nat_lt at (length list) then set list at value else list
+
+-- one more at a place
+abbrev pub counted_up : List ℕ → ℕ → List ℕ
+counted_up list at = put_at list at (successor (get_or list at 0))
+
+-- one fewer at a place
+abbrev pub counted_down : List ℕ → ℕ → List ℕ
+counted_down list at = put_at list at (get_or list at 0 - 1)
+
+-- a sample is borrowed or given back, or a word of it was read
+abbrev pub changed : SubscriberChange → SubscriberState → SubscriberState
+changed Nothing state = state
+changed (Borrow place slot) state = record state { borrowed = counted_up state.borrowed place; samples = put_at state.samples slot (Some place) }
+changed (Note word value) state = record state { words = put_at state.words word value }
+changed (GiveBack place slot) state = record state { borrowed = counted_down state.borrowed place; samples = put_at state.samples slot None }
+
+-- after the answer of the next access
+abbrev pub after_answer : ℕ → SubscriberState → SubscriberState
+after_answer answer state =
+    changed (subscriber_change state.call answer)
+    (record state { call = subscriber_take state.routes state.borrowed state.most_borrowed state.call answer })
+
+-- a receive begins
+abbrev pub begun_receive : SubscriberState → SubscriberState
+begun_receive state = record state { call = receive_at state.routes state.borrowed state.most_borrowed 0 false }
+
+-- a read begins
+abbrev pub begun_read : ℕ → SubscriberState → SubscriberState
+begun_read slot state = record state { call = read_at slot state.extent 0 }
+
+-- a release begins
+abbrev pub begun_release : ℕ → Route → ℕ → SubscriberState → SubscriberState
+begun_release place route slot state = record state { call = Releasing place route (Begun route.completion_cells slot) }

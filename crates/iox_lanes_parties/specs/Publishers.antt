@@ -1,0 +1,65 @@
+-- A publisher with the call that it is in, and what it keeps for itself.
+use Rattle.std.specs.Prelude.{ℕ, List, length, replicate, Bool, true, false, if◌then◌else◌}
+use Rattle.iox_lanes_base.specs.Publishing.{publisher_take, publisher_change, loan_at, write_at, head_at}
+use Rattle.iox_lanes_base.specs.Routes.{rerouted}
+use Rattle.iox_lanes_base.specs.declared.calls.route.Route.{Route}
+use Rattle.iox_lanes_base.specs.declared.calls.publisher.PublisherCall.{PublisherCall}
+use Rattle.iox_lanes_base.specs.declared.calls.publisher.PublisherCall.TheVariants.{Idle, Dropping}
+use Rattle.iox_lanes_parties.specs.PublisherKeeping.{BookState, changed, referred_at, found_newest, resized}
+
+-- A publisher. `routes` are its connections, `book` says what its slots are used for; a write stores `payload`, a send `head`.
+pub record PublisherState : Type 0 where
+  pub routes : List Route
+  pub book : BookState
+  pub payload : List ℕ
+  pub head : List ℕ
+  pub sends : Bool
+  pub call : PublisherCall
+
+-- no call is under way
+abbrev pub new_publisher : List Route → BookState → ℕ → ℕ → PublisherState
+new_publisher routes book payload_words head_words =
+    record { routes = routes; book = book; payload = replicate payload_words 0; head = replicate head_words 0; sends = false; call = Idle }
+
+-- the connection at a place was found to have a slot
+abbrev pub found_at : ℕ → ℕ → PublisherState → PublisherState
+found_at place slot state = record state { book = referred_at place slot state.book }
+
+-- a slot was found to be the newest of the history
+abbrev pub found_last : ℕ → PublisherState → PublisherState
+found_last slot state = record state { book = found_newest slot state.book }
+
+-- one of its connections is known anew
+abbrev pub met_anew : Route → PublisherState → PublisherState
+met_anew route state = record state { routes = rerouted route state.routes }
+
+-- it has just its first slots, and so many loans may be out
+abbrev pub with_slots : ℕ → ℕ → PublisherState → PublisherState
+with_slots slots most_loans state = record state { book = resized (length state.routes) slots most_loans state.book }
+
+-- the words that the call in hand stores
+abbrev pub words_of : PublisherState → List ℕ
+words_of state = if state.sends then state.head else state.payload
+
+-- after the answer of the next access
+abbrev pub after_answer : ℕ → PublisherState → PublisherState
+after_answer answer state = record state {
+  call = publisher_take state.routes (words_of state) state.call answer;
+  book = changed (publisher_change state.call answer) state.book;
+}
+
+-- a loan begins
+abbrev pub begun_loan : PublisherState → PublisherState
+begun_loan state = record state { call = loan_at state.routes 0 }
+
+-- a write begins
+abbrev pub begun_write : ℕ → List ℕ → PublisherState → PublisherState
+begun_write slot payload state = record state { payload = payload; sends = false; call = write_at payload slot 0 }
+
+-- a send begins
+abbrev pub begun_send : ℕ → List ℕ → PublisherState → PublisherState
+begun_send slot head state = record state { head = head; sends = true; call = head_at head slot 0 }
+
+-- the dropping of a loan begins
+abbrev pub begun_drop : ℕ → PublisherState → PublisherState
+begun_drop slot state = record state { call = Dropping slot }

@@ -1,0 +1,292 @@
+//! A publisher, free of any words.
+ghost use Rattle.std.specs.Prelude.{◌≡◌, true, if◌then◌else◌, length, replicate, slice_get, IfOk};
+ghost use Rattle.iox_lanes_base.specs.Publishing.{publisher_next, publisher_is_idle, publisher_is_over};
+ghost use Rattle.iox_lanes_parties.specs.PublisherKeeping.{loan_of, may_have, may_remember, may_resize};
+ghost use Rattle.iox_lanes_parties.specs.Publishers.{after_answer, found_at, found_last, with_slots, met_anew, begun_loan, begun_write, begun_send, begun_drop, new_publisher, words_of};
+
+use crate::publisher::slot_book::{LoanAnswer, LoanMark, SlotBook};
+use iox_lanes_base::calls::{PublisherCall, PublisherChange, Route, reroute};
+use iox_lanes_base::words::SharedAccess;
+use std::alloc::{AllocError, Global};
+use std::marker::Model;
+
+/// A publisher: its connections in place order, what its slots are used for, the words that its write or send stores, and the call that it is in.
+///
+/// All its memory is taken when it is made.
+#[derive(Drop)]
+pub struct LanePublisher {
+    routes: Vec<Route>,
+    book: SlotBook,
+    payload: Vec<u64>,
+    head: Vec<u64>,
+    // The call in hand stores header and user header, and not a payload.
+    sends: bool,
+    call: PublisherCall,
+}
+
+impl Model for LanePublisher {
+    ghost use Rattle.iox_lanes_parties.specs.Publishers.{PublisherState};
+
+    ghost Value = { PublisherState };
+
+    ghost view = { λ p. record {
+      routes = p.routes.items;
+      book = p.book;
+      payload = p.payload.items;
+      head = p.head.items;
+      sends = p.sends;
+      call = p.call;
+    } };
+}
+
+impl LanePublisher {
+    /// A publisher with these connections and slots, whose payloads and headers have so many words. It fails only where an allocation fails.
+    pub fn new(
+        alloc: Global,
+        routes: &[Route],
+        book: SlotBook,
+        payload_words: usize,
+        head_words: usize,
+    ) -> Result<LanePublisher, AllocError>
+        ensures { IfOk result (λ made. made ≡ new_publisher routes.now book payload_words head_words) }
+    {
+        Ok(LanePublisher {
+            routes: Vec::from_slice(alloc, routes)?,
+            book,
+            payload: vec![in alloc; 0; payload_words]?,
+            head: vec![in alloc; 0; head_words]?,
+            sends: false,
+            call: PublisherCall::Idle,
+        })
+    }
+
+    /// What the last loan answered.
+    pub fn answer(&self) -> Option<LoanAnswer>
+        ensures { result ≡ self.now.book.answer }
+    {
+        self.book.answer()
+    }
+
+    /// The number of its first slot.
+    pub fn first_slot(&self) -> u64
+        ensures { result ≡ self.now.book.first }
+    {
+        self.book.first()
+    }
+
+    /// How many slots it has.
+    pub fn slots(&self) -> usize
+        ensures { result ≡ length self.now.book.loans }
+    {
+        self.book.slots()
+    }
+
+    /// How many loans it may have out.
+    pub fn most_loans(&self) -> u64
+        ensures { result ≡ self.now.book.most_loans }
+    {
+        self.book.most_loans()
+    }
+
+    /// Of how many of the last messages its history is.
+    pub fn kept(&self) -> usize
+        ensures { result ≡ self.now.book.kept }
+    {
+        self.book.kept()
+    }
+
+    /// The slots of its history, the oldest first.
+    pub fn history(&self) -> &[u64]
+        ensures { result.now ≡ self.now.book.history }
+    {
+        self.book.history()
+    }
+
+    /// Its connections, in place order.
+    pub fn routes(&self) -> &[Route]
+        ensures { result.now ≡ self.now.routes }
+    {
+        self.routes.as_slice()
+    }
+
+    /// Whether a slot of the service is its loan.
+    pub fn loan(&self, slot: u64) -> LoanMark
+        ensures { result ≡ loan_of slot self.now.book }
+    {
+        self.book.loan(slot)
+    }
+
+    /// The connection at a place, if there is one.
+    pub fn route(&self, place: u64) -> Option<Route>
+        ensures { result ≡ slice_get self.now.routes place }
+    {
+        self.routes.get(place as usize).copied()
+    }
+
+    /// Whether the connection at a place may be found to have a slot.
+    pub fn may_have(&self, place: u64, slot: u64) -> bool
+        ensures { result ≡ may_have place slot self.now.book }
+    {
+        self.book.may_have(place, slot)
+    }
+
+    /// The connection at a place was found to have a slot.
+    pub fn find(&mut self, place: u64, slot: u64)
+        ensures { self.new ≡ found_at place slot self.old }
+    {
+        self.book.change(PublisherChange::Put { place, slot });
+    }
+
+    /// Whether a slot may be found to be the newest of the history.
+    pub fn may_remember(&self, slot: u64) -> bool
+        ensures { result ≡ may_remember slot self.now.book }
+    {
+        self.book.may_remember(slot)
+    }
+
+    /// A slot was found to be the newest of the history.
+    pub fn find_newest(&mut self, slot: u64)
+        requires { may_remember slot self.old.book ≡ true }
+        ensures { self.new ≡ found_last slot self.old }
+    {
+        self.book.find_newest(slot);
+    }
+
+    /// Whether it may have so many slots: no more than it has, of which none has a use.
+    pub fn may_resize(&self, slots: u64) -> bool
+        ensures { result ≡ may_resize slots self.now.book }
+    {
+        self.book.may_resize(slots)
+    }
+
+    /// From now on it has just its first slots, and so many loans may be out.
+    pub fn resize(&mut self, slots: u64, most_loans: u64)
+        ensures { self.new ≡ with_slots slots most_loans self.old }
+    {
+        self.book
+            .resize(self.routes.len(), slots as usize, most_loans);
+    }
+
+    /// The connection of this number is this one from now on.
+    pub fn meet(&mut self, route: Route)
+        ensures { self.new ≡ met_anew route self.old }
+    {
+        reroute(&mut self.routes, route);
+    }
+
+    /// How many words a payload has.
+    pub fn payload_words(&self) -> usize
+        ensures { result ≡ length self.now.payload }
+    {
+        self.payload.len()
+    }
+
+    /// How many words header and user header have.
+    pub fn head_words(&self) -> usize
+        ensures { result ≡ length self.now.head }
+    {
+        self.head.len()
+    }
+
+    /// The call that it is in.
+    pub fn call(&self) -> &PublisherCall
+        ensures { result.now ≡ self.now.call }
+    {
+        &self.call
+    }
+
+    /// Begins a loan.
+    pub fn begin_loan(&mut self)
+        requires { publisher_is_idle self.old.call ≡ true }
+        ensures { self.new ≡ begun_loan self.old }
+    {
+        self.call = PublisherCall::loan(&self.routes);
+    }
+
+    /// Begins to write these words into the slot of a loan.
+    pub fn begin_write(&mut self, slot: u64, payload: &[u64])
+        requires idle { publisher_is_idle self.old.call ≡ true }
+        requires words { length payload.now ≡ length self.old.payload }
+        ensures { self.new ≡ begun_write slot payload.now self.old }
+    {
+        self.payload.copy_from_slice(payload);
+        self.sends = false;
+        self.call = PublisherCall::write(&self.payload, slot);
+    }
+
+    /// Begins to send the slot of a loan with these words of header and user header.
+    pub fn begin_send(&mut self, slot: u64, head: &[u64])
+        requires idle { publisher_is_idle self.old.call ≡ true }
+        requires words { length head.now ≡ length self.old.head }
+        ensures { self.new ≡ begun_send slot head.now self.old }
+    {
+        self.head.copy_from_slice(head);
+        self.sends = true;
+        self.call = PublisherCall::send(&self.head, slot);
+    }
+
+    /// Begins to drop the loan of a slot.
+    pub fn begin_drop(&mut self, slot: u64)
+        requires { publisher_is_idle self.old.call ≡ true }
+        ensures { self.new ≡ begun_drop slot self.old }
+    {
+        self.call = PublisherCall::drop_loan(slot);
+    }
+
+    /// The access that comes next.
+    pub fn next(&self) -> SharedAccess
+        ensures { result ≡ publisher_next self.now.call }
+    {
+        self.call.next()
+    }
+
+    /// Goes on after the answer of that access, and keeps what it changes.
+    #[inline(always)]
+    pub fn take(&mut self, answer: u64)
+        ensures { self.new ≡ after_answer answer self.old }
+    {
+        let words = stored(self.sends, &self.head, &self.payload);
+        let change = self.call.take(answer, &self.routes, words);
+        self.book.change(change);
+    }
+
+    /// Goes on as from where a call stands, after the answer of the access that comes next there.
+    #[inline(always)]
+    pub fn take_from(&mut self, call: PublisherCall, answer: u64)
+        ensures { self.new ≡ after_answer answer (record self.old { call = call }) }
+    {
+        let mut call = call;
+        let words = stored(self.sends, &self.head, &self.payload);
+        let change = call.take(answer, &self.routes, words);
+        self.call = call;
+        self.book.change(change);
+    }
+
+    /// The words that the call in hand stores.
+    pub fn stored(&self) -> &[u64]
+        ensures { result.now ≡ words_of self.now }
+    {
+        stored(self.sends, &self.head, &self.payload)
+    }
+
+    /// No call is under way.
+    pub fn is_idle(&self) -> bool
+        ensures { result ≡ publisher_is_idle self.now.call }
+    {
+        self.call.is_idle()
+    }
+
+    /// The next step is the last of its call.
+    pub fn is_over(&self) -> bool
+        ensures { result ≡ publisher_is_over self.now.call }
+    {
+        self.call.is_over()
+    }
+}
+
+// The words that a send stores, or a write.
+fn stored<'x>(sends: bool, head: &'x [u64], payload: &'x [u64]) -> &'x [u64]
+    ensures { result.now ≡ (if sends then head.now else payload.now) }
+{
+    if sends { head } else { payload }
+}

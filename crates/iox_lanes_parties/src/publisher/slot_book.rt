@@ -1,0 +1,409 @@
+//! What the slots of a publisher are used for.
+ghost use Rattle.std.specs.Prelude.{◌≡◌, ◌+◌, ◌-◌, ◌*◌, ◌<◌, ◌≤◌, ◌^◌, ◌++◌, ◌∷◌, [], None, true, false, length, take, get_or, remove, replicate, IfOk, vec_len, vec_capacity};
+ghost use Rattle.iox_lanes_parties.specs.PublisherKeeping.{put_at, counted_up, counted_down, first_free, number_in, new_book, loan_of, changed, lent, remembered, dropped, marked, referred_at, unreferred_at, newest_of, is_own, may_have, stands_in, may_remember, found_newest, are_unused, may_resize, resized};
+
+use iox_lanes_base::calls::PublisherChange;
+use std::alloc::{AllocError, Global};
+use std::marker::Model;
+
+/// Whether a slot is lent to be written.
+#[derive(Clone, Copy, Debug, PartialEq, Eq)]
+pub enum LoanMark {
+    /// It is no loan.
+    No,
+    /// It is a loan that isn't written.
+    Lent,
+    /// It is a loan that is written.
+    Written,
+}
+
+/// What a loan answers.
+#[derive(Clone, Copy, Debug, PartialEq, Eq)]
+pub enum LoanAnswer {
+    /// This slot is lent.
+    Slot(u64),
+    /// As many loans are out as may be.
+    ExceedsMaxLoans,
+    /// Each slot is in use.
+    OutOfMemory,
+}
+
+/// What the slots of a publisher are used for: its loans, its history, and what it put into the rings of its connections and didn't get back.
+///
+/// All its memory is taken when it is made. Slots go by their numbers in the service; those of the publisher begin at `first`.
+#[derive(Drop)]
+pub struct SlotBook {
+    first: u64,
+    most_loans: u64,
+    kept: usize,
+    out: u64,
+    loans: Vec<LoanMark>,
+    history: Vec<u64>,
+    // For each connection, and each slot of it, whether the connection has it.
+    referred: Vec<bool>,
+    // How many loans, places of the history and connections have each slot.
+    uses: Vec<u64>,
+    answer: Option<LoanAnswer>,
+}
+
+impl Model for SlotBook {
+    ghost use Rattle.std.specs.Prelude.{◌≤◌, ◌<◌, ◌^◌, length, vec_capacity};
+    ghost use Rattle.iox_lanes_parties.specs.PublisherKeeping.{BookState};
+
+    ghost Value = { BookState };
+
+    ghost view = { λ b. record {
+      first = b.first;
+      most_loans = b.most_loans;
+      kept = b.kept;
+      out = b.out;
+      loans = b.loans.items;
+      history = b.history.items;
+      referred = b.referred.items;
+      uses = b.uses.items;
+      answer = b.answer;
+    } };
+
+    ghost invariant = { λ b. (length b.history.items ≤ b.kept) × (b.kept ≤ vec_capacity b.history) };
+}
+
+impl SlotBook {
+    /// So many slots from `first` on, of which none is used, for so many connections. It fails only where an allocation fails.
+    pub fn new(
+        alloc: Global,
+        first: u64,
+        slots: usize,
+        connections: usize,
+        most_loans: u64,
+        kept: usize,
+    ) -> Result<SlotBook, AllocError>
+        ensures { IfOk result (λ made. made ≡ new_book first slots connections most_loans kept) }
+    {
+        let Some(marks) = connections.checked_mul(slots) else {
+            return Err(AllocError);
+        };
+        Ok(SlotBook {
+            first,
+            most_loans,
+            kept,
+            out: 0,
+            loans: vec![in alloc; LoanMark::No; slots]?,
+            history: Vec::with_capacity(alloc, kept)?,
+            referred: vec![in alloc; false; marks]?,
+            uses: vec![in alloc; 0; slots]?,
+            answer: None,
+        })
+    }
+
+    /// What the last loan answered.
+    pub fn answer(&self) -> Option<LoanAnswer>
+        ensures { result ≡ self.now.answer }
+    {
+        self.answer
+    }
+
+    /// The number of the first slot.
+    pub fn first(&self) -> u64
+        ensures { result ≡ self.now.first }
+    {
+        self.first
+    }
+
+    /// How many slots it has.
+    pub fn slots(&self) -> usize
+        ensures { result ≡ length self.now.loans }
+    {
+        self.loans.len()
+    }
+
+    /// How many loans may be out.
+    pub fn most_loans(&self) -> u64
+        ensures { result ≡ self.now.most_loans }
+    {
+        self.most_loans
+    }
+
+    /// Of how many of the last messages its history is.
+    pub fn kept(&self) -> usize
+        ensures { result ≡ self.now.kept }
+    {
+        self.kept
+    }
+
+    /// The slots of its history, the oldest first.
+    pub fn history(&self) -> &[u64]
+        ensures { result.now ≡ self.now.history }
+    {
+        self.history.as_slice()
+    }
+
+    /// Whether a slot of the service is lent by this publisher.
+    pub fn loan(&self, slot: u64) -> LoanMark
+        ensures { result ≡ loan_of slot self.now }
+    {
+        if slot < self.first {
+            return LoanMark::No;
+        }
+        match self.loans.get((slot - self.first) as usize) {
+            Some(mark) => *mark,
+            None => LoanMark::No,
+        }
+    }
+
+    // Whether a slot of the service is one of this publisher's.
+    fn owns(&self, slot: u64) -> bool
+        ensures { result ≡ is_own slot self.now }
+    {
+        slot >= self.first && slot - self.first < self.uses.len() as u64
+    }
+
+    /// Whether the connection at a place may be found to have a slot: it is one of this publisher's, and the connection has it not yet.
+    pub fn may_have(&self, place: u64, slot: u64) -> bool
+        ensures { result ≡ may_have place slot self.now }
+    {
+        self.owns(slot)
+            && !is_marked(
+                &self.referred,
+                place,
+                self.uses.len() as u64,
+                slot.saturating_sub(self.first),
+            )
+    }
+
+    /// Whether a slot may be found to be the newest of the history: it is one of this publisher's, does not stand there yet, and fewer do than may.
+    pub fn may_remember(&self, slot: u64) -> bool
+        ensures { result ≡ may_remember slot self.now }
+    {
+        self.owns(slot) && !stands_in(slot, &self.history) && self.history.len() < self.kept
+    }
+
+    /// A slot was found to be the newest of the history.
+    pub fn find_newest(&mut self, slot: u64)
+        requires { may_remember slot self.old ≡ true }
+        ensures { self.new ≡ found_newest slot self.old }
+    {
+        self.history.push_reserved(slot);
+        count_up(&mut self.uses, slot.saturating_sub(self.first));
+    }
+
+    /// Whether it may have so many slots: no more than it has, of which none has a use.
+    pub fn may_resize(&self, slots: u64) -> bool
+        ensures { result ≡ may_resize slots self.now }
+    {
+        slots <= self.uses.len() as u64 && are_unused(&self.uses)
+    }
+
+    /// From now on it has just its first slots, for so many connections, and so many loans may be out.
+    #[tactic(auto, using(std::proofs::lemmas::List::take_all))]
+    pub fn resize(&mut self, connections: usize, slots: usize, most_loans: u64)
+        ensures { self.new ≡ resized connections slots most_loans self.old }
+    {
+        self.most_loans = most_loans;
+        self.loans.truncate(slots);
+        self.uses.truncate(slots);
+        if let Some(marks) = connections.checked_mul(slots) {
+            self.referred.truncate(marks);
+        }
+    }
+
+    /// Keeps what a step changes.
+    #[inline(always)]
+    pub fn change(&mut self, change: PublisherChange)
+        ensures { self.new ≡ changed change self.old }
+    {
+        match change {
+            PublisherChange::Nothing => {}
+            PublisherChange::Lend => self.lend(),
+            PublisherChange::Mark { slot } => self.mark(slot),
+            PublisherChange::Remember { slot } => self.remember(slot),
+            PublisherChange::Put { place, slot } => self.refer(place, slot),
+            PublisherChange::TakenBack { place, slot } | PublisherChange::LeftOut { place, slot } =>
+                { self.unrefer(place, slot) }
+            PublisherChange::DropLoan { slot } => self.drop_loan(slot),
+        }
+    }
+
+    fn lend(&mut self)
+        ensures { self.new ≡ lent self.old }
+    {
+        if self.out >= self.most_loans {
+            self.answer = Some(LoanAnswer::ExceedsMaxLoans);
+            return;
+        }
+        let Some(index) = first_free(&self.uses) else {
+            self.answer = Some(LoanAnswer::OutOfMemory);
+            return;
+        };
+        put(&mut self.loans, index, LoanMark::Lent);
+        count_up(&mut self.uses, index);
+        self.out = self.out.saturating_add(1);
+        self.answer = Some(LoanAnswer::Slot(self.first.saturating_add(index)));
+    }
+
+    fn mark(&mut self, slot: u64)
+        ensures { self.new ≡ marked slot self.old }
+    {
+        put(
+            &mut self.loans,
+            slot.saturating_sub(self.first),
+            LoanMark::Written,
+        );
+    }
+
+    fn drop_loan(&mut self, slot: u64)
+        ensures { self.new ≡ dropped slot self.old }
+    {
+        let index = slot.saturating_sub(self.first);
+        put(&mut self.loans, index, LoanMark::No);
+        count_down(&mut self.uses, index);
+        self.out = self.out.saturating_sub(1);
+    }
+
+    fn remember(&mut self, slot: u64)
+        ensures { self.new ≡ remembered slot self.old }
+    {
+        let index = slot.saturating_sub(self.first);
+        put(&mut self.loans, index, LoanMark::No);
+        self.out = self.out.saturating_sub(1);
+        if self.kept == 0 {
+            count_down(&mut self.uses, index);
+            return;
+        }
+        if self.history.len() == self.kept {
+            let oldest = self.history.remove(0);
+            count_down(&mut self.uses, oldest.saturating_sub(self.first));
+        }
+        self.history.push_reserved(slot);
+    }
+
+    fn refer(&mut self, place: u64, slot: u64)
+        ensures { self.new ≡ referred_at place slot self.old }
+    {
+        let index = slot.saturating_sub(self.first);
+        mark_at(
+            &mut self.referred,
+            place,
+            self.uses.len() as u64,
+            index,
+            true,
+        );
+        count_up(&mut self.uses, index);
+    }
+
+    fn unrefer(&mut self, place: u64, slot: u64)
+        ensures { self.new ≡ unreferred_at place slot self.old }
+    {
+        let index = slot.saturating_sub(self.first);
+        mark_at(
+            &mut self.referred,
+            place,
+            self.uses.len() as u64,
+            index,
+            false,
+        );
+        count_down(&mut self.uses, index);
+    }
+}
+
+// The first place with no use.
+fn first_free(uses: &[u64]) -> Option<u64>
+    ensures { result ≡ first_free uses.now 0 }
+{
+    let mut at = 0;
+    let mut rest = uses;
+    while let Some((count, tail)) = rest.split_first() {
+        if *count == 0 {
+            return Some(at);
+        }
+        at += 1;
+        rest = tail;
+    }
+    None
+}
+
+// Whether a number stands in a list.
+fn stands_in(slot: u64, list: &[u64]) -> bool
+    ensures { result ≡ stands_in slot list.now }
+{
+    let mut rest = list;
+    while let Some((first, tail)) = rest.split_first() {
+        if *first == slot {
+            return true;
+        }
+        rest = tail;
+    }
+    false
+}
+
+// Whether no slot has a use.
+fn are_unused(uses: &[u64]) -> bool
+    ensures { result ≡ are_unused uses.now }
+{
+    let mut rest = uses;
+    while let Some((count, tail)) = rest.split_first() {
+        if *count != 0 {
+            return false;
+        }
+        rest = tail;
+    }
+    true
+}
+
+// Whether a place of a row is marked; one that isn't there is not.
+fn is_marked(list: &[bool], row: u64, width: u64, place: u64) -> bool
+    ensures { result ≡ get_or list.now (row * width + place) false }
+{
+    let Some(start) = row.checked_mul(width) else {
+        return false;
+    };
+    let Some(at) = start.checked_add(place) else {
+        return false;
+    };
+    match list.get(at as usize) {
+        Some(mark) => *mark,
+        None => false,
+    }
+}
+
+// Marks a place of a row, where there is one.
+fn mark_at(list: &mut Vec<bool>, row: u64, width: u64, place: u64, value: bool)
+    ensures { list.new.items ≡ put_at list.old.items (row * width + place) value }
+{
+    let Some(start) = row.checked_mul(width) else {
+        return;
+    };
+    let Some(at) = start.checked_add(place) else {
+        return;
+    };
+    put(list, at, value);
+}
+
+// Puts a value at a place of a list; beyond its end nothing happens.
+fn put<T: Copy>(list: &mut Vec<T>, at: u64, value: T)
+    ensures { list.new.items ≡ put_at list.old.items at value }
+{
+    let at = at as usize;
+    if at < list.len() {
+        list[at] = value;
+    }
+}
+
+// One more at a place.
+fn count_up(list: &mut Vec<u64>, at: u64)
+    ensures { list.new.items ≡ counted_up list.old.items at }
+{
+    let at = at as usize;
+    if at < list.len() {
+        list[at] = list[at].saturating_add(1);
+    }
+}
+
+// One fewer at a place.
+fn count_down(list: &mut Vec<u64>, at: u64)
+    ensures { list.new.items ≡ counted_down list.old.items at }
+{
+    let at = at as usize;
+    if at < list.len() {
+        list[at] = list[at].saturating_sub(1);
+    }
+}

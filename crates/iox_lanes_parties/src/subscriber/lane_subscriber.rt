@@ -1,0 +1,260 @@
+//! A subscriber, free of any words.
+ghost use Rattle.std.specs.Prelude.{◌≡◌, ◌-◌, ◌<◌, true, false, None, Some, get_or, slice_get, length, replicate, IfOk};
+ghost use Rattle.iox_lanes_base.specs.Subscribing.{subscriber_next, subscriber_is_idle, subscriber_is_over};
+ghost use Rattle.iox_lanes_parties.specs.Keeping.{put_at, met_anew, swapped, counted_up, counted_down, changed, after_answer, begun_receive, begun_read, begun_release, new_subscriber};
+
+use iox_lanes_base::calls::subscriber::SlotExtent;
+use iox_lanes_base::calls::{Route, SubscriberCall, SubscriberChange, reroute};
+use iox_lanes_base::words::SharedAccess;
+use std::alloc::{AllocError, Global};
+use std::marker::Model;
+
+/// A subscriber: its connections in the order of their keys, the samples that it borrows, and the call that it is in.
+///
+/// All its memory is taken when it is made.
+#[derive(Drop)]
+pub struct LaneSubscriber {
+    routes: Vec<Route>,
+    extent: SlotExtent,
+    most_borrowed: u64,
+    // How many samples of each connection are borrowed.
+    borrowed: Vec<u64>,
+    // For each slot of the service the place of the connection that it is borrowed of.
+    samples: Vec<Option<u64>>,
+    // What was read of a sample.
+    words: Vec<u64>,
+    call: SubscriberCall,
+}
+
+impl Model for LaneSubscriber {
+    ghost use Rattle.iox_lanes_parties.specs.Keeping.{SubscriberState};
+
+    ghost Value = { SubscriberState };
+
+    ghost view = { λ s. record {
+      routes = s.routes.items;
+      extent = s.extent;
+      most_borrowed = s.most_borrowed;
+      borrowed = s.borrowed.items;
+      samples = s.samples.items;
+      words = s.words.items;
+      call = s.call;
+    } };
+}
+
+impl LaneSubscriber {
+    /// A subscriber that borrows nothing, of a service with so many slots. It fails only where an allocation fails.
+    pub fn new(
+        alloc: Global,
+        routes: &[Route],
+        slots: usize,
+        extent: SlotExtent,
+        words: usize,
+        most_borrowed: u64,
+    ) -> Result<LaneSubscriber, AllocError>
+        ensures { IfOk result (λ made. made ≡ new_subscriber routes.now slots extent words most_borrowed) }
+    {
+        Ok(LaneSubscriber {
+            routes: Vec::from_slice(alloc, routes)?,
+            extent,
+            most_borrowed,
+            borrowed: vec![in alloc; 0; routes.len()]?,
+            samples: vec![in alloc; None; slots]?,
+            words: vec![in alloc; 0; words]?,
+            call: SubscriberCall::Idle,
+        })
+    }
+
+    /// The place of the connection of which the slot is borrowed; None if it isn't.
+    pub fn place_of(&self, slot: usize) -> Option<u64>
+        ensures { result ≡ get_or self.now.samples slot None }
+    {
+        match self.samples.get(slot) {
+            Some(place) => *place,
+            None => None,
+        }
+    }
+
+    /// Its connections, in the order in which it receives from them.
+    pub fn routes(&self) -> &[Route]
+        ensures { result.now ≡ self.now.routes }
+    {
+        self.routes.as_slice()
+    }
+
+    /// How many samples of a connection it may borrow.
+    pub fn most_borrowed(&self) -> u64
+        ensures { result ≡ self.now.most_borrowed }
+    {
+        self.most_borrowed
+    }
+
+    /// The connection at a place; None beyond the last one.
+    pub fn route(&self, place: u64) -> Option<Route>
+        ensures { result ≡ slice_get self.now.routes place }
+    {
+        match self.routes.get(place as usize) {
+            Some(route) => Some(*route),
+            None => None,
+        }
+    }
+
+    /// The connection of this number is this one from now on.
+    pub fn meet(&mut self, route: Route)
+        ensures { self.new ≡ met_anew route self.old }
+    {
+        reroute(&mut self.routes, route);
+    }
+
+    /// How many connections it has.
+    pub fn connections(&self) -> usize
+        ensures { result ≡ length self.now.routes }
+    {
+        self.routes.len()
+    }
+
+    /// The connections at two places change places.
+    pub fn swap(&mut self, one: u64, other: u64)
+        requires one { one < length self.old.routes }
+        requires other { other < length self.old.routes }
+        ensures { self.new ≡ swapped one other self.old }
+    {
+        self.routes.swap(one as usize, other as usize);
+    }
+
+    /// The words that the last read loaded.
+    pub fn words(&self) -> &[u64]
+        ensures { result.now ≡ self.now.words }
+    {
+        &self.words
+    }
+
+    /// The call that it is in.
+    pub fn call(&self) -> &SubscriberCall
+        ensures { result.now ≡ self.now.call }
+    {
+        &self.call
+    }
+
+    /// Begins a receive.
+    pub fn begin_receive(&mut self)
+        requires { subscriber_is_idle self.old.call ≡ true }
+        ensures { self.new ≡ begun_receive self.old }
+    {
+        self.call = SubscriberCall::receive(&self.routes, &self.borrowed, self.most_borrowed);
+    }
+
+    /// Begins to read the slot of a sample.
+    pub fn begin_read(&mut self, slot: u64)
+        requires { subscriber_is_idle self.old.call ≡ true }
+        ensures { self.new ≡ begun_read slot self.old }
+    {
+        self.call = SubscriberCall::read(slot, self.extent);
+    }
+
+    /// Begins to release a sample's slot to the connection at this place.
+    pub fn begin_release(&mut self, place: u64, route: Route, slot: u64)
+        requires { subscriber_is_idle self.old.call ≡ true }
+        ensures { self.new ≡ begun_release place route slot self.old }
+    {
+        self.call = SubscriberCall::release(place, route, slot);
+    }
+
+    /// The access that comes next.
+    pub fn next(&self) -> SharedAccess
+        ensures { result ≡ subscriber_next self.now.call }
+    {
+        self.call.next()
+    }
+
+    /// Goes on after the answer of that access, and keeps what it changes.
+    #[inline(always)]
+    pub fn take(&mut self, answer: u64)
+        ensures { self.new ≡ after_answer answer self.old }
+    {
+        let change = self
+            .call
+            .take(answer, &self.routes, &self.borrowed, self.most_borrowed);
+        self.change(change);
+    }
+
+    /// Goes on as from where a call stands, after the answer of the access that comes next there.
+    #[inline(always)]
+    pub fn take_from(&mut self, call: SubscriberCall, answer: u64)
+        ensures { self.new ≡ after_answer answer (record self.old { call = call }) }
+    {
+        let mut call = call;
+        let change = call.take(answer, &self.routes, &self.borrowed, self.most_borrowed);
+        self.call = call;
+        self.change(change);
+    }
+
+    /// Keeps a word that was read; beyond the last one nothing happens.
+    pub fn note(&mut self, word: u64, value: u64)
+        ensures { self.new ≡ changed (SubscriberChange.Note word value) self.old }
+    {
+        put(&mut self.words, word, value);
+    }
+
+    #[inline(always)]
+    fn change(&mut self, change: SubscriberChange)
+        ensures { self.new ≡ changed change self.old }
+    {
+        match change {
+            SubscriberChange::Nothing => {}
+            SubscriberChange::Borrow { place, slot } => {
+                count_up(&mut self.borrowed, place);
+                put(&mut self.samples, slot, Some(place));
+            }
+            SubscriberChange::Note { word, value } => put(&mut self.words, word, value),
+            SubscriberChange::GiveBack { place, slot } => {
+                count_down(&mut self.borrowed, place);
+                put(&mut self.samples, slot, None);
+            }
+        }
+    }
+
+    /// No call is under way.
+    pub fn is_idle(&self) -> bool
+        ensures { result ≡ subscriber_is_idle self.now.call }
+    {
+        self.call.is_idle()
+    }
+
+    /// The next step is the last of its call.
+    pub fn is_over(&self) -> bool
+        ensures { result ≡ subscriber_is_over self.now.call }
+    {
+        self.call.is_over()
+    }
+}
+
+// Puts a value at a place of a list; beyond its end nothing happens.
+fn put<T: Copy>(list: &mut Vec<T>, at: u64, value: T)
+    ensures { list.new.items ≡ put_at list.old.items at value }
+{
+    let at = at as usize;
+    if at < list.len() {
+        list[at] = value;
+    }
+}
+
+// One more at a place.
+fn count_up(list: &mut Vec<u64>, at: u64)
+    ensures { list.new.items ≡ counted_up list.old.items at }
+{
+    let at = at as usize;
+    if at < list.len() {
+        list[at] = list[at].saturating_add(1);
+    }
+}
+
+// One fewer at a place.
+fn count_down(list: &mut Vec<u64>, at: u64)
+    ensures { list.new.items ≡ counted_down list.old.items at }
+{
+    let at = at as usize;
+    if at < list.len() {
+        list[at] = list[at].saturating_sub(1);
+    }
+}

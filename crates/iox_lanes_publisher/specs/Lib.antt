@@ -1,3 +1,0 @@
--- The definitions that contracts about a publisher's lane cite.
-pub mod Keeping
-pub mod Publishers

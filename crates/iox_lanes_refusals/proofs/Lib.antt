@@ -1,3 +1,0 @@
-mod Listing
-mod Going
-mod Slicing

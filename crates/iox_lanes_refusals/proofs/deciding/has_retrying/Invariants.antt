@@ -1,7 +1,0 @@
-use Rattle.std.proofs.Common.{◌≡◌}
-use Rattle.std.specs.List.{list_any}
-use Rattle.iox_lanes_refusals.specs.Deciding.{retries}
-use Rattle.iox_lanes_refusals.proofs.deciding.has_retrying.Given as goal
-
-abbrev pub invariant-loop-number : goal.invariant-loop-number
-invariant-loop-number g l = list_any (retries l.domain.publisher_handlers) l.number-iterator ≡ list_any (retries l.domain.publisher_handlers) l.domain.ports.publishers

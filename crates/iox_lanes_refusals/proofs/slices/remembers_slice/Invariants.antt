@@ -1,6 +1,0 @@
-use Rattle.iox_lanes_refusals.specs.Slices.{is_slice}
-use Rattle.iox_lanes_refusals.proofs.Going.{NoneGot}
-use Rattle.iox_lanes_refusals.proofs.slices.remembers_slice.Given as goal
-
-abbrev pub invariant-loop-place : goal.invariant-loop-place
-invariant-loop-place g l = NoneGot is_slice l.port.sender.uses.history l.place

@@ -1,7 +1,0 @@
-pub mod Texts
-pub mod Listed
-pub mod UpToDate
-pub mod Deciding
-pub mod Lingering
-pub mod Slices
-pub mod Refusals

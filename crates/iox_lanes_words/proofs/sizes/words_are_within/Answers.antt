@@ -1,5 +1,0 @@
-use Rattle.iox_lanes_words.proofs.Numbering as numbering
-use Rattle.iox_lanes_words.proofs.sizes.words_are_within.Goals as goal
-
-pub returns : goal.returns
-returns c = numbering.within

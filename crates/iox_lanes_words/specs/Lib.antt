@@ -1,5 +1,0 @@
--- The definitions that contracts about shared words cite.
-pub mod Words
-pub mod Numbers
-pub mod Table
-pub use Rattle.iox_queues_steps.specs as QueuesSteps

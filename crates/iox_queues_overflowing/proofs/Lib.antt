@@ -1,3 +1,0 @@
-pub mod OverflowingPush
-pub mod OverflowingPop
-pub use Rattle.iox_queues_steps.proofs as QueuesSteps

@@ -1,2 +1,0 @@
--- The definitions that contracts about the refusing ring cite.
-pub mod Refusing

@@ -1,0 +1,17 @@
+//! The two ends of the ring that refuses a push when it is full, one word at a time.
+//!
+//! Ported from `IndexQueue` of iceoryx2. Each end is free of any ring: it says which access comes
+//! next, and takes that access's answer.
+//!
+//! First calls. `RingMachine` of `iox_queues_rings` makes them.
+//!
+//! ```
+//! let answer = ring.apply(pop.next());
+//! let pop = pop.take(answer);
+//! ```
+
+pub mod pop;
+pub mod push;
+
+pub use pop::Pop;
+pub use push::Push;

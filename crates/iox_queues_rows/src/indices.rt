@@ -1,0 +1,145 @@
+//! Sets of indices that threads share: each answer that they give, and guards in two threads.
+use crate::answers::hold;
+use iox_index::{
+    HeadDetails, ReleaseMode, SharedIndexSet, UniqueIndexSet, UniqueIndexSetAcquireFailure,
+};
+use std::alloc::{AllocError, Global};
+use std::sync::atomic::{AtomicBool, Ordering};
+use std::test::Fail;
+use std::thread;
+use std::thread::Threads;
+
+const NONE_LEFT: UniqueIndexSetAcquireFailure = UniqueIndexSetAcquireFailure::OutOfIndices;
+
+/// A set of so many indices, shared, of which the first ones are held.
+fn shared(alloc: Global, capacity: usize, held: usize) -> Result<SharedIndexSet, AllocError> {
+    let mut set = UniqueIndexSet::new(alloc, capacity)?;
+    for _ in 0..held {
+        let _ = set.acquire_raw_index();
+    }
+    set.share(alloc).map_err(|_| AllocError)
+}
+
+/// The number of an index that is taken and given back at once.
+fn next(set: &SharedIndexSet) -> Result<u32, UniqueIndexSetAcquireFailure> {
+    match set.acquire() {
+        Ok(index) => Ok(index.value()),
+        Err(failure) => Err(failure),
+    }
+}
+
+/// Whether a set hands out the index behind those that are held, if there is one, twice over.
+fn hands_out(alloc: Global, capacity: usize, held: usize) -> Result<bool, AllocError> {
+    let set = shared(alloc, capacity, held)?;
+    let wanted = if held < capacity {
+        Ok(held as u32)
+    } else {
+        Err(NONE_LEFT)
+    };
+    Ok([next(&set), next(&set)] == [wanted; 2] && set.borrowed_indices() == held)
+}
+
+/// Whether sets of a size do of which none, half and all are held.
+fn all_hand_out(alloc: Global, size: usize) -> [Result<bool, AllocError>; 3] {
+    [
+        hands_out(alloc, size, 0),
+        hands_out(alloc, size, size / 2),
+        hands_out(alloc, size, size),
+    ]
+}
+
+#[test]
+fn a_shared_set_goes_on_where_the_plain_one_was(rt: HostRuntime) -> Result<(), Fail> {
+    for size in &[0usize, 1, 2, 7, 64, 1_000] {
+        hold(&rt, &all_hand_out(rt.alloc(), *size))?;
+    }
+    Ok(())
+}
+
+/// Whether so many indices are held, after so many changes, and this one comes next.
+fn is_at(set: &SharedIndexSet, borrowed_indices: u32, aba: u16, head: u32) -> bool {
+    set.head()
+        == HeadDetails {
+            head,
+            aba,
+            borrowed_indices,
+        }
+}
+
+/// The word behind the last index that is free.
+const END: u32 = (1 << 24) - 1;
+
+/// Whether a set of three, of which index 1 was released and index 0 is held, counts each change, and no refusal; and hands out the last
+/// index released.
+fn counts_its_changes(set: &SharedIndexSet) -> Result<bool, UniqueIndexSetAcquireFailure> {
+    let before = is_at(set, 1, 0, 1);
+    let first = set.acquire()?;
+    let second = set.acquire()?;
+    let acquired = first.value() == 1 && second.value() == 2 && is_at(set, 3, 2, END);
+    let refused = next(set) == Err(NONE_LEFT) && is_at(set, 3, 2, END);
+    drop(first);
+    let released = is_at(set, 2, 3, 1) && next(set) == Ok(1) && is_at(set, 2, 5, 1);
+    drop(second);
+    Ok(before && acquired && refused && released && is_at(set, 1, 6, 2))
+}
+
+fn changes(alloc: Global) -> Result<bool, AllocError> {
+    let mut set = UniqueIndexSet::new(alloc, 3)?;
+    let _ = (set.acquire_raw_index(), set.acquire_raw_index());
+    if set.is_held(1) {
+        let _ = set.release_raw_index(1, ReleaseMode::Default);
+    }
+    match set.share(alloc) {
+        Ok(shared) => Ok(counts_its_changes(&shared) == Ok(true)),
+        Err(_) => Err(AllocError),
+    }
+}
+
+#[test]
+fn a_shared_set_gives_each_answer(rt: HostRuntime) -> Result<(), Fail> {
+    Ok(hold(&rt, &[changes(rt.alloc())])?)
+}
+
+// Takes an index and gives it back, again and again; whether no index came that the other thread holds, or that the set doesn't have.
+fn takes_turns(set: &SharedIndexSet, held: &[AtomicBool; 2]) -> bool {
+    for _ in 0..1000 {
+        let Ok(index) = set.acquire() else {
+            return false;
+        };
+        let Some(mark) = held.get(index.value() as usize) else {
+            return false;
+        };
+        if mark.swap(true, Ordering::SeqCst) {
+            return false;
+        }
+        mark.store(false, Ordering::SeqCst);
+    }
+    true
+}
+
+/// Whether two threads take turns and give back what they take.
+fn all_come_back(rt: &impl Threads, set: &SharedIndexSet) -> bool {
+    let held = [AtomicBool::new(false), AtomicBool::new(false)];
+    let (here, there) = thread::join(rt, || takes_turns(set, &held), || takes_turns(set, &held));
+    here && there && set.borrowed_indices() == 0
+}
+
+fn come_back(rt: &impl Threads, alloc: Global) -> Result<bool, AllocError> {
+    Ok(all_come_back(rt, &shared(alloc, 2, 0)?))
+}
+
+#[test]
+fn guards_in_two_threads_hold_each_index_alone(rt: HostRuntime) -> Result<(), Fail> {
+    Ok(hold(&rt, &[come_back(&rt, rt.alloc())])?)
+}
+
+const HEAD: HeadDetails = HeadDetails {
+    head: 12345,
+    aba: 6789,
+    borrowed_indices: 54321,
+};
+
+#[test]
+fn a_head_comes_back_from_its_word(rt: HostRuntime) {
+    assert!(rt; HeadDetails::from(HEAD.value()) == HEAD);
+}

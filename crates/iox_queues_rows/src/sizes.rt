@@ -1,0 +1,258 @@
+//! Ample memory is always enough, at each size and again and again; and no more room is taken than there is. Queues that threads
+//! share are made at each size in `shared`.
+use crate::answers::have_size;
+use iox_index::{
+    Container, FixedSizeContainer, FixedSizeUniqueIndexSet, OwnerId, RobustUniqueIndexSet,
+    StaticRobustUniqueIndexSet, UniqueIndexSet,
+};
+use iox_queues::sets::{self, SetMachine};
+use iox_queues::{
+    BitSet, Call, CountingBitSet, FixedSizeBitSet, FixedSizeCountingBitSet, IndexQueue, Move,
+    Party, RingMachine, SafelyOverflowingIndexQueue,
+};
+use std::alloc::{AllocError, Global};
+use std::process::Abort;
+use std::test::Fail;
+
+const SIZES: [usize; 6] = [0, 1, 2, 7, 64, 1_000];
+
+/// More places than anyone fills: the most that a set has that threads share.
+const MANY: usize = (1 << 24) - 1;
+
+fn bit_set(alloc: Global, size: usize) -> Result<usize, AllocError> {
+    Ok(BitSet::new(alloc, size)?.capacity())
+}
+
+fn counting_set(alloc: Global, size: usize) -> Result<usize, AllocError> {
+    Ok(CountingBitSet::new(alloc, size)?.capacity())
+}
+
+fn index_queue(alloc: Global, size: usize) -> Result<usize, AllocError> {
+    Ok(IndexQueue::new(alloc, size)?.capacity())
+}
+
+fn overflowing_queue(alloc: Global, size: usize) -> Result<usize, AllocError> {
+    Ok(SafelyOverflowingIndexQueue::new(alloc, size)?.capacity())
+}
+
+/// The indices of a set, once it is shared.
+fn shared_indices(alloc: Global, size: usize) -> Result<usize, AllocError> {
+    match UniqueIndexSet::new(alloc, size)?.share(alloc) {
+        Ok(set) => Ok(set.capacity()),
+        Err(_) => Err(AllocError),
+    }
+}
+
+fn robust_set(alloc: Global, size: usize) -> Result<usize, AllocError> {
+    Ok(RobustUniqueIndexSet::new(alloc, size)?.capacity())
+}
+
+/// Adds as many members as there is room for, up to this number.
+fn add_members(container: &mut Container<u64>, len: usize, owner: OwnerId) {
+    for _ in 0..len {
+        if container.has_room() {
+            let _ = container.add(7, owner);
+        }
+    }
+}
+
+/// The capacity of a container, told where the copy of it has so many members as were added, and no more.
+fn container(
+    alloc: Global,
+    owner: OwnerId,
+    capacity: usize,
+    len: usize,
+) -> Result<usize, AllocError> {
+    let mut container = Container::<u64>::new(alloc, 1, capacity)?;
+    add_members(&mut container, len, owner);
+    let copy = container.get_state(alloc)?;
+    for index in 0..len {
+        if copy.get(index) != Some(7) {
+            return Ok(usize::MAX);
+        }
+    }
+    Ok(container.capacity())
+}
+
+const POP: [Move; 6] = [
+    Move::Begin(Call::Pop),
+    Move::GoOn(Party::Consumer),
+    Move::GoOn(Party::Consumer),
+    Move::GoOn(Party::Consumer),
+    Move::GoOn(Party::Consumer),
+    Move::GoOn(Party::Consumer),
+];
+
+/// How many pops end, of as many as are begun.
+fn popped(machine: &mut RingMachine, size: usize) -> usize {
+    for _ in 0..size {
+        if machine.moments() < 1 << 40 {
+            let _ = machine.run(&POP);
+        }
+    }
+    machine.pops().len()
+}
+
+/// The pops of a ring in which as many numbers wait as there is room for.
+fn refusing_ring(alloc: Global, size: usize) -> Result<usize, AllocError> {
+    let waiting = vec![in alloc; 7u64; size]?;
+    let limit = waiting.len() as u64;
+    Ok(popped(
+        &mut RingMachine::refusing(alloc, limit, waiting.as_slice())?,
+        size,
+    ))
+}
+
+fn overflowing_ring(alloc: Global, size: usize) -> Result<usize, AllocError> {
+    let waiting = vec![in alloc; 7u64; size]?;
+    let limit = waiting.len() as u64;
+    if limit == 0 {
+        return Ok(size);
+    }
+    Ok(popped(
+        &mut RingMachine::overflowing(alloc, limit, waiting.as_slice())?,
+        size,
+    ))
+}
+
+/// How many calls end in a set of as many places as parties, each of which sets its own.
+fn set_machine(alloc: Global, size: usize) -> Result<usize, AllocError> {
+    if size == 0 {
+        return Ok(size);
+    }
+    let mut machine = SetMachine::new(alloc, 1, size, size)?;
+    for party in 0..size {
+        let go_on = sets::Move::GoOn(party);
+        let set = sets::Move::Begin(party, sets::Call::Set(party as u64));
+        let _ = machine.run(&[set, go_on, go_on, go_on]);
+    }
+    Ok(machine.finished().len())
+}
+
+/// What is made empty at a size, each told by that size.
+fn empty(alloc: Global, owner: OwnerId, size: usize) -> [Result<usize, AllocError>; 7] {
+    [
+        bit_set(alloc, size),
+        counting_set(alloc, size),
+        index_queue(alloc, size),
+        overflowing_queue(alloc, size),
+        shared_indices(alloc, size),
+        robust_set(alloc, size),
+        container(alloc, owner, size, 0),
+    ]
+}
+
+/// What is filled at a size, each told by that size.
+fn filled(alloc: Global, owner: OwnerId, size: usize) -> [Result<usize, AllocError>; 5] {
+    [
+        container(alloc, owner, size, size / 2),
+        container(alloc, owner, size, size),
+        refusing_ring(alloc, size),
+        overflowing_ring(alloc, size),
+        set_machine(alloc, size),
+    ]
+}
+
+/// Each must be made at each size, and again.
+fn all_are_made(rt: &impl Abort, alloc: Global, owner: OwnerId) -> Result<(), AllocError> {
+    for size in SIZES.iter().chain(&SIZES) {
+        have_size(rt, *size, &empty(alloc, owner, *size))?;
+        have_size(rt, *size, &filled(alloc, owner, *size))?;
+    }
+    have_size(rt, 100_000, &empty(alloc, owner, 100_000))
+}
+
+#[test]
+fn ample_memory_is_enough_at_each_size(rt: HostRuntime) -> Result<(), Fail> {
+    let owner = OwnerId::new(1)?;
+    Ok(all_are_made(&rt, rt.alloc(), owner)?)
+}
+
+#[test]
+fn many_places_are_made_of_which_few_are_used(rt: HostRuntime) -> Result<(), Fail> {
+    let owner = OwnerId::new(1)?;
+    let container = container(rt.alloc(), owner, MANY, 3);
+    Ok(have_size(&rt, MANY, &[container, shared_indices(rt.alloc(), MANY)])?)
+}
+
+fn fixed_bit_set<const SIZE: usize>(alloc: Global) -> Result<usize, AllocError> {
+    Ok(FixedSizeBitSet::<SIZE>::new(alloc)?.capacity())
+}
+
+fn fixed_counting_set<const SIZE: usize>(alloc: Global) -> Result<usize, AllocError> {
+    Ok(FixedSizeCountingBitSet::<SIZE>::new(alloc)?.capacity())
+}
+
+fn fixed_index_set<const SIZE: usize>(alloc: Global) -> Result<usize, AllocError> {
+    Ok(FixedSizeUniqueIndexSet::<SIZE>::new(alloc)?.capacity())
+}
+
+fn fixed_robust_set<const SIZE: usize>(alloc: Global) -> Result<usize, AllocError> {
+    Ok(StaticRobustUniqueIndexSet::<SIZE>::new(alloc)?.capacity())
+}
+
+/// The capacity of a container, told where a copy of it is made.
+fn fixed_container<const SIZE: usize>(alloc: Global) -> Result<usize, AllocError> {
+    let container = FixedSizeContainer::<u64, SIZE>::new(alloc, 1)?;
+    let copy = container.get_state(alloc)?;
+    if copy.get(0) == None {
+        Ok(container.capacity())
+    } else {
+        Ok(usize::MAX)
+    }
+}
+
+/// What is made at a fixed size, each told by that size.
+fn fixed<const SIZE: usize>(alloc: Global) -> [Result<usize, AllocError>; 5] {
+    [
+        fixed_bit_set::<SIZE>(alloc),
+        fixed_counting_set::<SIZE>(alloc),
+        fixed_index_set::<SIZE>(alloc),
+        fixed_robust_set::<SIZE>(alloc),
+        fixed_container::<SIZE>(alloc),
+    ]
+}
+
+fn all_fixed(alloc: Global) -> [[Result<usize, AllocError>; 5]; 6] {
+    [
+        fixed::<0>(alloc),
+        fixed::<1>(alloc),
+        fixed::<2>(alloc),
+        fixed::<7>(alloc),
+        fixed::<64>(alloc),
+        fixed::<1_000>(alloc),
+    ]
+}
+
+#[test]
+fn ample_memory_is_enough_at_each_fixed_size(rt: HostRuntime) -> Result<(), Fail> {
+    for (size, answers) in SIZES.iter().zip(&all_fixed(rt.alloc())) {
+        have_size(&rt, *size, answers)?;
+    }
+    Ok(())
+}
+
+/// Each must be refused for want of memory.
+fn are_refused(rt: &impl Abort, answers: &[Result<usize, AllocError>]) {
+    for (place, answer) in answers.iter().enumerate() {
+        assert!(rt; answer.is_err(), "answer {place}");
+    }
+}
+
+fn refused(alloc: Global, owner: OwnerId) -> [Result<usize, AllocError>; 5] {
+    [
+        robust_set(alloc, usize::MAX),
+        container(alloc, owner, usize::MAX, 0),
+        index_queue(alloc, usize::MAX),
+        shared_indices(alloc, usize::MAX),
+        shared_indices(alloc, MANY + 1),
+    ]
+}
+
+#[test]
+fn takes_no_more_room_than_there_is(rt: HostRuntime) -> Result<(), Fail> {
+    let owner = OwnerId::new(1)?;
+    are_refused(&rt, &refused(rt.alloc(), owner));
+    assert!(rt; RingMachine::overflowing(rt.alloc(), 1 << 62, &[]).is_err());
+    Ok(())
+}

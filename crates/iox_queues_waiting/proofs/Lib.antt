@@ -1,3 +1,0 @@
-pub mod PushSteps
-pub mod PopSteps
-pub mod EitherStep
