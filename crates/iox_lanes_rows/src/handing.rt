@@ -2,8 +2,8 @@
 use crate::service::{lanes, read_back, sent};
 use iox_lanes_base::calls::{Delivery, Receipt};
 use iox_lanes_machine::Lanes;
-use iox_lanes_parties::{Answer, Call, Move, Party};
 use iox_lanes_parties::publisher::LoanAnswer;
+use iox_lanes_parties::{Answer, Call, Move, Party};
 use iox_lanes_threads::{LanePublisher, LaneSubscriber, LaneThreads, end, open_threads};
 use iox_queues_rings::RingKind;
 use std::alloc::{AllocError, Global};

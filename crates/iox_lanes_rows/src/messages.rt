@@ -1,6 +1,6 @@
 //! Messages that lanes keep, beside what a read gives.
-use iox_lanes_machine::{LaneSizes, Lanes};
 use iox_lanes_laws::messages::RecordedLanes;
+use iox_lanes_machine::{LaneSizes, Lanes};
 use iox_lanes_parties::{Call, Move, Party};
 use iox_queues_rings::RingKind;
 use iox_queues_steps::Stepped;

@@ -5,8 +5,8 @@ use crate::service::Numbers;
 use crate::words::{number, party, word};
 use iox_domain_subscriber::Taken;
 use iox_domain_values::ConnectionFailure;
-use iox_lanes_parties::Party;
 use iox_lanes_opening::refusals::refusal;
+use iox_lanes_parties::Party;
 use std::alloc::{AllocError, Global};
 use std::str::SplitWhitespace;
 

@@ -2,8 +2,8 @@
 use crate::calling;
 use crate::said::Said;
 use crate::words::{number, party, word};
-use iox_lanes_machine::{Found, Lanes};
 use iox_lanes_base::words::SlotWord;
+use iox_lanes_machine::{Found, Lanes};
 use std::alloc::{AllocError, Global};
 use std::str::SplitWhitespace;
 
