@@ -5,9 +5,8 @@
 ghost use Rattle.std.specs.Prelude.{◌≡◌};
 
 use crate::known::{
-    Known, NOTHING, are_mailboxes, begun, is_answered, kept, last_at, receiving, sending,
+    Known, NOTHING, are_mailboxes, begun, is_answered, kept, last_at, receiving, sending, sizes,
 };
-use crate::schedules::sizes;
 use iox_lanes_base::calls::Receipt;
 use iox_lanes_machine::{LaneSizes, Lanes};
 use iox_lanes_parties::publisher::LoanAnswer;

@@ -1,11 +1,31 @@
 //! What is known of the ports of lanes beside them: what was written, sent and received, and a plain mailbox for each connection.
+ghost use Rattle.std.specs.Prelude.{◌≡◌};
+
 use iox_lanes_base::calls::Receipt;
-use iox_lanes_machine::{Lanes, Link};
+use iox_lanes_machine::{LaneSizes, Lanes, Link};
 use iox_lanes_parties::publisher::LoanAnswer;
 use iox_lanes_parties::{Answer, Call, CallName, FinishedCall, Move, Party};
 use iox_queues_rings::RingKind;
 use iox_queues_steps::{Act, Placed, PopAnswer, PushAnswer};
 use std::alloc::{AllocError, Global};
+
+/// One publisher and one subscriber, at whose connection one message may wait, with payloads of one word.
+pub(crate) fn sizes(kind: RingKind, most_borrowed: u64, slots: u64) -> LaneSizes
+    ensures { result.buffer ≡ 1 }
+{
+    LaneSizes {
+        publishers: 1,
+        subscribers: 1,
+        kind,
+        buffer: 1,
+        most_borrowed,
+        history: 0,
+        most_loans: 1,
+        slots,
+        user_header_words: 0,
+        payload_words: 1,
+    }
+}
 
 /// How many slots there are in all.
 pub(crate) const SLOTS: u64 = 16;

@@ -1,15 +1,14 @@
-//! What no contract of lanes can say, tested one word at a time.
+//! What no contract of lanes can say, and no line of `lanes_cases`.
 //!
-//! It has no items of its own, only tests: `schedules` holds schedules known beforehand with their answers, `findings` what lanes find before their first step,
-//! `random` schedules by chance, `every` all schedules of small worlds to some depth, beside what is `known` of their messages, `messages` the messages that lanes keep, and `calls` drives whole calls.
+//! It has no items of its own, only tests: `random` has schedules by chance, `every` all schedules of small worlds to some depth, beside what is `known` of their messages,
+//! and `messages` the messages that lanes keep. The others are about ports in threads: `service` makes services of two publishers and two subscribers, `streams` sends numbers
+//! through four threads, `turns` has two threads answer each other, both once all of them run (`start`), and `handing` goes from lanes to threads and to ports that stand still.
 #![tactic(auto)]
 
 #[cfg(test)]
-mod calls;
-#[cfg(test)]
 mod every;
 #[cfg(test)]
-mod findings;
+mod handing;
 #[cfg(test)]
 mod known;
 #[cfg(test)]
@@ -17,4 +16,10 @@ mod messages;
 #[cfg(test)]
 mod random;
 #[cfg(test)]
-mod schedules;
+mod service;
+#[cfg(test)]
+mod start;
+#[cfg(test)]
+mod streams;
+#[cfg(test)]
+mod turns;

@@ -1,6 +1,5 @@
 //! Messages that lanes keep, beside what a read gives.
-use crate::calls::{PUBLISHER, SUBSCRIBER};
-use iox_lanes_laws::messages::{Message, RecordedLanes};
+use iox_lanes_laws::messages::RecordedLanes;
 use iox_lanes_machine::{LaneSizes, Lanes};
 use iox_lanes_parties::{Call, Move, Party};
 use iox_queues_rings::RingKind;
@@ -20,6 +19,10 @@ const SIZES: LaneSizes = LaneSizes {
     user_header_words: 1,
     payload_words: 2,
 };
+
+const PUBLISHER: Party = Party::Publisher(0);
+
+const SUBSCRIBER: Party = Party::Subscriber(0);
 
 // Makes a step, and once more where it found no memory, by which nothing has changed.
 fn step(lanes: &mut RecordedLanes, party: Party, entry: &Move) -> Stepped {
@@ -41,59 +44,58 @@ fn is_called(lanes: &mut RecordedLanes, party: Party, call: Call) -> bool {
     stepped == Stepped::Finished
 }
 
-// These words are written into a loan of this slot, which is sent.
-fn is_sent(
-    alloc: Global,
-    lanes: &mut RecordedLanes,
-    loan: u64,
-    user_header: u64,
-    payload: [u64; 2],
-) -> Result<bool, AllocError> {
-    let write = Call::Write {
+// The call that writes user header 5, and 7 and this value, into the loan of a slot.
+fn writing(alloc: Global, loan: u64, value: u64) -> Result<Call, AllocError> {
+    let user_header = Vec::from_slice(alloc, &[5])?;
+    Ok(Call::Write {
         loan,
-        user_header: Vec::from_slice(alloc, &[user_header])?,
-        payload: Vec::from_slice(alloc, &payload)?,
-    };
-    Ok(
-        is_called(lanes, PUBLISHER, Call::LoanUninit)
-            && is_called(lanes, PUBLISHER, write)
-            && is_called(lanes, PUBLISHER, Call::Send { loan }),
-    )
+        payload: Vec::from_slice(alloc, &[7, value])?,
+        user_header,
+    })
 }
 
-// A message is received and read.
-fn is_read(lanes: &mut RecordedLanes, sample: u64) -> bool {
-    is_called(lanes, SUBSCRIBER, Call::Receive)
-        && is_called(lanes, SUBSCRIBER, Call::Read { sample })
+// Whether a message is sent in a slot, and given up by whoever received it.
+fn goes(lanes: &mut RecordedLanes, slot: u64, write: Call) -> bool {
+    is_called(lanes, PUBLISHER, Call::LoanUninit)
+        && is_called(lanes, PUBLISHER, write)
+        && is_called(lanes, PUBLISHER, Call::Send { loan: slot })
+        && is_called(lanes, SUBSCRIBER, Call::Receive)
+        && is_called(lanes, SUBSCRIBER, Call::Read { sample: slot })
+        && is_called(lanes, SUBSCRIBER, Call::Release { sample: slot })
 }
 
-// Two messages are sent, and each is read.
-fn are_read(alloc: Global, lanes: &mut RecordedLanes) -> Result<bool, AllocError> {
-    Ok(
-        is_sent(alloc, lanes, 0, 5, [7, 8])?
-            && is_read(lanes, 0)
-            && is_sent(alloc, lanes, 1, 6, [9, 10])?
-            && is_read(lanes, 1),
-    )
+// Whether the message of a number stands as it was sent, and was read so: in the first slot and the second by turns.
+fn is_kept(lanes: &RecordedLanes, number: u64) -> bool {
+    let words = [0, 0, 1, 5, 7, number];
+    let from = (number as usize).saturating_mul(6);
+    let is_read = lanes.lanes().words_read().get(from..) == Some(&words);
+    match lanes.message(number as usize) {
+        Some(it) => {
+            is_read
+                && it.publisher() == 0
+                && it.slot() == number % 2
+                && it.words() == words.as_slice()
+        }
+        None => false,
+    }
 }
 
-// Whether a message that was kept has these words, in this slot of the first publisher.
-fn is_kept(message: Option<&Message>, slot: u64, words: &[u64]) -> bool {
-    message.is_some_and(|it| it.publisher() == 0 && it.slot() == slot && it.words() == words)
+// Whether so many messages are sent, read and kept.
+fn are_kept(alloc: Global, count: u64) -> Result<bool, AllocError> {
+    let mut lanes = RecordedLanes::new(alloc, Lanes::new(alloc, SIZES)?);
+    for number in 0..count {
+        let write = writing(alloc, number % 2, number)?;
+        if !goes(&mut lanes, number % 2, write) || !is_kept(&lanes, number) {
+            return Ok(false);
+        }
+    }
+    Ok(lanes.len() as u64 == count)
 }
 
 #[test]
-fn a_read_gives_the_message_that_is_kept(rt: HostRuntime) -> Result<(), Fail> {
-    let alloc = rt.alloc();
-    let mut lanes = RecordedLanes::new(alloc, Lanes::new(alloc, SIZES)?);
-    assert!(rt; lanes.is_empty() && are_read(alloc, &mut lanes)?);
-    assert!(rt;
-        is_kept(lanes.message(0), 0, &[0, 0, 1, 5, 7, 8])
-            && is_kept(lanes.message(1), 1, &[0, 0, 1, 6, 9, 10])
-    );
-    assert!(rt;
-        lanes.len() == 2
-            && lanes.lanes().words_read() == [0, 0, 1, 5, 7, 8, 0, 0, 1, 6, 9, 10].as_slice()
-    );
+fn messages_are_kept_as_they_were_sent_and_read(rt: HostRuntime) -> Result<(), Fail> {
+    for count in [0, 1, 2, 7, 64, 1000] {
+        assert!(rt; are_kept(rt.alloc(), count)?, "{count}");
+    }
     Ok(())
 }

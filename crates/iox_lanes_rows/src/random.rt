@@ -3,8 +3,8 @@ ghost use Rattle.std.specs.Prelude.{◌≡◌};
 
 use crate::known::{
     Known, NOTHING, SLOTS, are_mailboxes, begun, is_answered, kept, last_at, receiving, sending,
+    sizes,
 };
-use crate::schedules::sizes;
 use iox_lanes_machine::{Found, LaneSizes, Lanes};
 use iox_lanes_parties::{Call, Move, Party};
 use iox_queues_rings::RingKind;
