@@ -21,9 +21,9 @@ fn shared(alloc: Global, capacity: usize, held: usize) -> Result<SharedIndexSet,
 }
 
 /// The number of an index that is taken and given back at once.
-fn next(set: &SharedIndexSet) -> Result<u32, UniqueIndexSetAcquireFailure> {
+fn next(set: &SharedIndexSet) -> Result<usize, UniqueIndexSetAcquireFailure> {
     match set.acquire() {
-        Ok(index) => Ok(index.value()),
+        Ok(index) => Ok(index.value() as usize),
         Err(failure) => Err(failure),
     }
 }
@@ -32,7 +32,7 @@ fn next(set: &SharedIndexSet) -> Result<u32, UniqueIndexSetAcquireFailure> {
 fn hands_out(alloc: Global, capacity: usize, held: usize) -> Result<bool, AllocError> {
     let set = shared(alloc, capacity, held)?;
     let wanted = if held < capacity {
-        Ok(held as u32)
+        Ok(held)
     } else {
         Err(NONE_LEFT)
     };

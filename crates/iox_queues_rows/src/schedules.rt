@@ -60,7 +60,7 @@ fn pop_all(machine: &mut RingMachine, capacity: u64) -> bool {
 
 // The number in decimal digits, once another is written behind.
 fn behind(digits: u64, number: u64) -> u64 {
-    (digits % 1_000_000) * 10 + number
+    ((digits % 1_000_000) * 10).saturating_add(number)
 }
 
 // The number that a push handed out, and those that pops gave, as digits in their order.

@@ -128,14 +128,12 @@ fn counted(alloc: Global, row: &Row) -> Result<Option<[u32; 2]>, AllocError> {
 
 // Whether each schedule ended in one of its ways, and each way came, where there are two.
 fn is_whole(row: &Row, counts: Option<[u32; 2]>) -> bool {
-    match counts {
-        Some([first, second]) => {
-            first.saturating_add(second) == 12_870
-                && 0 < first
-                && (0 < second || row.3[0] == row.3[1])
-        }
-        None => false,
-    }
+    let Some(ends) = counts else {
+        return false;
+    };
+    ends[0].saturating_add(ends[1]) == 12_870
+        && 0 < ends[0]
+        && (0 < ends[1] || row.3[0] == row.3[1])
 }
 
 #[test]
