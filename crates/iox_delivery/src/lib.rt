@@ -13,7 +13,7 @@
 //!
 //! No port, loan, sample or waiting send may be let go: it is spent by the call that ends it.
 //!
-//! First calls, of a publisher and of a subscriber; tests in `iox_hub_rows` make them with a hub as the home.
+//! First calls, of a publisher and of a subscriber; a hub is a home, too:
 //!
 //! ```
 //! let loan = publisher.loan_uninit(alloc, home).ok()?;

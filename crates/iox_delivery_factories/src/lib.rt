@@ -7,7 +7,7 @@
 //! | `publisher` | makes a publisher of single values, or of slices |
 //! | `subscriber` | makes a subscriber of single values, or of slices |
 //!
-//! First calls, of a publisher of six loans. Tests in `iox_delivery_rows` make others, too.
+//! First calls, of a publisher of six loans:
 //!
 //! ```
 //! let mut domain = Domain::<u64, ()>::new(alloc, id, description, 128).ok()?;

@@ -9,7 +9,7 @@
 //!
 //! No port, loan or sample may be let go: it is spent by the call that ends it.
 //!
-//! First calls, of a publisher. Tests in `iox_delivery_rows` have those of subscribers.
+//! First calls, of a publisher:
 //!
 //! ```
 //! let loan = publisher.loan_slice_uninit(alloc, home, 4).ok()?;

@@ -14,7 +14,7 @@
 //!
 //! Lending, writing, reading and releasing ask nobody: these calls are those of the domain's `ports`.
 //!
-//! First calls, of a new domain; tests in `iox_delivery_rows` go on from there.
+//! First calls, of a new domain:
 //!
 //! ```
 //! if Domain::<u64, ()>::fits(description) {

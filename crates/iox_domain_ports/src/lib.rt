@@ -10,7 +10,7 @@
 //! - [`reading`]: what is read of a sample.
 //! - [`living`]: how much lives.
 //!
-//! First calls, of a publisher; tests in `iox_domain_port_rows` have those of subscribers.
+//! First calls, of a publisher:
 //!
 //! ```
 //! if let Some(Ok(slot)) = ports.loan(alloc, number, 1, 1, blank) {

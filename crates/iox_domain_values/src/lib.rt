@@ -16,7 +16,7 @@
 //!
 //! Each error displays as its type's name, `::` and the variant, an inner variant in parentheses, at any depth.
 //!
-//! First calls. Tests in `iox_domain_rows` make handlers so; `Handlers` asks one, and decides.
+//! First calls. `Handlers` asks a handler so, and decides.
 //!
 //! ```
 //! let handler = BackpressureHandler::new_with(BackpressureAction::DiscardData);

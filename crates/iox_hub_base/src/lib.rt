@@ -12,7 +12,7 @@
 //! | `ports` | builders of ports; domains that are taken and put back |
 //! | `home` | the hub as a home of its ports |
 //!
-//! First calls, of a builder of a service. Tests in `iox_hub_rows` go on: `conversations.rt` goes from two nodes to a message that was read.
+//! First calls, of a builder of a service:
 //!
 //! ```
 //! let mut hub = Hub::<u64, (), Nobody, Nobody>::new(alloc, config);

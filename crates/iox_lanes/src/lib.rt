@@ -12,7 +12,7 @@
 //! - [`into_domain_error`]: why lanes don't become a domain.
 //! - [`laws`]: what holds of lanes and of the domain beside them.
 //!
-//! First calls. Tests in `iox_lanes_opening_rows` make them.
+//! First calls:
 //!
 //! ```
 //! match into_lanes(alloc, domain) {

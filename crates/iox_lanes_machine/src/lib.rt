@@ -13,7 +13,7 @@
 //! - [`parts`]: the lanes taken apart.
 //! - [`resting`]: whether a party is inside a call, or something is out.
 //!
-//! First calls. Tests in `iox_lanes_rows` make them.
+//! First calls:
 //!
 //! ```
 //! let mut lanes = Lanes::new(alloc, sizes)?;

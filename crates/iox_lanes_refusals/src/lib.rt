@@ -7,7 +7,7 @@
 //! - [`slices`]: what isn't one value.
 //! - [`reasons`]: the first reason that applies.
 //!
-//! First calls, of a domain. Tests in `iox_lanes_opening_rows` have each reason.
+//! First calls, of a domain:
 //!
 //! ```
 //! let error = refusal(domain)?;

@@ -10,7 +10,7 @@
 //! | `builder` | builders of the three patterns |
 //! | `laws` | what holds of every open service |
 //!
-//! First calls. Tests in `iox_negotiate_rows` make them.
+//! First calls:
 //!
 //! ```
 //! let builder = Builder::new(node, name).publish_subscribe::<u64>();

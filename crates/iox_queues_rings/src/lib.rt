@@ -3,7 +3,7 @@
 //! - [`ends`]: what each end does next, free of any ring.
 //! - [`machine`]: a ring with its two ends, which go in any order.
 //!
-//! First calls. Tests in `iox_queues_rows` make them.
+//! First calls:
 //!
 //! ```
 //! let mut machine = RingMachine::overflowing(alloc, 2, &[])?;
