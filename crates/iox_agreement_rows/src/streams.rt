@@ -68,8 +68,7 @@ impl io::Write for Sips {
 }
 
 /// How a conversation goes: what is read, in pieces of which sizes and in how many calls that go well, how many
-/// bytes are taken a call and in how many
-/// that go well; what it comes to, and how many bytes are written.
+/// bytes are taken a call and in how many that go well; what it comes to, and how many bytes are written.
 #[derive(Clone, Copy)]
 struct Talk {
     rest: &'static [u8],
@@ -261,8 +260,7 @@ fn told_of_drips(alloc: Global, input: &mut Input<Drips>) -> (Result<(), ServeEr
 }
 
 /// Whether an input is left after the most calls, each newline with its answer and the line without an end with
-/// none, and is asked again in a
-/// second conversation, where it has ended.
+/// none, and is asked again in a second conversation, where it has ended.
 fn is_left(alloc: Global) -> bool {
     let mut input = Input::new(Drips {
         newlines: READ_CALLS - 1_000,
