@@ -67,8 +67,8 @@ impl io::Write for Sips {
     }
 }
 
-/// How a conversation goes: what is read, in pieces of which sizes and in how many calls that go well, how many bytes are taken a call and in how many
-/// that go well; what it comes to, and how many bytes are written.
+/// How a conversation goes: what is read, in pieces of which sizes and in how many calls that go well, how many
+/// bytes are taken a call and in how many that go well; what it comes to, and how many bytes are written.
 #[derive(Clone, Copy)]
 struct Talk {
     rest: &'static [u8],
@@ -93,7 +93,8 @@ const GOOD: Talk = Talk {
     written: 44,
 };
 
-/// What a conversation comes to, whether a read failed and whether a write did, and how many bytes of the lines are written; none where others are.
+/// What a conversation comes to, whether a read failed and whether a write did, and how many bytes of the lines are
+/// written; none where others are.
 type Told = (Result<(), ServeError>, bool, bool, Option<usize>);
 
 fn told(alloc: Global, talk: Talk) -> Told {
@@ -258,8 +259,8 @@ fn told_of_drips(alloc: Global, input: &mut Input<Drips>) -> (Result<(), ServeEr
     (result, input.has_failed(), output.writer().len())
 }
 
-/// Whether an input is left after the most calls, each newline with its answer and the line without an end with none, and is asked again in a
-/// second conversation, where it has ended.
+/// Whether an input is left after the most calls, each newline with its answer and the line without an end with
+/// none, and is asked again in a second conversation, where it has ended.
 fn is_left(alloc: Global) -> bool {
     let mut input = Input::new(Drips {
         newlines: READ_CALLS - 1_000,
