@@ -49,6 +49,8 @@ def families(below):
     for line in PAGE.read_text().splitlines():
         if line.startswith("## "):
             family = line[3:].lower()
+            if family.startswith("first calls"):
+                break
         row = re.match(r"\| `((?:iox|example)\w*)` \|", line)
         if not row:
             continue
