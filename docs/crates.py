@@ -51,7 +51,7 @@ def families(below):
             family = line[3:].lower()
             if family.startswith("first calls"):
                 break
-        row = re.match(r"\| `((?:iox|example)\w*)` \|", line)
+        row = re.match(r"\| `((?:iox|example|lanes|script)\w*)` \|", line)
         if not row:
             continue
         name = row[1]
