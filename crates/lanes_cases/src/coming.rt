@@ -3,7 +3,7 @@ ghost use Rattle.std.specs.Prelude.{⊤};
 
 use crate::said::Said;
 use crate::service::Numbers;
-use crate::words::{number_if, word};
+use crate::words::number_if;
 use iox_domain_ports::{PublisherConfig, SubscriberConfig};
 use iox_domain_values::{
     AllocationStrategy, BackpressureAction, BackpressureFn, BackpressureHandler, BackpressureInfo,
@@ -101,8 +101,11 @@ fn count(word: &str) -> usize {
     word.parse::<usize>().unwrap_or(0)
 }
 
-// Takes in what a line says of this name.
-fn set(plan: &mut Plan, name: &str, word: &str) {
+// Takes in what a line says, as `loans=3` or `alloc=best` has it.
+fn set(plan: &mut Plan, word: &str) {
+    let Some((name, word)) = word.split_once('=') else {
+        return;
+    };
     match name {
         "loans" => plan.config.max_loaned_samples = count(word),
         "slots" => plan.slots = Some(count(word)),
@@ -116,8 +119,8 @@ fn set(plan: &mut Plan, name: &str, word: &str) {
 
 fn planned(words: &mut SplitWhitespace<'_>) -> Plan {
     let mut plan = PLAIN;
-    while let Some(name) = words.next() {
-        set(&mut plan, name, word(words));
+    while let Some(word) = words.next() {
+        set(&mut plan, word);
     }
     plan
 }

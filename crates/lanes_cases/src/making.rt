@@ -1,5 +1,5 @@
 //! Lanes as a line asks for them.
-use crate::words::{number, word};
+use crate::words::{setting, word};
 use iox_lanes_machine::{LaneSizes, Lanes};
 use iox_queues_rings::RingKind;
 use std::alloc::{AllocError, Global};
@@ -29,8 +29,11 @@ fn least(kind: RingKind) -> LaneSizes {
     }
 }
 
-// Takes in a size of this name.
-fn set(sizes: &mut LaneSizes, name: &str, size: u64) {
+// Takes in a size.
+fn set(sizes: &mut LaneSizes, word: &str) {
+    let Some((name, size)) = setting(word) else {
+        return;
+    };
     match name {
         "publishers" => sizes.publishers = size,
         "subscribers" => sizes.subscribers = size,
@@ -51,8 +54,8 @@ pub(crate) fn lanes(
     words: &mut SplitWhitespace<'_>,
 ) -> Result<Option<Lanes>, AllocError> {
     let mut sizes = least(kind(words));
-    while let Some(name) = words.next() {
-        set(&mut sizes, name, number(words));
+    while let Some(word) = words.next() {
+        set(&mut sizes, word);
     }
     if sizes.buffer == 0 {
         return Ok(None);

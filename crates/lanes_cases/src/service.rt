@@ -1,5 +1,5 @@
 //! A domain as a line asks for it, of numbers with user headers of a byte.
-use crate::words::{number, word};
+use crate::words::{setting, word};
 use iox_describe_base::{AttributeSpecifier, Header, MessageTypeDetails, ServiceName, TypeVariant};
 use iox_describe_settings::publish_subscribe::StaticConfig;
 use iox_describe_settings::{Description, Settings};
@@ -23,8 +23,11 @@ fn variant(word: &str) -> TypeVariant {
     }
 }
 
-// Takes in a setting of this name.
-fn set(config: &mut StaticConfig, name: &str, value: u64) {
+// Takes in a setting.
+fn set(config: &mut StaticConfig, word: &str) {
+    let Some((name, value)) = setting(word) else {
+        return;
+    };
     match name {
         "buffer" => config.subscriber_max_buffer_size = value,
         "history" => config.history_size = value,
@@ -40,8 +43,8 @@ fn agreed(words: &mut SplitWhitespace<'_>) -> StaticConfig {
     let types = MessageTypeDetails::from::<Header, u8, u64>(variant(word(words)));
     let mut config = StaticConfig::new(types);
     config.enable_safe_overflow = word(words) == "overflowing";
-    while let Some(name) = words.next() {
-        set(&mut config, name, number(words));
+    while let Some(word) = words.next() {
+        set(&mut config, word);
     }
     config
 }

@@ -17,6 +17,12 @@ pub(crate) fn number(words: &mut SplitWhitespace<'_>) -> u64 {
     number_if(words).unwrap_or(u64::MAX)
 }
 
+/// A name and its number, as `buffer=3` has them.
+pub(crate) fn setting(word: &str) -> Option<(&str, u64)> {
+    let (name, value) = word.split_once('=')?;
+    Some((name, value.parse::<u64>().ok()?))
+}
+
 // The place behind a letter.
 fn place(word: &str, letter: char) -> Option<usize> {
     word.strip_prefix(letter)?.parse::<usize>().ok()
