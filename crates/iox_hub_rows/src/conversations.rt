@@ -139,6 +139,7 @@ fn receives(
     hub: &mut Messages,
     subscriber: &Subscriber<u64, u8>,
 ) -> Option<u64> {
+    assert!(rt; subscriber.holds(hub));
     let sample = subscriber.receive(alloc, hub).ok()??;
     assert!(rt; sample.holds(hub));
     let came = *sample.payload(hub);
@@ -155,15 +156,20 @@ fn goes(
     subscriber: &Subscriber<u64, u8>,
     call: &Call,
 ) -> bool {
-    assert!(rt; subscriber.holds(hub));
     match *call {
         Call::PublisherFollows => {
             assert!(rt; publisher.holds(hub));
             assert!(rt; !publisher.is_blocked(hub));
             publisher.update_connections(alloc, hub) == Ok(())
         }
-        Call::SubscriberFollows => subscriber.update_connections(alloc, hub) == Ok(()),
-        Call::Has(has) => subscriber.has_samples(alloc, hub) == Ok(has),
+        Call::SubscriberFollows => {
+            assert!(rt; subscriber.holds(hub));
+            subscriber.update_connections(alloc, hub) == Ok(())
+        }
+        Call::Has(has) => {
+            assert!(rt; subscriber.holds(hub));
+            subscriber.has_samples(alloc, hub) == Ok(has)
+        }
         Call::Sends(by, value) => sends(rt, alloc, hub, publisher, by, value),
         Call::Receives(value) => receives(rt, alloc, hub, subscriber) == value,
     }

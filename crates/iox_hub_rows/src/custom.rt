@@ -44,8 +44,8 @@ fn make(alloc: Global, size: u64) -> Option<Domain<Byte, Any>> {
     }
 }
 
-// How many bytes an element has, how many elements a publisher lends at first, where that is named, what a longer loan does, why the publisher
-// isn't made, if it isn't, and what is asked of it.
+// How many bytes an element has, how many elements a publisher lends at first, where that is named, what a longer loan does,
+// why the publisher isn't made, if it isn't, and what is asked of it.
 struct Case {
     size: u64,
     first: Option<usize>,

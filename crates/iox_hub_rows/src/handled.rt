@@ -181,11 +181,12 @@ fn are_left(given: &Given, left: &[bool]) -> bool {
 
 // On a new hub, with six objects handed in, each line must be replied to as its row says, and of the objects these must be left.
 fn go(rt: &impl Abort, alloc: Global, case: &Case) -> Result<(), AllocError> {
-    assert!(rt; case.rows.len() < 1000);
+    let rows = case.rows;
+    assert!(rt; rows.len() < 1000);
     let mut given = Given::new(alloc);
     hand_in(alloc, &mut given)?;
     let mut hub = Numbers::new(alloc, CONFIG);
-    go_on(rt, alloc, &mut hub, &mut given, case.rows)?;
+    go_on(rt, alloc, &mut hub, &mut given, rows)?;
     assert!(rt; are_left(&given, case.left));
     Ok(())
 }

@@ -1,7 +1,7 @@
 //! Tests of ports as values, of a hub by typed calls, and of handlers that commands name: what no clause says.
 //!
-//! What the calls come to is said by their clauses. Here each call that makes something succeeds with ample memory, at all sizes. What commands can
-//! say is asked by lines of the script: `crates/script_cases`.
+//! What the calls come to is said by their clauses. Here each call that makes something succeeds with ample memory, at all
+//! sizes. What commands can say is asked by lines of the script: `crates/script_cases`.
 //!
 //! - `services`: services of a hub, and their domains.
 //! - `conversations`: messages of single values go from node to node.

@@ -78,23 +78,35 @@ fn open_or_create(
     Ok(builder.open_or_create_in(alloc, hub, Vec::new(alloc))?)
 }
 
-// Whether a service's domain is taken, isn't there then, and is put back.
+// Whether a service's domain is here, and ports may be made in it.
+fn has_domain(rt: &impl Abort, hub: &Messages, service: &Service) -> bool {
+    assert!(rt; hub.holds(service));
+    hub.domain(service).is_some()
+        && hub.publisher_builder(service).is_some()
+        && hub.subscriber_builder(service).is_some()
+}
+
+// Whether a service has no domain here, and no ports may be made.
+fn has_none(rt: &impl Abort, hub: &Messages, service: &Service) -> bool {
+    assert!(rt; hub.holds(service));
+    hub.domain(service).is_none()
+        && hub.publisher_builder(service).is_none()
+        && hub.subscriber_builder(service).is_none()
+}
+
+// Whether a service's domain is taken, isn't here then, and is put back.
 fn comes_back(rt: &impl Abort, hub: &mut Messages, service: &Service) -> bool {
     assert!(rt; hub.holds(service));
     let Ok(domain) = hub.take_domain(service) else {
         return false;
     };
-    hub.domain(service).is_none()
-        && hub.publisher_builder(service).is_none()
-        && hub.subscriber_builder(service).is_none()
-        && hub.put_domain(domain).is_ok()
-        && hub.domain(service).is_some()
+    has_none(rt, hub, service) && hub.put_domain(domain).is_ok() && has_domain(rt, hub, service)
 }
 
-// Whether a service has a domain, and is closed.
-fn is_closed(rt: &impl Abort, hub: &mut Messages, service: Service, has_domain: bool) -> bool {
+// Whether a service is closed.
+fn is_closed(rt: &impl Abort, hub: &mut Messages, service: Service) -> bool {
     assert!(rt; hub.holds(&service));
-    hub.domain(&service).is_some() == has_domain && hub.close(service).is_ok()
+    hub.close(service).is_ok()
 }
 
 // A service is created, or opened, and its domain is taken; one of other messages has no domain.
@@ -103,10 +115,11 @@ fn come_and_go(rt: &impl Abort, alloc: Global, hub: &mut Messages) -> Result<(),
     let made = open_or_create(rt, alloc, hub, &node)?;
     wanted(comes_back(rt, hub, &made), "the domain comes back")?;
     let again = open_or_create(rt, alloc, hub, &node)?;
-    wanted(is_closed(rt, hub, again, true), "the second is closed")?;
-    wanted(is_closed(rt, hub, made, true), "the first is closed")?;
+    wanted(is_closed(rt, hub, again), "the second is closed")?;
+    wanted(is_closed(rt, hub, made), "the first is closed")?;
     let smaller = create::<u32>(rt, alloc, hub, &node, b"B")?;
-    wanted(is_closed(rt, hub, smaller, false), "others have no domain")
+    wanted(has_none(rt, hub, &smaller), "others have no domain")?;
+    wanted(is_closed(rt, hub, smaller), "that of others is closed")
 }
 
 #[test]

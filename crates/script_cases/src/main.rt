@@ -1,8 +1,12 @@
 //! Answers blocks of script lines, each block on a new hub, and prints each line with what it is replied beside it.
 //!
-//! Blocks stand in standard input with an empty line between them. The first line of a block is its title. A title `expired N: ..` says how many
-//! connections of publishers that left a subscriber keeps, which are 128 otherwise. `N times LINES` stands for these lines N times, with `; ` between
-//! each two; a `#` in them is the number of the time, from 1. It is told the replies of the first time, and those of the last where any differ.
+//! Blocks stand in standard input with an empty line between them. The first line of a block is its title. A title
+//! `expired N: ..` says how many connections of publishers that left a subscriber keeps, which are 128 otherwise.
+//!
+//! `N times LINES` stands for these lines N times, with `; ` between each two; a `#` in them is the number of the time, from
+//! 1. It is told the replies of the first time, and those of the last where any differ.
+//!
+//! Standard output is typed by hand from the formats, and standard input is its lines without their replies.
 #![tactic(auto)]
 
 use iox_script::{HubConfig, Input, Output, serve};
