@@ -83,7 +83,7 @@ def check_number(word: Word):
 def check_made(kind: Kind, word: Word):
     letter = word.text[:1].decode("latin-1")
     if not letter or letter not in LETTERS[kind] or not word.text[1:2].isdigit():
-        raise Fault(word.column, f'"{word.shown}" stands where {kind.words}, is wanted')
+        raise Fault(word.column, f'"{word.shown}" stands where {kind.words} is wanted, as {kind.example}')
     check_number(word.after(1))
 
 
@@ -186,7 +186,7 @@ def check_step(pattern: str, word: Word):
         raise Fault(parts[-1].column, f"a colon too many in a step of {verb}")
     node = parts[0]
     if node.text[:1] != b"x" or not node.text[1:2].isdigit():
-        raise Fault(node.column, f'"{node.shown}" stands where a foreign node, as x1, is wanted')
+        raise Fault(node.column, f'"{node.shown}" stands where a foreign node is wanted, as x1')
     check_number(node.after(1))
     if len(parts) == 2:
         options = parts[1].parts(b",")
@@ -231,7 +231,7 @@ def check_repeated(verb: Verb, kind: Kind, pattern: str, words: list[Word], end:
             check_number(it)
     elif kind is Kind.STEPS:
         if not words:
-            raise Fault(end, f"a step is missing: {verb.form}, as lock:x1")
+            raise Fault(end, f"{kind.words} is missing, as {kind.example}: {verb.form}")
         for it in words:
             check_step(pattern, it)
     elif kind is Kind.SETTINGS:
@@ -250,7 +250,7 @@ def check_operands(verb: Verb, words: list[Word], end: int):
             check_repeated(verb, kind, pattern, words[at:], end)
             return
         if at == len(words):
-            raise Fault(end, f"{kind.words} is missing: {verb.form}")
+            raise Fault(end, f"{kind.words} is missing, as {kind.example}: {verb.form}")
         if kind in LETTERS:
             check_made(kind, words[at])
         elif kind in NUMBERS:

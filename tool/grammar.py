@@ -11,25 +11,25 @@ from script_lines import NUMBER, PATTERNS, PERHAPS, PUBLISHER_OPTIONS, SETTINGS,
 
 
 class Kind(Enum):
-    """What a word of a line is: how it is shown, and what it is in words."""
+    """What a word of a line is: how it is shown, what it is in words, and an example."""
 
-    NODE = "nK", "a node, as n1"
-    FACTORY = "fK", "a factory, as f1"
-    PUBLISHER = "pK", "a publisher, as p1"
-    SUBSCRIBER = "sK", "a subscriber, as s1"
-    PORT = "pK or sK", "a publisher or subscriber, as p1 or s1"
-    LOAN = "lK", "a loan, as l1"
-    SAMPLE = "mK", "a sample, as m1"
-    PATTERN = "PAT", "a pattern: ps, ev or rr"
-    NAME = "NAME", "a name of 1 to 255 visible bytes"
-    COUNT = "N", "a number"
-    PLACE = "PLACE", "a place, counted from 0"
-    VALUE = "V", "a number"
-    VALUES = "V ..", "numbers, also none"
-    STEPS = "STEP ..", "steps of other processes' nodes, at least one"
-    SETTINGS = "[KEY=V ..] [@KEY=V ..] [|I STEP ..]", "options, then attributes, then lists of steps"
-    PUBLISHER_OPTIONS = "[KEY=V ..]", "options of a publisher"
-    SUBSCRIBER_OPTIONS = "[KEY=V ..]", "options of a subscriber"
+    NODE = "nK", "a node", "n1"
+    FACTORY = "fK", "a factory", "f1"
+    PUBLISHER = "pK", "a publisher", "p1"
+    SUBSCRIBER = "sK", "a subscriber", "s1"
+    PORT = "pK or sK", "a publisher or subscriber", "p1 or s1"
+    LOAN = "lK", "a loan", "l1"
+    SAMPLE = "mK", "a sample", "m1"
+    PATTERN = "PAT", "a pattern (ps, ev or rr)", "ps"
+    NAME = "NAME", "a name of 1 to 255 visible bytes", "A"
+    COUNT = "N", "a number", "1"
+    PLACE = "PLACE", "a place of the loan (the first is 0)", "0"
+    VALUE = "V", "a value", "7"
+    VALUES = "V ..", "values, also none", "7"
+    STEPS = "STEP ..", "a step of another process's node", "lock:x1"
+    SETTINGS = "[KEY=V ..] [@KEY=V ..] [|I STEP ..]", "options, then attributes, then lists of steps", "buffer=3"
+    PUBLISHER_OPTIONS = "[KEY=V ..]", "options of a publisher", "loans=1"
+    SUBSCRIBER_OPTIONS = "[KEY=V ..]", "options of a subscriber", "buffer=3"
 
     @property
     def shown(self) -> str:
@@ -38,6 +38,10 @@ class Kind(Enum):
     @property
     def words(self) -> str:
         return self.value[1]
+
+    @property
+    def example(self) -> str:
+        return self.value[2]
 
 
 # The letters by which the numbers of such a word go.
@@ -185,7 +189,7 @@ def default_in_words(default) -> str:
 def help_on_verb(verb: Verb) -> str:
     """What `help VERB` says: the form, the reply, what it asks, and each option."""
     told = [verb.form, f"  {verb.meaning}: {verb.reply}"]
-    told += [f"  {it.shown}: {it.words}" for it in verb.operands if it in REPEATED or it in LETTERS or it in (Kind.PATTERN, Kind.NAME)]
+    told += [f"  {it.shown}: {it.words}, as {it.example}" for it in verb.operands]
     if verb.details:
         told.append(f"  {verb.details}")
     if verb.name in PORT_OPTIONS:

@@ -81,33 +81,57 @@ def who_answers(options):
     return Said(*replies_of_one_run(script)), script
 
 
-def serve(options, begun: float) -> int:
-    from tool.converse import Clock, Output, Plain, converse, pieces_of, pieces_of_input
+def needs_no_pairs(options) -> bool:
+    """Whether nothing is to be made of a line and its reply beside handing both on."""
+    asks = (options.json, options.svg, options.html, options.time, options.numbers, options.verbose, options.model)
+    return options.quiet and not any(asks) and options.file is not None
 
-    is_plain = not (options.json or options.svg or options.html or options.time or options.numbers or options.verbose)
-    if options.quiet and is_plain and not options.model and options.file is not None:
-        program = find_program(options)
-        if program is not None:
-            run_alone(program)
-    prompts = options.file is None and is_terminal(0) and is_terminal(2)
-    answers, script = who_answers(options)
-    out = Output()
-    takers = [Plain(out)]
+
+def takers_of(options, out, follower, clock) -> list:
+    """Who takes each line with its reply, in the order in which they do."""
+    from tool.converse import Plain
+
+    takers = [follower, Plain(out)]
+    if options.json:
+        from tool.records import Json
+
+        takers[1] = Json(out, follower)
     if not options.quiet:
         from tool.notes import Notes
 
-        takers.append(Notes(out, options.numbers or options.verbose))
-    clock = Clock(begun)
+        takers.append(Notes(out, follower, options.numbers or options.verbose, options.verbose))
     if options.time:
         takers.append(clock)
+    return takers
+
+
+def serve(options, begun: float) -> int:
+    if needs_no_pairs(options):
+        program = find_program(options)
+        if program is not None:
+            run_alone(program)
+    from tool.converse import Clock, Output, converse, pieces_of, pieces_of_input
+    from tool.notes import Follower
+
+    prompts = options.file is None and is_terminal(0) and is_terminal(2)
+    answers, script = who_answers(options)
+    out, follower, clock = Output(), Follower(), Clock(begun)
+    takers = takers_of(options, out, follower, clock)
+    pictures = []
+    if options.svg or options.html:
+        from tool.trace import Trace, write_pictures
+
+        pictures = [Trace()]
     pieces = pieces_of_input() if script is None else pieces_of(script)
     if prompts and script is None:
-        from tool.prompt import prompted
+        from tool.prompt import Prompt
 
-        pieces = prompted(pieces)
-    status = converse(answers, pieces, takers, out)
+        pieces = Prompt(follower, takers[-1]).lines()
+    status = converse(answers, pieces, takers + pictures, out)
     if options.time:
         clock.tell()
+    if pictures:
+        write_pictures(pictures[0], options)
     return status
 
 

@@ -2,8 +2,7 @@
 from __future__ import annotations
 
 import sys
-
-from script_model import Machine
+from collections import namedtuple
 
 from tool.converse import Line, Output
 
@@ -20,55 +19,77 @@ def readable(text: bytes) -> str:
     return shown + " .." * (len(text) > SHOWN)
 
 
+# What is told of a line: the column or the word behind its number, the text, and what it is: where it is faulty, or a remark.
+Told = namedtuple("Told", "where text column")
+
+
+def about(line: Line, reply: bytes, follower: Follower) -> list[Told]:
+    """What is to be told of a line that got this reply."""
+    is_faulty = reply.startswith((b"err faulty line", b"err line too long"))
+    has_reason = reply.startswith((b"skip", b"err CloseError::StillInUse"))
+    if not is_faulty and not has_reason and b"=0" not in line.text:
+        return []
+    from tool.explain import fault_of, remarks_on
+
+    if is_faulty:
+        fault = fault_of(line.text, line.size, line.number)
+        return [Told(f", column {fault.column}", fault.text, fault.column)]
+    told = [Told("", it, None) for it in remarks_on(line.text)]
+    why = follower.reason(line, reply) if has_reason else None
+    return told + ([Told(f", {'skip' if reply.startswith(b'skip') else 'StillInUse'}", why, None)] if why else [])
+
+
 class Follower:
-    """The plain model, led along the same lines where something is to be told of one of them."""
+    """The plain model, led along the same lines, up to where something is to be told of one of them."""
 
     def __init__(self):
-        self.machine, self.ahead = Machine(), []
+        self.watched, self.ahead, self.last = None, [], ""
 
-    def take(self, line: Line):
+    def take(self, line: Line, _reply: bytes):
         if line.number <= FOLLOWED:
             self.ahead.append(line.text)
+
+    def catch_up(self):
+        """Returns the model behind the last line that was taken."""
+        if self.watched is None:
+            from tool.state import Watched
+
+            self.watched = Watched()
+        for it in self.ahead:
+            self.last = self.watched.answer(it)
+        self.ahead = []
+        return self.watched
 
     def reason(self, line: Line, reply: bytes) -> str | None:
         """Why the last line that was taken was skipped or refused, in words, if the model answers the same."""
         if line.number > FOLLOWED:
             return f"why isn't looked up behind line {FOLLOWED}"
-        found = ""
-        for it in self.ahead:
-            found = self.machine.answer(it)
-        self.ahead = []
-        if found.encode("latin-1") != reply.rstrip(b"\n"):
-            return f"the plain model answers {found!r} here, so one of the two is at fault"
-        return self.machine.reason
+        machine = self.catch_up().machine
+        if self.last.encode("latin-1") != reply.rstrip(b"\n"):
+            return f"the plain model answers {self.last!r} here, so one of the two is at fault"
+        return machine.reason
 
 
 class Notes:
     """Writes what is to be told of a line behind its reply."""
 
-    def __init__(self, out: Output, shows_lines: bool):
-        self.out, self.shows_lines, self.follower = out, shows_lines, Follower()
-
-    def about(self, line: Line, reply: bytes) -> list[str]:
-        at = f"line {line.number}"
-        if not reply.startswith((b"err faulty line", b"err line too long", b"skip", b"err CloseError")) and b"=0" not in line.text:
-            return []
-        from tool.explain import fault_of, remarks_on
-
-        if reply.startswith((b"err faulty line", b"err line too long")):
-            fault = fault_of(line.text, line.size, line.number)
-            return [f"{at}, column {fault.column}: {fault.text}"]
-        told = [f"{at}: {it}" for it in remarks_on(line.text)]
-        if reply.startswith((b"skip", b"err CloseError::StillInUse")):
-            why = self.follower.reason(line, reply)
-            told += [f"{at}, {'skip' if reply.startswith(b'skip') else 'StillInUse'}: {why}"] if why else []
-        return told
+    def __init__(self, out: Output, follower: Follower, shows_lines: bool, shows_meanings: bool):
+        self.out, self.follower = out, follower
+        self.shows_lines, self.shows_meanings = shows_lines, shows_meanings
+        # What was told last, for who asks again.
+        self.last = ""
 
     def take(self, line: Line, reply: bytes):
-        self.follower.take(line)
-        told = self.about(line, reply)
+        told = about(line, reply, self.follower)
+        at = f"line {line.number}"
+        shown = [f"{at}{it.where}: {it.text}" for it in told]
         if self.shows_lines and reply.startswith((b"err", b"skip")):
-            told.insert(0, f"line {line.number}: {readable(line.text)}")
-        if told:
+            shown.insert(0, f"{at}: {readable(line.text)}")
+        if self.shows_meanings and reply.startswith(b"err ") and not any(it.column for it in told):
+            from tool.meanings import meaning_of
+
+            shown += [f"{at}: {it}" for it in meaning_of(reply.decode("latin-1").rstrip("\n"))]
+        if shown:
+            self.last = "\n".join(shown)
             self.out.flush()
-            print(*told, sep="\n", file=sys.stderr, flush=True)
+            print(self.last, file=sys.stderr, flush=True)
