@@ -1,7 +1,6 @@
-"""What is said beside replies: where a line is faulty, why one is skipped, records, pictures, and the words of the prompt. By the plain model."""
+"""What is said beside replies: where a line is faulty, why one is skipped; records, pictures, the words of the prompt. By the plain model."""
 import contextlib
 import json
-import os
 import re
 import subprocess
 import sys
@@ -9,7 +8,7 @@ import tempfile
 import xml.etree.ElementTree as ElementTree
 from pathlib import Path
 
-from cases.kit import SCRIPT, TOP, Ran, case, expect, expect_in, on_terminal, talk
+from cases.kit import SCRIPT, TOP, Ran, case, expect, expect_in, talk
 
 # A line that spells no command, the column at fault, and what is said of it.
 FAULTS = [
@@ -137,7 +136,8 @@ def what_keeps_a_factory_is_told():
 
 @case
 def numbers_that_count_as_larger_ones_are_told():
-    ran = Ran("--model", given=b"node\ncreate n1 ps A buffer=0 history=0 overflow=0\nsubscriber f1 buffer=0\npublisher f1 slots=0\nopen n1 ps A buffer=0\n")
+    given = b"node\ncreate n1 ps A buffer=0 history=0 overflow=0\nsubscriber f1 buffer=0\npublisher f1 slots=0\nopen n1 ps A buffer=0\n"
+    ran = Ran("--model", given=given)
     told = "line 2: buffer=0 counts as 1\nline 3: buffer=0 counts as 1\nline 4: slots=0 counts as 1\n"
     expect((ran.out, ran.err.decode()), (b"ok n1\nok f1\nok s1\nok p1\nok f2\n", told))
 
@@ -150,7 +150,8 @@ def verbose_says_what_an_error_means_and_what_to_do():
 
 @case
 def records_have_line_command_reply_and_values():
-    given = b"node\ncreate n1 ps A\nsubscriber f1\npublisher f1 slice=2\nput p1 4 5\nhas s1\nreceive s1\nread m1\nreceive s1\nput p9 1\nnod\nclose f1\n"
+    given = b"node\ncreate n1 ps A\nsubscriber f1\npublisher f1 slice=2\nput p1 4 5\nhas s1\nreceive s1\nread m1\nreceive s1\n"
+    given += b"put p9 1\nnod\nclose f1\n"
     ran = Ran("--json", "-q", "--model", given=given)
     expect((ran.status, ran.err), (0, b""))
     wanted = [
@@ -175,7 +176,8 @@ def records_have_line_command_reply_and_values():
 @case
 def the_time_is_told_at_the_end():
     ran = Ran("--time", "--model", SCRIPT)
-    expect(bool(re.fullmatch(rb"iox: 14 lines in \d+\.\d{3} s, the first reply after \d+\.\d{3} s, \d+ \S+ a line behind that\n", ran.err)), True)
+    said = rb"iox: 14 lines in \d+\.\d{3} s, the first reply after \d+\.\d{3} s, \d+ \S+ a line behind that\n"
+    expect(bool(re.fullmatch(said, ran.err)), True)
 
 
 @case
@@ -201,7 +203,8 @@ def the_page_has_all_rows_and_states_and_asks_nothing_of_a_network():
         Ran("--model", "-q", "--html", page, script)
         text = page.read_text(encoding="utf-8")
         told = json.loads(re.search(r'<script id="told" type="application/json">(.*?)</script>', text, re.S)[1])
-        expect([(it["line"], it["reply"]) for it in told["rows"]], [("node", "ok n1"), ("</script><b>", "err faulty line"), ("put p1 1", "skip")])
+        wanted = [("node", "ok n1"), ("</script><b>", "err faulty line"), ("put p1 1", "skip")]
+        expect([(it["line"], it["reply"]) for it in told["rows"]], wanted)
         expect([it["nodes"] for it in told["states"]], [["n1"]] * 3)
         expect_in("<title>a&lt;b.iox</title>", text)
         expect_in("default-src 'none'", text)
@@ -295,9 +298,8 @@ def the_manual_page_and_the_completion_are_those_of_the_arguments():
 
 @case
 def who_reads_replies_no_more_ends_the_run_without_a_word():
-    with contextlib.ExitStack() as stack:
-        ran = subprocess.Popen([sys.executable, TOP / "iox", "--model", "-q"], stdin=subprocess.PIPE, stdout=subprocess.PIPE, stderr=subprocess.PIPE)
-        stack.enter_context(ran)
+    how = {"stdin": subprocess.PIPE, "stdout": subprocess.PIPE, "stderr": subprocess.PIPE}
+    with subprocess.Popen([sys.executable, TOP / "iox", "--model", "-q"], **how) as ran:
         ran.stdout.close()
         with contextlib.suppress(BrokenPipeError):
             ran.stdin.write(b"node\n" * 100_000)

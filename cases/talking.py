@@ -3,11 +3,24 @@ import os
 import resource
 import shutil
 import subprocess
-import sys
 import tempfile
 from pathlib import Path
 
-from cases.kit import COMMANDS, LONG, REPLIES, SCRIPT, TOP, NotHere, Ran, case, case_of_program, expect, expect_in, on_terminal, tries_unproved
+from cases.kit import (
+    COMMANDS,
+    LONG,
+    REPLIES,
+    SCRIPT,
+    TOP,
+    NotHere,
+    Ran,
+    case,
+    case_of_program,
+    expect,
+    expect_in,
+    on_terminal,
+    tries_unproved,
+)
 
 STORED = TOP / "crates" / "iox"
 
@@ -18,7 +31,7 @@ def help_fits_a_screen_and_names_each_option():
     expect((ran.status, ran.err), (0, b""))
     lines = ran.out.decode().splitlines()
     expect((len(lines) <= 24, max(map(len, lines)) <= 80), (True, True))
-    for it in ("--proved", "--unproved", "--model", "--numbers", "--json", "--svg", "--html", "--time", "-q", "-v", "--version", "64", "66"):
+    for it in "--proved --unproved --model --json --svg --html --time --numbers -q -v --path --commands --version 64 66".split():
         expect_in(it, ran.out.decode())
 
 
@@ -141,11 +154,6 @@ def the_unproved_program_answers_the_stored_run_as_the_proved_one_has_to():
 @case
 def the_model_answers_the_stored_run_as_the_proved_program_has_to():
     Ran("--model", "-q", STORED / "stdin").expect(0, (STORED / "stdout").read_bytes())
-
-
-@case_of_program
-def the_program_answers_the_stored_run():
-    Ran("-q", STORED / "stdin").expect(0, (STORED / "stdout").read_bytes())
 
 
 @case

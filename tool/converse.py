@@ -60,7 +60,10 @@ class Model:
 
 
 class Program:
-    """A built program as who answers: it answers all whole lines that it was given before it reads again, so neither side waits for the other."""
+    """A built program as who answers.
+
+    It answers all whole lines that it was given before it reads again, so neither side waits for the other.
+    """
 
     def __init__(self, program: Path):
         import subprocess

@@ -10,16 +10,21 @@ from tool.trace import Conversation, Delivery
 ROW, COLUMN, LETTER, MARGIN, TOP = 24, 64, 7.9, 16, 64
 LONGEST_SHOWN = 48
 STYLE = """\
-text{font:13px monospace;fill:#222}.title{font:bold 16px sans-serif}.sub,.legend{font:12px sans-serif;fill:#555}.number{fill:#aaa}
-.ok{fill:#666}.bad{fill:#b3261e}.wait{fill:#9a5b00}.band{fill:#f6f7f9}.life{stroke:#c4c8ce;stroke-width:1.5}.name{font-weight:bold}
-.p{fill:#1b7a3d}.s{fill:#1f5fbf}.message{stroke:#1f5fbf;stroke-width:1.8;fill:none;marker-end:url(#tip)}
-.waits{stroke:#1f5fbf;stroke-width:1.5;stroke-dasharray:2 4;fill:none;marker-end:url(#ring)}.held{stroke:#1f5fbf;stroke-opacity:.28;stroke-width:9}
-.lost{stroke:#b3261e;stroke-width:1.5;stroke-dasharray:6 4;fill:none;marker-end:url(#cross)}.value{font:11px monospace;paint-order:stroke;stroke:#fff;stroke-width:4px}
-.gone{fill:#b3261e}"""
-MARKERS = """\
-<marker id="tip" viewBox="0 0 8 8" refX="7" refY="4" markerWidth="6" markerHeight="6" orient="auto"><path d="M0 0L8 4L0 8z" fill="#1f5fbf"/></marker>
-<marker id="ring" viewBox="0 0 8 8" refX="4" refY="4" markerWidth="6" markerHeight="6"><circle cx="4" cy="4" r="3" fill="#fff" stroke="#1f5fbf"/></marker>
-<marker id="cross" viewBox="0 0 8 8" refX="4" refY="4" markerWidth="6" markerHeight="6"><path d="M1 1L7 7M7 1L1 7" stroke="#b3261e" stroke-width="2"/></marker>"""
+text{font:13px monospace;fill:#222}.title{font:bold 16px sans-serif}.sub,.legend{font:12px sans-serif;fill:#555}
+.number{fill:#aaa}.ok{fill:#666}.bad{fill:#b3261e}.wait{fill:#9a5b00}.band{fill:#f6f7f9}.life{stroke:#c4c8ce;stroke-width:1.5}
+.name{font-weight:bold}.p{fill:#1b7a3d}.s{fill:#1f5fbf}.held{stroke:#1f5fbf;stroke-opacity:.28;stroke-width:9}
+.message{stroke:#1f5fbf;stroke-width:1.8;fill:none;marker-end:url(#tip)}
+.waits{stroke:#1f5fbf;stroke-width:1.5;stroke-dasharray:2 4;fill:none;marker-end:url(#ring)}
+.lost{stroke:#b3261e;stroke-width:1.5;stroke-dasharray:6 4;fill:none;marker-end:url(#cross)}
+.untaken{stroke:#b3261e;stroke-width:2.5}.value{font:11px monospace;paint-order:stroke;stroke:#fff;stroke-width:4px}.gone{fill:#b3261e}"""
+MARKER = '<marker id="{}" viewBox="0 0 8 8" refX="{}" refY="4" markerWidth="6" markerHeight="6"{}>{}</marker>'
+MARKERS = "\n".join(
+    (
+        MARKER.format("tip", 7, ' orient="auto"', '<path d="M0 0L8 4L0 8z" fill="#1f5fbf"/>'),
+        MARKER.format("ring", 4, "", '<circle cx="4" cy="4" r="3" fill="#fff" stroke="#1f5fbf"/>'),
+        MARKER.format("cross", 4, "", '<path d="M1 1L7 7M7 1L1 7" stroke="#b3261e" stroke-width="2"/>'),
+    )
+)
 
 
 def shown(text: str) -> str:
@@ -106,6 +111,17 @@ def offsets(deliveries: list[Delivery], end: int) -> dict[int, int]:
     return found
 
 
+def fate(it: Delivery, end: int) -> tuple[str, int]:
+    """What became of a message in a mailbox, and in which row."""
+    if it.received is not None:
+        return "message", it.received
+    return ("waits", end) if it.lost is None else ("lost", it.lost)
+
+
+def cross(x: int, y: int) -> str:
+    return f'<path class="untaken" d="M{x - 5} {y - 5}L{x + 5} {y + 5}M{x + 5} {y - 5}L{x - 5} {y + 5}"/>'
+
+
 def draw_messages(sheet: Sheet):
     aside = offsets(sheet.told.deliveries, sheet.end)
     for at, it in enumerate(sheet.told.deliveries):
@@ -117,7 +133,7 @@ def draw_messages(sheet: Sheet):
         if it.received is not None:
             foot = sheet.y(sheet.end) + 8 if it.released is None else sheet.y(it.released)
             sheet.stroke("held", x2, sheet.y(it.received), x2, foot)
-        name, row = ("message", it.received) if it.received is not None else ("lost", it.lost) if it.lost is not None else ("waits", sheet.end)
+        name, row = fate(it, sheet.end)
         x3 = x2 + side * (4 if name == "message" else 14)
         sheet.stroke(name, x1, y1, x3, sheet.y(row) + (8 if name == "waits" else 0))
         anchor = "start" if side > 0 else "end"
@@ -127,7 +143,7 @@ def draw_messages(sheet: Sheet):
     for it in sheet.told.untaken:
         if it.sent not in reached and it.publisher in sheet.x:
             x, y = sheet.x[it.publisher], sheet.y(it.sent)
-            sheet.parts.append(f'<path d="M{x - 5} {y - 5}L{x + 5} {y + 5}M{x + 5} {y - 5}L{x - 5} {y + 5}" stroke="#b3261e" stroke-width="2.5"/>')
+            sheet.parts.append(cross(x, y))
             sheet.text(x + 9, y - 5, escape(values_shown(it.values, 4)), "value gone")
 
 
@@ -137,7 +153,7 @@ def draw_legend(sheet: Sheet):
         if name:
             sheet.stroke(name, x, y - 4, x + 34, y - 4)
         else:
-            sheet.parts.append(f'<path d="M{x + 20} {y - 9}L{x + 30} {y + 1}M{x + 30} {y - 9}L{x + 20} {y + 1}" stroke="#b3261e" stroke-width="2.5"/>')
+            sheet.parts.append(cross(x + 25, y - 4))
         sheet.text(x + 44, y, what, "legend")
         x += 44 + 8 * len(what) + 20
     kinds = ", ".join(f"{letter} {kind}" for letter, kind in KINDS.items() if letter != "m")
@@ -158,6 +174,6 @@ def svg(told: Conversation, title: str) -> str:
     for draw in (draw_rows, draw_lives, draw_messages, draw_names, draw_legend):
         draw(sheet)
     height = sheet.bottom + 52
-    head = f'<svg xmlns="http://www.w3.org/2000/svg" width="{sheet.width}" height="{height}" viewBox="0 0 {sheet.width} {height}" role="img">'
-    body = [f"<title>{escape(title)}</title>", f"<style>{STYLE}</style>", MARKERS, '<rect width="100%" height="100%" fill="#fff"/>', *sheet.parts]
-    return "\n".join([head, *body, "</svg>"]) + "\n"
+    size = f'width="{sheet.width}" height="{height}" viewBox="0 0 {sheet.width} {height}"'
+    head = [f'<svg xmlns="http://www.w3.org/2000/svg" {size} role="img">', f"<title>{escape(title)}</title>", f"<style>{STYLE}</style>"]
+    return "\n".join([*head, MARKERS, '<rect width="100%" height="100%" fill="#fff"/>', *sheet.parts, "</svg>"]) + "\n"

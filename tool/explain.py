@@ -13,7 +13,6 @@ from tool.grammar import (
     NUMBERS,
     PORT_OPTIONS,
     REPEATED,
-    SERVICE,
     STEP_VERBS,
     VERBS,
     Kind,
@@ -178,7 +177,8 @@ def check_attributes(verb: str, words: list[Word]):
 def check_step(pattern: str, word: Word):
     what, *parts = word.parts(b":")
     if what.text.decode("latin-1") not in STEP_VERBS:
-        raise Fault(word.column, f'"{what.shown}" is no step: {", ".join(STEP_VERBS[:-1])} or {STEP_VERBS[-1]}{meant(what.text, STEP_VERBS)}')
+        known = f"{', '.join(STEP_VERBS[:-1])} or {STEP_VERBS[-1]}"
+        raise Fault(word.column, f'"{what.shown}" is no step: {known}{meant(what.text, STEP_VERBS)}')
     verb = what.text.decode()
     if not parts:
         raise Fault(word.column + len(word.text), f"the step wants a foreign node, as {verb}:x1")
@@ -271,7 +271,8 @@ def check_spaces(line: bytes, number: int):
         where = "the file begins with" if number == 1 else "the line begins with"
         raise Fault(1, f"{where} a byte order mark (EF BB BF): save it as UTF-8 without BOM")
     if line.endswith(b"\r"):
-        raise Fault(len(line), "a carriage return ends the line: the file has Windows line ends (CRLF); `sed 's/\\r$//' FILE` makes them plain")
+        hint = "the file has Windows line ends (CRLF); `sed 's/\\r$//' FILE` makes them plain"
+        raise Fault(len(line), f"a carriage return ends the line: {hint}")
     if not line:
         raise Fault(1, "the line is empty, and spells no command")
     if b"\t" in line:

@@ -75,6 +75,7 @@ class Verb:
 SERVICE = (Kind.NODE, Kind.PATTERN, Kind.NAME, Kind.SETTINGS)
 IN_USE = "Refused while a port of it is there, a loan of it is out, or a sample that it received is held."
 AS_RECEIVED = "The sample reads the same until it is released, whoever leaves meanwhile."
+FOLLOWS = "A publisher does so at each send, a subscriber at `receive` and `has`."
 VERBS = {
     it.name: it
     for it in (
@@ -99,7 +100,7 @@ VERBS = {
         Verb("read", (Kind.SAMPLE,), "ok V ..", "reads a sample again"),
         Verb("release", (Kind.SAMPLE,), "ok", "lets a sample go"),
         Verb("has", (Kind.SUBSCRIBER,), "ok true, ok false", "whether one waits"),
-        Verb("update", (Kind.PORT,), "ok", "follows who came, left", "A publisher does so at each send, a subscriber at `receive` and `has`."),
+        Verb("update", (Kind.PORT,), "ok", "follows who came, left", FOLLOWS),
         Verb("leave", (Kind.PORT,), "ok", "ends a port", "What others hold of it stays as it is."),
     )
 }

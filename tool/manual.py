@@ -12,6 +12,7 @@ from script_lines import SETTINGS
 from tool.arguments import ABOUT, STATUSES, parser
 from tool.grammar import MEANINGS, PORT_OPTIONS, VERBS, default_in_words
 
+WITHOUT_PROOFS = "one build of the same sources without proofs, which is made once and kept"
 PAGE, COMPLETION = TOP / "docs" / "iox.1", TOP / "tool" / "completion.bash"
 
 
@@ -32,7 +33,7 @@ def roff(text):
 def manual():
     lines = [f'.TH IOX 1 "" "Kohepuri {VERSION}" "User commands"', ".SH NAME", "iox \\- publish\\-subscribe conversations by lines"]
     lines += [".SH SYNOPSIS", ".B ./iox", "[OPTION ..] [FILE]", ".SH DESCRIPTION", roff(plain(ABOUT))]
-    lines += [roff("The proved program answers where it stands; else one build of the same sources without proofs, which is made once and kept.")]
+    lines += [roff(f"The proved program answers where it stands, else {WITHOUT_PROOFS}.")]
     lines += [".SH OPTIONS"]
     for it in options():
         names = ", ".join(it.option_strings) + (f" {it.metavar}" if it.metavar else "")

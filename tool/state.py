@@ -124,7 +124,12 @@ def snapshot(watched: Watched) -> dict:
         "publishers": publishers(watched),
         "subscribers": subscribers(watched),
         "loans": [
-            {"name": name, "publisher": watched.name(it.message.publisher), "length": it.length, "values": it.message.values and list(it.message.values)}
+            {
+                "name": name,
+                "publisher": watched.name(it.message.publisher),
+                "length": it.length,
+                "values": None if it.message.values is None else list(it.message.values),
+            }
             for name, it in watched.living("l")
         ],
         "samples": [

@@ -1,4 +1,4 @@
-"""What became of each message of a conversation, as the plain model has it: who sent it, who received and released it, where it was lost."""
+"""What became of each message of a conversation, as the plain model has it: who sent it, who received it, where it was lost."""
 from __future__ import annotations
 
 from dataclasses import dataclass, field
