@@ -306,3 +306,28 @@ def who_reads_replies_no_more_ends_the_run_without_a_word():
             ran.stdin.close()
         said = ran.stderr.read()
     expect((ran.returncode, said), (1, b""))
+
+
+@case
+def the_page_of_the_launcher_names_each_option_and_has_its_picture():
+    from tool.arguments import parser
+
+    page = (TOP / "docs" / "TOOL.md").read_text(encoding="utf-8")
+    for option in parser()._actions:
+        if option.option_strings:
+            expect_in(option.option_strings[0], page)
+    with tempfile.TemporaryDirectory(prefix="iox-check-") as folder:
+        Ran("--model", "--svg", Path(folder) / "first.svg", SCRIPT)
+        expect((TOP / "docs" / "first-steps.svg").read_bytes(), (Path(folder) / "first.svg").read_bytes())
+
+
+@case
+def what_the_page_of_questions_shows_is_what_is_answered():
+    page = (TOP / "docs" / "FAQ.md").read_text(encoding="utf-8")
+    shown = re.search(r"```\n(node  .*?)```", page, re.S)[1].splitlines()
+    rows = [re.split(r"  +", it) for it in shown]
+    ran = Ran("--model", given="".join(f"{line}\n" for line, _ in rows).encode())
+    expect((ran.out.decode().splitlines(), ran.err), ([reply for _, reply in rows], b""))
+    script, said = re.search(r"```\n\$ printf '(.*?)' \| ./iox --model\n(.*?)```", page, re.S).groups()
+    ran = Ran("--model", given=script.replace("\\n", "\n").encode())
+    expect((ran.out + ran.err).decode(), said)
