@@ -285,3 +285,4 @@ def the_program_can_be_copied_and_run_without_the_launcher():
         shutil.copy2(program, copy.top / "mine")
         ran = subprocess.run([copy.top / "mine"], input=SCRIPT.read_bytes(), capture_output=True, timeout=PATIENCE)
         expect((ran.returncode, ran.stdout), (0, REPLIES))
+        copy.run("--path", "--model").expect_one_line(3, "model/script_model.py")

@@ -1,4 +1,4 @@
-"""What is said beside replies: where a line is faulty, why one is skipped; records, pictures, the words of the prompt. By the plain model."""
+"""What is said beside replies: where a line is faulty, why one is skipped; records, pictures, the prompt. By the plain model."""
 import contextlib
 import json
 import re
@@ -288,6 +288,16 @@ def help_on_each_command_names_each_option():
     ):
         for key in keys:
             expect_in(f"    {key}=", help_on_verb(VERBS[verb]))
+
+
+@case
+def the_prompt_is_quiet_and_timed_where_that_is_asked_for():
+    with tempfile.TemporaryDirectory(prefix="iox-check-") as folder:
+        words = [sys.executable, TOP / "iox", "--model", "-q", "--time"]
+        status, screen = talk(words, [b"put p1 1\n", b":why\n", b"\x04"], {"XDG_STATE_HOME": folder})
+        expect(status, 0)
+        expect_in("iox> put p1 1\nskip\niox> :why\nline 1, skip: p1 was never given\n", screen)
+        expect_in("iox: 1 line in ", screen)
 
 
 @case

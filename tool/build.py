@@ -156,15 +156,14 @@ def alone(name, what):
         yield
 
 
-def proved_program():
-    """Returns the proved program that the present sources make. Its name has their sum, so that no other is taken for it."""
-    while True:
-        wanted = Wanted()
-        if wanted.proved.exists():
-            return wanted.proved
+def proved_program(wanted):
+    """Returns the proved program of the wanted sources. Its name has their sum, so that no other is taken for it."""
+    while not wanted.proved.exists():
         with alone("lock", "the program"):
             if not wanted.proved.exists():
                 build(wanted)
                 # An edit during the build may or may not be in what was built, so that is built again.
                 if Wanted().proved == wanted.proved:
                     put_in_place(OUT / "iox", wanted.proved)
+        wanted = Wanted()
+    return wanted.proved

@@ -221,4 +221,5 @@ class Clock:
         now = time.monotonic()
         first = f", the first reply after {self.first - self.begun:.3f} s" if self.first else ""
         each = f", {(now - self.first) / self.count * 1e6:.0f} µs a line behind that" if self.count > 1 else ""
-        print(f"iox: {self.count} lines in {now - self.begun:.3f} s{first}{each}", file=sys.stderr)
+        lines = f"{self.count} line{'s' * (self.count != 1)}"
+        print(f"iox: {lines} in {now - self.begun:.3f} s{first}{each}", file=sys.stderr)

@@ -8,7 +8,7 @@ import time
 
 from tool import VERSION
 from tool.arguments import parser
-from tool.progress import NO_INPUT, UNPROVED, say, stop
+from tool.progress import NO_INPUT, NOT_BUILT, UNPROVED, say, stop
 
 
 def is_terminal(number: int) -> bool:
@@ -43,18 +43,18 @@ def find_program(options):
 
     None is where the toolchain's files are such that an unproved build can't be kept.
     """
+    from tool.sources import Wanted
+
+    wanted = Wanted()
     if options.proved:
         from tool.build import proved_program
 
-        return proved_program()
-    from tool.sources import Wanted
-
-    proved = Wanted().proved
-    if proved.exists() and not options.unproved:
-        return proved
+        return proved_program(wanted)
+    if wanted.proved.exists() and not options.unproved:
+        return wanted.proved
     from tool.unproved import unproved_program
 
-    program = unproved_program()
+    program = unproved_program(wanted)
     if not options.quiet:
         say(UNPROVED)
     return program
@@ -81,58 +81,58 @@ def who_answers(options):
     return Said(*replies_of_one_run(script)), script
 
 
-def needs_no_pairs(options) -> bool:
+def needs_no_pairs(options, prompts: bool) -> bool:
     """Whether nothing is to be made of a line and its reply beside handing both on."""
     asks = (options.json, options.svg, options.html, options.time, options.numbers, options.verbose, options.model)
-    return options.quiet and not any(asks) and options.file is not None
+    return options.quiet and not prompts and not any(asks)
 
 
-def takers_of(options, out, follower, clock) -> list:
-    """Who takes each line with its reply, in the order in which they do."""
-    from tool.converse import Plain
+def run_by_itself(options):
+    """Runs the program on its own, if there is one to run."""
+    program = find_program(options)
+    if program is not None:
+        run_alone(program)
 
-    takers = [follower, Plain(out)]
+
+def serve(options, begun: float) -> int:
+    """Hands the script over, and the replies on to who takes them."""
+    prompts = options.file is None and is_terminal(0) and is_terminal(2)
+    if needs_no_pairs(options, prompts):
+        run_by_itself(options)
+    from tool.converse import Clock, Output, Plain, converse, pieces_of, pieces_of_input
+    from tool.notes import Follower, Notes
+
+    answers, script = who_answers(options)
+    out, follower, clock, trace = Output(), Follower(), Clock(begun), None
+    notes = Notes(out, follower, options, prompts)
+    takers = [follower, Plain(out), notes, clock]
     if options.json:
         from tool.records import Json
 
         takers[1] = Json(out, follower)
-    if not options.quiet:
-        from tool.notes import Notes
-
-        takers.append(Notes(out, follower, options.numbers or options.verbose, options.verbose))
-    if options.time:
-        takers.append(clock)
-    return takers
-
-
-def serve(options, begun: float) -> int:
-    if needs_no_pairs(options):
-        program = find_program(options)
-        if program is not None:
-            run_alone(program)
-    from tool.converse import Clock, Output, converse, pieces_of, pieces_of_input
-    from tool.notes import Follower
-
-    prompts = options.file is None and is_terminal(0) and is_terminal(2)
-    answers, script = who_answers(options)
-    out, follower, clock = Output(), Follower(), Clock(begun)
-    takers = takers_of(options, out, follower, clock)
-    pictures = []
     if options.svg or options.html:
         from tool.trace import Trace, write_pictures
 
-        pictures = [Trace()]
+        trace = Trace()
+        takers.append(trace)
     pieces = pieces_of_input() if script is None else pieces_of(script)
     if prompts and script is None:
         from tool.prompt import Prompt
 
-        pieces = Prompt(follower, takers[-1]).lines()
-    status = converse(answers, pieces, takers + pictures, out)
+        pieces = Prompt(follower, notes).lines()
+    status = converse(answers, pieces, takers, out)
     if options.time:
         clock.tell()
-    if pictures:
-        write_pictures(pictures[0], options)
+    if trace:
+        write_pictures(trace, options)
     return status
+
+
+def print_path(options):
+    program = None if options.model else find_program(options)
+    if program is None:
+        stop(NOT_BUILT, "the plain model is model/script_model.py" if options.model else "the toolchain keeps no program that can be taken")
+    print(program)
 
 
 def main() -> int:
@@ -155,7 +155,7 @@ def main() -> int:
     if options.file is not None:
         open_file(options.file)
     if options.path:
-        print(find_program(options))
+        print_path(options)
         return 0
     return serve(options, begun)
 
@@ -170,3 +170,6 @@ def run() -> int:
         # Whoever read the replies has left.
         os.dup2(os.open(os.devnull, os.O_WRONLY), 1)
         return 1
+    except OSError as error:
+        # The folder of what is built can't be written, most likely.
+        stop(NOT_BUILT, f"{error.filename}: {error.strerror}")

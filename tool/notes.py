@@ -73,23 +73,29 @@ class Follower:
 class Notes:
     """Writes what is to be told of a line behind its reply."""
 
-    def __init__(self, out: Output, follower: Follower, shows_lines: bool, shows_meanings: bool):
-        self.out, self.follower = out, follower
-        self.shows_lines, self.shows_meanings = shows_lines, shows_meanings
+    def __init__(self, out: Output, follower: Follower, options, prompts: bool):
+        self.out, self.follower, self.is_verbose = out, follower, options.verbose
+        self.shows_lines = options.numbers or options.verbose
+        self.is_silent = options.quiet and not self.shows_lines
+        self.is_asked = prompts or not self.is_silent
         # What was told last, for who asks again.
         self.last = ""
 
-    def take(self, line: Line, reply: bytes):
-        told = about(line, reply, self.follower)
-        at = f"line {line.number}"
+    def shown(self, line: Line, reply: bytes) -> list[str]:
+        told, at = about(line, reply, self.follower), f"line {line.number}"
         shown = [f"{at}{it.where}: {it.text}" for it in told]
         if self.shows_lines and reply.startswith((b"err", b"skip")):
             shown.insert(0, f"{at}: {readable(line.text)}")
-        if self.shows_meanings and reply.startswith(b"err ") and not any(it.column for it in told):
+        if self.is_verbose and reply.startswith(b"err ") and not any(it.column for it in told):
             from tool.meanings import meaning_of
 
             shown += [f"{at}: {it}" for it in meaning_of(reply.decode("latin-1").rstrip("\n"))]
+        return shown
+
+    def take(self, line: Line, reply: bytes):
+        shown = self.shown(line, reply) if self.is_asked else []
         if shown:
             self.last = "\n".join(shown)
-            self.out.flush()
-            print(self.last, file=sys.stderr, flush=True)
+            if not self.is_silent:
+                self.out.flush()
+                print(self.last, file=sys.stderr, flush=True)

@@ -128,23 +128,20 @@ def build_and_keep(wanted):
     return caught is not None
 
 
-def unproved_program():
-    """Returns the unproved program of the present sources, built where it isn't there, or None where it can't be kept."""
-    while True:
-        wanted = Wanted()
-        if wanted.unproved.exists():
-            return wanted.unproved
+def unproved_program(wanted):
+    """Returns the unproved program of the wanted sources, built where it isn't there, or None where it can't be kept."""
+    while not wanted.unproved.exists():
         with alone("lock-unproved", "the program without proofs"):
             if not wanted.unproved.exists() and not build_and_keep(wanted):
                 return None
+        wanted = Wanted()
+    return wanted.unproved
 
 
 def replies_of_one_run(script):
     """Answers a script by a run of `rt try` of its own. Returns the program's status and the replies."""
-    with a_folder() as folder:
-        words = ["rt", "try", "--steps", "1"]
-        how = {"input": script, "stdout": subprocess.PIPE, "stderr": subprocess.PIPE, "env": {**os.environ, "TMPDIR": folder}}
-        ran = subprocess.run(words, cwd=TOP / "crates" / "iox", **how)
+    how = {"input": script, "stdout": subprocess.PIPE, "stderr": subprocess.PIPE}
+    ran = subprocess.run(["rt", "try", "--steps", "1"], cwd=TOP / "crates" / "iox", **how)
     ended = re.search(rb"^run=ended status=(\d+) ", ran.stderr, re.M)
     if not ended:
         LOG.write_bytes(ran.stderr)
