@@ -3,6 +3,7 @@ import os
 import resource
 import shutil
 import subprocess
+import sys
 import tempfile
 from pathlib import Path
 
@@ -154,6 +155,18 @@ def the_unproved_program_answers_the_stored_run_as_the_proved_one_has_to():
 @case
 def the_model_answers_the_stored_run_as_the_proved_program_has_to():
     Ran("--model", "-q", STORED / "stdin").expect(0, (STORED / "stdout").read_bytes())
+
+
+@case_of_program
+def a_random_script_gets_the_models_replies():
+    with tempfile.TemporaryDirectory(prefix="iox-check-") as folder:
+        out = Path(folder) / "random"
+        subprocess.run([sys.executable, TOP / "model" / "random_scripts.py", "48", "400", out], stdout=subprocess.DEVNULL, check=True)
+        replies = out.with_suffix(".replies").read_bytes()
+        Ran("-q", out.with_suffix(".iox")).expect(0, replies)
+        # By the launcher in the middle, too, which pairs each line with its reply.
+        ran = Ran(out.with_suffix(".iox"))
+        expect((ran.status, ran.out, ran.err.count(b"so one of the two is at fault")), (0, replies, 0))
 
 
 @case
