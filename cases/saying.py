@@ -53,10 +53,12 @@ def each_faulty_line_is_told_with_its_column_and_what_is_wrong():
 
 @case
 def windows_line_ends_and_a_byte_order_mark_are_told():
-    ran = Ran("--model", given=b"\xef\xbb\xbfnode\nnode\r\n")
-    expect(ran.out, b"err faulty line\nerr faulty line\n")
-    expect_in("line 1, column 1: the file begins with a byte order mark (EF BB BF): save it as UTF-8 without BOM", ran.err.decode())
-    expect_in("line 2, column 5: a carriage return ends the line: the file has Windows line ends (CRLF)", ran.err.decode())
+    ran = Ran("--model", given=b"\xef\xbb\xbfnode\nnode\r\nput p1\r\n")
+    expect(ran.out, b"err faulty line\n" * 3)
+    expect_in("line 1, column 1: the file begins with a byte order mark (EF BB BF): save it as UTF-8 without BOM\n", ran.err.decode())
+    expect_in("line 2, column 5: a carriage return ends the line: the file has Windows line ends (CRLF); `sed", ran.err.decode())
+    # The hint is given once.
+    expect_in("line 3, column 7: a carriage return ends the line\n", ran.err.decode())
 
 
 @case

@@ -78,12 +78,20 @@ class Notes:
         self.shows_lines = options.numbers or options.verbose
         self.is_silent = options.quiet and not self.shows_lines
         self.is_asked = prompts or not self.is_silent
-        # What was told last, for who asks again.
-        self.last = ""
+        # What was told last, for who asks again, and hints that are given once.
+        self.last, self.hints = "", set()
+
+    def without_known_hint(self, text: str) -> str:
+        """The text, and its hint behind a colon only the first time: the lines of one file mostly end alike."""
+        said, _, hint = text.partition(": the file has ")
+        if hint in self.hints:
+            return said
+        self.hints.update({hint} - {""})
+        return text
 
     def shown(self, line: Line, reply: bytes) -> list[str]:
         told, at = about(line, reply, self.follower), f"line {line.number}"
-        shown = [f"{at}{it.where}: {it.text}" for it in told]
+        shown = [f"{at}{it.where}: {self.without_known_hint(it.text)}" for it in told]
         if self.shows_lines and reply.startswith((b"err", b"skip")):
             shown.insert(0, f"{at}: {readable(line.text)}")
         if self.is_verbose and reply.startswith(b"err ") and not any(it.column for it in told):
