@@ -94,7 +94,7 @@ def try_once(folder):
                         return caught, 0
                     now = stage(folder), round(time.monotonic() - started)
                     if now != last:
-                        progress.tell(f"one build without proofs, about a minute: {now[0]}, {now[1]} s", is_new=now[0] != (last or now)[0])
+                        progress.tell(f"one build without proofs: {now[0]}, {now[1]} s", is_new=now[0] != (last or now)[0])
                         last = now
                     time.sleep(A_LOOK)
             finally:
@@ -116,7 +116,7 @@ def build_and_keep(wanted):
     """Builds the unproved program and keeps it. Returns whether there was one to keep."""
     need_toolchain()
     started = time.monotonic()
-    say("the program isn't built yet: one build without proofs takes about a minute, and is kept (`./iox --model` answers at once)")
+    say("the program isn't built yet: one build without proofs takes a minute on idle cores, and is kept (`./iox --model` answers at once)")
     with a_folder() as folder:
         caught, status = try_once(folder)
         if caught is None and status == REFUSED:
