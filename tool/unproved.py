@@ -25,6 +25,9 @@ A_LOOK = 0.02
 # The status of `rt try` where the toolchain refuses a crate.
 REFUSED = 1
 LOG = OUT / "unproved.log"
+# What `rt try` does, in this order.
+STAGES = ("reading its crates", "compiling", "linking")
+READING, COMPILING, LINKING = range(3)
 
 
 def case_to_try(folder):
@@ -42,14 +45,11 @@ def programs_at_work(folder):
 
 
 def stage(folder):
-    """Returns what `rt try` is at, told by the files that it made last."""
+    """Returns how far `rt try` is, told by the files that it has at the moment."""
     with contextlib.suppress(OSError):
         names = {it.name.partition("-")[0].partition(".")[0] for it in Path(folder).glob("*/*/*")}
-        if names & {"program", "input"}:
-            return "linking"
-        if "module" in names:
-            return "compiling"
-    return "reading its crates"
+        return LINKING if names & {"program", "input"} else COMPILING if "module" in names else READING
+    return READING
 
 
 def answers_first(program):
@@ -84,7 +84,7 @@ def try_once(folder):
     """Has `rt try` build the program. Returns the program, taken while it was at work, or else None, and the status of the run."""
     caught = Path(folder) / "caught"
     words = ["rt", "try", "--steps", "1", "--cases", str(case_to_try(folder))]
-    progress, started, last = Progress(), time.monotonic(), None
+    progress, started, last = Progress(), time.monotonic(), (-1, 0)
     with open(LOG, "wb") as log:
         how = {"stdin": subprocess.DEVNULL, "stdout": subprocess.DEVNULL, "stderr": log, "env": {**os.environ, "TMPDIR": folder}}
         with subprocess.Popen(words, cwd=TOP / "crates" / "iox", **how) as tried:
@@ -92,9 +92,9 @@ def try_once(folder):
                 while tried.poll() is None:
                     if any(give_second_name(it, caught) for it in programs_at_work(folder)):
                         return caught, 0
-                    now = stage(folder), round(time.monotonic() - started)
+                    now = max(stage(folder), last[0]), round(time.monotonic() - started)
                     if now != last:
-                        progress.tell(f"one build without proofs: {now[0]}, {now[1]} s", is_new=now[0] != (last or now)[0])
+                        progress.tell(f"one build without proofs: {STAGES[now[0]]}, {now[1]} s", is_new=now[0] != last[0])
                         last = now
                     time.sleep(A_LOOK)
             finally:
