@@ -151,6 +151,23 @@ def verbose_says_what_an_error_means_and_what_to_do():
 
 
 @case
+def each_error_has_the_meaning_of_its_own_row():
+    from tool.meanings import meaning_of
+
+    for error, meaning in (
+        ("PublishSubscribeCreateError::InternalFailure", "a setting is beyond the limits (then no access is made)"),
+        ("EventOpenError::DoesNotSupportRequestedAmountOfNodes", "the service has room for fewer nodes than asked: ask for fewer"),
+        ("EventOpenOrCreateError::EventOpenError(IncompatibleDeadline)", "the service has another deadline: ask for less"),
+        ("SendError::LoanError(OutOfMemory)", "each slot is in use, or a longer slice finds no segment"),
+        ("ReceiveError::ExceedsMaxBorrows", "a message waits, and of each connection with one as many samples are held as may be"),
+    ):
+        expect_in(meaning, meaning_of(f"err {error}")[0])
+    replies = (TOP / "crates" / "iox" / "stdout").read_text(encoding="latin-1").splitlines()
+    for reply in sorted({it for it in replies if it.startswith("err ") and " line" not in it}):
+        expect((reply, len(meaning_of(reply))), (reply, 1))
+
+
+@case
 def records_have_line_command_reply_and_values():
     given = b"node\ncreate n1 ps A\nsubscriber f1\npublisher f1 slice=2\nput p1 4 5\nhas s1\nreceive s1\nread m1\nreceive s1\n"
     given += b"put p9 1\nnod\nclose f1\n"

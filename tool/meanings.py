@@ -2,30 +2,46 @@
 from __future__ import annotations
 
 import re
+from collections import namedtuple
 
 from tool import TOP
 
 PAGE = TOP / "docs" / "ERRORS.md"
 
 
-def rows() -> list[list[str]]:
-    """The rows of the page's tables, each as its cells."""
-    lines = PAGE.read_text(encoding="utf-8").splitlines()
-    found = [[it.strip() for it in line.strip("|").split("|")] for line in lines if line.startswith("| ")]
-    return [row for row in found if len(row) >= 3]
+# Under which headings the errors of builders are, by how the name of their type ends; the longest first.
+HEADINGS = (("OpenOrCreateError", "Opening or creating"), ("CreateError", "Creating"), ("OpenError", "Opening:"))
+Meaning = namedtuple("Meaning", "heading errors when what_to_do")
 
 
-def plain(cell: str) -> str:
-    return cell.replace("`", "")
+def meanings() -> list[Meaning]:
+    """The rows of the page. Where a table has a column for the pattern, it says what the service has in the place of when."""
+    heading, found = "", []
+    for line in PAGE.read_text(encoding="utf-8").splitlines():
+        cells = [it.strip() for it in line.strip("|").split("|")]
+        if line.startswith("#"):
+            heading = line.lstrip("# ")
+        elif line.startswith("| ") and len(cells) == 3 and heading == "Opening: what was asked for and isn't met":
+            found.append(Meaning(heading, cells[1], f"the service has {cells[2]}", "ask for less, or open another service"))
+        elif line.startswith("| ") and len(cells) == 3:
+            found.append(Meaning(heading, *cells))
+    return found
+
+
+def fits(it: Meaning, error: str) -> list[bool]:
+    """How well a row fits an error: by its whole name, by the type and the word inside, by the word under the heading of the type."""
+    *outer, word = re.findall(r"\w+", error)
+    kind = outer[-1] if outer else ""
+    heading = next((heading for end, heading in HEADINGS if kind.endswith(end)), None)
+    has_word = re.search(rf"\b{word}`", it.errors) is not None
+    is_below = heading is not None and it.heading.startswith(heading)
+    return [f"`err {error}`" in it.errors, f"{kind}::{word}`" in it.errors, has_word and is_below, has_word]
 
 
 def meaning_of(reply: str) -> list[str]:
-    """When the error of a reply comes and what to do, by its whole name, or else by the word behind its last `::`."""
-    error = reply.partition(" ")[2]
-    word = re.split(r"::|\(", error.rstrip(")"))[-1]
-    found = [row for row in rows() if f"`err {error}`" in row[0]]
-    found = found or [row for row in rows() if re.search(rf"\b{re.escape(word)}`", row[0])]
-    if not found:
-        # In the tables by pattern the variant is the second cell.
-        found = [["", f"the service has {row[2]}", "ask for less, or open another service"] for row in rows() if f"`{word}`" in row[1]]
-    return [f"{plain(found[0][1])}: {plain(found[0][2])}" if found[0][2] else plain(found[0][1])] if found else []
+    """When the error of a reply comes and what to do, by the row that fits it best."""
+    best = max(meanings(), key=lambda it: fits(it, reply.partition(" ")[2]))
+    if not any(fits(best, reply.partition(" ")[2])):
+        return []
+    told = f"{best.when}: {best.what_to_do}" if best.what_to_do else best.when
+    return [told.replace("`", "")]
