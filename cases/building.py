@@ -21,6 +21,7 @@ from cases.kit import (
     expect,
     expect_in,
     on_terminal,
+    talk,
 )
 
 
@@ -213,6 +214,18 @@ def who_answers_without_proofs_is_told_in_one_line():
         ran = subprocess.run([sys.executable, copy.top / "iox", SCRIPT], capture_output=True, **copy.how)
         expect((ran.returncode, ran.stdout, ran.stderr.decode()), (0, REPLIES, f"iox: {UNPROVED}\n"))
         copy.run("-q", SCRIPT).expect(0, REPLIES)
+
+
+@case
+def the_kept_build_answers_at_a_prompt_too():
+    with Copy() as copy:
+        copy.run(SCRIPT)
+        copy.calls()
+        words = [sys.executable, copy.top / "iox"]
+        environment = {"XDG_STATE_HOME": str(copy.top), "PATH": copy.how["env"]["PATH"]}
+        status, screen = talk(words, [b"node\n", b"put p1 1\n", b"quit\n"], environment)
+        expect((status, copy.calls()), (0, []))
+        expect_in("iox> node\nok n1\niox> put p1 1\nskip\nline 2, skip: p1 was never given\niox> quit\n", screen)
 
 
 @case
