@@ -19,11 +19,15 @@ EXPIRED_ROOM = 128
 
 
 class Skip(Exception):
-    """The command's condition fails."""
+    """The command's condition fails: its text says which."""
 
 
 class Refused(Exception):
-    """The call answers this error."""
+    """The call answers this error, for what the reason says where the error doesn't."""
+
+    def __init__(self, error, reason=None):
+        super().__init__(error)
+        self.reason = reason
 
 
 # ------------------------------------------------------------------------------------- names and who is in them
@@ -491,9 +495,12 @@ class Machine:
     def __init__(self):
         self.names = Names()
         self.made = {letter: [] for letter in "nfpslm"}
+        # How what is spent ended, and why the last line was skipped or refused, in words.
+        self.ends, self.reason = {}, None
 
     def answer(self, line):
         """The reply to one line."""
+        self.reason = None
         if len(line) > LONGEST_LINE:
             return "err line too long"
         try:
@@ -501,9 +508,11 @@ class Machine:
             return getattr(self, f"on_{verb}")(*rest)
         except Faulty:
             return "err faulty line"
-        except Skip:
+        except Skip as why:
+            self.reason = str(why)
             return "skip"
         except Refused as why:
+            self.reason = why.reason
             return f"err {why}"
 
     def add(self, letter, value):
@@ -511,12 +520,19 @@ class Machine:
         return f"ok {letter}{len(self.made[letter])}"
 
     def get(self, letter, number):
-        if not 1 <= number <= len(self.made[letter]) or self.made[letter][number - 1] is None:
-            raise Skip
+        if not 1 <= number <= len(self.made[letter]):
+            raise Skip(f"{letter}{number} was never given")
+        if self.made[letter][number - 1] is None:
+            raise Skip(f"{letter}{number} {self.ends[letter, number]}")
         return self.made[letter][number - 1]
 
-    def spend(self, letter, number):
+    def spend(self, letter, number, how):
         self.made[letter][number - 1] = None
+        self.ends[letter, number] = how
+
+    def name_of(self, letter, value):
+        """What a living value goes by."""
+        return f"{letter}{[it is value for it in self.made[letter]].index(True) + 1}"
 
     def living(self, letter):
         return [it for it in self.made[letter] if it is not None]
@@ -551,11 +567,12 @@ class Machine:
 
     def on_close(self, number):
         factory = self.get("f", number)
-        users = [it.factory for it in self.living("p") + self.living("s") + self.living("m")]
-        users += [it.message.publisher.factory for it in self.living("l")]
-        if any(it is factory for it in users):
-            raise Refused("CloseError::StillInUse")
-        self.spend("f", number)
+        users = [("p", it, it.factory) for it in self.living("p")] + [("s", it, it.factory) for it in self.living("s")]
+        users += [("l", it, it.message.publisher.factory) for it in self.living("l")] + [("m", it, it.factory) for it in self.living("m")]
+        keepers = [self.name_of(letter, it) for letter, it, user in users if user is factory]
+        if keepers:
+            raise Refused("CloseError::StillInUse", f"f{number} is kept by {', '.join(keepers)}")
+        self.spend("f", number, "was closed")
         life = factory.life
         if not [it for it in self.living("f") if it.life is life]:
             life.domain = None
@@ -567,7 +584,7 @@ class Machine:
     def factory_of_ports(self, number):
         factory = self.get("f", number)
         if factory.service[0] != "ps":
-            raise Skip
+            raise Skip(f"f{number} is of an {factory.service[0]} service, and only ps services have ports")
         return factory
 
     def on_publisher(self, number, options):
@@ -580,7 +597,7 @@ class Machine:
         """A publisher that isn't blocked."""
         publisher = self.get("p", number)
         if publisher.blocked is not None:
-            raise Skip
+            raise Skip(f"p{number} waits at a full mailbox")
         return publisher
 
     def on_loan(self, number, length):
@@ -596,30 +613,34 @@ class Machine:
 
     def on_set(self, number, place, value):
         loan = self.get("l", number)
-        if loan.message.values is None or place >= loan.length:
-            raise Skip
+        if loan.message.values is None:
+            raise Skip(f"l{number} isn't written")
+        if place >= loan.length:
+            raise Skip(f"l{number} has {loan.length} places, counted from 0")
         loan.message.values[place] = value
         return "ok"
 
     def on_fill(self, number, values):
         loan = self.get("l", number)
         if len(values) != loan.length:
-            raise Skip
+            raise Skip(f"l{number} has {loan.length} places, and {len(values)} values are given")
         loan.message.values = values
         return "ok"
 
     def on_drop(self, number):
         loan = self.get("l", number)
         loan.message.publisher.loans.remove(loan)
-        self.spend("l", number)
+        self.spend("l", number, "was dropped")
         return "ok"
 
     def on_send(self, number):
         loan = self.get("l", number)
         publisher = loan.message.publisher
-        if loan.message.values is None or publisher.blocked is not None:
-            raise Skip
-        self.spend("l", number)
+        if loan.message.values is None:
+            raise Skip(f"l{number} isn't written")
+        if publisher.blocked is not None:
+            raise Skip(f"{self.name_of('p', publisher)} waits at a full mailbox")
+        self.spend("l", number, "was sent")
         return sent(publisher.send(loan))
 
     def on_put(self, number, values):
@@ -633,7 +654,7 @@ class Machine:
     def blocked_publisher(self, number):
         publisher = self.get("p", number)
         if publisher.blocked is None:
-            raise Skip
+            raise Skip(f"no send of p{number} is blocked")
         return publisher
 
     def on_retry(self, number, _elapsed):
@@ -652,7 +673,7 @@ class Machine:
     def on_release(self, number):
         sample = self.get("m", number)
         sample.connection.borrowed.remove(sample.message)
-        self.spend("m", number)
+        self.spend("m", number, "was released")
         return "ok"
 
     def on_has(self, number):
@@ -669,7 +690,7 @@ class Machine:
 
     def on_leave(self, letter, number):
         self.port(letter, number).leave()
-        self.spend(letter, number)
+        self.spend(letter, number, "left")
         return "ok"
 
 
@@ -694,5 +715,6 @@ def replies(script):
 
 
 if __name__ == "__main__":
-    for reply in replies(sys.stdin.buffer.read()):
-        print(reply)
+    the_machine = Machine()
+    for the_line in sys.stdin.buffer:
+        print(the_machine.answer(the_line[:-1] if the_line.endswith(b"\n") else the_line), flush=True)

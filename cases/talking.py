@@ -1,0 +1,177 @@
+"""What the launcher answers and says, on the program that is there and on the plain model."""
+import os
+import resource
+import shutil
+import subprocess
+import sys
+import tempfile
+from pathlib import Path
+
+from cases.kit import (
+    COMMANDS,
+    LONG,
+    REPLIES,
+    SCRIPT,
+    TOP,
+    NotHere,
+    Ran,
+    case,
+    case_of_program,
+    expect,
+    expect_in,
+    on_terminal,
+    tries_unproved,
+)
+
+STORED = TOP / "crates" / "iox"
+
+
+@case
+def help_fits_a_screen_and_names_each_option():
+    ran = Ran("--help")
+    expect((ran.status, ran.err), (0, b""))
+    lines = ran.out.decode().splitlines()
+    expect((len(lines) <= 24, max(map(len, lines)) <= 80), (True, True))
+    for it in "--proved --unproved --model --json --svg --html --time --numbers -q -v --path --commands --version 64 66".split():
+        expect_in(it, ran.out.decode())
+
+
+@case
+def the_commands_fit_a_screen():
+    ran = Ran("--commands")
+    expect((ran.status, ran.err), (0, b""))
+    lines = ran.out.decode().splitlines()
+    expect((len(lines), max(map(len, lines)) <= 80), (1 + len(COMMANDS), True))
+    expect(sorted(it.split()[0] for it in lines[1:]), sorted(COMMANDS))
+
+
+@case
+def version_has_ours_and_the_toolchains():
+    toolchain = subprocess.run(["rt", "version"], stdout=subprocess.PIPE, check=True).stdout
+    Ran("--version").expect(0, b"Kohepuri 0.1.0\n" + toolchain)
+
+
+@case_of_program
+def each_line_gets_one_reply():
+    ran = Ran(given=b"node\nnode\n")
+    expect((ran.status, ran.out.count(b"\n"), ran.err), (0, 2, b""))
+
+
+@case_of_program
+def a_file_is_served_with_no_word_beside():
+    Ran(SCRIPT).expect(0, REPLIES)
+
+
+@case_of_program
+def standard_input_is_served():
+    Ran(given=SCRIPT.read_bytes()).expect(0, REPLIES)
+    with open(SCRIPT, "rb") as it:
+        Ran(given=it).expect(0, REPLIES)
+
+
+@case_of_program
+def a_dash_is_standard_input():
+    Ran("-", given=SCRIPT.read_bytes()).expect(0, REPLIES)
+
+
+@case_of_program
+def it_works_by_a_link_and_from_any_folder():
+    with tempfile.TemporaryDirectory(prefix="iox-check-") as folder:
+        link = Path(folder) / "linked"
+        link.symlink_to(TOP / "iox")
+        shutil.copy(SCRIPT, folder)
+        Ran("first.iox", at=link, cwd=folder).expect(0, REPLIES)
+        Ran("first.iox", cwd=folder).expect(0, REPLIES)
+
+
+@case_of_program
+def numbers_show_the_lines_at_fault_before_what_is_wrong():
+    long = b"x" * 2000
+    given = b"node\n\nput p9 1\nnode \n" + long + b"\n\x1b[2J\nrelease m1"
+    replies = b"ok n1\nerr faulty line\nskip\nerr faulty line\nerr line too long\nerr faulty line\nskip\n"
+    notes = """\
+line 2: 
+line 2, column 1: the line is empty, and spells no command
+line 3: put p9 1
+line 3, skip: p9 was never given
+line 4: node 
+line 4, column 5: a space stands behind the last word
+line 5: xxxxxxxxxxxxxxxxxxxxxxxxxxxxxxxxxxxxxxxxxxxxxxxxxxxxxxxxxxxxxxxxxxxxxxxxxxxxxxxx ..
+line 5, column 1025: the line has 2000 bytes, and 1024 are the most
+line 6: \\x1b[2J
+line 6, column 1: "\\x1b[2J" is no command
+line 7: release m1
+line 7, skip: m1 was never given
+"""
+    for words in (["--numbers"], ["--numbers", "--model"]):
+        Ran(*words, given=given).expect(0, replies, notes.encode())
+
+
+@case_of_program
+def quiet_says_nothing_of_lines():
+    for words in (["-q"], ["-q", "--model"]):
+        Ran(*words, given=b"node\n\nput p9 1\n").expect(0, b"ok n1\nerr faulty line\nskip\n")
+
+
+@case_of_program
+def numbers_keep_pace_with_a_long_script():
+    given = b"node\n" * 100_000 + b"put p1 1\n"
+    ran = Ran("--numbers", given=given)
+    notes = b"line 100001: put p1 1\nline 100001, skip: p1 was never given\n"
+    expect((ran.status, ran.out.count(b"\n"), ran.err), (0, 100_001, notes))
+
+
+@case
+def a_terminal_is_greeted_and_prompted():
+    status, out, screen = on_terminal([TOP / "iox", "--model"], b"node\nput p1 1\n\x04")
+    expect((status, out), (0, b"ok n1\nskip\n"))
+    greeting, _, rest = screen.partition(b"\n")
+    expect_in(b"Kohepuri 0.1.0", greeting)
+    expect(rest, b"iox> node\niox> put p1 1\nline 2, skip: p1 was never given\niox> \n")
+
+
+@case_of_program
+def a_write_fault_ends_with_status_1():
+    if not os.path.exists("/dev/full"):
+        raise NotHere("no /dev/full")
+    with open("/dev/full", "wb") as full:
+        ran = Ran(SCRIPT, stdout=full)
+    expect((ran.status, ran.err), (1, b"write fault\n"))
+
+
+@case_of_program
+def a_read_fault_ends_with_status_1():
+    with open(os.devnull, "wb") as not_for_reading:
+        Ran(given=not_for_reading).expect(1, b"", b"read fault\n")
+        Ran("--numbers", given=not_for_reading).expect(1, b"", b"read fault\n")
+
+
+@case
+@tries_unproved
+def the_unproved_program_answers_the_stored_run_as_the_proved_one_has_to():
+    Ran("--unproved", "-q", STORED / "stdin", timeout=LONG).expect(0, (STORED / "stdout").read_bytes())
+
+
+@case
+def the_model_answers_the_stored_run_as_the_proved_program_has_to():
+    Ran("--model", "-q", STORED / "stdin").expect(0, (STORED / "stdout").read_bytes())
+
+
+@case_of_program
+def a_random_script_gets_the_models_replies():
+    with tempfile.TemporaryDirectory(prefix="iox-check-") as folder:
+        out = Path(folder) / "random"
+        subprocess.run([sys.executable, TOP / "model" / "random_scripts.py", "48", "400", out], stdout=subprocess.DEVNULL, check=True)
+        replies = out.with_suffix(".replies").read_bytes()
+        Ran("-q", out.with_suffix(".iox")).expect(0, replies)
+        # By the launcher in the middle, too, which pairs each line with its reply.
+        ran = Ran(out.with_suffix(".iox"))
+        expect((ran.status, ran.out, ran.err.count(b"so one of the two is at fault")), (0, replies, 0))
+
+
+@case
+def the_model_answers_within_a_second_of_processor_time():
+    before = resource.getrusage(resource.RUSAGE_CHILDREN)
+    Ran("--model", SCRIPT).expect(0, REPLIES)
+    after = resource.getrusage(resource.RUSAGE_CHILDREN)
+    expect(after.ru_utime + after.ru_stime - before.ru_utime - before.ru_stime < 1, True)

@@ -1,0 +1,169 @@
+"""The proved program: proves and builds it where that wasn't done yet, and shows how far it is."""
+import contextlib
+import fcntl
+import os
+import re
+import shutil
+import subprocess
+import time
+
+from tool import TOP
+from tool.progress import NOT_BUILT, Progress, say, stop
+from tool.sources import OUT, Wanted, crates_of_program, sources
+
+# How many lines of code, definitions and proofs the toolchain checks in a minute, as measured on four cores with other work.
+LINES_A_MINUTE = 1200
+# What a check of a crate takes at most, in bytes.
+A_CHECK = 3_500_000_000
+
+
+def need_toolchain():
+    if not shutil.which("rt"):
+        stop(
+            NOT_BUILT,
+            "the program isn't built yet, and that needs the Rattle toolchain: there is no rt on the path"
+            " (`./iox --model FILE` answers without it, by the plain model)",
+        )
+
+
+def run_rt(words, crate, log, tell=lambda line: None):
+    """Runs rt in the crate's folder, writes what it says to the log, and returns its status."""
+    how = {"stdin": subprocess.DEVNULL, "stdout": subprocess.PIPE, "stderr": subprocess.STDOUT, "errors": "replace"}
+    with subprocess.Popen(["rt", *words], cwd=TOP / "crates" / crate, **how) as rt:
+        try:
+            for line in rt.stdout:
+                print(line, end="", file=log, flush=True)
+                tell(line)
+        except BaseException:
+            rt.terminate()
+            raise
+    return rt.returncode
+
+
+def is_old(crate):
+    """Returns whether a file of the crate is newer than its library. That is for the forecast: rt decides by the files' sums."""
+    with contextlib.suppress(FileNotFoundError):
+        made = (TOP / "crates" / crate / "out" / "rlib" / "stamp").stat().st_mtime
+        return any(it.stat().st_mtime > made for it in sources(crate))
+    return True
+
+
+def count_lines(entry):
+    with open(entry.path, "rb") as it:
+        return it.read().count(b"\n")
+
+
+def forecast(wanted):
+    old = []
+    for crate in wanted.crates:
+        if is_old(crate) or any(it in old for it in wanted.libraries[crate]):
+            old.append(crate)
+    minutes = max(1, round(sum(count_lines(it) for crate in old for it in sources(crate)) / LINES_A_MINUTE))
+    say(
+        f"proving and building the program: {len(old)} of {len(wanted.crates)} crates, some {minutes} min on four idle cores"
+        " (`./iox FILE` answers within two minutes, unproved)"
+    )
+
+
+def how_many_at_once():
+    """Returns how many checks there are processors and memory for."""
+    memory = os.sysconf("SC_PHYS_PAGES") * os.sysconf("SC_PAGE_SIZE")
+    return max(1, min(len(os.sched_getaffinity(0)), memory // A_CHECK))
+
+
+def prove_side_by_side(crates, progress, log):
+    """Proves the crates that don't need each other beside each other, as far as memory allows; rt names each at its end."""
+    ended = set()
+    progress.tell(f"crate 1 of {len(crates)}", is_new=True)
+
+    def tell(line):
+        crate = re.match(r"== (\w+)$", line)
+        if crate and crate[1] in crates:
+            ended.add(crate[1])
+            progress.tell(f"{len(ended)} of {len(crates)} crates done, last {crate[1]}", is_new=True)
+
+    return run_rt(["all", "check", "--jobs", str(how_many_at_once())], "iox", log, tell)
+
+
+def prove_in_turn(crates, first, progress, log):
+    """Proves each library from the given place on, and then builds the program. Returns the status, and the crate that rt was at."""
+    for at, crate in enumerate(crates[first:], first + 1):
+        where = f"crate {at} of {len(crates)}, {crate}"
+        progress.tell(where, is_new=True)
+
+        def tell(line, where=where):
+            done = re.match(r"so far: (\d+ of \d+ functions)", line)
+            if done:
+                progress.tell(f"{where}: {done[1]}")
+
+        status = run_rt(["run" if crate == "iox" else "lib"], crate, log, tell)
+        if status:
+            return status, crate
+    return 0, crates[-1]
+
+
+def build(wanted):
+    """Proves the crates without their tests, and again only what changed, and builds the program into out/iox."""
+    need_toolchain()
+    forecast(wanted)
+    crates = wanted.crates
+    below = {it: crates_of_program(wanted.libraries, it) for it in crates}
+    is_chain = all(low in below[high] for low, high in zip(crates, crates[1:]))
+    progress, started = Progress(), time.monotonic()
+    with open(OUT / "build.log", "w", encoding="utf-8") as log:
+        status, first, at = 0, 0, "a crate of the program"
+        if not is_chain:
+            status, first = prove_side_by_side(crates, progress, log), len(crates) - 1
+        if not status:
+            status, at = prove_in_turn(crates, first, progress, log)
+    progress.end()
+    if status:
+        stop(NOT_BUILT, f"{at} is not proved or not built: {OUT / 'build.log'} says why")
+    say(f"proved and built in {round(time.monotonic() - started)} s")
+
+
+def put_in_place(built, program):
+    """Gives a built program its name at one stroke. A program that runs meanwhile stays as it is."""
+    fresh = program.with_suffix(".new")
+    shutil.copy2(built, fresh)
+    for old in OUT.glob(f"{program.name.partition('-')[0]}-*"):
+        if old != fresh:
+            old.unlink()
+    fresh.rename(program)
+
+
+def take_built(wanted):
+    """Serves what `rt ci` left in out/iox, where the sources are still those of the wanted program. Returns whether it does."""
+    OUT.mkdir(exist_ok=True)
+    with open(OUT / "lock", "w", encoding="utf-8") as lock:
+        fcntl.flock(lock, fcntl.LOCK_EX)
+        if Wanted().proved != wanted.proved or not (OUT / "iox").exists():
+            return False
+        put_in_place(OUT / "iox", wanted.proved)
+    return True
+
+
+@contextlib.contextmanager
+def alone(name, what):
+    """Waits until no other launcher builds the same, and lets none begin."""
+    OUT.mkdir(exist_ok=True)
+    with open(OUT / name, "w", encoding="utf-8") as lock:
+        try:
+            fcntl.flock(lock, fcntl.LOCK_EX | fcntl.LOCK_NB)
+        except BlockingIOError:
+            say(f"another ./iox is building {what}: waiting for it")
+            fcntl.flock(lock, fcntl.LOCK_EX)
+        yield
+
+
+def proved_program(wanted):
+    """Returns the proved program of the wanted sources. Its name has their sum, so that no other is taken for it."""
+    while not wanted.proved.exists():
+        with alone("lock", "the program"):
+            if not wanted.proved.exists():
+                build(wanted)
+                # An edit during the build may or may not be in what was built, so that is built again.
+                if Wanted().proved == wanted.proved:
+                    put_in_place(OUT / "iox", wanted.proved)
+        wanted = Wanted()
+    return wanted.proved

@@ -1,0 +1,320 @@
+"""Where a line that spells no command is at fault, and what is wrong there. The formats' rules, by the table of the grammar."""
+from __future__ import annotations
+
+import difflib
+import re
+from dataclasses import dataclass
+
+from script_lines import LARGEST, PATTERNS, PERHAPS, SWITCH
+from script_model import LONGEST_LINE
+
+from tool.grammar import (
+    LETTERS,
+    NUMBERS,
+    PORT_OPTIONS,
+    REPEATED,
+    STEP_VERBS,
+    VERBS,
+    Kind,
+    Verb,
+    kind_in_words,
+    least_of,
+    options_of,
+    settings_of,
+)
+
+BOM = b"\xef\xbb\xbf"
+SHOWN = 40
+MOST_ATTRIBUTES, LONGEST_KEY, LONGEST_VALUE, LONGEST_NAME = 8, 64, 256, 255
+
+
+@dataclass
+class Fault(Exception):
+    """What is wrong, and in which column, counted in bytes from 1."""
+
+    column: int
+    text: str
+
+
+@dataclass
+class Word:
+    text: bytes
+    column: int
+
+    @property
+    def shown(self) -> str:
+        """The word as text that is safe to print, cut where it is long."""
+        text = self.text[:SHOWN].decode("latin-1")
+        return "".join(it if " " <= it <= "~" else f"\\x{ord(it):02x}" for it in text) + ".." * (len(self.text) > SHOWN)
+
+    def after(self, count: int) -> Word:
+        """What stands behind so many bytes of the word."""
+        return Word(self.text[count:], self.column + count)
+
+    def parts(self, mark: bytes) -> list[Word]:
+        """The word's parts between marks of one byte."""
+        found, at = [], 0
+        for it in self.text.split(mark):
+            found.append(Word(it, self.column + at))
+            at += len(it) + 1
+        return found
+
+
+def meant(word: bytes, known) -> str:
+    """`, did you mean ..`, where one of the known words is near."""
+    near = difflib.get_close_matches(word.decode("latin-1").lower(), list(known), 1, 0.6)
+    return f'; did you mean "{near[0]}"?' if near else ""
+
+
+def check_number(word: Word):
+    if re.fullmatch(rb"0|[1-9][0-9]*", word.text):
+        if int(word.text[:40]) > LARGEST:
+            raise Fault(word.column, f"{word.shown} is above {LARGEST}, the largest number")
+        return
+    if re.fullmatch(rb"0[0-9]+", word.text):
+        raise Fault(word.column, f"{word.shown} has a leading zero")
+    if not word.text:
+        raise Fault(word.column, "a number is missing")
+    why = ": numbers are decimal, with no sign and no point" if re.match(rb"[-+.0-9]", word.text) else ""
+    raise Fault(word.column, f'"{word.shown}" is no number{why}')
+
+
+def check_made(kind: Kind, word: Word):
+    letter = word.text[:1].decode("latin-1")
+    if not letter or letter not in LETTERS[kind] or not word.text[1:2].isdigit():
+        raise Fault(word.column, f'"{word.shown}" stands where {kind.words} is wanted, as {kind.example}')
+    check_number(word.after(1))
+
+
+def invisible(word: Word) -> int | None:
+    """The place of the first byte that isn't visible."""
+    return next((at for at, it in enumerate(word.text) if not 0x21 <= it <= 0x7E), None)
+
+
+def check_visible(word: Word, what: str):
+    at = invisible(word)
+    if at is not None:
+        raise Fault(word.column + at, f"{what} has the byte {word.text[at]:#04x}; it may have 0x21 to 0x7e, which is ASCII without space")
+
+
+def check_name(word: Word):
+    if not word.text:
+        raise Fault(word.column, "the name is empty")
+    if len(word.text) > LONGEST_NAME:
+        raise Fault(word.column + LONGEST_NAME, f"the name has {len(word.text)} bytes, and {LONGEST_NAME} are the most")
+    check_visible(word, "the name")
+
+
+def check_pattern(word: Word):
+    if word.text.decode("latin-1") not in PATTERNS:
+        raise Fault(word.column, f'"{word.shown}" is no pattern: ps, ev or rr{meant(word.text, PATTERNS)}')
+
+
+def check_value(key: str, kind, word: Word):
+    value = word.text.decode("latin-1")
+    if not value:
+        raise Fault(word.column, f"{key}= wants {kind_in_words(kind)}")
+    if kind == SWITCH and value not in ("0", "1"):
+        raise Fault(word.column, f'{key} is 0 or 1, and "{word.shown}" is neither')
+    if isinstance(kind, tuple) and value not in kind:
+        raise Fault(word.column, f'{key} is {kind_in_words(kind)}, and not "{word.shown}"{meant(word.text, kind)}')
+    if kind == SWITCH or isinstance(kind, tuple) or (kind == PERHAPS and value == "off"):
+        return
+    check_number(word)
+
+
+def elsewhere(key: str) -> str:
+    """Where an option of this key may stand, if it may."""
+    places = [f"{it} services" for it in PATTERNS if key in settings_of(it)]
+    places += [f"a {verb}" for verb, options in PORT_OPTIONS.items() if key in options]
+    return f": it is one of {' and of '.join(places)}" if places else ""
+
+
+def check_options(words: list[Word], kinds: dict, of: str):
+    seen = set()
+    for word in words:
+        key, equals, _ = word.text.partition(b"=")
+        name = key.decode("latin-1")
+        if not equals:
+            hint = f"; did you mean {name}=..?" if name in kinds else meant(key, kinds)
+            raise Fault(word.column, f'"{word.shown}" stands where an option KEY=VALUE of {of} may stand{hint}')
+        if name not in kinds:
+            raise Fault(word.column, f'"{Word(key, 0).shown}" is no option of {of}{elsewhere(name) or meant(key, kinds)}')
+        if name in seen:
+            is_same = sum(it.text == word.text for it in words) > 1
+            raise Fault(word.column, f"{word.shown if is_same else f'{name}='} stands twice")
+        seen.add(name)
+        check_value(name, kinds[name], word.after(len(key) + 1))
+
+
+def check_attribute(verb: str, word: Word):
+    key, equals, value = word.text[1:].partition(b"=")
+    if not key:
+        raise Fault(word.column + 1, "the key of an attribute is empty")
+    if len(key) > LONGEST_KEY:
+        raise Fault(word.column + 1 + LONGEST_KEY, f"the key of an attribute has {len(key)} bytes, and {LONGEST_KEY} are the most")
+    if len(value) > LONGEST_VALUE:
+        at = word.column + 2 + len(key) + LONGEST_VALUE
+        raise Fault(at, f"the value of an attribute has {len(value)} bytes, and {LONGEST_VALUE} are the most")
+    check_visible(word, "an attribute")
+    if not equals and verb == "create":
+        raise Fault(word.column, f"{word.shown} requires a key, and create only defines: write {word.shown}=VALUE")
+
+
+def check_attributes(verb: str, words: list[Word]):
+    counts = {True: 0, False: 0}
+    for word in words:
+        if word.text[:1] != b"@":
+            what = "an option" if b"=" in word.text else f'"{word.shown}"'
+            raise Fault(word.column, f"{what} stands behind an attribute: options come first, then attributes, then lists of steps")
+        check_attribute(verb, word)
+        is_pair = b"=" in word.text
+        counts[is_pair] += 1
+        if counts[is_pair] > MOST_ATTRIBUTES:
+            raise Fault(word.column, f"a ninth attribute {'@KEY=VALUE' if is_pair else '@KEY'}: {MOST_ATTRIBUTES} are the most")
+
+
+def check_step(pattern: str, word: Word):
+    what, *parts = word.parts(b":")
+    if what.text.decode("latin-1") not in STEP_VERBS:
+        known = f"{', '.join(STEP_VERBS[:-1])} or {STEP_VERBS[-1]}"
+        raise Fault(word.column, f'"{what.shown}" is no step: {known}{meant(what.text, STEP_VERBS)}')
+    verb = what.text.decode()
+    if not parts:
+        raise Fault(word.column + len(word.text), f"the step wants a foreign node, as {verb}:x1")
+    if len(parts) > (2 if verb == "publish" else 1):
+        raise Fault(parts[-1].column, f"a colon too many in a step of {verb}")
+    node = parts[0]
+    if node.text[:1] != b"x" or not node.text[1:2].isdigit():
+        raise Fault(node.column, f'"{node.shown}" stands where a foreign node is wanted, as x1')
+    check_number(node.after(1))
+    if len(parts) == 2:
+        options = parts[1].parts(b",")
+        if b"" in [it.text for it in options]:
+            empty = next(it for it in options if not it.text)
+            raise Fault(empty.column, "an option is missing: publish:x1:KEY=VALUE,..")
+        check_options(options, settings_of(pattern), f"{pattern} services")
+
+
+def check_lists(pattern: str, words: list[Word]):
+    last, bar, is_empty = 0, None, False
+    for word in words:
+        if word.text[:1] != b"|":
+            check_step(pattern, word)
+            is_empty = False
+            continue
+        if is_empty:
+            raise Fault(bar.column, f"the list {bar.shown} has no step")
+        check_number(word.after(1))
+        at = int(word.text[1:])
+        if at == 0:
+            raise Fault(word.column, "accesses are counted from 1, and not from 0")
+        if at <= last:
+            raise Fault(word.column, f"the list |{at} stands behind |{last}: each is of a later access")
+        last, bar, is_empty = at, word, True
+    if is_empty:
+        raise Fault(bar.column, f"the list {bar.shown} has no step")
+
+
+def check_service(verb: str, pattern: str, words: list[Word]):
+    """What stands behind the name of a service: options, attributes, lists."""
+    first_list = next((at for at, it in enumerate(words) if it.text[:1] == b"|"), len(words))
+    first_attribute = next((at for at, it in enumerate(words[:first_list]) if it.text[:1] == b"@"), first_list)
+    check_options(words[:first_attribute], options_of(verb, pattern), f"{pattern} services")
+    check_attributes(verb, words[first_attribute:first_list])
+    check_lists(pattern, words[first_list:])
+
+
+def check_repeated(verb: Verb, kind: Kind, pattern: str, words: list[Word], end: int):
+    if kind is Kind.VALUES:
+        for it in words:
+            check_number(it)
+    elif kind is Kind.STEPS:
+        if not words:
+            raise Fault(end, f"{kind.words} is missing, as {kind.example}: {verb.form}")
+        for it in words:
+            check_step(pattern, it)
+    elif kind is Kind.SETTINGS:
+        check_service(verb.name, pattern, words)
+    else:
+        check_options(words, options_of(verb.name, None), f"a {verb.name}")
+
+
+CHECKS = {Kind.PATTERN: check_pattern, Kind.NAME: check_name}
+
+
+def check_operands(verb: Verb, words: list[Word], end: int):
+    pattern = ""
+    for at, kind in enumerate(verb.operands):
+        if kind in REPEATED:
+            check_repeated(verb, kind, pattern, words[at:], end)
+            return
+        if at == len(words):
+            raise Fault(end, f"{kind.words} is missing, as {kind.example}: {verb.form}")
+        if kind in LETTERS:
+            check_made(kind, words[at])
+        elif kind in NUMBERS:
+            check_number(words[at])
+        else:
+            CHECKS[kind](words[at])
+        if kind is Kind.PATTERN:
+            pattern = words[at].text.decode()
+    if len(words) > len(verb.operands):
+        extra = words[len(verb.operands)]
+        hint = ": scripts have no comments" if extra.text[:1] in (b"#", b"/") else f": {verb.form}"
+        raise Fault(extra.column, f'"{extra.shown}" is a word too many{hint}')
+
+
+def check_spaces(line: bytes, number: int):
+    """What goes wrong before any word is looked at."""
+    if line.startswith(BOM):
+        where = "the file begins with" if number == 1 else "the line begins with"
+        raise Fault(1, f"{where} a byte order mark (EF BB BF): save it as UTF-8 without BOM")
+    if line.endswith(b"\r"):
+        hint = "the file has Windows line ends (CRLF); `sed 's/\\r$//' FILE` makes them plain"
+        raise Fault(len(line), f"a carriage return ends the line: {hint}")
+    if not line:
+        raise Fault(1, "the line is empty, and spells no command")
+    if b"\t" in line:
+        raise Fault(line.index(b"\t") + 1, "a tab: words are separated by one space")
+    if line.startswith((b"#", b"//")):
+        raise Fault(1, "scripts have no comments")
+    if line.startswith(b" "):
+        raise Fault(1, "a space stands before the first word")
+    if b"  " in line:
+        raise Fault(line.index(b"  ") + 2, "two spaces: words are separated by one")
+    if line.endswith(b" "):
+        raise Fault(len(line), "a space stands behind the last word")
+
+
+def check_line(line: bytes, size: int, number: int):
+    if size > LONGEST_LINE:
+        raise Fault(LONGEST_LINE + 1, f"the line has {size} bytes, and {LONGEST_LINE} are the most")
+    check_spaces(line, number)
+    verb, *words = Word(line, 1).parts(b" ")
+    name = verb.text.decode("latin-1")
+    if name not in VERBS:
+        raise Fault(1, f'"{verb.shown}" is no command{meant(verb.text, VERBS)}')
+    check_operands(VERBS[name], words, len(line) + 1)
+
+
+def fault_of(line: bytes, size: int | None = None, number: int = 1) -> Fault | None:
+    """What is wrong with a line, or None where it spells a command. A longer line may be handed in cut, with its size."""
+    try:
+        check_line(line, len(line) if size is None else size, number)
+    except Fault as fault:
+        return fault
+    return None
+
+
+def remarks_on(line: bytes) -> list[str]:
+    """What a line that spells a command asks otherwise than it may seem: numbers that count as larger ones."""
+    if b"=0" not in line:
+        return []
+    verb, *words = line.decode("latin-1").split(" ")
+    if verb in ("create", "open_or_create"):
+        settings = [it for it in words[3:] if it.endswith("=0") and it[0] not in "@|" and ":" not in it]
+        return [f"{it} counts as {least_of(words[1], it[:-2])}" for it in settings if least_of(words[1], it[:-2]) not in (None, 0)]
+    if verb == "subscriber" and "buffer=0" in words:
+        return ["buffer=0 counts as 1"]
+    return ["slots=0 counts as 1"] if verb == "publisher" and "slots=0" in words else []

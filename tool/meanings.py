@@ -1,0 +1,47 @@
+"""What an error means and what to do, read from the page of errors, so that both say the same."""
+from __future__ import annotations
+
+import re
+from collections import namedtuple
+
+from tool import TOP
+
+PAGE = TOP / "docs" / "ERRORS.md"
+
+
+# Under which headings the errors of builders are, by how the name of their type ends; the longest first.
+HEADINGS = (("OpenOrCreateError", "Opening or creating"), ("CreateError", "Creating"), ("OpenError", "Opening:"))
+Meaning = namedtuple("Meaning", "heading errors when what_to_do")
+
+
+def meanings() -> list[Meaning]:
+    """The rows of the page. Where a table has a column for the pattern, it says what the service has in the place of when."""
+    heading, found = "", []
+    for line in PAGE.read_text(encoding="utf-8").splitlines():
+        cells = [it.strip() for it in line.strip("|").split("|")]
+        if line.startswith("#"):
+            heading = line.lstrip("# ")
+        elif line.startswith("| ") and len(cells) == 3 and heading == "Opening: what was asked for and isn't met":
+            found.append(Meaning(heading, cells[1], f"the service has {cells[2]}", "ask for less, or open another service"))
+        elif line.startswith("| ") and len(cells) == 3:
+            found.append(Meaning(heading, *cells))
+    return found
+
+
+def fits(it: Meaning, error: str) -> list[bool]:
+    """How well a row fits an error: by its whole name, by the type and the word inside, by the word under the heading of the type."""
+    *outer, word = re.findall(r"\w+", error)
+    kind = outer[-1] if outer else ""
+    heading = next((heading for end, heading in HEADINGS if kind.endswith(end)), None)
+    has_word = re.search(rf"\b{word}`", it.errors) is not None
+    is_below = heading is not None and it.heading.startswith(heading)
+    return [f"`err {error}`" in it.errors, f"{kind}::{word}`" in it.errors, has_word and is_below, has_word]
+
+
+def meaning_of(reply: str) -> list[str]:
+    """When the error of a reply comes and what to do, by the row that fits it best."""
+    best = max(meanings(), key=lambda it: fits(it, reply.partition(" ")[2]))
+    if not any(fits(best, reply.partition(" ")[2])):
+        return []
+    told = f"{best.when}: {best.what_to_do}" if best.what_to_do else best.when
+    return [told.replace("`", "")]

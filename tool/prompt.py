@@ -1,0 +1,176 @@
+"""The prompt on a terminal: a line with history and completion, its own words beside the commands, and what the keys of a shell do."""
+from __future__ import annotations
+
+import contextlib
+import os
+import sys
+from collections.abc import Iterator
+from pathlib import Path
+
+from script_lines import PATTERNS
+
+from tool import VERSION
+from tool.grammar import LETTERS, SERVICE, STEP_VERBS, VERBS, Kind, help_on_all, help_on_verb, options_of, values_of
+
+PROMPT = "iox> "
+KEPT_LINES = 1000
+WORDS = """\
+words of the prompt:
+  help, help COMMAND    the commands; one of them with its options
+  :state                nodes, services, ports with what waits and is held, loans, samples
+  :why                  why the last line was skipped, refused or faulty
+  exit, quit, Ctrl-D    ends; what the hub held is gone
+keys: Tab completes, Up and Ctrl-R find earlier lines, Ctrl-C drops the line, Ctrl-L clears the screen"""
+OWN_WORDS = ("help", "exit", "quit", ":state", ":why")
+
+
+def history_file() -> Path:
+    state = os.environ.get("XDG_STATE_HOME") or Path.home() / ".local" / "state"
+    return Path(state) / "kohepuri" / "history"
+
+
+class Completion:
+    """What may stand at the end of a line that is being typed, by the grammar and by what lives."""
+
+    def __init__(self, follower):
+        self.follower = follower
+
+    def living(self, letters: str) -> list[str]:
+        watched = self.follower.catch_up()
+        return [name for letter in letters for name, _ in watched.living(letter)]
+
+    def names(self) -> list[str]:
+        """The names of services that there are."""
+        return sorted({name.decode("latin-1") for _, name in self.follower.catch_up().machine.names.phases})
+
+    def of_options(self, verb: str, pattern: str | None, words: list[str], begun: str) -> list[str]:
+        kinds = options_of(verb, pattern)
+        key, equals, _ = begun.partition("=")
+        if equals and key in kinds:
+            return [f"{key}={it}" for it in values_of(kinds[key])]
+        given = {it.partition("=")[0] for it in words}
+        return [f"{it}=" for it in kinds if it not in given]
+
+    def of_kind(self, kind: Kind, verb: str, words: list[str], begun: str) -> list[str]:
+        if kind in LETTERS:
+            return self.living(LETTERS[kind])
+        if kind is Kind.PATTERN:
+            return list(PATTERNS)
+        if kind is Kind.NAME:
+            return self.names()
+        if kind is Kind.STEPS:
+            return [f"{it}:x" for it in STEP_VERBS]
+        pattern = words[2] if VERBS[verb].operands == SERVICE and len(words) > 2 else None
+        return self.of_options(verb, pattern, words, begun)
+
+    def candidates(self, line: str) -> list[str]:
+        """What the last word of a line may become."""
+        *words, begun = line.split(" ")
+        if not words:
+            found = [*VERBS, *OWN_WORDS]
+        elif words[0] == "help":
+            found = list(VERBS) if len(words) == 1 else []
+        elif words[0] in VERBS:
+            operands = VERBS[words[0]].operands
+            kind = operands[min(len(words), len(operands)) - 1] if operands else None
+            found = self.of_kind(kind, words[0], words, begun) if kind else []
+        else:
+            found = []
+        return [it if it.endswith(("=", ":x")) else f"{it} " for it in found if it.startswith(begun)]
+
+
+class Prompt:
+    """Yields the lines that are typed, and answers its own words itself."""
+
+    def __init__(self, follower, notes):
+        self.follower, self.notes = follower, notes
+        self.completion, self.readline = Completion(follower), None
+
+    def tell(self, text: str):
+        print(text, file=sys.stderr, flush=True)
+
+    def greet(self):
+        self.tell(f"Kohepuri {VERSION}: one command a line; `help` lists them, Tab completes, Ctrl-D ends")
+
+    def begin(self):
+        """Takes readline, where both ends are a terminal and Python has it."""
+        if not (sys.stdin.isatty() and sys.stdout.isatty()):
+            return
+        with contextlib.suppress(ImportError):
+            import readline
+
+            self.readline = readline
+            readline.set_completer_delims(" ")
+            readline.set_completer(self.complete)
+            is_libedit = "libedit" in (readline.__doc__ or "")
+            readline.parse_and_bind("bind ^I rl_complete" if is_libedit else "tab: complete")
+            with contextlib.suppress(OSError):
+                readline.read_history_file(history_file())
+            sys.stdin.reconfigure(errors="surrogateescape")
+
+    def end(self):
+        if self.readline:
+            with contextlib.suppress(OSError):
+                history_file().parent.mkdir(parents=True, exist_ok=True)
+                self.readline.set_history_length(KEPT_LINES)
+                self.readline.write_history_file(history_file())
+
+    def complete(self, _begun: str, at: int) -> str | None:
+        if at == 0:
+            line = self.readline.get_line_buffer()[: self.readline.get_endidx()]
+            self.found = self.completion.candidates(line)
+        return self.found[at] if at < len(self.found) else None
+
+    def read(self) -> bytes | None:
+        """The next line with its newline, or what there is of it at the end of the input; None at the end."""
+        if self.readline:
+            # A word that was completed has a space behind it, which would make the line faulty.
+            return os.fsencode(input(PROMPT).strip(" ")) + b"\n"
+        print(PROMPT, end="", file=sys.stderr, flush=True)
+        return sys.stdin.buffer.readline() or None
+
+    def answer(self, line: str) -> bool:
+        """Answers a line that is the prompt's own, and returns whether it was."""
+        word, _, of = line.partition(" ")
+        if word == "help" and of in VERBS:
+            self.tell(help_on_verb(VERBS[of]))
+        elif word == "help":
+            self.tell(f"{help_on_all()}\n{WORDS}" if not of else f"no command {of}: `help` lists them")
+        elif line == ":state":
+            from tool.state import snapshot, told
+
+            self.tell(told(snapshot(self.follower.catch_up())))
+        elif line == ":why":
+            self.tell(self.notes.last or "no line was skipped, refused or faulty so far")
+        elif line.startswith(":"):
+            self.tell(WORDS)
+        else:
+            return False
+        return True
+
+    def lines(self) -> Iterator[bytes]:
+        self.greet()
+        self.begin()
+        try:
+            while True:
+                try:
+                    line = self.read()
+                except EOFError:
+                    line = None
+                except KeyboardInterrupt:
+                    self.tell("" if self.readline else "^C")
+                    continue
+                except OSError:
+                    from tool.converse import ReadFault
+
+                    raise ReadFault from None
+                if line is None:
+                    self.tell("")
+                    return
+                text = line.decode(errors="replace").strip()
+                if text in ("exit", "quit"):
+                    return
+                if not self.answer(text):
+                    yield line
+        finally:
+            self.end()

@@ -1,0 +1,47 @@
+"""Replies for programs: a line of JSON each, with the line's number, the command, the reply and what it says."""
+from __future__ import annotations
+
+import json
+
+from tool.converse import Line, Output
+from tool.notes import Follower, about
+
+MADE = "nfpslm"
+
+
+def values_in(words: list[str]) -> list[int] | None:
+    return [int(it) for it in words] if all(it.isdigit() for it in words) else None
+
+
+def said(command: str, reply: str) -> dict:
+    """What a reply says, by the command that it answers."""
+    kind, _, rest = reply.partition(" ")
+    words = rest.split(" ") if rest else []
+    if kind != "ok":
+        return {"kind": kind, "error": rest} if kind == "err" else {"kind": kind}
+    verb = command.partition(" ")[0]
+    if words and words[0][:1] in MADE and words[0][1:].isdigit():
+        found = {"kind": kind, "made": words[0]}
+        return {**found, "values": values_in(words[1:])} if verb == "receive" else found
+    if verb == "read":
+        return {"kind": kind, "values": values_in(words)}
+    if verb == "has":
+        return {"kind": kind, "has": words == ["true"]}
+    return {"kind": kind, "took": int(words[0])} if words else {"kind": kind}
+
+
+class Json:
+    """Writes a line of JSON in the place of each reply."""
+
+    def __init__(self, out: Output, follower: Follower):
+        self.out, self.follower = out, follower
+
+    def take(self, line: Line, reply: bytes):
+        command, text = line.text.decode(errors="backslashreplace"), reply.decode("latin-1").rstrip("\n")
+        record = {"line": line.number, "command": command, "reply": text, **said(command, text)}
+        for it in about(line, reply, self.follower):
+            record["column"] = it.column
+            record.setdefault("why", []).append(it.text)
+        if record.get("column", 0) is None:
+            del record["column"]
+        self.out.write(json.dumps(record).encode() + b"\n")

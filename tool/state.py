@@ -1,0 +1,191 @@
+"""What lives on a hub, as the plain model has it: for `:state`, for the page and for the picture."""
+from __future__ import annotations
+
+from script_lines import SETTINGS
+from script_model import Life, Machine
+
+KINDS = {"n": "node", "f": "factory", "p": "publisher", "s": "subscriber", "l": "loan", "m": "sample"}
+
+
+class Watched:
+    """A plain model of which all that was ever made keeps its name, also what has ended."""
+
+    def __init__(self):
+        self.machine = Machine()
+        self.all = {letter: [] for letter in KINDS}
+        self.names = {}
+
+    def answer(self, line: bytes) -> str:
+        reply = self.machine.answer(line)
+        for letter, made in self.machine.made.items():
+            for value in made[len(self.all[letter]) :]:
+                self.all[letter].append(value)
+                self.names[id(value)] = f"{letter}{len(self.all[letter])}"
+        return reply
+
+    def name(self, value) -> str:
+        """What something goes by, and whether it has ended."""
+        return self.names.get(id(value), "?")
+
+    def living(self, letter: str) -> list[tuple[str, object]]:
+        return [(f"{letter}{at}", it) for at, it in enumerate(self.machine.made[letter], 1) if it is not None]
+
+
+def text_of(name: bytes) -> str:
+    return name.decode("latin-1")
+
+
+def node_name(node) -> str:
+    return f"{node[0]}{node[1]}"
+
+
+def service_name(factory) -> str:
+    return f"{factory.service[0]} {text_of(factory.service[1])}"
+
+
+def setting(value) -> str:
+    return "off" if value is None else str(int(value))
+
+
+def services(watched: Watched) -> list[dict]:
+    """Each service with its settings, who is in, and the factories by which the script has it open."""
+    factories = watched.living("f")
+    found = []
+    for (pattern, name), phase in watched.machine.names.phases.items():
+        told = {"pattern": pattern, "name": text_of(name)}
+        if isinstance(phase, Life):
+            told["phase"] = f"emptied by {node_name(phase.emptied_by)}" if phase.emptied_by else "open"
+            told["settings"] = {key: setting(phase.agreed[key]) for key, *_ in SETTINGS[pattern]}
+            told["attributes"] = [f"{text_of(key)}={text_of(value)}" for key, value in phase.attributes]
+            told["nodes"] = [node_name(it) for it, _ in phase.nodes]
+            told["factories"] = [own for own, it in factories if it.life is phase]
+        elif phase is not None:
+            told["phase"] = f"being created by {node_name(phase)}"
+        found.append(told)
+    return found
+
+
+def publishers(watched: Watched) -> list[dict]:
+    found = []
+    for name, it in watched.living("p"):
+        waits_for = watched.name(it.blocked.left[0].subscriber) if it.blocked and it.blocked.left else None
+        found.append(
+            {
+                "name": name,
+                "factory": watched.name(it.factory),
+                "service": service_name(it.factory),
+                "slots": it.slots,
+                "used": len(it.in_use()),
+                "history": [list(message.values) for message in it.history],
+                "loans": [watched.name(loan) for loan in it.loans if id(loan) in watched.names],
+                "blocked": waits_for,
+            }
+        )
+    return found
+
+
+def mailboxes(watched: Watched, subscriber) -> list[dict]:
+    """What waits for a subscriber, and what it holds, by the publisher that it is of."""
+    held = {id(it.message): name for name, it in watched.living("m")}
+    known = [it for it in subscriber.domain.connections if it.subscriber is subscriber]
+    known += [it for it in subscriber.keys.values() if all(it is not other for other in known)]
+    return [
+        {
+            "publisher": watched.name(it.publisher),
+            "left": it.publisher.has_left,
+            "attached": it.is_attached,
+            "waiting": [list(message.values) for message in it.waiting],
+            "held": [held.get(id(message), "m?") for message in it.borrowed],
+        }
+        for it in known
+    ]
+
+
+def subscribers(watched: Watched) -> list[dict]:
+    return [
+        {
+            "name": name,
+            "factory": watched.name(it.factory),
+            "service": service_name(it.factory),
+            "buffer": it.buffer,
+            "borrowed": it.most_borrowed,
+            "mailboxes": mailboxes(watched, it),
+        }
+        for name, it in watched.living("s")
+    ]
+
+
+def snapshot(watched: Watched) -> dict:
+    """All that lives, as plain values."""
+    return {
+        "nodes": [name for name, _ in watched.living("n")],
+        "services": services(watched),
+        "factories": [{"name": name, "node": node_name(it.node), "service": service_name(it)} for name, it in watched.living("f")],
+        "publishers": publishers(watched),
+        "subscribers": subscribers(watched),
+        "loans": [
+            {
+                "name": name,
+                "publisher": watched.name(it.message.publisher),
+                "length": it.length,
+                "values": None if it.message.values is None else list(it.message.values),
+            }
+            for name, it in watched.living("l")
+        ],
+        "samples": [
+            {
+                "name": name,
+                "subscriber": watched.name(it.connection.subscriber),
+                "publisher": watched.name(it.message.publisher),
+                "values": list(it.message.values),
+            }
+            for name, it in watched.living("m")
+        ],
+    }
+
+
+def values_shown(values: list[int] | None, most: int = 8) -> str:
+    if values is None:
+        return "not written"
+    return f"[{' '.join(map(str, values[:most]))}{' ..' if len(values) > most else ''}]"
+
+
+def mailbox_told(box: dict, buffer: int) -> str:
+    waiting = " ".join(map(values_shown, box["waiting"])) or "nothing"
+    who = f"{box['publisher']}{', which left' if box['left'] else ''}"
+    held = f", holds {' '.join(box['held'])}" if box["held"] else ""
+    return f"from {who}: {waiting} waits ({len(box['waiting'])} of {buffer}){held}"
+
+
+def service_told(it: dict) -> list[str]:
+    told = [f"{it['pattern']} {it['name']}: {it['phase']}"]
+    if "settings" in it:
+        told[0] += f"; nodes {' '.join(it['nodes']) or 'none'}; factories {' '.join(it['factories']) or 'none here'}"
+        told.append("  " + " ".join(f"{key}={value}" for key, value in it["settings"].items()))
+        told += [f"  @{pair}" for pair in it["attributes"]]
+    return told
+
+
+def publisher_told(it: dict) -> str:
+    parts = [f"{it['name']} of {it['factory']}, {it['service']}: {it['used']} of {it['slots']} slots in use"]
+    if it["history"]:
+        parts.append(f"history {' '.join(map(values_shown, it['history']))}")
+    if it["loans"]:
+        parts.append(f"loans {' '.join(it['loans'])}")
+    if it["blocked"]:
+        parts.append(f"waits at the full mailbox of {it['blocked']}")
+    return "; ".join(parts)
+
+
+def told(state: dict) -> str:
+    """A snapshot in lines, for a person."""
+    lines = [f"nodes: {' '.join(state['nodes']) or 'none'}"]
+    for it in state["services"]:
+        lines += service_told(it)
+    lines += [publisher_told(it) for it in state["publishers"]]
+    for it in state["subscribers"]:
+        lines.append(f"{it['name']} of {it['factory']}, {it['service']}: room for {it['buffer']} in each mailbox")
+        lines += [f"  {mailbox_told(box, it['buffer'])}" for box in it["mailboxes"]]
+    lines += [f"{it['name']} of {it['publisher']}: {values_shown(it['values'])}" for it in state["loans"]]
+    lines += [f"{it['name']} at {it['subscriber']}, of {it['publisher']}: {values_shown(it['values'])}" for it in state["samples"]]
+    return "\n".join(lines)

@@ -1,0 +1,197 @@
+"""What became of each message of a conversation, as the plain model has it: who sent it, who received it, where it was lost."""
+from __future__ import annotations
+
+from dataclasses import dataclass, field
+from pathlib import Path
+
+from script_model import Life
+
+from tool.converse import Line
+from tool.progress import NO_INPUT, say, stop
+from tool.state import Watched, snapshot
+
+# A picture of more lines is no picture any more.
+MOST_ROWS = 2000
+
+
+@dataclass
+class Row:
+    number: int
+    line: str
+    reply: str
+    note: str = ""
+
+
+@dataclass
+class Lifeline:
+    """Something that lives, from the row that made it to the row that ended it."""
+
+    name: str
+    first: int
+    last: int | None = None
+
+
+@dataclass
+class Delivery:
+    """A message in the mailbox of one subscriber: by which row it came in, and by which it was received, released or lost."""
+
+    values: list[int]
+    sent: int
+    publisher: str
+    subscriber: str
+    arrived: int
+    received: int | None = None
+    released: int | None = None
+    lost: int | None = None
+    sample: str = ""
+
+
+@dataclass
+class Untaken:
+    """A message that no mailbox took when it was sent."""
+
+    values: list[int]
+    sent: int
+    publisher: str
+
+
+@dataclass
+class Conversation:
+    rows: list[Row] = field(default_factory=list)
+    lifelines: list[Lifeline] = field(default_factory=list)
+    deliveries: list[Delivery] = field(default_factory=list)
+    untaken: list[Untaken] = field(default_factory=list)
+    states: list[dict] = field(default_factory=list)
+    is_cut: bool = False
+
+
+class Trace:
+    """Follows a conversation line by line: the replies are those that came, what became of messages is the model's."""
+
+    def __init__(self):
+        self.watched, self.told = Watched(), Conversation()
+        # By the number of the object: each message that was sent with its row, each connection with what waits or is held there.
+        self.sent, self.links = {}, {}
+        self.living, self.under_way = {}, {}
+
+    def take(self, line: Line, reply: bytes):
+        from tool.notes import about, readable
+
+        if len(self.told.rows) == MOST_ROWS:
+            self.told.is_cut = True
+            return
+        row = len(self.told.rows)
+        answer = reply.decode("latin-1").rstrip("\n")
+        model = self.watched.answer(line.text)
+        note = self.watched.machine.reason or ""
+        if answer.startswith(("err faulty", "err line")):
+            note = "; ".join(it.text for it in about(line, reply, None))
+        if model != answer:
+            note = f"the plain model answers {model!r}"
+        self.told.rows.append(Row(line.number, readable(line.text), answer, note))
+        self.follow_lives(row)
+        self.follow_messages(row, answer)
+        self.told.states.append(snapshot(self.watched))
+
+    def follow_lives(self, row: int):
+        for letter in "nfpsl":
+            now = dict(self.watched.living(letter))
+            for name in now:
+                if name not in self.living:
+                    self.living[name] = Lifeline(name, row)
+                    self.told.lifelines.append(self.living[name])
+            for name, life in self.living.items():
+                if name[0] == letter and name not in now and life.last is None:
+                    life.last = row
+
+    def connections(self):
+        """All connections that there are: those of services, of ports, and of samples that are held."""
+        lives = [it for it in self.watched.machine.names.phases.values() if isinstance(it, Life)]
+        lives += [it.life for _, it in self.watched.living("f")]
+        found = [link for life in lives if life.domain for link in life.domain.connections]
+        found += [link for _, it in self.watched.living("p") for link in it.links.values()]
+        found += [link for _, it in self.watched.living("s") for link in it.keys.values()]
+        found += [it.connection for _, it in self.watched.living("m")]
+        return {id(it): it for it in found}
+
+    def follow_messages(self, row: int, reply: str):
+        line = self.told.rows[row].line
+        is_sent = reply.startswith(("ok", "blocked", "err SendError::UnableToDeliver"))
+        if line.startswith(("put ", "send ")) and is_sent:
+            self.note_origin(row, line)
+        samples = {id(it.message): name for name, it in self.watched.living("m")}
+        now = self.connections()
+        for key, link in now.items():
+            self.links.setdefault(key, (link, {}))
+        for key, (link, there) in self.links.items():
+            waiting = {id(it): it for it in link.waiting} if key in now else {}
+            held = {id(it) for it in link.borrowed}
+            for each in waiting.keys() - there.keys():
+                there[each] = self.delivery(link, waiting[each], row)
+            for each, it in list(there.items()):
+                self.follow(it, each in waiting, each in held, samples.get(each, ""), row)
+                if it.released is not None or it.lost is not None:
+                    del there[each]
+        if line.startswith(("put ", "send ", "retry ", "giveup ")) and is_sent and reply != "blocked":
+            self.note_untaken(row, line)
+
+    def delivery(self, link, message, row: int) -> Delivery:
+        origin = self.sent.setdefault(id(message), (row, message))[0]
+        made = Delivery(list(message.values), origin, self.watched.name(link.publisher), self.watched.name(link.subscriber), row)
+        self.told.deliveries.append(made)
+        return made
+
+    def follow(self, it: Delivery, is_waiting: bool, is_held: bool, sample: str, row: int):
+        if it.received is None and is_held:
+            it.received, it.sample = row, sample
+        elif it.received is not None and not is_held:
+            it.released = row
+        elif it.received is None and not is_waiting:
+            it.lost = row
+
+    def sender(self, line: str):
+        """The publisher of a line that sends, goes on or gives up."""
+        name = line.split(" ")[1]
+        return self.watched.all["p"][int(name[1:]) - 1] if name[0] == "p" else self.watched.all["l"][int(name[1:]) - 1].message.publisher
+
+    def note_origin(self, row: int, line: str):
+        """Keeps the row of what was just sent, where it is in a mailbox, in the history, or waits."""
+        publisher = self.sender(line)
+        for link in publisher.links.values():
+            for it in link.waiting[-1:]:
+                self.sent.setdefault(id(it), (row, it))
+        for it in publisher.history[-1:] + ([publisher.blocked.loan.message] if publisher.blocked else []):
+            self.sent.setdefault(id(it), (row, it))
+        self.under_way[id(publisher)] = row
+
+    def note_untaken(self, row: int, line: str):
+        """A send that ended and came into no mailbox; what is in the history may come there later."""
+        publisher = self.sender(line)
+        origin = self.under_way.get(id(publisher), row)
+        if any(it.sent == origin for it in self.told.deliveries):
+            return
+        words = self.told.rows[origin].line.split(" ")
+        values = [int(it) for it in words[2:]] if words[0] == "put" else list(self.watched.all["l"][int(words[1][1:]) - 1].message.values)
+        self.told.untaken.append(Untaken(values, origin, self.watched.name(publisher)))
+
+
+def write_picture(file: str, text: str):
+    try:
+        Path(file).write_text(text, encoding="utf-8")
+    except OSError as error:
+        stop(NO_INPUT, f"{file}: {error.strerror}")
+
+
+def write_pictures(trace: Trace, options):
+    """Writes the pictures that are asked for, and says where the conversation was too long for all of it."""
+    title = Path(options.file).name if options.file else "standard input"
+    if trace.told.is_cut:
+        say(f"the picture has the first {MOST_ROWS} lines")
+    if options.svg:
+        from tool.draw import svg
+
+        write_picture(options.svg, svg(trace.told, title))
+    if options.html:
+        from tool.page import html
+
+        write_picture(options.html, html(trace.told, title))
