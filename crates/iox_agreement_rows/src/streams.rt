@@ -1,4 +1,6 @@
 //! Readers and writers that give or take little at a time, or fail.
+ghost use Rattle.std.specs.Prelude.{◌+◌, ◌<◌, ◌^◌};
+
 use crate::echo::converse;
 use crate::tables::wanted;
 use iox_conversation::{Input, Output, READ_CALLS, ServeError};
@@ -266,8 +268,11 @@ fn is_left(alloc: Global) -> bool {
         newlines: READ_CALLS - 1_000,
         letters: 1_000,
     });
-    told_of_drips(alloc, &mut input) == (Err(ServeError::ReadFault), false, 1_047_576)
-        && input.calls() == READ_CALLS
+    let left = told_of_drips(alloc, &mut input);
+    if input.calls() != READ_CALLS {
+        return false;
+    }
+    left == (Err(ServeError::ReadFault), false, 1_047_576)
         && told_of_drips(alloc, &mut input) == (Ok(()), false, 0)
         && input.calls() == READ_CALLS + 1
 }
