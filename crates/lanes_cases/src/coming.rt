@@ -149,7 +149,11 @@ fn overriding(slots: Option<usize>) -> PreallocatedSamplesOverride {
 }
 
 // A publisher comes that is made so; its number.
-fn publishes<'a>(alloc: Global, domain: &mut Numbers, plan: &Plan) -> Result<Said<'a>, AllocError> {
+fn publishes(
+    alloc: Global,
+    domain: &mut Numbers,
+    plan: &Plan,
+) -> Result<Said<'static>, AllocError> {
     let by = handlers(alloc, plan)?;
     let slots = overriding(plan.slots);
     Ok(
@@ -161,21 +165,21 @@ fn publishes<'a>(alloc: Global, domain: &mut Numbers, plan: &Plan) -> Result<Sai
 }
 
 /// A publisher comes; its number.
-pub(crate) fn publisher<'a>(
+pub(crate) fn publisher(
     alloc: Global,
     domain: &mut Numbers,
     words: &mut SplitWhitespace<'_>,
-) -> Result<Said<'a>, AllocError> {
+) -> Result<Said<'static>, AllocError> {
     let plan = planned(words);
     publishes(alloc, domain, &plan)
 }
 
 /// So many plain publishers come; the number of the last one.
-pub(crate) fn publishers<'a>(
+pub(crate) fn publishers(
     alloc: Global,
     domain: &mut Numbers,
     count: u64,
-) -> Result<Said<'a>, AllocError> {
+) -> Result<Said<'static>, AllocError> {
     let mut last = Said::Nothing;
     for _ in 0..count {
         last = publishes(alloc, domain, &PLAIN)?;
@@ -183,12 +187,12 @@ pub(crate) fn publishers<'a>(
     Ok(last)
 }
 
-fn subscribes<'a>(
+fn subscribes(
     alloc: Global,
     domain: &mut Numbers,
     buffer_size: Option<u64>,
     by: DegradationHandler,
-) -> Said<'a> {
+) -> Said<'static> {
     let config = SubscriberConfig {
         owner: OWNER,
         buffer_size: buffer_size.map(|size| size as usize),
@@ -200,17 +204,17 @@ fn subscribes<'a>(
 }
 
 /// A subscriber comes, with a buffer of its own if one is named; its number.
-pub(crate) fn subscriber<'a>(
+pub(crate) fn subscriber(
     alloc: Global,
     domain: &mut Numbers,
     words: &mut SplitWhitespace<'_>,
-) -> Said<'a> {
+) -> Said<'static> {
     let by = DegradationHandler::Fixed(DegradationAction::DegradeAndFail);
     subscribes(alloc, domain, number_if(words), by)
 }
 
 /// So many subscribers come; the number of the last one.
-pub(crate) fn subscribers<'a>(alloc: Global, domain: &mut Numbers, count: u64) -> Said<'a> {
+pub(crate) fn subscribers(alloc: Global, domain: &mut Numbers, count: u64) -> Said<'static> {
     let mut last = Said::Nothing;
     for _ in 0..count {
         let by = DegradationHandler::Fixed(DegradationAction::DegradeAndFail);
@@ -220,7 +224,7 @@ pub(crate) fn subscribers<'a>(alloc: Global, domain: &mut Numbers, count: u64) -
 }
 
 /// A subscriber comes for which an object decides; its number.
-pub(crate) fn watcher<'a>(alloc: Global, domain: &mut Numbers) -> Result<Said<'a>, AllocError> {
+pub(crate) fn watcher(alloc: Global, domain: &mut Numbers) -> Result<Said<'static>, AllocError> {
     let by = DegradationHandler::boxed(Box::new(alloc, Quiet)?);
     Ok(subscribes(alloc, domain, None, by))
 }

@@ -24,13 +24,13 @@ pub(crate) const NONE_KEPT: Kept = Kept {
 };
 
 // Lends a slot for so many values and keeps it; what the loan answers if it gives none.
-fn lend<'a>(
+fn lend(
     alloc: Global,
     domain: &mut Numbers,
     kept: &mut Kept,
     publisher: u64,
     values: u64,
-) -> Option<Said<'a>> {
+) -> Option<Said<'static>> {
     match domain.loan(alloc, publisher, values as usize, values) {
         Some(Ok(slot)) => {
             kept.loan = slot;
@@ -42,7 +42,7 @@ fn lend<'a>(
 }
 
 // Sends the loan that is kept.
-fn send<'a>(alloc: Global, domain: &mut Numbers, kept: &Kept, publisher: u64) -> Said<'a> {
+fn send(alloc: Global, domain: &mut Numbers, kept: &Kept, publisher: u64) -> Said<'static> {
     match domain.send(alloc, publisher, kept.loan) {
         Some(Ok(sent)) => Said::Sent(sent),
         Some(Err(error)) => Said::Refused(error.text()),
@@ -50,13 +50,13 @@ fn send<'a>(alloc: Global, domain: &mut Numbers, kept: &Kept, publisher: u64) ->
     }
 }
 
-fn put<'a>(
+fn put(
     alloc: Global,
     domain: &mut Numbers,
     kept: &mut Kept,
     publisher: u64,
     value: u64,
-) -> Said<'a> {
+) -> Said<'static> {
     if let Some(said) = lend(alloc, domain, kept, publisher, 1) {
         return said;
     }
@@ -65,13 +65,13 @@ fn put<'a>(
 }
 
 // Puts so many values, from 0 on; what the last send came to.
-fn puts<'a>(
+fn puts(
     alloc: Global,
     domain: &mut Numbers,
     kept: &mut Kept,
     publisher: u64,
     count: u64,
-) -> Said<'a> {
+) -> Said<'static> {
     let mut last = Said::Nothing;
     for value in 0..count {
         last = put(alloc, domain, kept, publisher, value);
@@ -80,13 +80,13 @@ fn puts<'a>(
 }
 
 // Lends for so many values, each of them 5.
-fn loan<'a>(
+fn loan(
     alloc: Global,
     domain: &mut Numbers,
     kept: &mut Kept,
     publisher: u64,
     values: u64,
-) -> Said<'a> {
+) -> Said<'static> {
     if let Some(said) = lend(alloc, domain, kept, publisher, values) {
         return said;
     }
@@ -97,7 +97,7 @@ fn loan<'a>(
 }
 
 // The value of a sample.
-fn value<'a>(domain: &Numbers, sample: Taken) -> Said<'a> {
+fn value(domain: &Numbers, sample: Taken) -> Said<'static> {
     match domain.ports.payload(sample) {
         Some(values) => match values.first() {
             Some(value) => Said::Number(*value),
@@ -108,7 +108,7 @@ fn value<'a>(domain: &Numbers, sample: Taken) -> Said<'a> {
 }
 
 // Receives and keeps; the value that came.
-fn receive<'a>(alloc: Global, domain: &mut Numbers, kept: &mut Kept, subscriber: u64) -> Said<'a> {
+fn receive(alloc: Global, domain: &mut Numbers, kept: &mut Kept, subscriber: u64) -> Said<'static> {
     kept.sample = None;
     match domain.receive(alloc, subscriber) {
         Some(Ok(Some(sample))) => {
@@ -129,13 +129,13 @@ fn release(domain: &mut Numbers, kept: &Kept, subscriber: u64) -> bool {
 }
 
 // Receives and releases so many messages; the last one's value.
-fn takes<'a>(
+fn takes(
     alloc: Global,
     domain: &mut Numbers,
     kept: &mut Kept,
     subscriber: u64,
     count: u64,
-) -> Said<'a> {
+) -> Said<'static> {
     let mut last = Said::Nothing;
     for _ in 0..count {
         last = receive(alloc, domain, kept, subscriber);
@@ -147,7 +147,7 @@ fn takes<'a>(
 }
 
 // What following the others answers.
-fn followed<'a>(answer: Option<Result<(), ConnectionFailure>>) -> Said<'a> {
+fn followed(answer: Option<Result<(), ConnectionFailure>>) -> Said<'static> {
     match answer {
         Some(Ok(())) => Said::Done,
         Some(Err(error)) => Said::Refused(error.text()),
@@ -156,13 +156,13 @@ fn followed<'a>(answer: Option<Result<(), ConnectionFailure>>) -> Said<'a> {
 }
 
 // A line of the publisher of a number.
-fn publisher<'a>(
+fn publisher(
     alloc: Global,
     domain: &mut Numbers,
     kept: &mut Kept,
     port: u64,
     words: &mut SplitWhitespace<'_>,
-) -> Said<'a> {
+) -> Said<'static> {
     match word(words) {
         "put" => put(alloc, domain, kept, port, number(words)),
         "puts" => puts(alloc, domain, kept, port, number(words)),
@@ -176,13 +176,13 @@ fn publisher<'a>(
 }
 
 // A line of the subscriber of a number.
-fn subscriber<'a>(
+fn subscriber(
     alloc: Global,
     domain: &mut Numbers,
     kept: &mut Kept,
     port: u64,
     words: &mut SplitWhitespace<'_>,
-) -> Said<'a> {
+) -> Said<'static> {
     match word(words) {
         "take" => takes(alloc, domain, kept, port, 1),
         "takes" => takes(alloc, domain, kept, port, number(words)),
@@ -195,7 +195,7 @@ fn subscriber<'a>(
 }
 
 // Why the domain can't become lanes.
-fn reason<'a>(domain: &Numbers) -> Said<'a> {
+fn reason(domain: &Numbers) -> Said<'static> {
     match refusal(domain) {
         Some(error) => Said::Kept(error),
         None => Said::Nothing,
@@ -203,13 +203,13 @@ fn reason<'a>(domain: &Numbers) -> Said<'a> {
 }
 
 // A line of a port.
-fn by_port<'a>(
+fn by_port(
     alloc: Global,
     domain: &mut Numbers,
     kept: &mut Kept,
     first: &str,
     words: &mut SplitWhitespace<'_>,
-) -> Said<'a> {
+) -> Said<'static> {
     match party(first) {
         Some(Party::Publisher(port)) => publisher(alloc, domain, kept, port as u64, words),
         Some(Party::Subscriber(port)) => subscriber(alloc, domain, kept, port as u64, words),
@@ -218,13 +218,13 @@ fn by_port<'a>(
 }
 
 /// What a line of a domain answers.
-pub(crate) fn answer<'a>(
+pub(crate) fn answer(
     alloc: Global,
     domain: &mut Numbers,
     kept: &mut Kept,
     first: &str,
     words: &mut SplitWhitespace<'_>,
-) -> Result<Said<'a>, AllocError> {
+) -> Result<Said<'static>, AllocError> {
     match first {
         "publisher" => coming::publisher(alloc, domain, words),
         "subscriber" => Ok(coming::subscriber(alloc, domain, words)),

@@ -32,7 +32,7 @@ impl Ways {
     }
 }
 
-fn to_lanes<'a>(alloc: Global, ways: &mut Ways) -> Said<'a> {
+fn to_lanes(alloc: Global, ways: &mut Ways) -> Said<'static> {
     let Some(domain) = ways.domain.take() else {
         return Said::Unknown;
     };
@@ -48,7 +48,7 @@ fn to_lanes<'a>(alloc: Global, ways: &mut Ways) -> Said<'a> {
     }
 }
 
-fn to_domain<'a>(ways: &mut Ways) -> Said<'a> {
+fn to_domain(ways: &mut Ways) -> Said<'static> {
     let Some(opened) = ways.lanes.take() else {
         return Said::Unknown;
     };
@@ -64,7 +64,7 @@ fn to_domain<'a>(ways: &mut Ways) -> Said<'a> {
     }
 }
 
-fn to_threads<'a>(alloc: Global, ways: &mut Ways) -> Said<'a> {
+fn to_threads(alloc: Global, ways: &mut Ways) -> Said<'static> {
     let Some(opened) = ways.lanes.take() else {
         return Said::Unknown;
     };
@@ -81,7 +81,7 @@ fn to_threads<'a>(alloc: Global, ways: &mut Ways) -> Said<'a> {
 }
 
 // Ends these threads.
-fn ended<'a>(ways: &mut Ways, threads: DomainThreads<u64, u8>) -> Said<'a> {
+fn ended(ways: &mut Ways, threads: DomainThreads<u64, u8>) -> Said<'static> {
     let DomainThreads {
         board,
         publishers,
@@ -99,7 +99,7 @@ fn ended<'a>(ways: &mut Ways, threads: DomainThreads<u64, u8>) -> Said<'a> {
     }
 }
 
-fn end_all<'a>(ways: &mut Ways) -> Said<'a> {
+fn end_all(ways: &mut Ways) -> Said<'static> {
     match ways.threads.take() {
         Some(threads) => ended(ways, threads),
         None => Said::Unknown,
@@ -107,7 +107,7 @@ fn end_all<'a>(ways: &mut Ways) -> Said<'a> {
 }
 
 // Ends the threads without the last publisher, which stands among them again afterwards.
-fn end_but_one<'a>(ways: &mut Ways) -> Result<Said<'a>, AllocError> {
+fn end_but_one(ways: &mut Ways) -> Result<Said<'static>, AllocError> {
     let Some(mut threads) = ways.threads.take() else {
         return Ok(Said::Unknown);
     };
@@ -122,7 +122,7 @@ fn end_but_one<'a>(ways: &mut Ways) -> Result<Said<'a>, AllocError> {
 }
 
 // What a publisher in threads answers to a value that it is to send, with user header 6.
-fn put<'a>(port: &mut LanePublisher, value: u64) -> Said<'a> {
+fn put(port: &mut LanePublisher, value: u64) -> Said<'static> {
     let loan = match port.loan_uninit() {
         Some(LoanAnswer::Slot(loan)) => loan,
         Some(answer) => return Said::Ended(Answer::Lent(answer)),
@@ -138,16 +138,19 @@ fn put<'a>(port: &mut LanePublisher, value: u64) -> Said<'a> {
 }
 
 // A line of the ports in threads: a publisher, by its place, puts a value.
-fn in_threads<'a>(
+fn in_threads(
     threads: &mut DomainThreads<u64, u8>,
     first: &str,
     words: &mut SplitWhitespace<'_>,
-) -> Said<'a> {
+) -> Said<'static> {
     let Some(Party::Publisher(place)) = party(first) else {
         return Said::Unknown;
     };
-    match (word(words), threads.publishers.get_mut(place)) {
-        ("put", Some(port)) => put(port, number(words)),
+    let Some(port) = threads.publishers.get_mut(place) else {
+        return Said::Unknown;
+    };
+    match word(words) {
+        "put" => put(port, number(words)),
         _ => Said::Unknown,
     }
 }
