@@ -12,10 +12,9 @@ mod ways;
 mod words;
 
 use iox_lanes_machine::Lanes;
-use service::Numbers;
 use std::alloc::Global;
 use std::io;
-use std::str::Lines;
+use std::str::{Lines, SplitWhitespace};
 use ways::Ways;
 use words::word;
 
@@ -30,9 +29,13 @@ fn serve_lanes(rt: &HostRuntime, mut lanes: Lanes, lines: Lines<'_>) -> io::Resu
     Ok(())
 }
 
-// Each line of a domain and of what it becomes, with its answer.
-fn serve_domain(rt: &HostRuntime, domain: Numbers, lines: Lines<'_>) -> io::Result<()> {
-    let mut ways = Ways::new(domain);
+// Each line of a domain, of which these words ask, and of what it becomes, with its answer.
+fn serve_domain(
+    rt: &HostRuntime,
+    asked: &mut SplitWhitespace<'_>,
+    lines: Lines<'_>,
+) -> io::Result<()> {
+    let mut ways = Ways::new(service::domain(rt.alloc(), asked)?);
     for line in lines {
         let mut words = line.split_whitespace();
         let answer = ways::answer(rt.alloc(), &mut ways, &mut words)?;
@@ -53,7 +56,7 @@ fn serve(rt: &HostRuntime, alloc: Global, block: &str) -> io::Result<()> {
             Some(lanes) => serve_lanes(rt, lanes, lines),
             None => Ok(()),
         },
-        "domain" => serve_domain(rt, service::domain(alloc, &mut words)?, lines),
+        "domain" => serve_domain(rt, &mut words, lines),
         _ => Ok(()),
     }
 }
