@@ -1,10 +1,9 @@
 //! Queues and bit sets: plain, shared among threads, and one word at a time.
 //!
 //! - [`shared`]: queues and single values that threads share, over atomics.
-//! - The plain forms come from `iox_queues_base`, the vocabulary of steps from `iox_queues_steps`, the
-//!   ends of the two rings from `iox_queues_overflowing` and `iox_queues_refusing` (here
-//!   [`overflowing`] and [`refusing`]), either of them and their machine from `iox_queues_rings` (here
-//!   [`rings`]), steps of bit sets from `iox_queues_bits` (here [`sets`]).
+//! - The plain forms come from `iox_queues_base`, the vocabulary of steps from `iox_queues_steps`, rings
+//!   and their machine from `iox_queues_rings` (here [`rings`], with the ends of each kind in
+//!   [`overflowing`] and [`refusing`]), and steps of bit sets from `iox_queues_bits` (here [`sets`]).
 //!
 //! A first call:
 //!
