@@ -179,20 +179,21 @@ fn a_shared_value_is_the_last_one_stored(rt: HostRuntime) -> Result<(), Fail> {
     Ok(hold(&rt, &answers)?)
 }
 
-/// Whether the producer is handed out once at a time.
+/// Whether the producer is handed out once at a time, also when a consumer was let go.
 fn producer_is_taken_once(shared: &Shared<IndexQueue>) -> bool {
     let first = shared.acquire_producer();
+    drop(shared.acquire_consumer());
     let once = first.is_some() && shared.acquire_producer().is_none();
     drop(first);
     let second = shared.acquire_producer();
     once && second.is_some() && shared.acquire_producer().is_none()
 }
 
-/// Whether the consumer is, and beside a producer.
+/// Whether the consumer is, beside a producer and when one was let go.
 fn consumer_is_taken_once(shared: &Shared<IndexQueue>) -> bool {
     let first = shared.acquire_consumer();
-    let once = first.is_some() && shared.acquire_consumer().is_none();
     let beside = shared.acquire_producer().is_some();
+    let once = first.is_some() && shared.acquire_consumer().is_none();
     drop(first);
     let second = shared.acquire_consumer();
     once && beside && second.is_some() && shared.acquire_consumer().is_none()
