@@ -1,9 +1,11 @@
 //! Each shared call by one thread through each answer that it can give, at each size; and who may hold an end.
+ghost use Rattle.std.specs.Prelude.{◌<◌, ◌^◌, [], ◌∷◌, slice_index, refl};
+
 use crate::answers::hold;
 use crate::ends::{Numbers, ends, shared};
 use iox_queues::{
     Consumer, FixedSizeIndexQueue, FixedSizeSafelyOverflowingIndexQueue, IndexQueue, Producer,
-    Queue, SafelyOverflowingIndexQueue, Share, Shared, UnrestrictedAtomic,
+    Queue, SafelyOverflowingIndexQueue, Share, Shared, UnrestrictedAtomic, Words,
 };
 use std::alloc::{AllocError, Global};
 use std::test::Fail;
@@ -173,9 +175,63 @@ fn loads(alloc: Global) -> Result<bool, AllocError> {
     }
 }
 
+/// A number that is the last of three words.
+#[derive(Clone, Copy)]
+struct Third {
+    number: u64,
+}
+
+impl Words for Third {
+    ghost parts = { λ x. 0 ∷ 0 ∷ x.number ∷ [] };
+
+    ghost of_parts = { λ ws. record { number = slice_index ws 2 } };
+
+    ghost is_value = { λ x. x.number < 2 ^ 64 };
+
+    const WORDS: usize = 3;
+
+    ghost WORDS = { 3 };
+
+    fn word(&self, i: usize) -> u64 {
+        let number = self.number;
+        match i {
+            0 => 0,
+            1 => 0,
+            2 => number,
+            _ => 0,
+        }
+    }
+
+    fn of_words(words: &[u64]) -> Third {
+        Third { number: words[2] }
+    }
+
+    fn gives_back(&self) {
+        let _number = self.number;
+    }
+
+    ghost as_many = { λ x. refl };
+
+    ghost given_back = { λ x h. refl };
+}
+
+/// Whether a value of three words is loaded with the last of them.
+fn loads_all_words(alloc: Global) -> Result<bool, AllocError> {
+    match UnrestrictedAtomic::new(Third { number: 7 }).share(alloc) {
+        Ok(shared) => Ok(matches!(shared.load(), Some(Third { number: 7 }))),
+        Err(_) => Err(AllocError),
+    }
+}
+
 #[test]
 fn a_shared_value_is_the_last_one_stored(rt: HostRuntime) -> Result<(), Fail> {
-    let answers = [stores(rt.alloc()), loads(rt.alloc()), counts(rt.alloc())];
+    let alloc: Global = rt.alloc();
+    let answers = [
+        stores(alloc),
+        loads(alloc),
+        loads_all_words(alloc),
+        counts(alloc),
+    ];
     Ok(hold(&rt, &answers)?)
 }
 
