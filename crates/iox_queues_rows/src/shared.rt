@@ -3,11 +3,13 @@ ghost use Rattle.std.specs.Prelude.{◌<◌, ◌^◌, [], ◌∷◌, slice_index
 
 use crate::answers::hold;
 use crate::ends::{Numbers, ends, shared};
+use iox_queues::shared::Shareable;
 use iox_queues::{
     Consumer, FixedSizeIndexQueue, FixedSizeSafelyOverflowingIndexQueue, IndexQueue, Producer,
     Queue, SafelyOverflowingIndexQueue, Share, Shared, UnrestrictedAtomic, Words,
 };
 use std::alloc::{AllocError, Global};
+use std::sync::atomic::AtomicU64;
 use std::test::Fail;
 
 /// What a queue with room for so many numbers, all rising from 0, doesn't keep as it is given one more.
@@ -223,6 +225,38 @@ fn loads_all_words(alloc: Global) -> Result<bool, AllocError> {
     }
 }
 
+/// A form whose values have more words than can be shared.
+#[derive(Drop)]
+struct TooWide;
+
+impl Shareable for TooWide {
+    ghost room = { λ _. 1 };
+
+    fn width(&self) -> Option<usize> {
+        None
+    }
+
+    fn cells(&self) -> usize {
+        1
+    }
+
+    fn limit(&self) -> u64 {
+        1
+    }
+
+    fn pour(&mut self, _cell: &[AtomicU64]) -> bool {
+        true
+    }
+}
+
+/// Whether it is refused.
+fn is_too_wide(alloc: Global) -> Result<bool, AllocError> {
+    match TooWide.share(alloc) {
+        Ok(_) => Ok(false),
+        Err(_) => Ok(true),
+    }
+}
+
 #[test]
 fn a_shared_value_is_the_last_one_stored(rt: HostRuntime) -> Result<(), Fail> {
     let alloc: Global = rt.alloc();
@@ -230,6 +264,7 @@ fn a_shared_value_is_the_last_one_stored(rt: HostRuntime) -> Result<(), Fail> {
         stores(alloc),
         loads(alloc),
         loads_all_words(alloc),
+        is_too_wide(alloc),
         counts(alloc),
     ];
     Ok(hold(&rt, &answers)?)
