@@ -69,26 +69,43 @@ fn is_at(set: &SharedIndexSet, borrowed_indices: u32, aba: u16, head: u32) -> bo
 /// The word behind the last index that is free.
 const END: u32 = (1 << 24) - 1;
 
-/// Whether a set of three, of which index 1 was released and index 0 is held, counts each change, and no refusal; and hands out the last
-/// index released.
+/// Whether index 2 comes next each time, until the number of changes has gone round.
+fn goes_round(set: &SharedIndexSet) -> bool {
+    for _ in 0..1 << 15 {
+        if next(set) != Ok(2) {
+            return false;
+        }
+    }
+    true
+}
+
+/// Whether a set of three, of which index 0 is held and 1, then 2 were released, counts each change, and no refusal; and hands out the
+/// last index released.
 fn counts_its_changes(set: &SharedIndexSet) -> Result<bool, UniqueIndexSetAcquireFailure> {
-    let before = is_at(set, 1, 0, 1);
+    let before = is_at(set, 1, 0, 2);
     let first = set.acquire()?;
     let second = set.acquire()?;
-    let acquired = first.value() == 1 && second.value() == 2 && is_at(set, 3, 2, END);
+    let acquired = first.value() == 2 && second.value() == 1 && is_at(set, 3, 2, END);
     let refused = next(set) == Err(NONE_LEFT) && is_at(set, 3, 2, END);
     drop(first);
-    let released = is_at(set, 2, 3, 1) && next(set) == Ok(1) && is_at(set, 2, 5, 1);
+    let released = is_at(set, 2, 3, 2) && goes_round(set) && is_at(set, 2, 3, 2);
     drop(second);
-    Ok(before && acquired && refused && released && is_at(set, 1, 6, 2))
+    Ok(before && acquired && refused && released && is_at(set, 1, 4, 1))
+}
+
+fn release(set: &mut UniqueIndexSet, index: usize) {
+    if set.is_held(index) {
+        let _ = set.release_raw_index(index, ReleaseMode::Default);
+    }
 }
 
 fn changes(alloc: Global) -> Result<bool, AllocError> {
     let mut set = UniqueIndexSet::new(alloc, 3)?;
-    let _ = (set.acquire_raw_index(), set.acquire_raw_index());
-    if set.is_held(1) {
-        let _ = set.release_raw_index(1, ReleaseMode::Default);
+    for _ in 0..3 {
+        let _ = set.acquire_raw_index();
     }
+    release(&mut set, 1);
+    release(&mut set, 2);
     match set.share(alloc) {
         Ok(shared) => Ok(counts_its_changes(&shared) == Ok(true)),
         Err(_) => Err(AllocError),

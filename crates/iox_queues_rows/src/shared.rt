@@ -1,11 +1,15 @@
 //! Each shared call by one thread through each answer that it can give, at each size; and who may hold an end.
+ghost use Rattle.std.specs.Prelude.{◌<◌, ◌^◌, [], ◌∷◌, slice_index, refl};
+
 use crate::answers::hold;
 use crate::ends::{Numbers, ends, shared};
+use iox_queues::shared::Shareable;
 use iox_queues::{
     Consumer, FixedSizeIndexQueue, FixedSizeSafelyOverflowingIndexQueue, IndexQueue, Producer,
-    Queue, SafelyOverflowingIndexQueue, Share, Shared, UnrestrictedAtomic,
+    Queue, SafelyOverflowingIndexQueue, Share, Shared, UnrestrictedAtomic, Words,
 };
 use std::alloc::{AllocError, Global};
+use std::sync::atomic::AtomicU64;
 use std::test::Fail;
 
 /// What a queue with room for so many numbers, all rising from 0, doesn't keep as it is given one more.
@@ -173,26 +177,114 @@ fn loads(alloc: Global) -> Result<bool, AllocError> {
     }
 }
 
+/// A number that is the last of three words.
+#[derive(Clone, Copy)]
+struct Third {
+    number: u64,
+}
+
+impl Words for Third {
+    ghost parts = { λ x. 0 ∷ 0 ∷ x.number ∷ [] };
+
+    ghost of_parts = { λ ws. record { number = slice_index ws 2 } };
+
+    ghost is_value = { λ x. x.number < 2 ^ 64 };
+
+    const WORDS: usize = 3;
+
+    ghost WORDS = { 3 };
+
+    fn word(&self, i: usize) -> u64 {
+        let number = self.number;
+        match i {
+            0 => 0,
+            1 => 0,
+            2 => number,
+            _ => 0,
+        }
+    }
+
+    fn of_words(words: &[u64]) -> Third {
+        Third { number: words[2] }
+    }
+
+    fn gives_back(&self) {
+        let _number = self.number;
+    }
+
+    ghost as_many = { λ x. refl };
+
+    ghost given_back = { λ x h. refl };
+}
+
+/// Whether a value of three words is loaded with the last of them.
+fn loads_all_words(alloc: Global) -> Result<bool, AllocError> {
+    match UnrestrictedAtomic::new(Third { number: 7 }).share(alloc) {
+        Ok(shared) => Ok(matches!(shared.load(), Some(Third { number: 7 }))),
+        Err(_) => Err(AllocError),
+    }
+}
+
+/// A form whose values have more words than can be shared.
+#[derive(Drop)]
+struct TooWide;
+
+impl Shareable for TooWide {
+    ghost room = { λ _. 1 };
+
+    fn width(&self) -> Option<usize> {
+        None
+    }
+
+    fn cells(&self) -> usize {
+        1
+    }
+
+    fn limit(&self) -> u64 {
+        1
+    }
+
+    fn pour(&mut self, _cell: &[AtomicU64]) -> bool {
+        true
+    }
+}
+
+/// Whether it is refused.
+fn is_too_wide(alloc: Global) -> Result<bool, AllocError> {
+    match TooWide.share(alloc) {
+        Ok(_) => Ok(false),
+        Err(_) => Ok(true),
+    }
+}
+
 #[test]
 fn a_shared_value_is_the_last_one_stored(rt: HostRuntime) -> Result<(), Fail> {
-    let answers = [stores(rt.alloc()), loads(rt.alloc()), counts(rt.alloc())];
+    let alloc: Global = rt.alloc();
+    let answers = [
+        stores(alloc),
+        loads(alloc),
+        loads_all_words(alloc),
+        is_too_wide(alloc),
+        counts(alloc),
+    ];
     Ok(hold(&rt, &answers)?)
 }
 
-/// Whether the producer is handed out once at a time.
+/// Whether the producer is handed out once at a time, also when a consumer was let go.
 fn producer_is_taken_once(shared: &Shared<IndexQueue>) -> bool {
     let first = shared.acquire_producer();
+    drop(shared.acquire_consumer());
     let once = first.is_some() && shared.acquire_producer().is_none();
     drop(first);
     let second = shared.acquire_producer();
     once && second.is_some() && shared.acquire_producer().is_none()
 }
 
-/// Whether the consumer is, and beside a producer.
+/// Whether the consumer is, beside a producer and when one was let go.
 fn consumer_is_taken_once(shared: &Shared<IndexQueue>) -> bool {
     let first = shared.acquire_consumer();
-    let once = first.is_some() && shared.acquire_consumer().is_none();
     let beside = shared.acquire_producer().is_some();
+    let once = first.is_some() && shared.acquire_consumer().is_none();
     drop(first);
     let second = shared.acquire_consumer();
     once && beside && second.is_some() && shared.acquire_consumer().is_none()

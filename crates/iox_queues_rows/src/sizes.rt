@@ -183,8 +183,12 @@ fn fixed_counting_set<const SIZE: usize>(alloc: Global) -> Result<usize, AllocEr
     Ok(FixedSizeCountingBitSet::<SIZE>::new(alloc)?.capacity())
 }
 
+/// The indices of a set, once it is shared.
 fn fixed_index_set<const SIZE: usize>(alloc: Global) -> Result<usize, AllocError> {
-    Ok(FixedSizeUniqueIndexSet::<SIZE>::new(alloc)?.capacity())
+    match FixedSizeUniqueIndexSet::<SIZE>::new(alloc)?.share(alloc) {
+        Ok(set) => Ok(set.capacity()),
+        Err(_) => Err(AllocError),
+    }
 }
 
 fn fixed_robust_set<const SIZE: usize>(alloc: Global) -> Result<usize, AllocError> {
