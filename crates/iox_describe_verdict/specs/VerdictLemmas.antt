@@ -5,7 +5,7 @@ use Rattle.std.specs.Prelude.{Contains, All}
 use Rattle.std.proofs.lemmas.Bool.{leb-true, le-leb}
 use Rattle.iox_describe_settings.specs.DescribeBase.declared.attribute.Attribute.{Attribute}
 use Rattle.iox_describe_settings.specs.DescribeBase.Attributes.{Required, has_pair, has_key, unmet_pair, unmet_lone_key, key_or, has_required, IsFewer}
-use Rattle.iox_describe_settings.specs.CompatibleLemmas.CompatibleLemmas.{compatible-chain}
+use Rattle.iox_describe_settings.specs.CompatibleLemmas.{compatible-chain}
 use Rattle.iox_describe_settings.specs.declared.setting.SettingValue.{SettingValue}
 use Rattle.iox_describe_settings.specs.declared.setting.SettingValue.TheVariants.{Switch, Number, OptionalNumber, Types}
 use Rattle.iox_describe_verdict.specs.Verdict.{unmet_clause, first_unmet, is_met, meets, AsksLess, IsAtMost}

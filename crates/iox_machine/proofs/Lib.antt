@@ -1,0 +1,9 @@
+mod Skipping
+mod Overflow
+mod Cases
+mod Lists
+mod Sound
+mod Moving
+mod Steps
+mod Runs
+mod Skips
