@@ -7,11 +7,13 @@ pub by-bool : (b : Bool) (A B : Type 0) → MatchBool b A B → ((b ≡ true) ×
 by-bool true A B m = inl (refl, m)
 by-bool false A B m = inr (refl, m)
 
-pub by-option : {V : Type 0} (o : Option V) (A : Type 0) (B : V → Type 0) → MatchOption o A B → ((o ≡ None) × A) ⊎ ((v : V) × (o ≡ Some v) × B v)
+pub by-option : {V : Type 0} (o : Option V) (A : Type 0) (B : V → Type 0) → MatchOption o A B → ((o ≡ None) × A) ⊎
+    ((v : V) × (o ≡ Some v) × B v)
 by-option None A B m = inl (refl, m)
 by-option (Some v) A B m = inr (v, refl, m)
 
-pub by-result : {V E : Type 0} (r : Result V E) (A : V → Type 0) (B : E → Type 0) → MatchResult r A B → ((v : V) × (r ≡ Ok v) × A v) ⊎ ((e : E) × (r ≡ Err e) × B e)
+pub by-result : {V E : Type 0} (r : Result V E) (A : V → Type 0) (B : E → Type 0) → MatchResult r A B → ((v : V) × (r ≡ Ok v) × A v) ⊎
+    ((e : E) × (r ≡ Err e) × B e)
 by-result (Ok v) A B m = inl (v, refl, m)
 by-result (Err e) A B m = inr (e, refl, m)
 

@@ -7,3 +7,4 @@ mod Moving
 mod Steps
 mod Runs
 mod Skips
+mod RefusedWhole

@@ -57,7 +57,8 @@ filter-fits test (x ∷ xs) = fits (test x) (filter-fits test xs)
     fits true h = omega arith
     fits false h = omega arith
 
-pub fold-keeps : {A X : Type 0} (P : A → Type 0) (f : A → X → A) → ((a : A) (x : X) → P a → P (f a x)) → (xs : List X) (a : A) → P a → P (fold f a xs)
+pub fold-keeps : {A X : Type 0} (P : A → Type 0) (f : A → X → A) → ((a : A) (x : X) → P a → P (f a x)) → (xs : List X) (a : A) → P a → P
+    (fold f a xs)
 fold-keeps P f on [] a p = p
 fold-keeps P f on (x ∷ xs) a p = fold-keeps P f on xs (f a x) (on a x p)
 
@@ -65,11 +66,13 @@ fold-keeps P f on (x ∷ xs) a p = fold-keeps P f on xs (f a x) (on a x p)
 
 module _ {V : Type 0} (P : ℕ → V → Type 0) where
   at-step : (b : Bool) (entry : ℕ × V) (number : ℕ) (more : Option (ℕ × V)) (v : V) → (b ≡ true → entry.0 ≡ number) → P entry.0 entry.1
-      → (option_map (λ (e : ℕ × V). e.1) more ≡ Some v → P number v) → option_map (λ (e : ℕ × V). e.1) (cond b (Some entry) more) ≡ Some v → P number v
+      → (option_map (λ (e : ℕ × V). e.1) more ≡ Some v → P number v) → option_map (λ (e : ℕ × V). e.1) (cond b (Some entry) more) ≡ Some v
+      → P number v
   at-step true entry number more v same p on e = subst (λ w. P number w) (same-some entry.1 v e) (subst (λ n. P n entry.1) (same refl) p)
   at-step false entry number more v same p on e = on e
 
-  pub all-at : (number : ℕ) (v : V) (table : List (ℕ × V)) → at number table ≡ Some v → AllByRecursion (λ entry. P entry.0 entry.1) table → P number v
+  pub all-at : (number : ℕ) (v : V) (table : List (ℕ × V)) → at number table ≡ Some v → AllByRecursion (λ entry. P entry.0 entry.1) table
+      → P number v
   all-at number v [] e all = never-some v e
   all-at number v (entry ∷ table) e all =
       at-step (entry.0 == number) entry number (find (λ other. other.0 == number) table) v (λ is. eqb-true entry.0 number is) all.0
@@ -83,4 +86,5 @@ module _ {V : Type 0} (P : ℕ → V → Type 0) where
   pub all-changed : (number : ℕ) (v : V) (table : List (ℕ × V)) → P number v → AllByRecursion (λ entry. P entry.0 entry.1) table
       → AllByRecursion (λ entry. P entry.0 entry.1) (changed number v table)
   all-changed number v [] is all = tt
-  all-changed number v (entry ∷ table) is all = (changed-step (entry.0 == number) entry number v is all.0, all-changed number v table is all.1)
+  all-changed number v (entry ∷ table) is all =
+      (changed-step (entry.0 == number) entry number v is all.0, all-changed number v table is all.1)

@@ -38,25 +38,40 @@ module _ {T : Type 0} where
   -- ---- one service
 
   -- A command does something at the first service that has what it names.
-  abbrev pub IsDone : {V : Type 0} → (Service T → Option V) → (V → Service T → Reply T → Service T → Type 0) → State T → Reply T → State T → Type 0
+  abbrev pub IsDone : {V : Type 0} → (Service T → Option V) → (V → Service T → Reply T → Service T → Type 0) → State T → Reply T → State T
+      → Type 0
   IsDone {V} found Does old answer new =
-      (service : Service T) × (one : V) × (after : Service T) × (find (λ (other : Service T). is_some (found other)) old.services ≡ Some service)
+      (service : Service T) × (one : V) × (after : Service T) ×
+      (find (λ (other : Service T). is_some (found other)) old.services ≡ Some service)
       × (found service ≡ Some one) × Does one service answer after
-      × (new ≡ record old { made = counted answer old.made; services = replaced (λ (other : Service T). is_some (found other)) after old.services })
+      × (new ≡ record old {
+        made = counted answer old.made;
+        services = replaced
+            (λ (other : Service T). is_some (found other)) after old.services;
+      })
 
-  pub at-one : {V : Type 0} (found : Service T → Option V) (Does : V → Service T → Reply T → Service T → Type 0) (old : State T) (answer : Reply T)
+  pub at-one : {V : Type 0} (found : Service T → Option V) (Does : V → Service T → Reply T → Service T → Type 0) (old : State T)
+      (answer : Reply T)
       (new : State T) → AtOne found Does old answer new → IsSkipped old answer new ⊎ IsDone found Does old answer new
   at-one found Does old answer new h =
       elim (by-option (find (λ (other : Service T). is_some (found other)) old.services) (IsSkipped old answer new)
       (λ service. (after : Service T) × MatchOption (found service) ⊥ (λ one. Does one service answer after)
-      × (new ≡ record old { made = counted answer old.made; services = replaced (λ (other : Service T). is_some (found other)) after old.services })) h) [
+      × (new ≡ record old {
+        made = counted answer old.made;
+        services = replaced
+            (λ (other : Service T). is_some (found other)) after old.services;
+      })) h) [
         | inl w ↦ inl w.1
         | inr w ↦ inr (does w.0 w.1 w.2.0 w.2.1 w.2.2)
       ]
     where
       does : (service : Service T) → find (λ (other : Service T). is_some (found other)) old.services ≡ Some service → (after : Service T)
           → MatchOption (found service) ⊥ (λ one. Does one service answer after)
-          → new ≡ record old { made = counted answer old.made; services = replaced (λ (other : Service T). is_some (found other)) after old.services }
+          → new ≡ record old {
+            made = counted answer old.made;
+            services = replaced
+                (λ (other : Service T). is_some (found other)) after old.services;
+          }
           → IsDone found Does old answer new
       does service first after did came =
           elim (by-option (found service) ⊥ (λ one. Does one service answer after) did) [
@@ -69,7 +84,8 @@ module _ {T : Type 0} where
   replaced-same has service [] first = never-some service first
   replaced-same has service (other ∷ more) first = same (has other) first (replaced-same has service more)
     where
-      same : (b : Bool) → cond b (Some other) (find has more) ≡ Some service → (find has more ≡ Some service → replaced has service more ≡ more)
+      same : (b : Bool) → cond b (Some other) (find has more) ≡ Some service →
+          (find has more ≡ Some service → replaced has service more ≡ more)
           → cond b (service ∷ more) (other ∷ replaced has service more) ≡ other ∷ more
       same true first on = ap (λ (it : Service T). it ∷ more) (sym (same-some other service first))
       same false first on = ap (λ (rest : List (Service T)). other ∷ rest) (on first)
@@ -90,7 +106,8 @@ module _ {T : Type 0} where
   skipped-made : (old : State T) (answer : Reply T) (new : State T) → IsSkipped old answer new → new.made ≡ counted answer old.made
   skipped-made old answer new h = ap (λ (state : State T). state.made) h.1 ∙ ap (λ (told : Reply T). counted told old.made) (sym h.0)
 
-  pub refused-made : (why : Refusal) (old : State T) (answer : Reply T) (new : State T) → IsRefused why old answer new → new.made ≡ counted answer old.made
+  pub refused-made : (why : Refusal) (old : State T) (answer : Reply T) (new : State T) → IsRefused why old answer new
+      → new.made ≡ counted answer old.made
   refused-made why old answer new h = ap (λ (state : State T). state.made) h.1 ∙ ap (λ (told : Reply T). counted told old.made) (sym h.0)
 
   -- All services are such after a step, and one value more was made if the reply tells one.
@@ -102,12 +119,14 @@ module _ {T : Type 0} where
   skipped-keeps Q old answer new h all =
       (subst (λ (state : State T). AllByRecursion Q state.services) (sym h.1) all, skipped-made old answer new h)
 
-  pub refused-keeps : (Q : Service T → Type 0) (why : Refusal) (old : State T) (answer : Reply T) (new : State T) → IsRefused why old answer new
+  pub refused-keeps : (Q : Service T → Type 0) (why : Refusal) (old : State T) (answer : Reply T) (new : State T)
+      → IsRefused why old answer new
       → AllByRecursion Q old.services → Keeps Q old answer new
   refused-keeps Q why old answer new h all =
       (subst (λ (state : State T). AllByRecursion Q state.services) (sym h.1) all, refused-made why old answer new h)
 
-  pub at-one-keeps : {V : Type 0} (P Q : Service T → Type 0) (found : Service T → Option V) (Does : V → Service T → Reply T → Service T → Type 0)
+  pub at-one-keeps : {V : Type 0} (P Q : Service T → Type 0) (found : Service T → Option V)
+      (Does : V → Service T → Reply T → Service T → Type 0)
       (old : State T) (answer : Reply T) (new : State T) → ((it : Service T) → P it → Q it)
       → ((one : V) (service after : Service T) → find (λ (other : Service T). is_some (found other)) old.services ≡ Some service
       → found service ≡ Some one → Does one service answer after → P service → Q after)
@@ -117,7 +136,8 @@ module _ {T : Type 0} where
         | inl w ↦ skipped-keeps Q old answer new w (all-weaker P Q weaker old.services all)
         | inr w ↦ (
           subst (λ (state : State T). AllByRecursion Q state.services) (sym w.6)
-              (replaced-keeps P Q (λ (other : Service T). is_some (found other)) w.0 w.2 old.services weaker (does w.1 w.0 w.2 w.3 w.4 w.5) w.3 all),
+              (replaced-keeps P Q (λ (other : Service T). is_some (found other)) w.0 w.2 old.services weaker
+              (does w.1 w.0 w.2 w.3 w.4 w.5) w.3 all),
           ap (λ (state : State T). state.made) w.6,
         )
       ]
@@ -142,7 +162,8 @@ module _ {T : Type 0} where
   entered factory phase lacking old answer new (inl (told, came)) = inr (inr (inr (phase, told, came)))
   entered factory phase lacking old answer new (inr refused) = inr (inr (inl (closed_by factory.node phase, lacking, refused)))
 
-  pub negotiated : {F : Type 0} (Calls : Call → Answer F → Call → Type 0) (told : F → Refusal) (lacking : Bool → F) (factory : Factory) (old : State T)
+  pub negotiated : {F : Type 0} (Calls : Call → Answer F → Call → Type 0) (told : F → Refusal) (lacking : Bool → F) (factory : Factory)
+      (old : State T)
       (answer : Reply T) (new : State T) → Negotiates Calls told lacking factory old answer new → IsNegotiated factory old answer new
   negotiated {F} Calls told lacking factory old answer new h =
       elim (by-bool (nat_le 1 factory.node && nat_le factory.node old.made.nodes)
@@ -168,31 +189,38 @@ module _ {T : Type 0} where
       calls (inr (Ok is_new, after, called, enters)) = entered factory after.phase (told (lacking is_new)) old answer new enters
       calls (inr (Err failure, after, called, refused)) = inr (inr (inl (after.phase, told failure, refused)))
 
-  module _ (types : MessageTypeDetails) (steps : List StepBefore) (factory : Factory) (old : State T) (answer : Reply T) (new : State T) where
-    pub creates : (named : ServiceOptions) (attributes : List Attribute) → CreatesService types steps factory named attributes old answer new
+  module _ (types : MessageTypeDetails) (steps : List StepBefore) (factory : Factory) (old : State T) (answer : Reply T)
+      (new : State T) where
+    pub creates : (named : ServiceOptions) (attributes : List Attribute)
+        → CreatesService types steps factory named attributes old answer new
         → IsNegotiated factory old answer new
     creates named attributes h =
-        negotiated (Creates types factory.pattern steps (Own factory.node) (record { settings = settings_of types named; attributes = attributes }))
+        negotiated (Creates types factory.pattern steps (Own factory.node)
+        (record { settings = settings_of types named; attributes = attributes }))
         (create_refusal named) (λ is_new. uncreated.OutOfMemory) factory old answer new h
 
     pub opens : (named : ServiceOptions) (required : Required) → OpensService types steps factory named required old answer new
         → IsNegotiated factory old answer new
     opens (options.PublishSubscribe named) required h =
         negotiated (Opens types factory.pattern steps (Own factory.node) (publish_subscribe_verdict types required named))
-        (λ failure. refusal.PublishSubscribeOpen (publish_subscribe.open_error failure)) (λ is_new. unopened.OutOfMemory) factory old answer new h
+        (λ failure. refusal.PublishSubscribeOpen (publish_subscribe.open_error failure))
+        (λ is_new. unopened.OutOfMemory) factory old answer new h
     opens (options.Event named) required h =
         negotiated (Opens types factory.pattern steps (Own factory.node) (event_verdict required named))
         (λ failure. refusal.EventOpen (event.open_error failure)) (λ is_new. unopened.OutOfMemory) factory old answer new h
     opens (options.RequestResponse named) required h =
         negotiated (Opens types factory.pattern steps (Own factory.node) (request_response_verdict types required named))
-        (λ failure. refusal.RequestResponseOpen (request_response.open_error failure)) (λ is_new. unopened.OutOfMemory) factory old answer new h
+        (λ failure. refusal.RequestResponseOpen (request_response.open_error failure))
+        (λ is_new. unopened.OutOfMemory) factory old answer new h
 
-    pub opens-or-creates : (named : ServiceOptions) (required : Required) → OpensOrCreatesService types steps factory named required old answer new
+    pub opens-or-creates : (named : ServiceOptions) (required : Required)
+        → OpensOrCreatesService types steps factory named required old answer new
         → IsNegotiated factory old answer new
     opens-or-creates (options.PublishSubscribe named) required h =
         negotiated (OpensOrCreates types factory.pattern steps (Own factory.node) (publish_subscribe_verdict types required named)
         (record { settings = settings_of types (options.PublishSubscribe named); attributes = required.pairs }))
-        (λ failure. refusal.PublishSubscribeOpenOrCreate (publish_subscribe.open_or_create_error failure)) either_lacking factory old answer new h
+        (λ failure. refusal.PublishSubscribeOpenOrCreate
+        (publish_subscribe.open_or_create_error failure)) either_lacking factory old answer new h
     opens-or-creates (options.Event named) required h =
         negotiated (OpensOrCreates types factory.pattern steps (Own factory.node) (event_verdict required named)
         (record { settings = settings_of types (options.Event named); attributes = required.pairs }))
@@ -200,7 +228,8 @@ module _ {T : Type 0} where
     opens-or-creates (options.RequestResponse named) required h =
         negotiated (OpensOrCreates types factory.pattern steps (Own factory.node) (request_response_verdict types required named)
         (record { settings = settings_of types (options.RequestResponse named); attributes = required.pairs }))
-        (λ failure. refusal.RequestResponseOpenOrCreate (request_response.open_or_create_error failure)) either_lacking factory old answer new h
+        (λ failure. refusal.RequestResponseOpenOrCreate
+        (request_response.open_or_create_error failure)) either_lacking factory old answer new h
 
   -- ---- services that begin
 
@@ -209,14 +238,16 @@ module _ {T : Type 0} where
   one-more P name c true services fresh all = all
   one-more P name c false services fresh all = all-joined P services (new_service name c ∷ []) all (fresh, tt)
 
-  pub open-keeps : (P : Service T → Type 0) (name : List ℕ) → ((c : StaticConfig) → P (new_service name c)) → (phase : Phase) (services : List (Service T))
+  pub open-keeps : (P : Service T → Type 0) (name : List ℕ) → ((c : StaticConfig) → P (new_service name c)) → (phase : Phase)
+      (services : List (Service T))
       → AllByRecursion P services → AllByRecursion P (with_open name phase services)
   open-keeps P name fresh (Absent lives) services all = all
   open-keeps P name fresh (BeingMade life by) services all = all
   open-keeps P name fresh (Published life agreed nodes) services all = opened agreed.settings
     where
       opened : (s : Settings) → AllByRecursion P (elim s [
-        | settings.PublishSubscribe c ↦ cond (list_any (λ (service : Service T). same_name service.name name) services) services (services ++ new_service name c ∷ [])
+        | settings.PublishSubscribe c ↦ cond (list_any (λ (service : Service T). same_name service.name name) services) services
+            (services ++ new_service name c ∷ [])
         | settings.Event c ↦ services
         | settings.RequestResponse c ↦ services
       ])
@@ -226,7 +257,8 @@ module _ {T : Type 0} where
       opened (settings.RequestResponse c) = all
   open-keeps P name fresh (Emptied life agreed by) services all = all
 
-  pub negotiated-keeps : (P : Service T → Type 0) (factory : Factory) → ((c : StaticConfig) → P (new_service factory.name c)) → (old : State T)
+  pub negotiated-keeps : (P : Service T → Type 0) (factory : Factory) → ((c : StaticConfig) → P (new_service factory.name c)) →
+      (old : State T)
       (answer : Reply T) (new : State T) → IsNegotiated factory old answer new → AllByRecursion P old.services → Keeps P old answer new
   negotiated-keeps P factory fresh old answer new (inl skipped) all = skipped-keeps P old answer new skipped all
   negotiated-keeps P factory fresh old answer new (inr (inl (why, refused))) all = refused-keeps P why old answer new refused all
@@ -250,15 +282,18 @@ module _ {T : Type 0} where
       IsSkipped old answer new
       ⊎ (IsRefused (refusal.Close StillInUse) old answer new
       ⊎ ((factory : Factory) × (at number old.factories ≡ Some factory)
-      × (list_any (λ (service : Service T). is_service_of factory service && is_used_by number service) old.services ≡ false) × (answer ≡ reply.Done)
+      × (list_any (λ (service : Service T). is_service_of factory service && is_used_by number service) old.services ≡ false) ×
+      (answer ≡ reply.Done)
       × (new ≡ record (with_phase factory.pattern factory.name (closed_by factory.node (old.phases factory.pattern factory.name)) old) {
         factories = removed number old.factories;
-        services = cond (list_any (λ (entry : ℕ × Factory). same_pattern entry.1.pattern factory.pattern && same_name entry.1.name factory.name)
+        services = cond (list_any (λ (entry : ℕ × Factory). same_pattern entry.1.pattern factory.pattern
+            && same_name entry.1.name factory.name)
             (removed number old.factories))
             old.services (filter (λ (service : Service T). not (is_service_of factory service)) old.services);
       })))
 
-  pub closed : (number : ℕ) (old : State T) (answer : Reply T) (new : State T) → Closes number old answer new → IsClosed number old answer new
+  pub closed : (number : ℕ) (old : State T) (answer : Reply T) (new : State T) → Closes number old answer new
+      → IsClosed number old answer new
   closed number old answer new h =
       elim (by-option (at number old.factories) (IsSkipped old answer new)
       (λ factory. MatchBool (list_any (λ (service : Service T). is_service_of factory service && is_used_by number service) old.services)
@@ -266,7 +301,8 @@ module _ {T : Type 0} where
       ((answer ≡ reply.Done)
       × (new ≡ record (with_phase factory.pattern factory.name (closed_by factory.node (old.phases factory.pattern factory.name)) old) {
         factories = removed number old.factories;
-        services = cond (list_any (λ (entry : ℕ × Factory). same_pattern entry.1.pattern factory.pattern && same_name entry.1.name factory.name)
+        services = cond (list_any (λ (entry : ℕ × Factory). same_pattern entry.1.pattern factory.pattern
+            && same_name entry.1.name factory.name)
             (removed number old.factories))
             old.services (filter (λ (service : Service T). not (is_service_of factory service)) old.services);
       }))) h) [
@@ -280,7 +316,8 @@ module _ {T : Type 0} where
           ((answer ≡ reply.Done)
           × (new ≡ record (with_phase factory.pattern factory.name (closed_by factory.node (old.phases factory.pattern factory.name)) old) {
             factories = removed number old.factories;
-            services = cond (list_any (λ (entry : ℕ × Factory). same_pattern entry.1.pattern factory.pattern && same_name entry.1.name factory.name)
+            services = cond (list_any (λ (entry : ℕ × Factory). same_pattern entry.1.pattern factory.pattern
+                && same_name entry.1.name factory.name)
                 (removed number old.factories))
                 old.services (filter (λ (service : Service T). not (is_service_of factory service)) old.services);
           }))
@@ -291,7 +328,8 @@ module _ {T : Type 0} where
           ((answer ≡ reply.Done)
           × (new ≡ record (with_phase factory.pattern factory.name (closed_by factory.node (old.phases factory.pattern factory.name)) old) {
             factories = removed number old.factories;
-            services = cond (list_any (λ (entry : ℕ × Factory). same_pattern entry.1.pattern factory.pattern && same_name entry.1.name factory.name)
+            services = cond (list_any (λ (entry : ℕ × Factory). same_pattern entry.1.pattern factory.pattern
+                && same_name entry.1.name factory.name)
                 (removed number old.factories))
                 old.services (filter (λ (service : Service T). not (is_service_of factory service)) old.services);
           })) h) [
@@ -299,7 +337,8 @@ module _ {T : Type 0} where
             | inr w ↦ inr (inr (factory, found, w.0, w.1.0, w.1.1))
           ]
 
-  pub closed-keeps : (P : Service T → Type 0) (number : ℕ) (old : State T) (answer : Reply T) (new : State T) → IsClosed number old answer new
+  pub closed-keeps : (P : Service T → Type 0) (number : ℕ) (old : State T) (answer : Reply T) (new : State T)
+      → IsClosed number old answer new
       → AllByRecursion P old.services → Keeps P old answer new
   closed-keeps P number old answer new (inl skipped) all = skipped-keeps P old answer new skipped all
   closed-keeps P number old answer new (inr (inl refused)) all = refused-keeps P (refusal.Close StillInUse) old answer new refused all

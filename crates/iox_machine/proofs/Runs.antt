@@ -110,7 +110,8 @@ module _ {T : Type 0} where
         ))
         service.publishers sound.1,
     sound.2,
-    all-weaker (λ (entry : ℕ × Sample T). SampleFits Good Fine entry.0 entry.1) (λ (entry : ℕ × Sample T). SampleFits Other Next entry.0 entry.1)
+    all-weaker (λ (entry : ℕ × Sample T). SampleFits Good Fine entry.0 entry.1)
+        (λ (entry : ℕ × Sample T). SampleFits Other Next entry.0 entry.1)
         (λ entry fits. (next entry.0 entry.1 fits.0, on entry.1.publisher entry.1.message fits.1)) service.samples sound.3,
   )
 
@@ -144,28 +145,33 @@ module _ {T : Type 0} where
     runs-sized [] old answers new run all = subst (AreSound AnyMessage AnySample) (sym run.1) all
     runs-sized (one ∷ more) old answers new run all =
         runs-sized more run.1 run.2 new run.4
-        (step-sound AnyMessage AnySample types IsDefault buffer one old run.0 run.1 (λ publisher message b. tt) (λ sample values told same. tt) run.3 all).0
+        (step-sound AnyMessage AnySample types IsDefault buffer one old run.0 run.1 (λ publisher message b. tt)
+        (λ sample values told same. tt) run.3 all).0
 
     -- ---- what was sent
 
     runs-sent : (Good : ℕ → Message T → Type 0) (asked : List (Command T)) (old : State T) (answers : List (Reply T)) (new : State T)
         (run : Ran asked old answers new) → AreSound Good AnySample old
-        → AreSound (λ publisher message. Good publisher message ⊎ Began types IsDefault buffer publisher message.values asked old answers new run)
+        → AreSound (λ publisher message. Good publisher message
+        ⊎ Began types IsDefault buffer publisher message.values asked old answers new run)
         AnySample new
     runs-sent Good [] old answers new run all =
         subst (AreSound (λ publisher message. Good publisher message ⊎ ⊥) AnySample) (sym run.1)
         (all-weaker-sound Good (λ publisher message. Good publisher message ⊎ ⊥) AnySample AnySample (λ publisher message good. inl good)
         (λ number sample fine. fine) old all)
     runs-sent Good (one ∷ more) old answers new run all =
-        let Next : ℕ → Message T → Type 0 = λ publisher message. Good publisher message ⊎ BeginsToSend publisher message.values one old run.0 in
+        let Next : ℕ → Message T → Type 0 = λ publisher message. Good publisher message
+        ⊎ BeginsToSend publisher message.values one old run.0 in
         let before : AreSound Next AnySample old =
         all-weaker-sound Good Next AnySample AnySample (λ publisher message good. inl good) (λ number sample fine. fine) old all in
         let mid : AreSound Next AnySample run.1 =
-        (step-sound Next AnySample types IsDefault buffer one old run.0 run.1 (λ publisher message begins. inr begins) (λ sample values told same. tt)
+        (step-sound Next AnySample types IsDefault buffer one old run.0 run.1 (λ publisher message begins. inr begins)
+        (λ sample values told same. tt)
         run.3 before).0 in
         all-weaker-sound
         (λ publisher message. Next publisher message ⊎ Began types IsDefault buffer publisher message.values more run.1 run.2 new run.4)
-        (λ publisher message. Good publisher message ⊎ Began types IsDefault buffer publisher message.values (one ∷ more) old answers new run)
+        (λ publisher message. Good publisher message ⊎ Began types IsDefault buffer publisher message.values
+        (one ∷ more) old answers new run)
         AnySample AnySample
         (λ publisher message it. elim it [
           | inl next ↦ elim next [ inl good ↦ inl good | inr begins ↦ inr (inl begins) ]
@@ -173,13 +179,15 @@ module _ {T : Type 0} where
         ])
         (λ number sample fine. fine) new (runs-sent Next more run.1 run.2 new run.4 mid)
 
-    abbrev Sent : (asked : List (Command T)) (answers : List (Reply T)) (new : State T) → Ran asked new_state answers new → ℕ → Message T → Type 0
+    abbrev Sent : (asked : List (Command T)) (answers : List (Reply T)) (new : State T) → Ran asked new_state answers new → ℕ → Message T
+        → Type 0
     Sent asked answers new run publisher message = Began types IsDefault buffer publisher message.values asked new_state answers new run
 
     sent-sound : (asked : List (Command T)) (answers : List (Reply T)) (new : State T) (run : Ran asked new_state answers new)
         → AreSound (Sent asked answers new run) AnySample new
     sent-sound asked answers new run =
-        all-weaker-sound (λ publisher message. ⊥ ⊎ Sent asked answers new run publisher message) (Sent asked answers new run) AnySample AnySample
+        all-weaker-sound (λ publisher message. ⊥ ⊎ Sent asked answers new run publisher message)
+        (Sent asked answers new run) AnySample AnySample
         (λ publisher message it. elim it [ inl never ↦ absurd never | inr began ↦ began ]) (λ number sample fine. fine) new
         (runs-sent (λ publisher message. ⊥) asked new_state answers new run tt)
 
@@ -190,20 +198,23 @@ module _ {T : Type 0} where
     IsTaken Good next sample values =
         (publisher : ℕ) × (message : Message T) × Good publisher message × (vec_items values ≡ message.values) × (sample ≡ next)
 
-    receives-good : (Good : ℕ → Message T → Type 0) (Fine : ℕ → Sample T → Type 0) (number next : ℕ) (subscriber : Subscriber) (old : Service T)
+    receives-good : (Good : ℕ → Message T → Type 0) (Fine : ℕ → Sample T → Type 0) (number next : ℕ) (subscriber : Subscriber)
+        (old : Service T)
         (sample : ℕ) (values : Vec T) (new : Service T) → Sound Good Fine old
         → Receives number next subscriber old (reply.Received sample values) new → IsTaken Good next sample values
     receives-good Good Fine number next subscriber old sample values new sound (None, is, (told, came)) =
         never-received sample values (has_samples number subscriber old) (refusal.Receive receive_error.ExceedsMaxBorrows) told
-    receives-good Good Fine number next subscriber old sample values new sound (Some publisher, is, (message, found, first, same, told, came)) = (
-      publisher,
-      message,
-      first-of (Good publisher) (mailbox publisher number old).waiting message first (box-fits Good Fine publisher number old sound).3,
-      ap (λ (answer : Reply T). vec_items (values_in answer values)) told ∙ same,
-      ap number_in told,
-    )
+    receives-good Good Fine number next subscriber old sample values new sound
+        (Some publisher, is, (message, found, first, same, told, came)) = (
+          publisher,
+          message,
+          first-of (Good publisher) (mailbox publisher number old).waiting message first (box-fits Good Fine publisher number old sound).3,
+          ap (λ (answer : Reply T). vec_items (values_in answer values)) told ∙ same,
+          ap number_in told,
+        )
 
-    received-good : (Good : ℕ → Message T → Type 0) (Fine : ℕ → Sample T → Type 0) (subscriber : ℕ) (old : State T) (sample : ℕ) (values : Vec T)
+    received-good : (Good : ℕ → Message T → Type 0) (Fine : ℕ → Sample T → Type 0) (subscriber : ℕ) (old : State T) (sample : ℕ)
+        (values : Vec T)
         (new : State T) → AreSound Good Fine old → Steps (command.Receive subscriber) old (reply.Received sample values) new
         → IsTaken Good (old.made.samples + 1) sample values
     received-good Good Fine subscriber old sample values new all h =
@@ -211,11 +222,13 @@ module _ {T : Type 0} where
         (subscribing.UpdatesFirst buffer subscriber (λ failure. refusal.Receive (receive_error.ConnectionFailure failure))
         (Receives subscriber (old.made.samples + 1))) old (reply.Received sample values) new h) [
           | inl w ↦ never-told (reply.Received sample values) reply.Skipped w.0 refl refl
-          | inr w ↦ taken w.0 w.1 w.2 (all-found (Sound Good Fine) (λ (other : Service T). is_some (subscriber_in subscriber other)) old.services w.0 w.3 all)
+          | inr w ↦ taken w.0 w.1 w.2 (all-found (Sound Good Fine)
+              (λ (other : Service T). is_some (subscriber_in subscriber other)) old.services w.0 w.3 all)
               w.4 w.5
         ]
       where
-        taken : (service : Service T) (one : Subscriber) (after : Service T) → Sound Good Fine service → subscriber_in subscriber service ≡ Some one
+        taken : (service : Service T) (one : Subscriber) (after : Service T) → Sound Good Fine service
+            → subscriber_in subscriber service ≡ Some one
             → subscribing.UpdatesFirst buffer subscriber (λ failure. refusal.Receive (receive_error.ConnectionFailure failure))
             (Receives subscriber (old.made.samples + 1)) one service (reply.Received sample values) after
             → IsTaken Good (old.made.samples + 1) sample values
@@ -228,15 +241,19 @@ module _ {T : Type 0} where
 
     -- ---- what is read
 
-    made-so : (asked : Command T) (old : State T) (answer : Reply T) (new : State T) → Steps asked old answer new → AreSound AnyMessage AnySample old
+    made-so : (asked : Command T) (old : State T) (answer : Reply T) (new : State T) → Steps asked old answer new
+        → AreSound AnyMessage AnySample old
         → new.made ≡ counted answer old.made
     made-so asked old answer new h all =
-        (step-sound AnyMessage AnySample types IsDefault buffer asked old answer new (λ publisher message b. tt) (λ sample values told same. tt) h all).1
+        (step-sound AnyMessage AnySample types IsDefault buffer asked old answer new (λ publisher message b. tt)
+        (λ sample values told same. tt) h all).1
 
     forgotten : (Fine : ℕ → Sample T → Type 0) (state : State T) → AreSound AnyMessage Fine state → AreSound AnyMessage AnySample state
-    forgotten Fine state all = all-weaker-sound AnyMessage AnyMessage Fine AnySample (λ publisher message good. tt) (λ number sample fine. tt) state all
+    forgotten Fine state all = all-weaker-sound AnyMessage AnyMessage Fine AnySample (λ publisher message good. tt)
+        (λ number sample fine. tt) state all
 
-    rises : (asked : Command T) (old : State T) (answer : Reply T) (new : State T) → Steps asked old answer new → AreSound AnyMessage AnySample old
+    rises : (asked : Command T) (old : State T) (answer : Reply T) (new : State T) → Steps asked old answer new
+        → AreSound AnyMessage AnySample old
         → old.made.samples ≤ new.made.samples
     rises asked old answer new h all =
         subst (λ (made : Made). old.made.samples ≤ made.samples) (sym (made-so asked old answer new h all)) (samples-rise answer old.made)
@@ -294,9 +311,11 @@ sizes-agreed {T} IsDefault types buffer asked answers new run =
     all-weaker (Sound AnyMessage AnySample) IsWithinSizes
     (λ (service : Service T) (sound : Sound AnyMessage AnySample service). (
       (λ publisher subscriber box e.
-          let fits : BoxFits AnyMessage AnySample publisher service.settings box = sound.0 publisher subscriber box e in (fits.0, fits.2, fits.1)),
+          let fits : BoxFits AnyMessage AnySample publisher service.settings box = sound.0 publisher subscriber box e in
+          (fits.0, fits.2, fits.1)),
       all-weaker (λ (entry : ℕ × Publisher T). PublisherFits AnyMessage AnySample service.settings entry.0 entry.1)
-          (λ (entry : ℕ × Publisher T). length entry.1.history ≤ service.settings.history_size) (λ entry fits. fits.0) service.publishers sound.1,
+          (λ (entry : ℕ × Publisher T). length entry.1.history ≤ service.settings.history_size)
+          (λ entry fits. fits.0) service.publishers sound.1,
       sound.2,
     ))
     new.services (runs-sized types IsDefault buffer asked new_state answers new run tt)
@@ -342,12 +361,14 @@ samples-read {T} IsDefault types buffer asked answers old run subscriber sample 
     let end : AreSound AnyMessage (Reads types IsDefault buffer sample values) later =
     runs-read types IsDefault buffer sample values meanwhile mid told later ran (within mid.made.samples made taken.4) after in
     elim (at-one (λ (service : Service T). at sample service.samples)
-    (λ (one : Sample T) (service : Service T) (answered : Reply T) (then_so : Service T). (found : Vec T) × (vec_items found ≡ one.message.values)
+    (λ (one : Sample T) (service : Service T) (answered : Reply T) (then_so : Service T). (found : Vec T) ×
+    (vec_items found ≡ one.message.values)
     × (answered ≡ reply.Values found) × (then_so ≡ service)) later (reply.Values read) new h) [
       | inl w ↦ never-told (reply.Values read) reply.Skipped w.0 refl refl
       | inr w ↦ ap (λ (answer : Reply T). vec_items (values_in answer read)) w.5.2 ∙ (w.5.1
           ∙ sym ((all-at (SampleFits AnyMessage (Reads types IsDefault buffer sample values)) sample w.1 w.0.samples w.4
-          (all-found (Sound AnyMessage (Reads types IsDefault buffer sample values)) (λ (other : Service T). is_some (at sample other.samples))
+          (all-found (Sound AnyMessage (Reads types IsDefault buffer sample values))
+          (λ (other : Service T). is_some (at sample other.samples))
           later.services w.0 w.3 end).3).0 refl))
     ]
   where

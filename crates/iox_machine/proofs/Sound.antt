@@ -51,14 +51,16 @@ standing-publisher (Some p) it e = elim (chosen p.stands (Some p) None (Some it)
   | inr w ↦ never-some it w.1
 ]
 
-standing-subscriber : (o : Option Subscriber) (it : Subscriber) → option_and_then (λ (s : Subscriber). cond s.stands (Some s) None) o ≡ Some it → o ≡ Some it
+standing-subscriber : (o : Option Subscriber) (it : Subscriber) → option_and_then
+    (λ (s : Subscriber). cond s.stands (Some s) None) o ≡ Some it → o ≡ Some it
 standing-subscriber None it e = never-some it e
 standing-subscriber (Some s) it e = elim (chosen s.stands (Some s) None (Some it) e) [
   | inl w ↦ w.1
   | inr w ↦ never-some it w.1
 ]
 
-buffer-of : (most : ℕ) (o : Option Subscriber) → ((one : Subscriber) → o ≡ Some one → one.buffer_size ≤ most) → option_map_or (λ (one : Subscriber). one.buffer_size) o 0 ≤ most
+buffer-of : (most : ℕ) (o : Option Subscriber) → ((one : Subscriber) → o ≡ Some one → one.buffer_size ≤ most) → option_map_or
+    (λ (one : Subscriber). one.buffer_size) o 0 ≤ most
 buffer-of most None on = omega arith
 buffer-of most (Some one) on = on one refl
 
@@ -67,7 +69,8 @@ module _ {T : Type 0} (Good : ℕ → Message T → Type 0) (Fine : ℕ → Samp
   abbrev pub BoxFits : ℕ → StaticConfig → Mailbox T → Type 0
   BoxFits publisher settings box =
       (length box.waiting ≤ box.limit) × (length box.borrowed ≤ settings.subscriber_max_borrowed_samples)
-      × (box.limit ≤ settings.subscriber_max_buffer_size) × AllByRecursion (Good publisher) box.waiting × AllByRecursion (Good publisher) box.borrowed
+      × (box.limit ≤ settings.subscriber_max_buffer_size) × AllByRecursion (Good publisher) box.waiting × AllByRecursion
+      (Good publisher) box.borrowed
 
   abbrev pub PublisherFits : StaticConfig → ℕ → Publisher T → Type 0
   PublisherFits settings number publisher =
@@ -82,7 +85,8 @@ module _ {T : Type 0} (Good : ℕ → Message T → Type 0) (Fine : ℕ → Samp
 
   abbrev pub Sound : Service T → Type 0
   Sound service =
-      ((publisher subscriber : ℕ) (box : Mailbox T) → service.mailboxes publisher subscriber ≡ Some box → BoxFits publisher service.settings box)
+      ((publisher subscriber : ℕ) (box : Mailbox T) → service.mailboxes publisher subscriber ≡ Some box
+      → BoxFits publisher service.settings box)
       × AllByRecursion (λ entry. PublisherFits service.settings entry.0 entry.1) service.publishers
       × AllByRecursion (λ entry. SubscriberFits service.settings entry.0 entry.1) service.subscribers
       × AllByRecursion (λ entry. SampleFits entry.0 entry.1) service.samples
@@ -96,19 +100,24 @@ module _ {T : Type 0} (Good : ℕ → Message T → Type 0) (Fine : ℕ → Samp
       → BoxFits publisher settings (record { limit = limit; waiting = []; borrowed = [] })
   empty-fits publisher limit settings h = (omega arith, omega arith, h, tt, tt)
 
-  held : (publisher : ℕ) (settings : StaticConfig) (o : Option (Mailbox T)) → ((box : Mailbox T) → o ≡ Some box → BoxFits publisher settings box)
+  held : (publisher : ℕ) (settings : StaticConfig) (o : Option (Mailbox T)) →
+      ((box : Mailbox T) → o ≡ Some box → BoxFits publisher settings box)
       → BoxFits publisher settings (unwrap_or o (record { limit = 0; waiting = []; borrowed = [] }))
   held publisher settings None on = empty-fits publisher 0 settings (omega arith)
   held publisher settings (Some box) on = on box refl
 
-  pub box-fits : (publisher subscriber : ℕ) (service : Service T) → Sound service → BoxFits publisher service.settings (mailbox publisher subscriber service)
-  box-fits publisher subscriber service sound = held publisher service.settings (service.mailboxes publisher subscriber) (sound.0 publisher subscriber)
+  pub box-fits : (publisher subscriber : ℕ) (service : Service T) → Sound service → BoxFits publisher service.settings
+      (mailbox publisher subscriber service)
+  box-fits publisher subscriber service sound = held publisher service.settings (service.mailboxes publisher subscriber)
+      (sound.0 publisher subscriber)
 
-  pub box-changed : (publisher subscriber : ℕ) (box : Mailbox T) (service : Service T) → Sound service → BoxFits publisher service.settings box
+  pub box-changed : (publisher subscriber : ℕ) (box : Mailbox T) (service : Service T) → Sound service
+      → BoxFits publisher service.settings box
       → Sound (with_mailbox publisher subscriber box service)
   box-changed publisher subscriber box service sound fits = (
     (λ one other it e. elim (chosen ((one == publisher) && (other == subscriber)) (Some box) (service.mailboxes one other) (Some it) e) [
-      | inl w ↦ subst (λ number. BoxFits number service.settings it) (sym (eqb-true one publisher (both-true (one == publisher) (other == subscriber) w.0).0))
+      | inl w ↦ subst (λ number. BoxFits number service.settings it)
+          (sym (eqb-true one publisher (both-true (one == publisher) (other == subscriber) w.0).0))
           (subst (λ found. BoxFits publisher service.settings found) (same-some box it w.1) fits)
       | inr w ↦ sound.0 one other it w.1
     ]),
@@ -121,7 +130,8 @@ module _ {T : Type 0} (Good : ℕ → Message T → Type 0) (Fine : ℕ → Samp
   either P true one other p q = p
   either P false one other p q = q
 
-  emptied : (publisher : ℕ) (settings : StaticConfig) (o : Option (Mailbox T)) → ((box : Mailbox T) → o ≡ Some box → BoxFits publisher settings box)
+  emptied : (publisher : ℕ) (settings : StaticConfig) (o : Option (Mailbox T)) →
+      ((box : Mailbox T) → o ≡ Some box → BoxFits publisher settings box)
       → (it : Mailbox T) → option_map (λ (box : Mailbox T). record box { waiting = [] }) o ≡ Some it → BoxFits publisher settings it
   emptied publisher settings None on it e = never-some it e
   emptied publisher settings (Some box) on it e =
@@ -131,7 +141,8 @@ module _ {T : Type 0} (Good : ℕ → Message T → Type 0) (Fine : ℕ → Samp
   ended-sound : (number : ℕ) (service : Service T) → Sound service → Sound (publishing.ended number service)
   ended-sound number service sound = (
     (λ one other it e. elim (chosen ((one == number) && not (contains (those service.subscriber_list.places) other))
-        (option_map (λ (box : Mailbox T). record box { waiting = [] }) (service.mailboxes one other)) (service.mailboxes one other) (Some it) e) [
+        (option_map (λ (box : Mailbox T). record box { waiting = [] }) (service.mailboxes one other)) (service.mailboxes one other)
+        (Some it) e) [
           | inl w ↦ emptied one service.settings (service.mailboxes one other) (sound.0 one other) it w.1
           | inr w ↦ sound.0 one other it w.1
         ]),
@@ -151,22 +162,26 @@ module _ {T : Type 0} (Good : ℕ → Message T → Type 0) (Fine : ℕ → Samp
               newest-fits box.limit (box.waiting ++ message ∷ []),
               fits.1,
               fits.2,
-              all-newest (Good publisher) box.limit (box.waiting ++ message ∷ []) (all-joined (Good publisher) box.waiting (message ∷ []) fits.3 (good, tt)),
+              all-newest (Good publisher) box.limit (box.waiting ++ message ∷ [])
+                  (all-joined (Good publisher) box.waiting (message ∷ []) fits.3 (good, tt)),
               fits.4,
             )
       ]
 
   -- ---- a publisher
 
-  pub publisher-changed : (number : ℕ) (publisher : Publisher T) (service : Service T) → Sound service → PublisherFits service.settings number publisher
+  pub publisher-changed : (number : ℕ) (publisher : Publisher T) (service : Service T) → Sound service
+      → PublisherFits service.settings number publisher
       → Sound (with_publisher number publisher service)
   publisher-changed number publisher service sound fits =
       (sound.0, all-changed (PublisherFits service.settings) number publisher service.publishers fits sound.1, sound.2, sound.3)
 
-  pub publisher-fits : (number : ℕ) (publisher : Publisher T) (service : Service T) → Sound service → publisher_in number service ≡ Some publisher
+  pub publisher-fits : (number : ℕ) (publisher : Publisher T) (service : Service T) → Sound service
+      → publisher_in number service ≡ Some publisher
       → PublisherFits service.settings number publisher
   publisher-fits number publisher service sound e =
-      all-at (PublisherFits service.settings) number publisher service.publishers (standing-publisher (at number service.publishers) publisher e) sound.1
+      all-at (PublisherFits service.settings) number publisher service.publishers
+      (standing-publisher (at number service.publishers) publisher e) sound.1
 
   -- of a service that is sound, and one of whose publishers fits
   abbrev pub Both : ℕ → Publisher T → Service T → Type 0
@@ -177,15 +192,20 @@ module _ {T : Type 0} (Good : ℕ → Message T → Type 0) (Fine : ℕ → Samp
       → Sound (connect limit publisher subscriber service) × P (connect limit publisher subscriber service).settings
   connected P limit publisher subscriber service sound p h =
       either (λ found. Sound found × P found.settings) (is_some (service.mailboxes publisher subscriber)) service
-      (with_mailbox publisher subscriber (record { limit = limit; waiting = []; borrowed = [] }) service) (sound, p)
-      (box-changed publisher subscriber (record { limit = limit; waiting = []; borrowed = [] }) service sound (empty-fits publisher limit service.settings h), p)
+      (with_mailbox publisher subscriber (record { limit = limit; waiting = []; borrowed = [] }) service) (sound, p) (
+        box-changed publisher subscriber (record { limit = limit; waiting = []; borrowed = [] }) service sound
+            (empty-fits publisher limit service.settings h),
+        p,
+      )
 
   welcomed : (number : ℕ) (after : Publisher T) (history : List (Message T)) → AllByRecursion (Good number) history
-      → (service : Service T) (subscriber : ℕ) → Both number after service → Both number after (publishing.welcome number history service subscriber)
+      → (service : Service T) (subscriber : ℕ) → Both number after service → Both number after
+      (publishing.welcome number history service subscriber)
   welcomed number after history all service subscriber both =
       let limit : ℕ = option_map_or (λ (one : Subscriber). one.buffer_size) (at subscriber service.subscribers) 0 in
       let met : Service T = connect limit number subscriber service in
-      let on : Both number after met = connected (λ settings. PublisherFits settings number after) limit number subscriber service both.0 both.1
+      let on : Both number after met = connected
+      (λ settings. PublisherFits settings number after) limit number subscriber service both.0 both.1
       (buffer-of service.settings.subscriber_max_buffer_size (at subscriber service.subscribers)
       (λ one e. all-at (SubscriberFits service.settings) subscriber one service.subscribers e both.0.2)) in
       let box : Mailbox T = mailbox number subscriber met in
@@ -198,9 +218,11 @@ module _ {T : Type 0} (Good : ℕ → Message T → Type 0) (Fine : ℕ → Samp
   follows : (number : ℕ) (publisher : Publisher T) (old : Service T) (after : Publisher T) (new : Service T) → Both number publisher old
       → publishing.Follows number publisher old after new → Both number after new
   follows number publisher old after new both (refused, allowed, is, came) =
-      let fits : PublisherFits old.settings number after = subst (λ (p : Publisher T). PublisherFits old.settings number p) (sym is) both.1 in
+      let fits : PublisherFits old.settings number after = subst (λ (p : Publisher T). PublisherFits old.settings number p)
+      (sym is) both.1 in
       let begun : Service T = with_publisher number after (publishing.ended number old) in
-      let ready : Both number after begun = (publisher-changed number after (publishing.ended number old) (ended-sound number old both.0) fits, fits) in
+      let ready : Both number after begun =
+      (publisher-changed number after (publishing.ended number old) (ended-sound number old both.0) fits, fits) in
       subst (λ (s : Service T). Both number after s) (sym came)
       (fold-keeps (Both number after) (publishing.welcome number publisher.history) (welcomed number after publisher.history both.1.1)
       (filter (λ subscriber. not (contains (those publisher.connected) subscriber)) (those after.connected)) begun ready)
@@ -234,10 +256,12 @@ module _ {T : Type 0} (Good : ℕ → Message T → Type 0) (Fine : ℕ → Samp
   abbrev Delivered : ℕ → Publisher T → Send T × Service T → Type 0
   Delivered number publisher after = Both number publisher after.1 × Good number after.0.message
 
-  offered-sound : (number : ℕ) (publisher : Publisher T) (met : Option (Mailbox T)) (decision : BackpressureDecision) (subscriber : ℕ) (more : List ℕ)
+  offered-sound : (number : ℕ) (publisher : Publisher T) (met : Option (Mailbox T)) (decision : BackpressureDecision) (subscriber : ℕ)
+      (more : List ℕ)
       (goes_on : Send T → Service T → Send T × Service T) (send : Send T) (service : Service T)
       → ((box : Mailbox T) → met ≡ Some box → BoxFits number service.settings box)
-      → ((next : Send T) (mid : Service T) → Good number next.message → Both number publisher mid → Delivered number publisher (goes_on next mid))
+      → ((next : Send T) (mid : Service T) → Good number next.message → Both number publisher mid → Delivered number publisher
+      (goes_on next mid))
       → Good number send.message → Both number publisher service
       → Delivered number publisher (offered number met decision subscriber more goes_on send service)
   offered-sound number publisher (Some box) decision subscriber more goes_on send service fits on good both =
@@ -255,21 +279,27 @@ module _ {T : Type 0} (Good : ℕ → Message T → Type 0) (Fine : ℕ → Samp
   delivered number publisher (subscriber ∷ more) send service good both =
       offered-sound number publisher (put service.settings.enable_safe_overflow send.message (mailbox number subscriber service))
       (decision_at number publisher service subscriber) subscriber more (deliver number publisher more) send service
-      (λ box e. put-fits number service.settings service.settings.enable_safe_overflow send.message (mailbox number subscriber service) box e
+      (λ box e. put-fits number service.settings service.settings.enable_safe_overflow send.message
+      (mailbox number subscriber service) box e
       (box-fits number subscriber service both.0) good)
       (λ next mid. delivered number publisher more next mid) good both
 
-  blocked-good : (number : ℕ) (b : Bool) (send : Send T) → Good number send.message → MatchOption (cond b (Some send) None) ⊤ (λ it. Good number it.message)
+  blocked-good : (number : ℕ) (b : Bool) (send : Send T) → Good number send.message → MatchOption (cond b (Some send) None) ⊤
+      (λ it. Good number it.message)
   blocked-good number true send good = good
   blocked-good number false send good = tt
 
-  pub goes-on : (number : ℕ) (publisher : Publisher T) (send : Send T) (old : Service T) (answer : Reply T) (new : Service T) → Both number publisher old
+  pub goes-on : (number : ℕ) (publisher : Publisher T) (send : Send T) (old : Service T) (answer : Reply T) (new : Service T)
+      → Both number publisher old
       → Good number send.message → GoesOn number publisher send old answer new → Sound new
   goes-on number publisher send old answer new both good h =
       let after : Send T × Service T = deliver number publisher send.left send old in
       let on : Delivered number publisher after = delivered number publisher send.left send old good both in
       subst Sound (sym h.1)
-      (publisher-changed number (record publisher { blocked = cond (is_some (slice_get after.0.left 0)) (Some after.0) None }) after.1 on.0.0
+      (publisher-changed number (record publisher {
+        blocked = cond (is_some (slice_get after.0.left 0))
+            (Some after.0) None;
+      }) after.1 on.0.0
       (on.0.1.0, on.0.1.1, blocked-good number (is_some (slice_get after.0.left 0)) after.0 on.1))
 
   pub begins : (number : ℕ) (message : Message T) (publisher : Publisher T) (old : Service T) (answer : Reply T) (new : Service T)
@@ -277,11 +307,20 @@ module _ {T : Type 0} (Good : ℕ → Message T → Type 0) (Fine : ℕ → Samp
   begins number message publisher old answer new both good h =
       let kept : List (Message T) = publisher.history ++ message ∷ [] in
       goes-on number (record publisher { history = newest old.settings.history_size kept })
-      (record { message = message; left = those publisher.connected; retries = 0; elapsed = 0; delivered = 0; fails = false }) old answer new (
+      (record {
+        message = message;
+        left = those publisher.connected;
+        retries = 0;
+        elapsed = 0;
+        delivered = 0;
+        fails =
+            false;
+      }) old answer new (
         both.0,
         (
           newest-fits old.settings.history_size kept,
-          all-newest (Good number) old.settings.history_size kept (all-joined (Good number) publisher.history (message ∷ []) both.1.1 (good, tt)),
+          all-newest (Good number) old.settings.history_size kept
+              (all-joined (Good number) publisher.history (message ∷ []) both.1.1 (good, tt)),
           both.1.2,
         ),
       )
@@ -292,23 +331,28 @@ module _ {T : Type 0} (Good : ℕ → Message T → Type 0) (Fine : ℕ → Samp
       → Sends number message publisher old answer new → Sound new
   sends number message publisher old answer new both good h =
       elim (by-bool publisher.stands
-      (publishing.UpdatesFirst number (λ failure. refusal.Send (error.ConnectionError failure)) (Begins number message) publisher old answer new)
+      (publishing.UpdatesFirst number (λ failure. refusal.Send (error.ConnectionError failure))
+      (Begins number message) publisher old answer new)
       (IsRefused (refusal.Send error.ConnectionBrokenSinceSenderNoLongerExists) old answer new) h) [
-        | inl w ↦ updates-first number (λ failure. refusal.Send (error.ConnectionError failure)) (Begins number message) publisher old answer new both
+        | inl w ↦ updates-first number (λ failure. refusal.Send (error.ConnectionError failure))
+            (Begins number message) publisher old answer new both
             (λ one mid on begun. begins number message one mid answer new on (good one mid begun) begun) w.1
         | inr w ↦ subst Sound (sym w.1.1) both.0
       ]
 
   -- ---- a loan
 
-  lends-longer : (values : ℕ) (publisher : Publisher T) (settings : StaticConfig) (number : ℕ) (refused : Option LoanError) (after : Publisher T)
+  lends-longer : (values : ℕ) (publisher : Publisher T) (settings : StaticConfig) (number : ℕ) (refused : Option LoanError)
+      (after : Publisher T)
       → PublisherFits settings number publisher → LendsLonger number values publisher refused after → PublisherFits settings number after
-  lends-longer values publisher settings number refused after fits (inl (told, same)) = subst (λ (p : Publisher T). PublisherFits settings number p) (sym same) fits
+  lends-longer values publisher settings number refused after fits (inl (told, same)) = subst
+      (λ (p : Publisher T). PublisherFits settings number p) (sym same) fits
   lends-longer values publisher settings number refused after fits (inr (room, allowed, few, told, same)) =
       subst (λ (p : Publisher T). PublisherFits settings number p) (sym same) fits
 
   lends : (number values : ℕ) (publisher : Publisher T) (service : Service T) (refused : Option LoanError) (after : Publisher T)
-      → PublisherFits service.settings number publisher → Lends number values publisher service refused after → PublisherFits service.settings number after
+      → PublisherFits service.settings number publisher → Lends number values publisher service refused after
+      → PublisherFits service.settings number after
   lends number values publisher service refused after fits h =
       elim (by-option (loan_refusal number values publisher service)
       (MatchBool (nat_lt publisher.room values) (LendsLonger number values publisher refused after)
@@ -327,7 +371,8 @@ module _ {T : Type 0} (Good : ℕ → Message T → Type 0) (Fine : ℕ → Samp
             | inr w ↦ subst (λ (p : Publisher T). PublisherFits service.settings number p) (sym w.1.1) fits
           ]
 
-  pub lends-loan : (loan number count : ℕ) (value : Option T) (publisher : Publisher T) (old : Service T) (answer : Reply T) (new : Service T)
+  pub lends-loan : (loan number count : ℕ) (value : Option T) (publisher : Publisher T) (old : Service T) (answer : Reply T)
+      (new : Service T)
       → Both number publisher old → LendsLoan loan number count value publisher old answer new → Sound new
   lends-loan loan number count value publisher old answer new both (None, after, lent, (told, came)) =
       subst Sound (sym came) (publisher-changed number after old both.0 (lends number count publisher old None after both.1 lent))
@@ -368,45 +413,54 @@ module _ {T : Type 0} (Good : ℕ → Message T → Type 0) (Fine : ℕ → Samp
           elim (by-bool (is_written loan && not (is_some publisher.blocked))
           (Sends loan.publisher (sent_as loan) publisher (record old { loans = removed number old.loans }) answer new)
           (IsSkipped old answer new) h) [
-            | inl w ↦ sends loan.publisher (sent_as loan) publisher (record old { loans = removed number old.loans }) answer new (sound, fits)
+            | inl w ↦ sends loan.publisher (sent_as loan) publisher (record old { loans = removed number old.loans }) answer new
+                (sound, fits)
                 (λ one mid begun. good one mid (both-true (is_written loan) (not (is_some publisher.blocked)) w.0).0 begun) w.1
             | inr w ↦ subst Sound (sym w.1.1) sound
           ]
 
-  pub writes : (number : ℕ) (loan : Loan T) (fit : Bool) (values : List (Option T)) (old : Service T) (answer : Reply T) (new : Service T) → Sound old
+  pub writes : (number : ℕ) (loan : Loan T) (fit : Bool) (values : List (Option T)) (old : Service T) (answer : Reply T) (new : Service T)
+      → Sound old
       → Writes number loan fit values old answer new → Sound new
   writes number loan true values old answer new sound h = subst Sound (sym h.1) sound
   writes number loan false values old answer new sound h = subst Sound (sym h.1) sound
 
   -- ---- a subscriber
 
-  pub subscriber-changed : (number : ℕ) (subscriber : Subscriber) (service : Service T) → Sound service → SubscriberFits service.settings number subscriber
+  pub subscriber-changed : (number : ℕ) (subscriber : Subscriber) (service : Service T) → Sound service
+      → SubscriberFits service.settings number subscriber
       → Sound (with_subscriber number subscriber service)
   subscriber-changed number subscriber service sound fits =
       (sound.0, sound.1, all-changed (SubscriberFits service.settings) number subscriber service.subscribers fits sound.2, sound.3)
 
-  pub subscriber-fits : (number : ℕ) (subscriber : Subscriber) (service : Service T) → Sound service → subscriber_in number service ≡ Some subscriber
+  pub subscriber-fits : (number : ℕ) (subscriber : Subscriber) (service : Service T) → Sound service
+      → subscriber_in number service ≡ Some subscriber
       → SubscriberFits service.settings number subscriber
   subscriber-fits number subscriber service sound e =
-      all-at (SubscriberFits service.settings) number subscriber service.subscribers (standing-subscriber (at number service.subscribers) subscriber e) sound.2
+      all-at (SubscriberFits service.settings) number subscriber service.subscribers
+      (standing-subscriber (at number service.subscribers) subscriber e) sound.2
 
   abbrev pub Well : ℕ → Subscriber → Service T → Type 0
   Well number subscriber service = Sound service × SubscriberFits service.settings number subscriber
 
-  subscriber-follows : (buffer number : ℕ) (subscriber : Subscriber) (old : Service T) (after : Subscriber) (new : Service T) → Well number subscriber old
+  subscriber-follows : (buffer number : ℕ) (subscriber : Subscriber) (old : Service T) (after : Subscriber) (new : Service T)
+      → Well number subscriber old
       → subscribing.Follows buffer number subscriber old after new → Well number after new
   subscriber-follows buffer number subscriber old after new well (refused, allowed, listed, is, turned, came) =
-      let fits : SubscriberFits old.settings number after = subst (λ (s : Subscriber). SubscriberFits old.settings number s) (sym turned) well.1 in
+      let fits : SubscriberFits old.settings number after = subst (λ (s : Subscriber). SubscriberFits old.settings number s)
+      (sym turned) well.1 in
       let end : Well number subscriber new =
       subst (λ (s : Service T). Well number subscriber s) (sym came)
       (fold-keeps (Well number subscriber) (λ service publisher. connect subscriber.buffer_size publisher number service)
-      (λ service publisher on. connected (λ settings. SubscriberFits settings number subscriber) subscriber.buffer_size publisher number service
+      (λ service publisher on. connected (λ settings. SubscriberFits settings number subscriber) subscriber.buffer_size publisher
+      number service
       on.0 on.1 on.1)
       (those listed) (with_subscriber number after old) (subscriber-changed number after old well.0 fits, well.1)) in
       (end.0, subst (λ (s : Subscriber). SubscriberFits new.settings number s) (sym turned) end.1)
 
   pub subscriber-updates : (R : Type 0) (buffer number : ℕ) (told : ConnectionFailure → Refusal)
-      (Does : Subscriber → Service T → Reply T → Service T → Type 0) (subscriber : Subscriber) (old : Service T) (answer : Reply T) (new : Service T)
+      (Does : Subscriber → Service T → Reply T → Service T → Type 0) (subscriber : Subscriber) (old : Service T) (answer : Reply T)
+      (new : Service T)
       → Well number subscriber old → ((one : Subscriber) (service : Service T) → Well number one service → Does one service answer new → R)
       → ((why : Refusal) (mid : Service T) → Sound mid → IsRefused why mid answer new → R)
       → subscribing.UpdatesFirst buffer number told Does subscriber old answer new → R
@@ -448,8 +502,10 @@ module _ {T : Type 0} (Good : ℕ → Message T → Type 0) (Fine : ℕ → Samp
     all-joined (Good publisher) box.borrowed (take 1 box.waiting) fits.4 (all-taken (Good publisher) 1 box.waiting fits.3),
   )
 
-  takes : (number sample publisher : ℕ) (old : Service T) (answer : Reply T) (new : Service T) → Sound old → gives number old publisher ≡ true
-      → ((one : Sample T) (values : Vec T) → one.subscriber ≡ number → answer ≡ reply.Received sample values → vec_items values ≡ one.message.values → Fine sample one)
+  takes : (number sample publisher : ℕ) (old : Service T) (answer : Reply T) (new : Service T) → Sound old
+      → gives number old publisher ≡ true
+      → ((one : Sample T) (values : Vec T) → one.subscriber ≡ number → answer ≡ reply.Received sample values
+      → vec_items values ≡ one.message.values → Fine sample one)
       → Takes number sample publisher old answer new → Sound new
   takes number sample publisher old answer new sound may fine (message, values, first, same, told, came) =
       let box : Mailbox T = mailbox publisher number old in
@@ -468,13 +524,17 @@ module _ {T : Type 0} (Good : ℕ → Message T → Type 0) (Fine : ℕ → Samp
       ) in
       subst Sound (sym came) (box-changed publisher number (taken box) more on (taken-fits publisher old.settings box fits few))
 
-  pub receives : (number sample : ℕ) (subscriber : Subscriber) (old : Service T) (answer : Reply T) (new : Service T) → Well number subscriber old
-      → ((one : Sample T) (values : Vec T) → one.subscriber ≡ number → answer ≡ reply.Received sample values → vec_items values ≡ one.message.values → Fine sample one)
+  pub receives : (number sample : ℕ) (subscriber : Subscriber) (old : Service T) (answer : Reply T) (new : Service T)
+      → Well number subscriber old
+      → ((one : Sample T) (values : Vec T) → one.subscriber ≡ number → answer ≡ reply.Received sample values
+      → vec_items values ≡ one.message.values → Fine sample one)
       → Receives number sample subscriber old answer new → Sound new
   receives number sample subscriber old answer new well fine (None, is, (told, came)) =
-      subst Sound (sym came) (subscriber-changed number (record subscriber { expired = lasting number old subscriber.expired }) old well.0 well.1)
+      subst Sound (sym came) (subscriber-changed number
+      (record subscriber { expired = lasting number old subscriber.expired }) old well.0 well.1)
   receives number sample subscriber old answer new well fine (Some publisher, is, took) =
-      takes number sample publisher (with_subscriber number (record subscriber { expired = lasting number old subscriber.expired }) old) answer new
+      takes number sample publisher (with_subscriber number
+      (record subscriber { expired = lasting number old subscriber.expired }) old) answer new
       (subscriber-changed number (record subscriber { expired = lasting number old subscriber.expired }) old well.0 well.1)
       (giver-gives number subscriber old (find (gives number old) subscriber.expired) publisher
       (λ one found. find-passes (gives number old) subscriber.expired one found) is)
@@ -490,7 +550,8 @@ module _ {T : Type 0} (Good : ℕ → Message T → Type 0) (Fine : ℕ → Samp
         sound.0,
         sound.1,
         sound.2,
-        all-filtered (λ (entry : ℕ × Sample T). SampleFits entry.0 entry.1) (λ (entry : ℕ × Sample T). not (entry.0 == number)) old.samples sound.3,
+        all-filtered (λ (entry : ℕ × Sample T). SampleFits entry.0 entry.1)
+            (λ (entry : ℕ × Sample T). not (entry.0 == number)) old.samples sound.3,
       ) in
       let left : List (Message T) = filter (λ (message : Message T). not (message.number == sample.message.number)) box.borrowed in
       subst Sound (sym came)
@@ -530,7 +591,8 @@ module _ {T : Type 0} (Good : ℕ → Message T → Type 0) (Fine : ℕ → Samp
           let more : Service T = record old { publishers = old.publishers ++ (number, one) ∷ [] } in
           let on : Sound more = (
             both.0.0,
-            all-joined (λ (entry : ℕ × Publisher T). PublisherFits old.settings entry.0 entry.1) old.publishers ((number, one) ∷ []) both.0.1
+            all-joined (λ (entry : ℕ × Publisher T). PublisherFits old.settings entry.0 entry.1) old.publishers
+                ((number, one) ∷ []) both.0.1
                 (both.1, tt),
             both.0.2,
             both.0.3,
@@ -550,7 +612,8 @@ module _ {T : Type 0} (Good : ℕ → Message T → Type 0) (Fine : ℕ → Samp
           (IsRefused (refusal.Publisher publisher_error.UnableToCreateDataSegment) old answer new
           ⊎ ((place : ℕ) × (slice_get old.publisher_list.places place ≡ Some None) × (after : Publisher T) × (mid : Service T)
           × publishing.Follows number one (record old { publishers = old.publishers ++ (number, one) ∷ [] }) after mid
-          × (answer ≡ reply.PublisherMade number) × (new ≡ record mid { publisher_list = registered place number mid.publisher_list }))) h) [
+          × (answer ≡ reply.PublisherMade number) ×
+          (new ≡ record mid { publisher_list = registered place number mid.publisher_list }))) h) [
             | inl w ↦ subst Sound (sym w.1.1) both.0
             | inr w ↦ comes w.1
           ]
@@ -565,7 +628,8 @@ module _ {T : Type 0} (Good : ℕ → Message T → Type 0) (Fine : ℕ → Samp
       (IsRefused (refusal.Subscriber subscriber_error.OutOfMemory) old answer new
       ⊎ ((place : ℕ) × (slice_get old.subscriber_list.places place ≡ Some None) × (after : Subscriber) × (mid : Service T)
       × subscribing.Follows buffer number one (record old { subscribers = old.subscribers ++ (number, one) ∷ [] }) after mid
-      × (answer ≡ reply.SubscriberMade number) × (new ≡ record mid { subscriber_list = registered place number mid.subscriber_list })))) h) [
+      × (answer ≡ reply.SubscriberMade number) ×
+      (new ≡ record mid { subscriber_list = registered place number mid.subscriber_list })))) h) [
         | inl w ↦ subst Sound (sym w.1.1) sound
         | inr w ↦ further (ltb-false old.settings.subscriber_max_buffer_size one.buffer_size w.0) w.1
       ]
@@ -582,7 +646,8 @@ module _ {T : Type 0} (Good : ℕ → Message T → Type 0) (Fine : ℕ → Samp
           let on : Sound more = (
             sound.0,
             sound.1,
-            all-joined (λ (entry : ℕ × Subscriber). SubscriberFits old.settings entry.0 entry.1) old.subscribers ((number, one) ∷ []) sound.2 (fits, tt),
+            all-joined (λ (entry : ℕ × Subscriber). SubscriberFits old.settings entry.0 entry.1) old.subscribers
+                ((number, one) ∷ []) sound.2 (fits, tt),
             sound.3,
           ) in
           subst Sound (sym is) (subscriber-follows buffer number one more after mid (on, fits) came).0
@@ -601,7 +666,8 @@ module _ {T : Type 0} (Good : ℕ → Message T → Type 0) (Fine : ℕ → Samp
           (IsRefused (refusal.Subscriber subscriber_error.OutOfMemory) old answer new
           ⊎ ((place : ℕ) × (slice_get old.subscriber_list.places place ≡ Some None) × (after : Subscriber) × (mid : Service T)
           × subscribing.Follows buffer number one (record old { subscribers = old.subscribers ++ (number, one) ∷ [] }) after mid
-          × (answer ≡ reply.SubscriberMade number) × (new ≡ record mid { subscriber_list = registered place number mid.subscriber_list }))) h) [
+          × (answer ≡ reply.SubscriberMade number) ×
+          (new ≡ record mid { subscriber_list = registered place number mid.subscriber_list }))) h) [
             | inl w ↦ subst Sound (sym w.1.1) sound
             | inr w ↦ comes fits w.1
           ]

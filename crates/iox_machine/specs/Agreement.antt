@@ -28,7 +28,8 @@ pub record Agreement : Type 0 where
 abbrev pub are_within_limits : Settings → Bool
 are_within_limits (settings.PublishSubscribe c) =
     nat_lt c.max_nodes (2 ^ 24) && (nat_lt c.max_publishers (2 ^ 24) && (nat_lt c.max_subscribers (2 ^ 24)
-    && (nat_lt c.subscriber_max_buffer_size (2 ^ 32) && (nat_lt c.subscriber_max_borrowed_samples (2 ^ 32) && nat_lt c.history_size (2 ^ 32)))))
+    && (nat_lt c.subscriber_max_buffer_size (2 ^ 32) &&
+    (nat_lt c.subscriber_max_borrowed_samples (2 ^ 32) && nat_lt c.history_size (2 ^ 32)))))
 are_within_limits (settings.Event c) = nat_lt c.max_nodes (2 ^ 24)
 are_within_limits (settings.RequestResponse c) = nat_lt c.max_nodes (2 ^ 24)
 
@@ -37,11 +38,13 @@ are_within_limits (settings.RequestResponse c) = nat_lt c.max_nodes (2 ^ 24)
 abbrev pub unfit : Settings → Option CreateFailure
 unfit (settings.PublishSubscribe c) =
     if not (are_within_limits (settings.PublishSubscribe c)) then Some InternalFailure
-    else (if not c.enable_safe_overflow && nat_lt c.subscriber_max_buffer_size c.history_size then Some SubscriberBufferMustBeLargerThanHistorySize else None)
+    else (if not c.enable_safe_overflow && nat_lt c.subscriber_max_buffer_size c.history_size
+    then Some SubscriberBufferMustBeLargerThanHistorySize else None)
 unfit other = if are_within_limits other then None else Some InternalFailure
 
 -- whether a publish-subscribe service meets what is asked of it, or the first clause that it doesn't meet
-abbrev pub publish_subscribe_verdict : MessageTypeDetails → Required → PublishSubscribeOptions → Agreement → Result (Unit {0}) PublishSubscribeClause
+abbrev pub publish_subscribe_verdict : MessageTypeDetails → Required → PublishSubscribeOptions → Agreement → Result
+    (Unit {0}) PublishSubscribeClause
 publish_subscribe_verdict types required named agreed =
     first_unmet (publish_subscribe_clauses.clauses_of (asked_publish_subscribe types required named) agreed.attributes agreed.settings)
 
@@ -50,6 +53,7 @@ abbrev pub event_verdict : Required → EventOptions → Agreement → Result (U
 event_verdict required named agreed = first_unmet (event_clauses.clauses_of (asked_event required named) agreed.attributes agreed.settings)
 
 -- so of a request-response service
-abbrev pub request_response_verdict : MessageTypeDetails → Required → RequestResponseOptions → Agreement → Result (Unit {0}) RequestResponseClause
+abbrev pub request_response_verdict : MessageTypeDetails → Required → RequestResponseOptions → Agreement → Result
+    (Unit {0}) RequestResponseClause
 request_response_verdict types required named agreed =
     first_unmet (request_response_clauses.clauses_of (asked_request_response types required named) agreed.attributes agreed.settings)

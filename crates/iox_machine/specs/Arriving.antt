@@ -22,7 +22,8 @@ use Rattle.iox_command.specs.declared.reply.Reply.TheVariants as reply
 -- the loans
 abbrev pub worst_case : StaticConfig → ℕ → ℕ
 worst_case settings loans =
-    settings.max_subscribers * (settings.subscriber_max_buffer_size + settings.subscriber_max_borrowed_samples) + (settings.history_size + loans)
+    settings.max_subscribers * (settings.subscriber_max_buffer_size + settings.subscriber_max_borrowed_samples) +
+    (settings.history_size + loans)
 
 -- a subscriber that isn't connected yet; as many messages may wait for it as it names, but 1 at least
 abbrev pub new_subscriber : ℕ → SubscriberOptions → StaticConfig → Subscriber

@@ -31,7 +31,8 @@ module _ {T : Type 0} (number : ℕ) where
   in_use publisher service =
       map (λ loan. loan.number) (loans_of service)
       ++ map (λ message. message.number)
-      (publisher.history ++ flat_map (λ entry. (mailbox number entry.0 service).waiting ++ (mailbox number entry.0 service).borrowed) service.subscribers)
+      (publisher.history ++ flat_map (λ entry. (mailbox number entry.0 service).waiting ++
+      (mailbox number entry.0 service).borrowed) service.subscribers)
 
   -- A loan that is longer than the current segment allows opens a new one, if there are fewer than 255 and the length is allowed; or no
   -- memory is found.
@@ -47,7 +48,8 @@ module _ {T : Type 0} (number : ℕ) where
   loan_refusal values publisher service =
       if nat_lt publisher.room values && is_static publisher.allocation then Some ExceedsMaxLoanSize
       else (if nat_le publisher.max_loaned_samples (length (loans_of service)) then Some ExceedsMaxLoans
-      else (if nat_le values publisher.room && nat_le publisher.slots (how_many (filter (nat_le publisher.first) (in_use publisher service)))
+      else (if nat_le values publisher.room && nat_le publisher.slots
+      (how_many (filter (nat_le publisher.first) (in_use publisher service)))
       then Some OutOfMemory else None))
 
   -- A publisher lends its next message, of so many values, unless that is refused.

@@ -44,14 +44,17 @@ Fails failure call answer after = (answer ≡ Some (Err failure)) × (after ≡ 
 abbrev pub Rounds : {F : Type 0} → (Call → Answer F → Call → Type 0) → F → ℕ → Call → Answer F → Call → Type 0
 Rounds Round exhausted zero call answer after = Fails exhausted call answer after
 Rounds {F} Round exhausted (suc count) call answer after =
-    (mid : Call) × (first : Answer F) × Round call first mid × MatchOption first (Rounds Round exhausted count mid answer after) (λ found. (answer ≡ first) × (after ≡ mid))
+    (mid : Call) × (first : Answer F) × Round call first mid × MatchOption first (Rounds Round exhausted count mid answer after)
+    (λ found. (answer ≡ first) × (after ≡ mid))
 
 -- How a node registers in the life that it saw. It is in then if it was in or there was room; where that life is over it finds nothing.
 abbrev pub registered : {V : Type 0} → ℕ → Node → Phase → Answer (OpenFailure V) × Phase
 registered life node (Published now agreed nodes) =
-    if now == life then (if is_in node nodes || nat_lt (length nodes) (max_nodes_of agreed.settings) then (Some (Ok false), Published now agreed (entered node nodes))
+    if now == life then (if is_in node nodes || nat_lt (length nodes) (max_nodes_of agreed.settings) then
+    (Some (Ok false), Published now agreed (entered node nodes))
     else (Some (Err unopened.ExceedsMaxNumberOfNodes), Published now agreed nodes)) else (None, Published now agreed nodes)
-registered life node (Emptied now agreed by) = (if now == life then Some (Err unopened.IsMarkedForDestruction) else None, Emptied now agreed by)
+registered life node (Emptied now agreed by) =
+    (if now == life then Some (Err unopened.IsMarkedForDestruction) else None, Emptied now agreed by)
 registered life node phase = (None, phase)
 
 module _ (types : MessageTypeDetails) (pattern : MessagingPattern) (steps : List StepBefore) (node : Node) where
@@ -83,14 +86,17 @@ module _ (types : MessageTypeDetails) (pattern : MessagingPattern) (steps : List
     -- `create`: settings that can't be are refused before the look
     abbrev pub Creates : Call → Answer CreateFailure → Call → Type 0
     Creates call answer after =
-        MatchOption (unfit agreed.settings) (Access uncreated.OutOfMemory CreateLooks call answer after) (λ failure. Fails failure call answer after)
+        MatchOption (unfit agreed.settings) (Access uncreated.OutOfMemory CreateLooks call answer after)
+        (λ failure. Fails failure call answer after)
 
   module _ {V : Type 0} (verdict : Agreement → Result (Unit {0}) V) where
     -- a service that was found is opened if it meets what is asked: the node registers in the life that was found
     abbrev pub OpensFound : ℕ → Agreement → Call → Answer (OpenFailure V) → Call → Type 0
     OpensFound life agreed call answer after =
         MatchResult (verdict agreed)
-        (λ met. Access unopened.OutOfMemory (λ phase now found later. (found ≡ (registered {V = V} life node phase).0) × (later ≡ record now { phase = (registered {V = V} life node phase).1 })) call answer after)
+        (λ met. Access unopened.OutOfMemory
+        (λ phase now found later. (found ≡ (registered {V = V} life node phase).0) ×
+        (later ≡ record now { phase = (registered {V = V} life node phase).1 })) call answer after)
         (λ unmet. Fails (unopened.Clause unmet) call answer after)
 
     -- what the look of an opening finds
@@ -115,4 +121,5 @@ module _ (types : MessageTypeDetails) (pattern : MessagingPattern) (steps : List
 
       -- `open_or_create`: at most five such rounds
       abbrev pub OpensOrCreates : Call → Answer (OpenOrCreateFailure V) → Call → Type 0
-      OpensOrCreates call answer after = Rounds (Access (neither.Open unopened.OutOfMemory) EitherLooks) neither.SystemInFlux 5 call answer after
+      OpensOrCreates call answer after = Rounds
+          (Access (neither.Open unopened.OutOfMemory) EitherLooks) neither.SystemInFlux 5 call answer after

@@ -26,7 +26,8 @@ failure_at (Some listed) (Some other) = if other == listed then None else Some E
 -- what an update answers: the first failure, in place order, if the port is to fail then
 abbrev pub update_answer : DegradationAction → List (Option ℕ) → List (Option ℕ) → Result (Unit {0}) ConnectionFailure
 update_answer DegradeAndFail listed connected =
-    option_map_or (λ failure. Err (FailedToEstablishConnection failure)) (slice_get (filter_map (λ place. failure_at place.0 place.1) (zip listed connected)) 0) (Ok tt)
+    option_map_or (λ failure. Err (FailedToEstablishConnection failure))
+    (slice_get (filter_map (λ place. failure_at place.0 place.1) (zip listed connected)) 0) (Ok tt)
 update_answer action listed connected = Ok tt
 
 module _ {T : Type 0} (number : ℕ) where
@@ -34,7 +35,8 @@ module _ {T : Type 0} (number : ℕ) where
   abbrev pub ended : Service T → Service T
   ended service = record service {
     mailboxes = λ publisher subscriber. if (publisher == number) && not (contains (those service.subscriber_list.places) subscriber)
-        then option_map (λ (box : Mailbox T). record box { waiting = [] }) (service.mailboxes publisher subscriber) else service.mailboxes publisher subscriber;
+        then option_map (λ (box : Mailbox T). record box { waiting = [] }) (service.mailboxes publisher subscriber)
+        else service.mailboxes publisher subscriber;
   }
 
   -- a new subscriber is connected, and gets as much of the history as may wait for it, the oldest first
@@ -48,13 +50,16 @@ module _ {T : Type 0} (number : ℕ) where
   abbrev pub Follows : Publisher T → Service T → Publisher T → Service T → Type 0
   Follows publisher old after new =
       (refused : List ℕ)
-      × (list_all (λ subscriber. contains (those old.subscriber_list.places) subscriber && not (is_some (old.mailboxes number subscriber))) refused ≡ true)
+      × (list_all (λ subscriber. contains (those old.subscriber_list.places) subscriber && not
+      (is_some (old.mailboxes number subscriber))) refused ≡ true)
       × (after ≡ record publisher { seen = old.subscriber_list.changes; connected = map (unless refused) old.subscriber_list.places })
-      × (new ≡ fold (welcome publisher.history) (with_publisher number after (ended old)) (filter (λ subscriber. not (contains (those publisher.connected) subscriber)) (those after.connected)))
+      × (new ≡ fold (welcome publisher.history) (with_publisher number after (ended old))
+      (filter (λ subscriber. not (contains (those publisher.connected) subscriber)) (those after.connected)))
 
   -- A publisher that does something first brings its connections up to date, if the list of subscribers changed; where that fails it
   -- doesn't.
-  abbrev pub UpdatesFirst : (ConnectionFailure → Refusal) → (Publisher T → Service T → Reply T → Service T → Type 0) → Publisher T → Service T → Reply T → Service T → Type 0
+  abbrev pub UpdatesFirst : (ConnectionFailure → Refusal) → (Publisher T → Service T → Reply T → Service T → Type 0) → Publisher T
+      → Service T → Reply T → Service T → Type 0
   UpdatesFirst told Does publisher old answer new =
       MatchBool (publisher.seen == old.subscriber_list.changes)
       (Does publisher old answer new)

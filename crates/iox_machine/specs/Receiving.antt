@@ -16,7 +16,8 @@ use Rattle.iox_command.specs.declared.reply.Reply.TheVariants as reply
 module _ {T : Type 0} (number : ℕ) where
   -- whether some connection of a subscriber has data, an expired one too
   abbrev pub has_samples : Subscriber → Service T → Bool
-  has_samples subscriber service = list_any (λ publisher. has_data (mailbox publisher number service)) (those subscriber.connected ++ subscriber.expired)
+  has_samples subscriber service = list_any (λ publisher. has_data (mailbox publisher number service))
+      (those subscriber.connected ++ subscriber.expired)
 
   -- whether the connection of a publisher has data, and fewer messages are borrowed of it than may be
   abbrev pub gives : Service T → ℕ → Bool
@@ -41,7 +42,8 @@ module _ {T : Type 0} (number : ℕ) where
   abbrev pub Takes : ℕ → ℕ → Service T → Reply T → Service T → Type 0
   Takes sample publisher old answer new =
       (message : Message T) × (values : Vec T)
-      × (slice_get (mailbox publisher number old).waiting 0 ≡ Some message) × (vec_items values ≡ message.values) × (answer ≡ reply.Received sample values)
+      × (slice_get (mailbox publisher number old).waiting 0 ≡ Some message) × (vec_items values ≡ message.values) ×
+      (answer ≡ reply.Received sample values)
       × (new ≡ with_mailbox publisher number (taken (mailbox publisher number old))
       (record old { samples = old.samples ++ (sample, record { publisher = publisher; subscriber = number; message = message }) ∷ [] }))
 
@@ -51,5 +53,6 @@ module _ {T : Type 0} (number : ℕ) where
       let swept = with_subscriber number (record subscriber { expired = lasting old subscriber.expired }) old in
       (giver : Option ℕ) × IsGiver (find (gives old) subscriber.expired) subscriber old giver
       × MatchOption giver
-      ((answer ≡ (if has_samples subscriber old then reply.Refused (refusal.Receive ExceedsMaxBorrows) else reply.NothingWaits)) × (new ≡ swept))
+      ((answer ≡ (if has_samples subscriber old then reply.Refused (refusal.Receive ExceedsMaxBorrows) else reply.NothingWaits)) ×
+      (new ≡ swept))
       (λ publisher. Takes sample publisher swept answer new)

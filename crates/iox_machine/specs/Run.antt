@@ -40,7 +40,8 @@ module _ {T : Type 0} (types : MessageTypeDetails) (IsDefault : T → Type 0) (b
   -- pattern.
   abbrev pub AtFactory : ℕ → (Service T → Reply T → Service T → Type 0) → State T → Reply T → State T → Type 0
   AtFactory number Does old answer new =
-      MatchOption (at number old.factories) (IsSkipped old answer new) (λ factory. AtOne (λ service. if is_service_of factory service then Some service else None) (λ service. Does) old answer new)
+      MatchOption (at number old.factories) (IsSkipped old answer new)
+      (λ factory. AtOne (λ service. if is_service_of factory service then Some service else None) (λ service. Does) old answer new)
 
   -- What each command does to the machine, and what it is answered.
   abbrev pub Step : Command T → State T → Reply T → State T → Type 0
@@ -56,46 +57,61 @@ module _ {T : Type 0} (types : MessageTypeDetails) (IsDefault : T → Type 0) (b
   Step (command.Foreign pattern name steps) old answer new = Acts types pattern name steps old answer new
   Step (command.Close factory) old answer new = Closes factory old answer new
   Step (command.Publisher factory options) old answer new =
-      AtFactory factory (λ service. PublisherArrives (old.made.publishers + 1) (new_publisher factory options service.settings) service) old answer new
+      AtFactory factory (λ service. PublisherArrives (old.made.publishers + 1)
+      (new_publisher factory options service.settings) service) old answer new
   Step (command.Subscriber factory options) old answer new =
-      AtFactory factory (λ service. SubscriberArrives buffer (old.made.subscribers + 1) (new_subscriber factory options service.settings) service) old answer new
+      AtFactory factory (λ service. SubscriberArrives buffer (old.made.subscribers + 1)
+      (new_subscriber factory options service.settings) service) old answer new
   Step (command.Loan publisher length) old answer new =
       (value : T) × IsDefault value × AtFree publisher (LendsLoan (old.made.loans + 1) publisher length (Some value)) old answer new
-  Step (command.LoanUninit publisher length) old answer new = AtFree publisher (LendsLoan (old.made.loans + 1) publisher length None) old answer new
+  Step (command.LoanUninit publisher length) old answer new = AtFree publisher
+      (LendsLoan (old.made.loans + 1) publisher length None) old answer new
   Step (command.Set loan place value) old answer new =
-      AtOne (λ service. at loan service.loans) (λ one. Writes loan one (is_written one && nat_lt place (length one.values)) (set one.values place (Some value))) old answer new
+      AtOne (λ service. at loan service.loans)
+      (λ one. Writes loan one (is_written one && nat_lt place (length one.values)) (set one.values place (Some value))) old answer new
   Step (command.Fill loan values) old answer new =
-      AtOne (λ service. at loan service.loans) (λ one. Writes loan one (length values == length one.values) (map Some values)) old answer new
+      AtOne (λ service. at loan service.loans)
+      (λ one. Writes loan one (length values == length one.values) (map Some values)) old answer new
   Step (command.Drop loan) old answer new =
-      AtOne (λ service. at loan service.loans) (λ one service answered after. (answered ≡ reply.Done) × (after ≡ record service { loans = removed loan service.loans })) old answer new
+      AtOne (λ service. at loan service.loans)
+      (λ one service answered after. (answered ≡ reply.Done) ×
+      (after ≡ record service { loans = removed loan service.loans })) old answer new
   Step (command.Send loan) old answer new = AtOne (λ service. at loan service.loans) (SendsLoan loan) old answer new
   Step (command.Put publisher values) old answer new = AtFree publisher (Puts publisher values) old answer new
   Step (command.Retry publisher nanoseconds) old answer new =
-      AtBlocked publisher (λ one send. GoesOn publisher one (record send { retries = send.retries + 1; elapsed = nanoseconds })) old answer new
+      AtBlocked publisher (λ one send. GoesOn publisher one
+      (record send { retries = send.retries + 1; elapsed = nanoseconds })) old answer new
   Step (command.GiveUp publisher) old answer new =
       AtBlocked publisher
-      (λ one send service answered after. (answered ≡ reply.Delivered send.delivered) × (after ≡ with_publisher publisher (record one { blocked = None }) service)) old answer new
+      (λ one send service answered after. (answered ≡ reply.Delivered send.delivered) ×
+      (after ≡ with_publisher publisher (record one { blocked = None }) service)) old answer new
   Step (command.Receive subscriber) old answer new =
       AtOne (subscriber_in subscriber)
-      (subscribing.UpdatesFirst buffer subscriber (λ failure. refusal.Receive (ConnectionFailure failure)) (Receives subscriber (old.made.samples + 1))) old answer new
+      (subscribing.UpdatesFirst buffer subscriber (λ failure. refusal.Receive (ConnectionFailure failure))
+      (Receives subscriber (old.made.samples + 1))) old answer new
   Step (command.Read sample) old answer new =
       AtOne (λ service. at sample service.samples)
-      (λ one service answered after. (values : Vec T) × (vec_items values ≡ one.message.values) × (answered ≡ reply.Values values) × (after ≡ service)) old answer new
+      (λ one service answered after. (values : Vec T) × (vec_items values ≡ one.message.values) × (answered ≡ reply.Values values) ×
+      (after ≡ service)) old answer new
   Step (command.Release sample) old answer new = AtOne (λ service. at sample service.samples) (Releases sample) old answer new
   Step (command.Update (port.Publisher number)) old answer new =
       AtFree number
-      (publishing.UpdatesFirst number refusal.Connection (λ one service answered after. (answered ≡ reply.Done) × (after ≡ service))) old answer new
+      (publishing.UpdatesFirst number refusal.Connection
+      (λ one service answered after. (answered ≡ reply.Done) × (after ≡ service))) old answer new
   Step (command.Update (port.Subscriber number)) old answer new =
       AtOne (subscriber_in number)
-      (subscribing.UpdatesFirst buffer number refusal.Connection (λ one service answered after. (answered ≡ reply.Done) × (after ≡ service))) old answer new
+      (subscribing.UpdatesFirst buffer number refusal.Connection
+      (λ one service answered after. (answered ≡ reply.Done) × (after ≡ service))) old answer new
   Step (command.Leave (port.Publisher number)) old answer new =
       AtFree number
       (λ one service answered after. (answered ≡ reply.Done)
-      × (after ≡ with_publisher number (record one { stands = false }) (record service { publisher_list = left number service.publisher_list }))) old answer new
+      × (after ≡ with_publisher number (record one { stands = false })
+      (record service { publisher_list = left number service.publisher_list }))) old answer new
   Step (command.Leave (port.Subscriber number)) old answer new =
       AtOne (subscriber_in number)
       (λ one service answered after. (answered ≡ reply.Done)
-      × (after ≡ with_subscriber number (record one { stands = false }) (record service { subscriber_list = left number service.subscriber_list }))) old answer new
+      × (after ≡ with_subscriber number (record one { stands = false })
+      (record service { subscriber_list = left number service.subscriber_list }))) old answer new
   Step (command.Has subscriber) old answer new =
       AtOne (subscriber_in subscriber)
       (subscribing.UpdatesFirst buffer subscriber refusal.Connection
@@ -105,7 +121,8 @@ module _ {T : Type 0} (types : MessageTypeDetails) (IsDefault : T → Type 0) (b
   abbrev pub Runs : List (Command T) → State T → List (Reply T) → State T → Type 0
   Runs [] old answers new = (answers ≡ []) × (new ≡ old)
   Runs (command ∷ more) old answers new =
-      (answer : Reply T) × (mid : State T) × (rest : List (Reply T)) × Step command old answer mid × Runs more mid rest new × (answers ≡ answer ∷ rest)
+      (answer : Reply T) × (mid : State T) × (rest : List (Reply T)) × Step command old answer mid × Runs more mid rest new ×
+      (answers ≡ answer ∷ rest)
 
   -- What a new machine may answer to commands: to all of them, or, if it stopped, to the first of them.
   abbrev pub Answers : List (Command T) → Bool → List (Reply T) → Type 0

@@ -13,6 +13,7 @@ use Rattle.iox_command.specs.DomainValues.declared.port_error.SendError.TheVaria
 use Rattle.iox_command.specs.NegotiateErrors.DescribeBase.declared.message_type.MessageTypeDetails.{MessageTypeDetails}
 use Rattle.iox_command.specs.declared.command.Command.{Command}
 use Rattle.iox_command.specs.declared.command.Command.TheVariants as command
+use Rattle.iox_command.specs.declared.refusal.Refusal.{Refusal}
 use Rattle.iox_command.specs.declared.refusal.Refusal.TheVariants as refusal
 use Rattle.iox_command.specs.declared.reply.Reply.{Reply}
 use Rattle.iox_command.specs.declared.reply.Reply.TheVariants as reply
@@ -32,6 +33,17 @@ BeginsToSend {T} publisher values (command.Send loan) old answer =
     × (at loan service.loans ≡ Some one) × (one.publisher ≡ publisher) × (is_written one ≡ true) × ((sent_as one).values ≡ values)
     × (has_begun answer ≡ true)
 BeginsToSend publisher values other old answer = ⊥
+
+-- whether a command that is refused is refused as a whole: it neither negotiates, nor does steps of other nodes, nor brings
+-- connections up to date first
+abbrev pub is_refused_whole : {T : Type 0} → Command T → Bool
+is_refused_whole command.Node = true
+is_refused_whole (command.Close factory) = true
+is_refused_whole (command.Publisher factory options) = true
+is_refused_whole (command.Subscriber factory options) = true
+is_refused_whole (command.Loan publisher count) = true
+is_refused_whole (command.LoanUninit publisher count) = true
+is_refused_whole other = false
 
 -- What is said of each message that waits, is borrowed, is kept as history, or is held as a sample, with its publisher.
 abbrev pub AllMessages : {T : Type 0} → (ℕ → Message T → Type 0) → Service T → Type 0
@@ -64,6 +76,11 @@ module _ {T : Type 0} (IsDefault : T → Type 0) where
   SkippedChangesNothing = (types : MessageTypeDetails) (buffer : ℕ) (asked : Command T) (old new : State T)
       → Step types IsDefault buffer asked old reply.Skipped new → new ≡ old
 
+  -- A command that is refused as a whole changes nothing.
+  abbrev pub RefusedChangesNothing : Type 0
+  RefusedChangesNothing = (types : MessageTypeDetails) (buffer : ℕ) (asked : Command T) (old new : State T) (why : Refusal)
+      → is_refused_whole asked ≡ true → Step types IsDefault buffer asked old (reply.Refused why) new → new ≡ old
+
   -- In every run of a new machine, what is in use of each service is within the sizes that its settings name.
   abbrev pub SizesAreAgreed : Type 0
   SizesAreAgreed = (types : MessageTypeDetails) (buffer : ℕ) (asked : List (Command T)) (answers : List (Reply T)) (new : State T)
@@ -73,7 +90,8 @@ module _ {T : Type 0} (IsDefault : T → Type 0) where
   abbrev pub MessagesWereSent : Type 0
   MessagesWereSent = (types : MessageTypeDetails) (buffer : ℕ) (asked : List (Command T)) (answers : List (Reply T)) (new : State T)
       (run : Runs types IsDefault buffer asked new_state answers new)
-      → AllByRecursion (AllMessages (λ publisher message. Began types IsDefault buffer publisher message.values asked new_state answers new run))
+      → AllByRecursion
+      (AllMessages (λ publisher message. Began types IsDefault buffer publisher message.values asked new_state answers new run))
       new.services
 
   -- What a subscriber receives after a run of a new machine are the values of a message of which a send began in the run.

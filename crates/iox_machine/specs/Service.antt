@@ -90,7 +90,8 @@ module _ {T : Type 0} where
 
   -- the mailbox of a publisher and a subscriber; one for no messages where they have none
   abbrev pub mailbox : ℕ → ℕ → Service T → Mailbox T
-  mailbox publisher subscriber service = unwrap_or (service.mailboxes publisher subscriber) (record { limit = 0; waiting = []; borrowed = [] })
+  mailbox publisher subscriber service = unwrap_or (service.mailboxes publisher subscriber)
+      (record { limit = 0; waiting = []; borrowed = [] })
 
   -- the mailbox of a publisher and a subscriber is another
   abbrev pub with_mailbox : ℕ → ℕ → Mailbox T → Service T → Service T

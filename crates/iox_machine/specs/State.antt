@@ -71,7 +71,8 @@ module _ {T : Type 0} where
   replaced has after (service ∷ more) = if has service then after ∷ more else service ∷ replaced has after more
 
   -- What a command does that names something which one service may have; it is skipped where none has it.
-  abbrev pub AtOne : {V : Type 0} → (Service T → Option V) → (V → Service T → Reply T → Service T → Type 0) → State T → Reply T → State T → Type 0
+  abbrev pub AtOne : {V : Type 0} → (Service T → Option V) → (V → Service T → Reply T → Service T → Type 0) → State T → Reply T → State T
+      → Type 0
   AtOne found Does old answer new =
       let has = λ (service : Service T). is_some (found service) in
       MatchOption (find has old.services)

@@ -46,7 +46,8 @@ module _ {T : Type 0} (buffer number : ℕ) where
   abbrev pub part : Service T → Parted → ℕ → Parted
   part service parted publisher =
       if is_idle (mailbox publisher number service) then parted
-      else (if nat_lt (length parted.expired) (max buffer service.settings.subscriber_max_borrowed_samples) then record parted { expired = parted.expired ++ publisher ∷ [] }
+      else (if nat_lt (length parted.expired) (max buffer service.settings.subscriber_max_borrowed_samples)
+      then record parted { expired = parted.expired ++ publisher ∷ [] }
       else elim (room_for publisher parted.expired service) [
         | Some out ↦ record parted { expired = filter (λ other. not (other == out)) parted.expired ++ publisher ∷ [] }
         | None ↦ if is_unborrowed service publisher then parted else record parted { staying = parted.staying ++ publisher ∷ [] }
@@ -58,7 +59,8 @@ module _ {T : Type 0} (buffer number : ℕ) where
       let places = zip subscriber.connected old.publisher_list.places in
       let parted = fold (part old) (record { expired = subscriber.expired; staying = [] }) (parting places) in
       (refused : List ℕ)
-      × (list_all (λ publisher. contains (those old.publisher_list.places) publisher && not (is_some (old.mailboxes publisher number))) refused ≡ true)
+      × (list_all (λ publisher. contains (those old.publisher_list.places) publisher && not
+      (is_some (old.mailboxes publisher number))) refused ≡ true)
       × (connected : List (Option ℕ)) × (connected ≡ map (now_at parted.staying refused) places)
       × (after ≡ record subscriber {
         seen = old.publisher_list.changes;
@@ -66,11 +68,13 @@ module _ {T : Type 0} (buffer number : ℕ) where
         connected = connected;
         expired = parted.expired;
       })
-      × (new ≡ fold (λ service publisher. connect subscriber.buffer_size publisher number service) (with_subscriber number after old) (those connected))
+      × (new ≡ fold (λ service publisher. connect subscriber.buffer_size publisher number service) (with_subscriber number after old)
+      (those connected))
 
   -- A subscriber that does something first brings its connections up to date, if the list of publishers changed or it is to update again;
   -- where that fails it doesn't.
-  abbrev pub UpdatesFirst : (ConnectionFailure → Refusal) → (Subscriber → Service T → Reply T → Service T → Type 0) → Subscriber → Service T → Reply T → Service T → Type 0
+  abbrev pub UpdatesFirst : (ConnectionFailure → Refusal) → (Subscriber → Service T → Reply T → Service T → Type 0) → Subscriber
+      → Service T → Reply T → Service T → Type 0
   UpdatesFirst told Does subscriber old answer new =
       MatchBool ((subscriber.seen == old.publisher_list.changes) && not subscriber.again)
       (Does subscriber old answer new)
