@@ -1,0 +1,10 @@
+mod Skipping
+mod Overflow
+mod Cases
+mod Lists
+mod Sound
+mod Moving
+mod Steps
+mod Runs
+mod Skips
+mod RefusedWhole

@@ -1,0 +1,248 @@
+-- A command that is refused as a whole changes nothing.
+use Rattle.std.proofs.Common.{◌≡◌, ◌⊎◌, ◌+◌, ℕ, Bool, true, false, cond, not, ◌&&◌, List, [], ◌∷◌, ◌++◌, length, map, set, Option, None, Some, refl, sym, ap, subst, inl, inr, ◌∙◌}
+use Rattle.std.specs.Global.{Vec}
+use Rattle.std.specs.Prelude.{◌==◌, nat_lt, nat_le, is_some, slice_get, MatchBool, MatchOption, MatchResult, ◌||◌, ◌^◌}
+use Rattle.std.specs.List.{list_all}
+use Rattle.std.specs.Vec.{vec_items}
+use Rattle.iox_machine.specs.Arriving.{PublisherArrives, SubscriberArrives, new_publisher, new_subscriber, worst_case}
+use Rattle.iox_machine.specs.Mailbox.{newest}
+use Rattle.iox_machine.specs.Message.{Message, Loan, Sample, is_written, sent_as}
+use Rattle.iox_machine.specs.PortList.{left, registered, those}
+use Rattle.iox_machine.specs.Ports.{AtFree, AtBlocked, publisher_in, subscriber_in, LendsLoan, Puts, SendsLoan, Writes, Releases}
+use Rattle.iox_machine.specs.PublisherUpdate as publishing
+use Rattle.iox_machine.specs.PublisherUpdate.{update_answer}
+use Rattle.iox_machine.specs.Receiving.{Receives, has_samples}
+use Rattle.iox_machine.specs.Replies.{IsSkipped, IsRefused}
+use Rattle.iox_machine.specs.Run.{Step, AtFactory, factory_of}
+use Rattle.iox_machine.specs.RunLaws.{RefusedChangesNothing, is_refused_whole}
+use Rattle.iox_machine.specs.Sending.{GoesOn, Begins, Sends, deliver}
+use Rattle.iox_machine.specs.Service.{Service, Publisher, Subscriber, Send, with_publisher, with_subscriber}
+use Rattle.iox_machine.specs.State.{State, Factory, AtOne, is_service_of, replaced, counted}
+use Rattle.iox_machine.specs.SubscriberUpdate as subscribing
+use Rattle.iox_machine.specs.Table.{at, changed, removed}
+use Rattle.iox_machine.proofs.Cases.{by-bool, by-option, by-result}
+use Rattle.iox_machine.proofs.Moving.{IsNegotiated, IsClosed, at-one, replaced-same, creates, opens, opens-or-creates, closed}
+use Rattle.iox_command.specs.DomainValues.declared.connection_failure.ConnectionFailure.{ConnectionFailure}
+use Rattle.iox_command.specs.DomainValues.declared.create_error.PublisherCreateError.TheVariants as publisher_error
+use Rattle.iox_command.specs.DomainValues.declared.create_error.SubscriberCreateError.TheVariants as subscriber_error
+use Rattle.iox_command.specs.DomainValues.declared.port_error.ReceiveError.TheVariants as receive_error
+use Rattle.iox_command.specs.DomainValues.declared.port_error.SendError.TheVariants as error
+use Rattle.iox_command.specs.NegotiateErrors.DescribeBase.declared.message_type.MessageTypeDetails.{MessageTypeDetails}
+use Rattle.iox_command.specs.declared.command.Command.{Command}
+use Rattle.iox_command.specs.declared.command.Command.TheVariants as command
+use Rattle.iox_command.specs.declared.port.PortNumber.TheVariants as port
+use Rattle.iox_command.specs.declared.refusal.HubError.TheVariants.{OutOfMemory}
+use Rattle.iox_command.specs.declared.refusal.Refusal.{Refusal}
+use Rattle.iox_command.specs.declared.refusal.Refusal.TheVariants as refusal
+use Rattle.iox_command.specs.declared.reply.Reply.{Reply}
+use Rattle.iox_command.specs.declared.reply.Reply.TheVariants as reply
+
+module _ {T : Type 0} (reason : Refusal) where
+  abbrev refused_so : Reply T
+  refused_so = reply.Refused reason
+
+  abbrev is_refusal : Reply T → Bool
+  is_refusal (reply.Refused why) = true
+  is_refusal other = false
+
+  -- another reply is no refusal
+  never : {A : Type 0} (other : Reply T) → refused_so ≡ other → is_refusal other ≡ false → A
+  never other same silent = absurd (differ (ap is_refusal same ∙ silent))
+    where
+      differ : true ≡ false → ⊥
+      differ e = cc
+
+  lends-refused : (loan number count : ℕ) (value : Option T) (publisher : Publisher T) (old new : Service T)
+      → LendsLoan loan number count value publisher old refused_so new → new ≡ old
+  lends-refused loan number count value publisher old new (None, after, lent, (told, came)) = never (reply.LoanMade loan) told refl
+  lends-refused loan number count value publisher old new (Some why, after, lent, (told, same)) = same
+
+  publisher-arrives-refused : (number : ℕ) (one : Publisher T) (old new : Service T) → PublisherArrives number one old
+      refused_so new → new ≡ old
+  publisher-arrives-refused number one old new h =
+      elim (by-bool (nat_le (2 ^ 32) (worst_case old.settings one.max_loaned_samples) || nat_le (2 ^ 32) one.room)
+      (IsRefused (refusal.Publisher publisher_error.UnableToCreateDataSegment) old refused_so new)
+      (MatchBool (list_all is_some old.publisher_list.places)
+      (IsRefused (refusal.Publisher publisher_error.ExceedsMaxSupportedPublishers) old refused_so new)
+      (IsRefused (refusal.Publisher publisher_error.UnableToCreateDataSegment) old refused_so new
+      ⊎ ((place : ℕ) × (slice_get old.publisher_list.places place ≡ Some None) × (after : Publisher T) × (mid : Service T)
+      × publishing.Follows number one (record old { publishers = old.publishers ++ (number, one) ∷ [] }) after mid
+      × (refused_so ≡ reply.PublisherMade number) ×
+      (new ≡ record mid { publisher_list = registered place number mid.publisher_list })))) h) [
+        | inl w ↦ w.1.1
+        | inr w ↦ further w.1
+      ]
+    where
+      comes : IsRefused (refusal.Publisher publisher_error.UnableToCreateDataSegment) old refused_so new
+          ⊎ ((place : ℕ) × (slice_get old.publisher_list.places place ≡ Some None) × (after : Publisher T) × (mid : Service T)
+          × publishing.Follows number one (record old { publishers = old.publishers ++ (number, one) ∷ [] }) after mid
+          × (refused_so ≡ reply.PublisherMade number) ×
+          (new ≡ record mid { publisher_list = registered place number mid.publisher_list }))
+          → new ≡ old
+      comes (inl same) = same.1
+      comes (inr (place, free, after, mid, came, told, is)) = never (reply.PublisherMade number) told refl
+
+      further : MatchBool (list_all is_some old.publisher_list.places)
+          (IsRefused (refusal.Publisher publisher_error.ExceedsMaxSupportedPublishers) old refused_so new)
+          (IsRefused (refusal.Publisher publisher_error.UnableToCreateDataSegment) old refused_so new
+          ⊎ ((place : ℕ) × (slice_get old.publisher_list.places place ≡ Some None) × (after : Publisher T) × (mid : Service T)
+          × publishing.Follows number one (record old { publishers = old.publishers ++ (number, one) ∷ [] }) after mid
+          × (refused_so ≡ reply.PublisherMade number) ×
+          (new ≡ record mid { publisher_list = registered place number mid.publisher_list })))
+          → new ≡ old
+      further h =
+          elim (by-bool (list_all is_some old.publisher_list.places)
+          (IsRefused (refusal.Publisher publisher_error.ExceedsMaxSupportedPublishers) old refused_so new)
+          (IsRefused (refusal.Publisher publisher_error.UnableToCreateDataSegment) old refused_so new
+          ⊎ ((place : ℕ) × (slice_get old.publisher_list.places place ≡ Some None) × (after : Publisher T) × (mid : Service T)
+          × publishing.Follows number one (record old { publishers = old.publishers ++ (number, one) ∷ [] }) after mid
+          × (refused_so ≡ reply.PublisherMade number) ×
+          (new ≡ record mid { publisher_list = registered place number mid.publisher_list }))) h) [
+            | inl w ↦ w.1.1
+            | inr w ↦ comes w.1
+          ]
+
+  subscriber-arrives-refused : (buffer number : ℕ) (one : Subscriber) (old new : Service T) → SubscriberArrives buffer number one old
+      refused_so new
+      → new ≡ old
+  subscriber-arrives-refused buffer number one old new h =
+      elim (by-bool (nat_lt old.settings.subscriber_max_buffer_size one.buffer_size)
+      (IsRefused (refusal.Subscriber subscriber_error.BufferSizeExceedsMaxSupportedBufferSizeOfService) old refused_so new)
+      (MatchBool (list_all is_some old.subscriber_list.places)
+      (IsRefused (refusal.Subscriber subscriber_error.ExceedsMaxSupportedSubscribers) old refused_so new)
+      (IsRefused (refusal.Subscriber subscriber_error.OutOfMemory) old refused_so new
+      ⊎ ((place : ℕ) × (slice_get old.subscriber_list.places place ≡ Some None) × (after : Subscriber) × (mid : Service T)
+      × subscribing.Follows buffer number one (record old { subscribers = old.subscribers ++ (number, one) ∷ [] }) after mid
+      × (refused_so ≡ reply.SubscriberMade number) ×
+      (new ≡ record mid { subscriber_list = registered place number mid.subscriber_list })))) h) [
+        | inl w ↦ w.1.1
+        | inr w ↦ further w.1
+      ]
+    where
+      comes : IsRefused (refusal.Subscriber subscriber_error.OutOfMemory) old refused_so new
+          ⊎ ((place : ℕ) × (slice_get old.subscriber_list.places place ≡ Some None) × (after : Subscriber) × (mid : Service T)
+          × subscribing.Follows buffer number one (record old { subscribers = old.subscribers ++ (number, one) ∷ [] }) after mid
+          × (refused_so ≡ reply.SubscriberMade number) ×
+          (new ≡ record mid { subscriber_list = registered place number mid.subscriber_list }))
+          → new ≡ old
+      comes (inl same) = same.1
+      comes (inr (place, free, after, mid, came, told, is)) = never (reply.SubscriberMade number) told refl
+
+      further : MatchBool (list_all is_some old.subscriber_list.places)
+          (IsRefused (refusal.Subscriber subscriber_error.ExceedsMaxSupportedSubscribers) old refused_so new)
+          (IsRefused (refusal.Subscriber subscriber_error.OutOfMemory) old refused_so new
+          ⊎ ((place : ℕ) × (slice_get old.subscriber_list.places place ≡ Some None) × (after : Subscriber) × (mid : Service T)
+          × subscribing.Follows buffer number one (record old { subscribers = old.subscribers ++ (number, one) ∷ [] }) after mid
+          × (refused_so ≡ reply.SubscriberMade number) ×
+          (new ≡ record mid { subscriber_list = registered place number mid.subscriber_list })))
+          → new ≡ old
+      further h =
+          elim (by-bool (list_all is_some old.subscriber_list.places)
+          (IsRefused (refusal.Subscriber subscriber_error.ExceedsMaxSupportedSubscribers) old refused_so new)
+          (IsRefused (refusal.Subscriber subscriber_error.OutOfMemory) old refused_so new
+          ⊎ ((place : ℕ) × (slice_get old.subscriber_list.places place ≡ Some None) × (after : Subscriber) × (mid : Service T)
+          × subscribing.Follows buffer number one (record old { subscribers = old.subscribers ++ (number, one) ∷ [] }) after mid
+          × (refused_so ≡ reply.SubscriberMade number) ×
+          (new ≡ record mid { subscriber_list = registered place number mid.subscriber_list }))) h) [
+            | inl w ↦ w.1.1
+            | inr w ↦ comes w.1
+          ]
+
+  -- ---- the state
+
+  at-one-refused : {V : Type 0} (found : Service T → Option V) (Does : V → Service T → Reply T → Service T → Type 0) (old new : State T)
+      → ((one : V) (service after : Service T) → Does one service refused_so after → after ≡ service)
+      → AtOne found Does old refused_so new → new ≡ old
+  at-one-refused found Does old new does h =
+      elim (at-one found Does old refused_so new h) [
+        | inl w ↦ w.1
+        | inr w ↦ w.6
+            ∙ (ap (λ (it : Service T). record old { services = replaced (λ (other : Service T). is_some (found other)) it old.services })
+            (does w.1 w.0 w.2 w.5)
+            ∙ ap (λ (it : List (Service T)). record old { services = it })
+            (replaced-same (λ (other : Service T). is_some (found other)) w.0 old.services w.3))
+      ]
+
+  at-free-refused : (number : ℕ) (Does : Publisher T → Service T → Reply T → Service T → Type 0) (old new : State T)
+      → ((one : Publisher T) (service after : Service T) → Does one service refused_so after → after ≡ service)
+      → AtFree number Does old refused_so new → new ≡ old
+  at-free-refused number Does old new does h =
+      at-one-refused (publisher_in number)
+      (λ (publisher : Publisher T) (service : Service T) (told : Reply T) (after : Service T). MatchOption publisher.blocked
+      (Does publisher service told after) (λ send. IsSkipped service told after))
+      old new
+      (λ one service after did. elim (by-option one.blocked (Does one service refused_so after)
+      (λ send. IsSkipped service refused_so after) did) [
+        | inl w ↦ does one service after w.1
+        | inr w ↦ w.2.1
+      ])
+      h
+
+  closed-refused : (number : ℕ) (old new : State T) → IsClosed number old refused_so new → new ≡ old
+  closed-refused number old new (inl skipped) = skipped.1
+  closed-refused number old new (inr (inl refused)) = refused.1
+  closed-refused number old new (inr (inr (factory, found, unused, told, came))) = never reply.Done told refl
+
+  module _ (types : MessageTypeDetails) (IsDefault : T → Type 0) (buffer : ℕ) where
+    at-factory-refused : (number : ℕ) (Does : Service T → Reply T → Service T → Type 0) (old new : State T)
+        → ((service after : Service T) → Does service refused_so after → after ≡ service)
+        → AtFactory types IsDefault buffer number Does old refused_so new → new ≡ old
+    at-factory-refused number Does old new does h =
+        elim (by-option (at number old.factories) (IsSkipped old refused_so new)
+        (λ factory. AtOne (λ (service : Service T). cond (is_service_of factory service) (Some service) None)
+        (λ (service : Service T). Does)
+        old refused_so new) h) [
+          | inl w ↦ w.1.1
+          | inr w ↦ at-one-refused (λ (service : Service T). cond (is_service_of w.0 service) (Some service) None)
+              (λ (service : Service T). Does)
+              old new (λ one service after did. does service after did) w.2
+        ]
+
+    differ : false ≡ true → ⊥
+    differ e = cc
+
+    step-refused : (asked : Command T) (old new : State T) → is_refused_whole asked ≡ true
+        → Step types IsDefault buffer asked old refused_so new → new ≡ old
+    step-refused command.Node old new whole (inl (told, came)) = never (reply.NodeMade (old.made.nodes + 1)) told refl
+    step-refused command.Node old new whole (inr refused) = refused.1
+    step-refused (command.Close factory) old new whole h = closed-refused factory old new (closed factory old refused_so new h)
+    step-refused (command.Publisher factory options) old new whole h =
+        at-factory-refused factory
+        (λ (service : Service T). PublisherArrives (old.made.publishers + 1)
+        (new_publisher factory options service.settings) service) old new
+        (λ service after did. publisher-arrives-refused (old.made.publishers + 1)
+        (new_publisher factory options service.settings) service after did) h
+    step-refused (command.Subscriber factory options) old new whole h =
+        at-factory-refused factory
+        (λ (service : Service T). SubscriberArrives buffer (old.made.subscribers + 1)
+        (new_subscriber factory options service.settings) service) old new
+        (λ service after did. subscriber-arrives-refused buffer (old.made.subscribers + 1)
+        (new_subscriber factory options service.settings) service after
+        did) h
+    step-refused (command.Loan publisher count) old new whole (value, is, h) =
+        at-free-refused publisher (LendsLoan (old.made.loans + 1) publisher count (Some value)) old new
+        (λ one service after did. lends-refused (old.made.loans + 1) publisher count (Some value) one service after did) h
+    step-refused (command.LoanUninit publisher count) old new whole h =
+        at-free-refused publisher (LendsLoan (old.made.loans + 1) publisher count None) old new
+        (λ one service after did. lends-refused (old.made.loans + 1) publisher count None one service after did) h
+    step-refused (command.Create node name options attributes steps) old new whole h = absurd (differ whole)
+    step-refused (command.Open node name options required steps) old new whole h = absurd (differ whole)
+    step-refused (command.OpenOrCreate node name options required steps) old new whole h = absurd (differ whole)
+    step-refused (command.Foreign pattern name steps) old new whole h = absurd (differ whole)
+    step-refused (command.Set loan place value) old new whole h = absurd (differ whole)
+    step-refused (command.Fill loan values) old new whole h = absurd (differ whole)
+    step-refused (command.Drop loan) old new whole h = absurd (differ whole)
+    step-refused (command.Send loan) old new whole h = absurd (differ whole)
+    step-refused (command.Put publisher values) old new whole h = absurd (differ whole)
+    step-refused (command.Retry publisher nanoseconds) old new whole h = absurd (differ whole)
+    step-refused (command.GiveUp publisher) old new whole h = absurd (differ whole)
+    step-refused (command.Receive subscriber) old new whole h = absurd (differ whole)
+    step-refused (command.Read sample) old new whole h = absurd (differ whole)
+    step-refused (command.Release sample) old new whole h = absurd (differ whole)
+    step-refused (command.Update which) old new whole h = absurd (differ whole)
+    step-refused (command.Leave which) old new whole h = absurd (differ whole)
+    step-refused (command.Has subscriber) old new whole h = absurd (differ whole)
+
+pub refused-changes-nothing : {T : Type 0} (IsDefault : T → Type 0) → RefusedChangesNothing IsDefault
+refused-changes-nothing IsDefault types buffer asked old new reason whole h =
+    step-refused reason types IsDefault buffer asked old new whole h

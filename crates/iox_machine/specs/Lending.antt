@@ -1,0 +1,62 @@
+-- How a publisher lends.
+use Rattle.std.specs.Prelude.{ℕ, ◌+◌, ◌≡◌, ◌⊎◌, Bool, true, false, ◌&&◌, ◌==◌, nat_lt, nat_le, List, [], ◌∷◌, ◌++◌, length, map, filter, flat_map, Option, None, Some, MatchBool, MatchOption, if◌then◌else◌}
+use Rattle.iox_machine.specs.Message.{Loan}
+use Rattle.iox_machine.specs.Service.{Service, Publisher, mailbox}
+use Rattle.iox_machine.specs.Table.{contains}
+use Rattle.iox_command.specs.DomainValues.Segments.{SegmentLength}
+use Rattle.iox_command.specs.DomainValues.declared.data_segment.AllocationStrategy.{AllocationStrategy}
+use Rattle.iox_command.specs.DomainValues.declared.data_segment.AllocationStrategy.TheVariants.{BestFit, PowerOfTwo, Static}
+use Rattle.iox_command.specs.DomainValues.declared.port_error.LoanError.{LoanError}
+use Rattle.iox_command.specs.DomainValues.declared.port_error.LoanError.TheVariants.{OutOfMemory, ExceedsMaxLoans, ExceedsMaxLoanSize}
+
+-- how many different numbers are in a list
+abbrev pub how_many : List ℕ → ℕ
+how_many [] = 0
+how_many (number ∷ more) = if contains more number then how_many more else 1 + how_many more
+
+-- whether no loan may be longer than the first segment allows
+abbrev pub is_static : AllocationStrategy → Bool
+is_static BestFit = false
+is_static PowerOfTwo = false
+is_static Static = true
+
+module _ {T : Type 0} (number : ℕ) where
+  -- the loans of a publisher that are out
+  abbrev pub loans_of : Service T → List (Loan T)
+  loans_of service = filter (λ loan. loan.publisher == number) (map (λ entry. entry.1) service.loans)
+
+  -- The messages of a publisher that are in use, by their numbers: its loans, its history, and what waits or is borrowed at its
+  -- connections, be they ended or not.
+  abbrev pub in_use : Publisher T → Service T → List ℕ
+  in_use publisher service =
+      map (λ loan. loan.number) (loans_of service)
+      ++ map (λ message. message.number)
+      (publisher.history ++ flat_map (λ entry. (mailbox number entry.0 service).waiting ++
+      (mailbox number entry.0 service).borrowed) service.subscribers)
+
+  -- A loan that is longer than the current segment allows opens a new one, if there are fewer than 255 and the length is allowed; or no
+  -- memory is found.
+  abbrev pub LendsLonger : ℕ → Publisher T → Option LoanError → Publisher T → Type 0
+  LendsLonger values publisher refusal after =
+      ((refusal ≡ Some OutOfMemory) × (after ≡ publisher))
+      ⊎ ((room : ℕ) × SegmentLength publisher.allocation values (Some room) × (nat_lt publisher.segments 255 ≡ true) × (refusal ≡ None)
+      × (after ≡ record publisher { room = room; segments = publisher.segments + 1; first = publisher.next; next = publisher.next + 1 }))
+
+  -- Why a loan of so many values is refused, but for want of memory: one that is too long, then where as many loans are out as may be,
+  -- then exactly where as many messages of the current segment are in use as it has slots.
+  abbrev pub loan_refusal : ℕ → Publisher T → Service T → Option LoanError
+  loan_refusal values publisher service =
+      if nat_lt publisher.room values && is_static publisher.allocation then Some ExceedsMaxLoanSize
+      else (if nat_le publisher.max_loaned_samples (length (loans_of service)) then Some ExceedsMaxLoans
+      else (if nat_le values publisher.room && nat_le publisher.slots
+      (how_many (filter (nat_le publisher.first) (in_use publisher service)))
+      then Some OutOfMemory else None))
+
+  -- A publisher lends its next message, of so many values, unless that is refused.
+  abbrev pub Lends : ℕ → Publisher T → Service T → Option LoanError → Publisher T → Type 0
+  Lends values publisher service refusal after =
+      MatchOption (loan_refusal values publisher service)
+      (MatchBool (nat_lt publisher.room values)
+      (LendsLonger values publisher refusal after)
+      ((refusal ≡ None) × (after ≡ record publisher { next = publisher.next + 1 })))
+      (λ why. (refusal ≡ Some why) × (after ≡ publisher))

@@ -1,0 +1,24 @@
+-- The machine: what a hub does, said with nodes, agreements, and bounded mailboxes over messages that never change.
+pub mod Table
+pub mod Message
+pub mod Mailbox
+pub mod PortList
+pub mod Service
+pub mod Replies
+pub mod PublisherUpdate
+pub mod SubscriberUpdate
+pub mod Arriving
+pub mod Lending
+pub mod Sending
+pub mod Receiving
+pub mod Asked
+pub mod Agreement
+pub mod Phase
+pub mod Negotiation
+pub mod State
+pub mod Factories
+pub mod Closing
+pub mod Ports
+pub mod Run
+pub mod Laws
+pub mod RunLaws

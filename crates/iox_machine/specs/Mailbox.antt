@@ -1,0 +1,37 @@
+-- The mailbox of a connection.
+use Rattle.std.specs.Prelude.{ℕ, ◌-◌, Bool, not, ◌&&◌, ◌==◌, nat_le, nat_lt, List, [], ◌∷◌, ◌++◌, length, take, drop, filter, Option, None, Some, if◌then◌else◌}
+use Rattle.iox_machine.specs.Message.{Message}
+
+-- A mailbox: how many messages may wait in it, those that wait, the oldest first, and those that its subscriber borrowed.
+pub record Mailbox (T : Type 0) : Type 0 where
+  pub limit : ℕ
+  pub waiting : List (Message T)
+  pub borrowed : List (Message T)
+
+-- the last so many of a list
+abbrev pub newest : {X : Type 0} → ℕ → List X → List X
+newest count xs = drop (length xs - count) xs
+
+module _ {T : Type 0} where
+  -- whether some message waits
+  abbrev pub has_data : Mailbox T → Bool
+  has_data box = nat_lt 0 (length box.waiting)
+
+  -- whether no message waits, and none is borrowed
+  abbrev pub is_idle : Mailbox T → Bool
+  is_idle box = not (has_data box) && length box.borrowed == 0
+
+  -- A message is put behind those that wait. With safe overflow the oldest leaves if they are too many then; without it a full mailbox
+  -- refuses.
+  abbrev pub put : Bool → Message T → Mailbox T → Option (Mailbox T)
+  put overflows message box =
+      if not overflows && nat_le box.limit (length box.waiting) then None
+      else Some (record box { waiting = newest box.limit (box.waiting ++ message ∷ []) })
+
+  -- the oldest message that waits is borrowed
+  abbrev pub taken : Mailbox T → Mailbox T
+  taken box = record box { waiting = drop 1 box.waiting; borrowed = box.borrowed ++ take 1 box.waiting }
+
+  -- a borrowed message is given back
+  abbrev pub given_back : ℕ → Mailbox T → Mailbox T
+  given_back number box = record box { borrowed = filter (λ message. not (message.number == number)) box.borrowed }

@@ -1,0 +1,125 @@
+-- How a node of the hub creates a service, opens it, or does either.
+use Rattle.std.specs.Prelude.{ℕ, zero, suc, ◌+◌, ◌≡◌, ◌⊎◌, Bool, true, false, ◌||◌, ◌==◌, nat_lt, List, [], ◌∷◌, length, take, map, filter, fold, Option, None, Some, Result, Ok, Err, MatchOption, MatchResult, if◌then◌else◌}
+use Rattle.iox_machine.specs.Agreement.{Agreement, unfit}
+use Rattle.iox_machine.specs.Phase.{Node, Phase, Absent, BeingMade, Published, Emptied, is_in, entered, acted}
+use Rattle.iox_command.specs.NegotiateErrors.DescribeBase.declared.message_type.MessageTypeDetails.{MessageTypeDetails}
+use Rattle.iox_command.specs.NegotiateErrors.DescribeBase.declared.pattern.MessagingPattern.{MessagingPattern}
+use Rattle.iox_command.specs.NegotiateErrors.DescribeSettings.Agreement.{max_nodes_of}
+use Rattle.iox_command.specs.NegotiateErrors.NegotiateRounds.declared.failure.CreateFailure.{CreateFailure}
+use Rattle.iox_command.specs.NegotiateErrors.NegotiateRounds.declared.failure.CreateFailure.TheVariants as uncreated
+use Rattle.iox_command.specs.NegotiateErrors.NegotiateRounds.declared.failure.OpenFailure.{OpenFailure}
+use Rattle.iox_command.specs.NegotiateErrors.NegotiateRounds.declared.failure.OpenFailure.TheVariants as unopened
+use Rattle.iox_command.specs.NegotiateErrors.NegotiateRounds.declared.failure.OpenOrCreateFailure.{OpenOrCreateFailure}
+use Rattle.iox_command.specs.NegotiateErrors.NegotiateRounds.declared.failure.OpenOrCreateFailure.TheVariants as neither
+use Rattle.iox_command.specs.declared.step.StepBefore.{StepBefore}
+
+-- A call under way: the phase of its pattern and name, and how many accesses it made.
+pub record Call : Type 0 where
+  pub phase : Phase
+  pub accesses : ℕ
+
+-- A round comes to an answer: whether the service is new, or why it failed; or it comes to none, and leads to the next round.
+abbrev pub Answer : Type 0 → Type 0
+Answer F = Option (Result Bool F)
+
+-- An opening is that of who opens or creates.
+abbrev pub opened : {V : Type 0} → Answer (OpenFailure V) → Answer (OpenOrCreateFailure V)
+opened None = None
+opened (Some (Ok new)) = Some (Ok new)
+opened (Some (Err failure)) = Some (Err (neither.Open failure))
+
+-- So is a creation, but another's lock or service leads to the next round.
+abbrev pub created : {V : Type 0} → Answer CreateFailure → Answer (OpenOrCreateFailure V)
+created None = None
+created (Some (Ok new)) = Some (Ok new)
+created (Some (Err uncreated.IsBeingCreatedByAnotherInstance)) = None
+created (Some (Err uncreated.AlreadyExists)) = None
+created (Some (Err failure)) = Some (Err (neither.Create failure))
+
+-- A call fails, and does nothing.
+abbrev pub Fails : {F : Type 0} → F → Call → Answer F → Call → Type 0
+Fails failure call answer after = (answer ≡ Some (Err failure)) × (after ≡ call)
+
+-- Rounds, at most so many: the first that comes to an answer ends them; where none does the answer is that they are exhausted.
+abbrev pub Rounds : {F : Type 0} → (Call → Answer F → Call → Type 0) → F → ℕ → Call → Answer F → Call → Type 0
+Rounds Round exhausted zero call answer after = Fails exhausted call answer after
+Rounds {F} Round exhausted (suc count) call answer after =
+    (mid : Call) × (first : Answer F) × Round call first mid × MatchOption first (Rounds Round exhausted count mid answer after)
+    (λ found. (answer ≡ first) × (after ≡ mid))
+
+-- How a node registers in the life that it saw. It is in then if it was in or there was room; where that life is over it finds nothing.
+abbrev pub registered : {V : Type 0} → ℕ → Node → Phase → Answer (OpenFailure V) × Phase
+registered life node (Published now agreed nodes) =
+    if now == life then (if is_in node nodes || nat_lt (length nodes) (max_nodes_of agreed.settings) then
+    (Some (Ok false), Published now agreed (entered node nodes))
+    else (Some (Err unopened.ExceedsMaxNumberOfNodes), Published now agreed nodes)) else (None, Published now agreed nodes)
+registered life node (Emptied now agreed by) =
+    (if now == life then Some (Err unopened.IsMarkedForDestruction) else None, Emptied now agreed by)
+registered life node phase = (None, phase)
+
+module _ (types : MessageTypeDetails) (pattern : MessagingPattern) (steps : List StepBefore) (node : Node) where
+  -- An access: what nodes outside the hub do before it, and what it finds then leads on. Or no memory is found, for the access or for one
+  -- of those steps, and the steps before that stand.
+  abbrev pub Access : {F : Type 0} → F → (Phase → Call → Answer F → Call → Type 0) → Call → Answer F → Call → Type 0
+  Access lacking Found call answer after =
+      let meanwhile = map (λ before. before.step) (filter (λ before. before.access == call.accesses + 1) steps) in
+      let next = fold (acted types pattern) call.phase meanwhile in
+      Found next (record { phase = next; accesses = call.accesses + 1 }) answer after
+      ⊎ ((done : ℕ) × Fails lacking (record call { phase = fold (acted types pattern) call.phase (take done meanwhile) }) answer after)
+
+  module _ (agreed : Agreement) where
+    -- what a lock finds. Who has it is alone: the service is made and published at once, or no memory is found for that, and the lock is
+    -- given back
+    abbrev pub Locks : Phase → Call → Answer CreateFailure → Call → Type 0
+    Locks (Absent lives) call answer after =
+        ((answer ≡ Some (Ok true)) × (after ≡ record call { phase = Published (lives + 1) agreed ((node, 1) ∷ []) }))
+        ⊎ Fails uncreated.OutOfMemory (record call { phase = Absent (lives + 1) }) answer after
+    Locks (BeingMade life by) call answer after = Fails uncreated.IsBeingCreatedByAnotherInstance call answer after
+    Locks found call answer after = Fails uncreated.AlreadyExists call answer after
+
+    -- what the look of a creation finds: where nothing stands it locks
+    abbrev pub CreateLooks : Phase → Call → Answer CreateFailure → Call → Type 0
+    CreateLooks (Absent lives) call answer after = Access uncreated.OutOfMemory Locks call answer after
+    CreateLooks (BeingMade life by) call answer after = Fails uncreated.HangsInCreation call answer after
+    CreateLooks found call answer after = Fails uncreated.AlreadyExists call answer after
+
+    -- `create`: settings that can't be are refused before the look
+    abbrev pub Creates : Call → Answer CreateFailure → Call → Type 0
+    Creates call answer after =
+        MatchOption (unfit agreed.settings) (Access uncreated.OutOfMemory CreateLooks call answer after)
+        (λ failure. Fails failure call answer after)
+
+  module _ {V : Type 0} (verdict : Agreement → Result (Unit {0}) V) where
+    -- a service that was found is opened if it meets what is asked: the node registers in the life that was found
+    abbrev pub OpensFound : ℕ → Agreement → Call → Answer (OpenFailure V) → Call → Type 0
+    OpensFound life agreed call answer after =
+        MatchResult (verdict agreed)
+        (λ met. Access unopened.OutOfMemory
+        (λ phase now found later. (found ≡ (registered {V = V} life node phase).0) ×
+        (later ≡ record now { phase = (registered {V = V} life node phase).1 })) call answer after)
+        (λ unmet. Fails (unopened.Clause unmet) call answer after)
+
+    -- what the look of an opening finds
+    abbrev pub OpenLooks : Phase → Call → Answer (OpenFailure V) → Call → Type 0
+    OpenLooks (Absent lives) call answer after = Fails unopened.DoesNotExist call answer after
+    OpenLooks (BeingMade life by) call answer after = Fails unopened.HangsInCreation call answer after
+    OpenLooks (Published life agreed nodes) call answer after = OpensFound life agreed call answer after
+    OpenLooks (Emptied life agreed by) call answer after = OpensFound life agreed call answer after
+
+    -- `open`: at most five rounds, each of them a look and what it leads to
+    abbrev pub Opens : Call → Answer (OpenFailure V) → Call → Type 0
+    Opens call answer after = Rounds (Access unopened.OutOfMemory OpenLooks) unopened.ServiceInCorruptedState 5 call answer after
+
+    module _ (agreed : Agreement) where
+      -- what the look of who opens or creates finds: where nothing stands it creates, if its settings can be
+      abbrev pub EitherLooks : Phase → Call → Answer (OpenOrCreateFailure V) → Call → Type 0
+      EitherLooks (Absent lives) call answer after =
+          MatchOption (unfit agreed.settings)
+          ((made : Answer CreateFailure) × Access uncreated.OutOfMemory (Locks agreed) call made after × (answer ≡ created made))
+          (λ failure. Fails (neither.Create failure) call answer after)
+      EitherLooks phase call answer after = (found : Answer (OpenFailure V)) × OpenLooks phase call found after × (answer ≡ opened found)
+
+      -- `open_or_create`: at most five such rounds
+      abbrev pub OpensOrCreates : Call → Answer (OpenOrCreateFailure V) → Call → Type 0
+      OpensOrCreates call answer after = Rounds
+          (Access (neither.Open unopened.OutOfMemory) EitherLooks) neither.SystemInFlux 5 call answer after

@@ -1,0 +1,69 @@
+-- How a publisher brings its connections up to date.
+use Rattle.std.specs.Prelude.{ℕ, ◌≡◌, true, not, ◌&&◌, ◌==◌, List, [], map, filter, filter_map, fold, zip, slice_get, Option, None, Some, is_some, option_map, Result, Ok, Err, MatchBool, MatchResult, if◌then◌else◌}
+use Rattle.std.specs.List.{list_all}
+use Rattle.std.specs.Option.{option_map_or}
+use Rattle.iox_machine.specs.Message.{Message}
+use Rattle.iox_machine.specs.Mailbox.{Mailbox, newest}
+use Rattle.iox_machine.specs.PortList.{those, unless}
+use Rattle.iox_machine.specs.Service.{Service, Publisher, with_publisher, mailbox, with_mailbox, connect}
+use Rattle.iox_machine.specs.Table.{at, contains}
+use Rattle.iox_machine.specs.Replies.{IsRefused}
+use Rattle.iox_command.specs.DomainValues.declared.connection_failure.ConnectionFailure.{ConnectionFailure}
+use Rattle.iox_command.specs.DomainValues.declared.connection_failure.ConnectionFailure.TheVariants.{FailedToEstablishConnection}
+use Rattle.iox_command.specs.DomainValues.declared.connection_failure.ZeroCopyCreationError.{ZeroCopyCreationError}
+use Rattle.iox_command.specs.DomainValues.declared.connection_failure.ZeroCopyCreationError.TheVariants.{OutOfMemory, ExpiredConnectionBufferFull}
+use Rattle.iox_command.specs.DomainValues.declared.degradation.DegradationAction.{DegradationAction}
+use Rattle.iox_command.specs.DomainValues.declared.degradation.DegradationAction.TheVariants.{DegradeAndFail}
+use Rattle.iox_command.specs.declared.refusal.Refusal.{Refusal}
+use Rattle.iox_command.specs.declared.reply.Reply.{Reply}
+
+-- How the connection to the port that is listed at a place failed, if the port is connected to none there, or to another still.
+abbrev pub failure_at : Option ℕ → Option ℕ → Option ZeroCopyCreationError
+failure_at None connected = None
+failure_at (Some listed) None = Some OutOfMemory
+failure_at (Some listed) (Some other) = if other == listed then None else Some ExpiredConnectionBufferFull
+
+-- what an update answers: the first failure, in place order, if the port is to fail then
+abbrev pub update_answer : DegradationAction → List (Option ℕ) → List (Option ℕ) → Result (Unit {0}) ConnectionFailure
+update_answer DegradeAndFail listed connected =
+    option_map_or (λ failure. Err (FailedToEstablishConnection failure))
+    (slice_get (filter_map (λ place. failure_at place.0 place.1) (zip listed connected)) 0) (Ok tt)
+update_answer action listed connected = Ok tt
+
+module _ {T : Type 0} (number : ℕ) where
+  -- of the connections to subscribers that left all that waits is lost; what is borrowed stays in use until it is released
+  abbrev pub ended : Service T → Service T
+  ended service = record service {
+    mailboxes = λ publisher subscriber. if (publisher == number) && not (contains (those service.subscriber_list.places) subscriber)
+        then option_map (λ (box : Mailbox T). record box { waiting = [] }) (service.mailboxes publisher subscriber)
+        else service.mailboxes publisher subscriber;
+  }
+
+  -- a new subscriber is connected, and gets as much of the history as may wait for it, the oldest first
+  abbrev pub welcome : List (Message T) → Service T → ℕ → Service T
+  welcome history service subscriber =
+      let met = connect (option_map_or (λ one. one.buffer_size) (at subscriber service.subscribers) 0) number subscriber service in
+      let box = mailbox number subscriber met in
+      with_mailbox number subscriber (record box { waiting = newest box.limit history }) met
+
+  -- A publisher follows the list of subscribers. To some that are new no connection may be made, for want of memory.
+  abbrev pub Follows : Publisher T → Service T → Publisher T → Service T → Type 0
+  Follows publisher old after new =
+      (refused : List ℕ)
+      × (list_all (λ subscriber. contains (those old.subscriber_list.places) subscriber && not
+      (is_some (old.mailboxes number subscriber))) refused ≡ true)
+      × (after ≡ record publisher { seen = old.subscriber_list.changes; connected = map (unless refused) old.subscriber_list.places })
+      × (new ≡ fold (welcome publisher.history) (with_publisher number after (ended old))
+      (filter (λ subscriber. not (contains (those publisher.connected) subscriber)) (those after.connected)))
+
+  -- A publisher that does something first brings its connections up to date, if the list of subscribers changed; where that fails it
+  -- doesn't.
+  abbrev pub UpdatesFirst : (ConnectionFailure → Refusal) → (Publisher T → Service T → Reply T → Service T → Type 0) → Publisher T
+      → Service T → Reply T → Service T → Type 0
+  UpdatesFirst told Does publisher old answer new =
+      MatchBool (publisher.seen == old.subscriber_list.changes)
+      (Does publisher old answer new)
+      ((after : Publisher T) × (mid : Service T) × Follows publisher old after mid
+      × MatchResult (update_answer publisher.degradation old.subscriber_list.places after.connected)
+      (λ done. Does after mid answer new)
+      (λ failure. IsRefused (told failure) mid answer new))

@@ -1,0 +1,58 @@
+-- How a subscriber receives.
+use Rattle.std.specs.Prelude.{ℕ, ◌≡◌, Bool, true, false, ◌&&◌, nat_lt, List, [], ◌∷◌, ◌++◌, length, find, slice_get, Option, None, Some, MatchOption, if◌then◌else◌}
+use Rattle.std.specs.Global.{Vec}
+use Rattle.std.specs.List.{list_any}
+use Rattle.std.specs.Vec.{vec_items}
+use Rattle.iox_machine.specs.Message.{Message}
+use Rattle.iox_machine.specs.Mailbox.{has_data, is_idle, taken}
+use Rattle.iox_machine.specs.PortList.{those}
+use Rattle.iox_machine.specs.Service.{Service, Subscriber, with_subscriber, mailbox, with_mailbox}
+use Rattle.iox_machine.specs.Table.{contains}
+use Rattle.iox_command.specs.DomainValues.declared.port_error.ReceiveError.TheVariants.{ExceedsMaxBorrows}
+use Rattle.iox_command.specs.declared.refusal.Refusal.TheVariants as refusal
+use Rattle.iox_command.specs.declared.reply.Reply.{Reply}
+use Rattle.iox_command.specs.declared.reply.Reply.TheVariants as reply
+
+module _ {T : Type 0} (number : ℕ) where
+  -- whether some connection of a subscriber has data, an expired one too
+  abbrev pub has_samples : Subscriber → Service T → Bool
+  has_samples subscriber service = list_any (λ publisher. has_data (mailbox publisher number service))
+      (those subscriber.connected ++ subscriber.expired)
+
+  -- whether the connection of a publisher has data, and fewer messages are borrowed of it than may be
+  abbrev pub gives : Service T → ℕ → Bool
+  gives service publisher =
+      has_data (mailbox publisher number service)
+      && nat_lt (length (mailbox publisher number service).borrowed) service.settings.subscriber_max_borrowed_samples
+
+  -- the expired connections, without the idle ones that are met before the first that gives
+  abbrev pub lasting : Service T → List ℕ → List ℕ
+  lasting service [] = []
+  lasting service (publisher ∷ more) =
+      if gives service publisher then publisher ∷ more
+      else (if is_idle (mailbox publisher number service) then lasting service more else publisher ∷ lasting service more)
+
+  -- Which connection gives, where this is the first expired one that does: just that, else any other one, if there is one that gives.
+  abbrev pub IsGiver : Option ℕ → Subscriber → Service T → Option ℕ → Type 0
+  IsGiver (Some expired) subscriber service giver = giver ≡ Some expired
+  IsGiver None subscriber service None = list_any (gives service) (those subscriber.connected) ≡ false
+  IsGiver None subscriber service (Some publisher) = (contains (those subscriber.connected) publisher && gives service publisher) ≡ true
+
+  -- The oldest message of a connection is borrowed, and held under this number.
+  abbrev pub Takes : ℕ → ℕ → Service T → Reply T → Service T → Type 0
+  Takes sample publisher old answer new =
+      (message : Message T) × (values : Vec T)
+      × (slice_get (mailbox publisher number old).waiting 0 ≡ Some message) × (vec_items values ≡ message.values) ×
+      (answer ≡ reply.Received sample values)
+      × (new ≡ with_mailbox publisher number (taken (mailbox publisher number old))
+      (record old { samples = old.samples ++ (sample, record { publisher = publisher; subscriber = number; message = message }) ∷ [] }))
+
+  -- A subscriber receives. Where no connection gives it is told whether some has data, of which as much is borrowed as may be.
+  abbrev pub Receives : ℕ → Subscriber → Service T → Reply T → Service T → Type 0
+  Receives sample subscriber old answer new =
+      let swept = with_subscriber number (record subscriber { expired = lasting old subscriber.expired }) old in
+      (giver : Option ℕ) × IsGiver (find (gives old) subscriber.expired) subscriber old giver
+      × MatchOption giver
+      ((answer ≡ (if has_samples subscriber old then reply.Refused (refusal.Receive ExceedsMaxBorrows) else reply.NothingWaits)) ×
+      (new ≡ swept))
+      (λ publisher. Takes sample publisher swept answer new)

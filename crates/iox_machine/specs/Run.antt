@@ -1,0 +1,131 @@
+-- The machine: what each command does, what it is answered, and a run of commands.
+use Rattle.std.specs.Prelude.{ℕ, ◌+◌, ◌≡◌, ◌⊎◌, ◌&&◌, ◌==◌, nat_lt, Bool, false, List, [], ◌∷◌, ◌++◌, length, map, set, Some, None, MatchOption, if◌then◌else◌}
+use Rattle.std.specs.Bool.{OnFalse}
+use Rattle.std.specs.Global.{Vec}
+use Rattle.std.specs.Vec.{vec_items}
+use Rattle.iox_machine.specs.Arriving.{PublisherArrives, SubscriberArrives, new_publisher, new_subscriber}
+use Rattle.iox_machine.specs.Closing.{Closes}
+use Rattle.iox_machine.specs.Factories.{Acts, CreatesService, OpensService, OpensOrCreatesService}
+use Rattle.iox_machine.specs.Message.{is_written}
+use Rattle.iox_machine.specs.PortList.{left}
+use Rattle.iox_machine.specs.Ports.{AtFree, AtBlocked, subscriber_in, LendsLoan, Puts, SendsLoan, Writes, Releases}
+use Rattle.iox_machine.specs.PublisherUpdate as publishing
+use Rattle.iox_machine.specs.Receiving.{Receives, has_samples}
+use Rattle.iox_machine.specs.Sending.{GoesOn}
+use Rattle.iox_machine.specs.Service.{Service, with_publisher, with_subscriber}
+use Rattle.iox_machine.specs.State.{State, Factory, new_state, counted, is_service_of, AtOne}
+use Rattle.iox_machine.specs.SubscriberUpdate as subscribing
+use Rattle.iox_machine.specs.Table.{at, removed}
+use Rattle.iox_machine.specs.Replies.{IsSkipped, IsRefused}
+use Rattle.iox_command.specs.DomainValues.declared.port_error.ReceiveError.TheVariants.{ConnectionFailure}
+use Rattle.iox_command.specs.NegotiateErrors.DescribeBase.declared.message_type.MessageTypeDetails.{MessageTypeDetails}
+use Rattle.iox_command.specs.Patterns.{pattern_of}
+use Rattle.iox_command.specs.declared.command.Command.{Command}
+use Rattle.iox_command.specs.declared.command.Command.TheVariants as command
+use Rattle.iox_command.specs.declared.port.PortNumber.TheVariants as port
+use Rattle.iox_command.specs.declared.refusal.HubError.TheVariants.{OutOfMemory}
+use Rattle.iox_command.specs.declared.refusal.Refusal.TheVariants as refusal
+use Rattle.iox_command.specs.declared.reply.Reply.{Reply}
+use Rattle.iox_command.specs.declared.reply.Reply.TheVariants as reply
+use Rattle.iox_command.specs.declared.service.ServiceOptions.{ServiceOptions}
+
+-- the factory that a node gets of the service of a name
+abbrev pub factory_of : ℕ → List ℕ → ServiceOptions → Factory
+factory_of node name options = record { pattern = pattern_of options; name = name; node = node }
+
+-- A machine is made for messages of certain types, with what a default value is, and with how many connections of a subscriber may be
+-- expired at least.
+module _ {T : Type 0} (types : MessageTypeDetails) (IsDefault : T → Type 0) (buffer : ℕ) where
+  -- What a command does at the publish-subscribe service of a factory; it is skipped where there is no such factory, or it is of another
+  -- pattern.
+  abbrev pub AtFactory : ℕ → (Service T → Reply T → Service T → Type 0) → State T → Reply T → State T → Type 0
+  AtFactory number Does old answer new =
+      MatchOption (at number old.factories) (IsSkipped old answer new)
+      (λ factory. AtOne (λ service. if is_service_of factory service then Some service else None) (λ service. Does) old answer new)
+
+  -- What each command does to the machine, and what it is answered.
+  abbrev pub Step : Command T → State T → Reply T → State T → Type 0
+  Step command.Node old answer new =
+      ((answer ≡ reply.NodeMade (old.made.nodes + 1)) × (new ≡ record old { made = counted answer old.made }))
+      ⊎ (IsRefused (refusal.Hub OutOfMemory) old answer new)
+  Step (command.Create node name options attributes steps) old answer new =
+      CreatesService types steps (factory_of node name options) options attributes old answer new
+  Step (command.Open node name options required steps) old answer new =
+      OpensService types steps (factory_of node name options) options required old answer new
+  Step (command.OpenOrCreate node name options required steps) old answer new =
+      OpensOrCreatesService types steps (factory_of node name options) options required old answer new
+  Step (command.Foreign pattern name steps) old answer new = Acts types pattern name steps old answer new
+  Step (command.Close factory) old answer new = Closes factory old answer new
+  Step (command.Publisher factory options) old answer new =
+      AtFactory factory (λ service. PublisherArrives (old.made.publishers + 1)
+      (new_publisher factory options service.settings) service) old answer new
+  Step (command.Subscriber factory options) old answer new =
+      AtFactory factory (λ service. SubscriberArrives buffer (old.made.subscribers + 1)
+      (new_subscriber factory options service.settings) service) old answer new
+  Step (command.Loan publisher length) old answer new =
+      (value : T) × IsDefault value × AtFree publisher (LendsLoan (old.made.loans + 1) publisher length (Some value)) old answer new
+  Step (command.LoanUninit publisher length) old answer new = AtFree publisher
+      (LendsLoan (old.made.loans + 1) publisher length None) old answer new
+  Step (command.Set loan place value) old answer new =
+      AtOne (λ service. at loan service.loans)
+      (λ one. Writes loan one (is_written one && nat_lt place (length one.values)) (set one.values place (Some value))) old answer new
+  Step (command.Fill loan values) old answer new =
+      AtOne (λ service. at loan service.loans)
+      (λ one. Writes loan one (length values == length one.values) (map Some values)) old answer new
+  Step (command.Drop loan) old answer new =
+      AtOne (λ service. at loan service.loans)
+      (λ one service answered after. (answered ≡ reply.Done) ×
+      (after ≡ record service { loans = removed loan service.loans })) old answer new
+  Step (command.Send loan) old answer new = AtOne (λ service. at loan service.loans) (SendsLoan loan) old answer new
+  Step (command.Put publisher values) old answer new = AtFree publisher (Puts publisher values) old answer new
+  Step (command.Retry publisher nanoseconds) old answer new =
+      AtBlocked publisher (λ one send. GoesOn publisher one
+      (record send { retries = send.retries + 1; elapsed = nanoseconds })) old answer new
+  Step (command.GiveUp publisher) old answer new =
+      AtBlocked publisher
+      (λ one send service answered after. (answered ≡ reply.Delivered send.delivered) ×
+      (after ≡ with_publisher publisher (record one { blocked = None }) service)) old answer new
+  Step (command.Receive subscriber) old answer new =
+      AtOne (subscriber_in subscriber)
+      (subscribing.UpdatesFirst buffer subscriber (λ failure. refusal.Receive (ConnectionFailure failure))
+      (Receives subscriber (old.made.samples + 1))) old answer new
+  Step (command.Read sample) old answer new =
+      AtOne (λ service. at sample service.samples)
+      (λ one service answered after. (values : Vec T) × (vec_items values ≡ one.message.values) × (answered ≡ reply.Values values) ×
+      (after ≡ service)) old answer new
+  Step (command.Release sample) old answer new = AtOne (λ service. at sample service.samples) (Releases sample) old answer new
+  Step (command.Update (port.Publisher number)) old answer new =
+      AtFree number
+      (publishing.UpdatesFirst number refusal.Connection
+      (λ one service answered after. (answered ≡ reply.Done) × (after ≡ service))) old answer new
+  Step (command.Update (port.Subscriber number)) old answer new =
+      AtOne (subscriber_in number)
+      (subscribing.UpdatesFirst buffer number refusal.Connection
+      (λ one service answered after. (answered ≡ reply.Done) × (after ≡ service))) old answer new
+  Step (command.Leave (port.Publisher number)) old answer new =
+      AtFree number
+      (λ one service answered after. (answered ≡ reply.Done)
+      × (after ≡ with_publisher number (record one { stands = false })
+      (record service { publisher_list = left number service.publisher_list }))) old answer new
+  Step (command.Leave (port.Subscriber number)) old answer new =
+      AtOne (subscriber_in number)
+      (λ one service answered after. (answered ≡ reply.Done)
+      × (after ≡ with_subscriber number (record one { stands = false })
+      (record service { subscriber_list = left number service.subscriber_list }))) old answer new
+  Step (command.Has subscriber) old answer new =
+      AtOne (subscriber_in subscriber)
+      (subscribing.UpdatesFirst buffer subscriber refusal.Connection
+      (λ one service answered after. (answered ≡ reply.Has (has_samples subscriber one service)) × (after ≡ service))) old answer new
+
+  -- Commands one after the other, each with its answer.
+  abbrev pub Runs : List (Command T) → State T → List (Reply T) → State T → Type 0
+  Runs [] old answers new = (answers ≡ []) × (new ≡ old)
+  Runs (command ∷ more) old answers new =
+      (answer : Reply T) × (mid : State T) × (rest : List (Reply T)) × Step command old answer mid × Runs more mid rest new ×
+      (answers ≡ answer ∷ rest)
+
+  -- What a new machine may answer to commands: to all of them, or, if it stopped, to the first of them.
+  abbrev pub Answers : List (Command T) → Bool → List (Reply T) → Type 0
+  Answers commands stopped answers =
+      (first : List (Command T)) × (rest : List (Command T)) × (after : State T)
+      × (commands ≡ first ++ rest) × OnFalse stopped (rest ≡ []) × Runs first new_state answers after

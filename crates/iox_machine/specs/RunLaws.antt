@@ -1,0 +1,113 @@
+-- Laws of every run of the machine.
+use Rattle.std.specs.Prelude.{ℕ, ◌≡◌, ◌≤◌, ◌⊎◌, Bool, true, false, List, [], ◌∷◌, length, find, is_some, Some}
+use Rattle.std.specs.Global.{Vec}
+use Rattle.std.specs.List.{AllByRecursion}
+use Rattle.std.specs.Vec.{vec_items}
+use Rattle.iox_machine.specs.Mailbox.{Mailbox}
+use Rattle.iox_machine.specs.Message.{Message, Loan, is_written, sent_as}
+use Rattle.iox_machine.specs.Run.{Step, Runs}
+use Rattle.iox_machine.specs.Service.{Service}
+use Rattle.iox_machine.specs.State.{State, new_state}
+use Rattle.iox_machine.specs.Table.{at}
+use Rattle.iox_command.specs.DomainValues.declared.port_error.SendError.TheVariants as error
+use Rattle.iox_command.specs.NegotiateErrors.DescribeBase.declared.message_type.MessageTypeDetails.{MessageTypeDetails}
+use Rattle.iox_command.specs.declared.command.Command.{Command}
+use Rattle.iox_command.specs.declared.command.Command.TheVariants as command
+use Rattle.iox_command.specs.declared.refusal.Refusal.{Refusal}
+use Rattle.iox_command.specs.declared.refusal.Refusal.TheVariants as refusal
+use Rattle.iox_command.specs.declared.reply.Reply.{Reply}
+use Rattle.iox_command.specs.declared.reply.Reply.TheVariants as reply
+
+-- whether a reply tells that a send began: it waits at a full mailbox, or it went to all others
+abbrev pub has_begun : {T : Type 0} → Reply T → Bool
+has_begun reply.Blocked = true
+has_begun (reply.Delivered count) = true
+has_begun (reply.Refused (refusal.Send error.UnableToDeliver)) = true
+has_begun other = false
+
+-- A command began the send of a message of these values, by a publisher.
+abbrev pub BeginsToSend : {T : Type 0} → ℕ → List T → Command T → State T → Reply T → Type 0
+BeginsToSend publisher values (command.Put number given) old answer = (number ≡ publisher) × (given ≡ values) × (has_begun answer ≡ true)
+BeginsToSend {T} publisher values (command.Send loan) old answer =
+    (service : Service T) × (one : Loan T) × (find (λ other. is_some (at loan other.loans)) old.services ≡ Some service)
+    × (at loan service.loans ≡ Some one) × (one.publisher ≡ publisher) × (is_written one ≡ true) × ((sent_as one).values ≡ values)
+    × (has_begun answer ≡ true)
+BeginsToSend publisher values other old answer = ⊥
+
+-- whether a command that is refused is refused as a whole: it neither negotiates, nor does steps of other nodes, nor brings
+-- connections up to date first
+abbrev pub is_refused_whole : {T : Type 0} → Command T → Bool
+is_refused_whole command.Node = true
+is_refused_whole (command.Close factory) = true
+is_refused_whole (command.Publisher factory options) = true
+is_refused_whole (command.Subscriber factory options) = true
+is_refused_whole (command.Loan publisher count) = true
+is_refused_whole (command.LoanUninit publisher count) = true
+is_refused_whole other = false
+
+-- What is said of each message that waits, is borrowed, is kept as history, or is held as a sample, with its publisher.
+abbrev pub AllMessages : {T : Type 0} → (ℕ → Message T → Type 0) → Service T → Type 0
+AllMessages {T} Is service =
+    ((publisher subscriber : ℕ) (box : Mailbox T) → service.mailboxes publisher subscriber ≡ Some box
+    → AllByRecursion (Is publisher) box.waiting × AllByRecursion (Is publisher) box.borrowed)
+    × AllByRecursion (λ entry. AllByRecursion (Is entry.0) entry.1.history) service.publishers
+    × AllByRecursion (λ entry. Is entry.1.publisher entry.1.message) service.samples
+
+-- No more messages wait, are borrowed or are kept as history than the settings of the service allow.
+abbrev pub IsWithinSizes : {T : Type 0} → Service T → Type 0
+IsWithinSizes {T} service =
+    ((publisher subscriber : ℕ) (box : Mailbox T) → service.mailboxes publisher subscriber ≡ Some box
+    → (length box.waiting ≤ box.limit) × (box.limit ≤ service.settings.subscriber_max_buffer_size)
+    × (length box.borrowed ≤ service.settings.subscriber_max_borrowed_samples))
+    × AllByRecursion (λ entry. length entry.1.history ≤ service.settings.history_size) service.publishers
+    × AllByRecursion (λ entry. entry.1.buffer_size ≤ service.settings.subscriber_max_buffer_size) service.subscribers
+
+module _ {T : Type 0} (types : MessageTypeDetails) (IsDefault : T → Type 0) (buffer : ℕ) where
+  -- In a run the send of a message of these values began, by a publisher.
+  abbrev pub Began : ℕ → List T → (asked : List (Command T)) (old : State T) (answers : List (Reply T)) (new : State T)
+      → Runs types IsDefault buffer asked old answers new → Type 0
+  Began publisher values [] old answers new run = ⊥
+  Began publisher values (one ∷ more) old answers new run =
+      BeginsToSend publisher values one old run.0 ⊎ Began publisher values more run.1 run.2 new run.4
+
+module _ {T : Type 0} (IsDefault : T → Type 0) where
+  -- A command that is skipped changes nothing.
+  abbrev pub SkippedChangesNothing : Type 0
+  SkippedChangesNothing = (types : MessageTypeDetails) (buffer : ℕ) (asked : Command T) (old new : State T)
+      → Step types IsDefault buffer asked old reply.Skipped new → new ≡ old
+
+  -- A command that is refused as a whole changes nothing.
+  abbrev pub RefusedChangesNothing : Type 0
+  RefusedChangesNothing = (types : MessageTypeDetails) (buffer : ℕ) (asked : Command T) (old new : State T) (why : Refusal)
+      → is_refused_whole asked ≡ true → Step types IsDefault buffer asked old (reply.Refused why) new → new ≡ old
+
+  -- In every run of a new machine, what is in use of each service is within the sizes that its settings name.
+  abbrev pub SizesAreAgreed : Type 0
+  SizesAreAgreed = (types : MessageTypeDetails) (buffer : ℕ) (asked : List (Command T)) (answers : List (Reply T)) (new : State T)
+      → Runs types IsDefault buffer asked new_state answers new → AllByRecursion IsWithinSizes new.services
+
+  -- In every run of a new machine, each message that is anywhere has the values with which its publisher began to send it.
+  abbrev pub MessagesWereSent : Type 0
+  MessagesWereSent = (types : MessageTypeDetails) (buffer : ℕ) (asked : List (Command T)) (answers : List (Reply T)) (new : State T)
+      (run : Runs types IsDefault buffer asked new_state answers new)
+      → AllByRecursion
+      (AllMessages (λ publisher message. Began types IsDefault buffer publisher message.values asked new_state answers new run))
+      new.services
+
+  -- What a subscriber receives after a run of a new machine are the values of a message of which a send began in the run.
+  abbrev pub ReceivedWasSent : Type 0
+  ReceivedWasSent = (types : MessageTypeDetails) (buffer : ℕ) (asked : List (Command T)) (answers : List (Reply T)) (old : State T)
+      (run : Runs types IsDefault buffer asked new_state answers old)
+      (subscriber sample : ℕ) (values : Vec T) (new : State T)
+      → Step types IsDefault buffer (command.Receive subscriber) old (reply.Received sample values) new
+      → (publisher : ℕ) × Began types IsDefault buffer publisher (vec_items values) asked new_state answers old run
+
+  -- A sample reads as it was received, whatever was asked meanwhile.
+  abbrev pub SamplesReadTheSame : Type 0
+  SamplesReadTheSame = (types : MessageTypeDetails) (buffer : ℕ) (asked : List (Command T)) (answers : List (Reply T)) (old : State T)
+      → Runs types IsDefault buffer asked new_state answers old
+      → (subscriber sample : ℕ) (values : Vec T) (mid : State T)
+      → Step types IsDefault buffer (command.Receive subscriber) old (reply.Received sample values) mid
+      → (meanwhile : List (Command T)) (told : List (Reply T)) (later : State T) → Runs types IsDefault buffer meanwhile mid told later
+      → (read : Vec T) (new : State T) → Step types IsDefault buffer (command.Read sample) later (reply.Values read) new
+      → vec_items read ≡ vec_items values

@@ -1,0 +1,84 @@
+-- How a subscriber brings its connections up to date.
+use Rattle.std.specs.Prelude.{ℕ, ◌≡◌, Bool, true, false, not, ◌&&◌, ◌==◌, nat_lt, max, List, [], ◌∷◌, ◌++◌, length, map, filter, filter_map, fold, zip, slice_get, Option, None, Some, is_some, MatchBool, MatchResult, if◌then◌else◌}
+use Rattle.std.specs.List.{list_all, list_any}
+use Rattle.std.specs.Option.{option_map_or}
+use Rattle.iox_machine.specs.Mailbox.{is_idle}
+use Rattle.iox_machine.specs.PortList.{those, unless}
+use Rattle.iox_machine.specs.PublisherUpdate.{update_answer}
+use Rattle.iox_machine.specs.Service.{Service, Subscriber, with_subscriber, mailbox, connect}
+use Rattle.iox_machine.specs.Table.{contains}
+use Rattle.iox_machine.specs.Replies.{IsRefused}
+use Rattle.iox_command.specs.DomainValues.declared.connection_failure.ConnectionFailure.{ConnectionFailure}
+use Rattle.iox_command.specs.declared.refusal.Refusal.{Refusal}
+use Rattle.iox_command.specs.declared.reply.Reply.{Reply}
+
+-- the publisher that is connected at a place and isn't listed there any longer
+abbrev pub gone_from : Option ℕ × Option ℕ → Option ℕ
+gone_from place = unless (those (place.1 ∷ [])) place.0
+
+-- The publishers that left, in the order in which their connections part: first where another is listed now, then where none is.
+abbrev pub parting : List (Option ℕ × Option ℕ) → List ℕ
+parting places = filter_map gone_from (filter (λ place. is_some place.1) places ++ filter (λ place. not (is_some place.1)) places)
+
+-- who is connected at a place after an update: the one that stays there, else the one that is listed there, unless it was refused
+abbrev pub now_at : List ℕ → List ℕ → Option ℕ × Option ℕ → Option ℕ
+now_at staying refused place = if option_map_or (contains staying) place.0 false then place.0 else unless refused place.1
+
+-- The expired connections, the first one first, and those that stay at their places since no more may be expired.
+pub record Parted : Type 0 where
+  pub expired : List ℕ
+  pub staying : List ℕ
+
+module _ {T : Type 0} (buffer number : ℕ) where
+  -- whether nothing is borrowed of the connection of a publisher
+  abbrev pub is_unborrowed : Service T → ℕ → Bool
+  is_unborrowed service publisher = length (mailbox publisher number service).borrowed == 0
+
+  -- which expired connection makes room for another: the first idle one, else, for one of which something is borrowed, the first
+  -- unborrowed one
+  abbrev pub room_for : ℕ → List ℕ → Service T → Option ℕ
+  room_for publisher expired service = slice_get
+      (filter (λ other. is_idle (mailbox other number service)) expired
+      ++ (if is_unborrowed service publisher then [] else filter (is_unborrowed service) expired)) 0
+
+  -- The connection of a publisher that left: an idle one ends, another expires. Where no more may be expired one of those makes room;
+  -- where none does, it ends if nothing is borrowed of it, and else stays.
+  abbrev pub part : Service T → Parted → ℕ → Parted
+  part service parted publisher =
+      if is_idle (mailbox publisher number service) then parted
+      else (if nat_lt (length parted.expired) (max buffer service.settings.subscriber_max_borrowed_samples)
+      then record parted { expired = parted.expired ++ publisher ∷ [] }
+      else elim (room_for publisher parted.expired service) [
+        | Some out ↦ record parted { expired = filter (λ other. not (other == out)) parted.expired ++ publisher ∷ [] }
+        | None ↦ if is_unborrowed service publisher then parted else record parted { staying = parted.staying ++ publisher ∷ [] }
+      ])
+
+  -- A subscriber follows the list of publishers. To some that are new no connection may be made, for want of memory.
+  abbrev pub Follows : Subscriber → Service T → Subscriber → Service T → Type 0
+  Follows subscriber old after new =
+      let places = zip subscriber.connected old.publisher_list.places in
+      let parted = fold (part old) (record { expired = subscriber.expired; staying = [] }) (parting places) in
+      (refused : List ℕ)
+      × (list_all (λ publisher. contains (those old.publisher_list.places) publisher && not
+      (is_some (old.mailboxes publisher number))) refused ≡ true)
+      × (connected : List (Option ℕ)) × (connected ≡ map (now_at parted.staying refused) places)
+      × (after ≡ record subscriber {
+        seen = old.publisher_list.changes;
+        again = list_any (λ place. is_some place.1 && is_some (gone_from place)) (zip connected old.publisher_list.places);
+        connected = connected;
+        expired = parted.expired;
+      })
+      × (new ≡ fold (λ service publisher. connect subscriber.buffer_size publisher number service) (with_subscriber number after old)
+      (those connected))
+
+  -- A subscriber that does something first brings its connections up to date, if the list of publishers changed or it is to update again;
+  -- where that fails it doesn't.
+  abbrev pub UpdatesFirst : (ConnectionFailure → Refusal) → (Subscriber → Service T → Reply T → Service T → Type 0) → Subscriber
+      → Service T → Reply T → Service T → Type 0
+  UpdatesFirst told Does subscriber old answer new =
+      MatchBool ((subscriber.seen == old.publisher_list.changes) && not subscriber.again)
+      (Does subscriber old answer new)
+      ((after : Subscriber) × (mid : Service T) × Follows subscriber old after mid
+      × MatchResult (update_answer subscriber.degradation old.publisher_list.places after.connected)
+      (λ done. Does after mid answer new)
+      (λ failure. IsRefused (told failure) mid answer new))
