@@ -1,10 +1,10 @@
 -- What holds of all of a list, of part of it, and of what goes by numbers.
-use Rattle.std.proofs.Common.{◌≡◌, ◌⊎◌, ◌≤◌, ◌<◌, ◌+◌, ◌-◌, ℕ, zero, suc, Bool, true, false, cond, List, [], ◌∷◌, ◌++◌, length, take, drop, Option, None, Some, refl, sym, ap, subst, inl, inr, arith, ◌∙◌, length-append, length-drop}
+use Rattle.std.proofs.Common.{◌≡◌, ◌≤◌, ◌+◌, ◌-◌, ℕ, zero, suc, Bool, true, false, cond, List, [], ◌∷◌, ◌++◌, length, take, drop, Option, Some, refl, subst, arith, length-drop}
 use Rattle.std.proofs.lemmas.Bool.{eqb-true}
 use Rattle.std.specs.List.{AllByRecursion}
-use Rattle.std.specs.Prelude.{filter, map, fold, find, slice_get, option_map, ◌==◌}
+use Rattle.std.specs.Prelude.{filter, fold, find, slice_get, option_map, ◌==◌}
 use Rattle.iox_machine.specs.Mailbox.{newest}
-use Rattle.iox_machine.specs.Table.{at, changed, removed}
+use Rattle.iox_machine.specs.Table.{at, changed}
 use Rattle.iox_machine.proofs.Cases.{same-some, never-some}
 
 module _ {X : Type 0} (P : X → Type 0) where

@@ -1,8 +1,8 @@
 -- What a step does to the services of the hub, seen from each of them.
-use Rattle.std.proofs.Common.{◌≡◌, ◌⊎◌, ◌+◌, ℕ, Bool, true, false, cond, ◌&&◌, List, [], ◌∷◌, ◌++◌, Option, None, Some, Result, Ok, Err, refl, sym, ap, subst, inl, inr, ◌∙◌}
+use Rattle.std.proofs.Common.{◌≡◌, ◌⊎◌, ◌+◌, ℕ, Bool, true, false, cond, ◌&&◌, List, [], ◌∷◌, ◌++◌, Option, Some, Result, Ok, Err, sym, ap, subst, inl, inr, ◌∙◌}
 use Rattle.std.specs.List.{AllByRecursion, list_any}
 use Rattle.std.specs.Prelude.{nat_le, is_some, find, filter, not, MatchBool, MatchOption, MatchResult}
-use Rattle.iox_machine.specs.Agreement.{Agreement, event_verdict, publish_subscribe_verdict, request_response_verdict}
+use Rattle.iox_machine.specs.Agreement.{event_verdict, publish_subscribe_verdict, request_response_verdict}
 use Rattle.iox_machine.specs.Asked.{settings_of}
 use Rattle.iox_machine.specs.Closing.{Closes, is_used_by}
 use Rattle.iox_machine.specs.Factories.{Negotiates, Enters, CreatesService, OpensService, OpensOrCreatesService, with_open, create_refusal, either_lacking}
@@ -12,7 +12,7 @@ use Rattle.iox_machine.specs.Replies.{IsSkipped, IsRefused}
 use Rattle.iox_machine.specs.Service.{Service, new_service}
 use Rattle.iox_machine.specs.State.{State, Factory, AtOne, replaced, counted, with_phase, same_name, is_service_of}
 use Rattle.iox_machine.specs.Table.{at, removed}
-use Rattle.iox_machine.proofs.Cases.{by-bool, by-option, by-result, same-some, never-some, chosen}
+use Rattle.iox_machine.proofs.Cases.{by-bool, by-option, same-some, never-some}
 use Rattle.iox_machine.proofs.Lists.{all-weaker, all-joined, all-filtered}
 use Rattle.iox_command.specs.NegotiateErrors.DescribeBase.Attributes.{Required}
 use Rattle.iox_command.specs.NegotiateErrors.DescribeBase.declared.attribute.Attribute.{Attribute}

@@ -1,28 +1,21 @@
 -- A command that is refused as a whole changes nothing.
-use Rattle.std.proofs.Common.{◌≡◌, ◌⊎◌, ◌+◌, ℕ, Bool, true, false, cond, not, ◌&&◌, List, [], ◌∷◌, ◌++◌, length, map, set, Option, None, Some, refl, sym, ap, subst, inl, inr, ◌∙◌}
-use Rattle.std.specs.Global.{Vec}
-use Rattle.std.specs.Prelude.{◌==◌, nat_lt, nat_le, is_some, slice_get, MatchBool, MatchOption, MatchResult, ◌||◌, ◌^◌}
+use Rattle.std.proofs.Common.{◌≡◌, ◌⊎◌, ◌+◌, ℕ, Bool, true, false, cond, List, [], ◌∷◌, ◌++◌, Option, None, Some, refl, ap, inl, inr, ◌∙◌}
+use Rattle.std.specs.Prelude.{nat_lt, nat_le, is_some, slice_get, MatchBool, MatchOption, ◌||◌, ◌^◌}
 use Rattle.std.specs.List.{list_all}
-use Rattle.std.specs.Vec.{vec_items}
 use Rattle.iox_machine.specs.Arriving.{PublisherArrives, SubscriberArrives, new_publisher, new_subscriber, worst_case}
-use Rattle.iox_machine.specs.Mailbox.{newest}
-use Rattle.iox_machine.specs.Message.{Message, Loan, Sample, is_written, sent_as}
-use Rattle.iox_machine.specs.PortList.{left, registered, those}
-use Rattle.iox_machine.specs.Ports.{AtFree, AtBlocked, publisher_in, subscriber_in, LendsLoan, Puts, SendsLoan, Writes, Releases}
+use Rattle.iox_machine.specs.Message.{Loan}
+use Rattle.iox_machine.specs.PortList.{registered}
+use Rattle.iox_machine.specs.Ports.{AtFree, publisher_in, LendsLoan}
 use Rattle.iox_machine.specs.PublisherUpdate as publishing
-use Rattle.iox_machine.specs.PublisherUpdate.{update_answer}
-use Rattle.iox_machine.specs.Receiving.{Receives, has_samples}
 use Rattle.iox_machine.specs.Replies.{IsSkipped, IsRefused}
-use Rattle.iox_machine.specs.Run.{Step, AtFactory, factory_of}
+use Rattle.iox_machine.specs.Run.{Step, AtFactory}
 use Rattle.iox_machine.specs.RunLaws.{RefusedChangesNothing, is_refused_whole}
-use Rattle.iox_machine.specs.Sending.{GoesOn, Begins, Sends, deliver}
-use Rattle.iox_machine.specs.Service.{Service, Publisher, Subscriber, Send, with_publisher, with_subscriber}
-use Rattle.iox_machine.specs.State.{State, Factory, AtOne, is_service_of, replaced, counted}
+use Rattle.iox_machine.specs.Service.{Service, Publisher, Subscriber, Send}
+use Rattle.iox_machine.specs.State.{State, AtOne, is_service_of, replaced}
 use Rattle.iox_machine.specs.SubscriberUpdate as subscribing
-use Rattle.iox_machine.specs.Table.{at, changed, removed}
-use Rattle.iox_machine.proofs.Cases.{by-bool, by-option, by-result}
-use Rattle.iox_machine.proofs.Moving.{IsNegotiated, IsClosed, at-one, replaced-same, creates, opens, opens-or-creates, closed}
-use Rattle.iox_command.specs.DomainValues.declared.connection_failure.ConnectionFailure.{ConnectionFailure}
+use Rattle.iox_machine.specs.Table.{at}
+use Rattle.iox_machine.proofs.Cases.{by-bool, by-option}
+use Rattle.iox_machine.proofs.Moving.{IsClosed, at-one, replaced-same, closed}
 use Rattle.iox_command.specs.DomainValues.declared.create_error.PublisherCreateError.TheVariants as publisher_error
 use Rattle.iox_command.specs.DomainValues.declared.create_error.SubscriberCreateError.TheVariants as subscriber_error
 use Rattle.iox_command.specs.DomainValues.declared.port_error.ReceiveError.TheVariants as receive_error

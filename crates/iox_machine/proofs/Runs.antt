@@ -1,24 +1,22 @@
 -- What holds of every run.
-use Rattle.std.proofs.Common.{◌≡◌, ◌⊎◌, ◌≤◌, ◌<◌, ◌+◌, ℕ, Bool, true, false, cond, List, [], ◌∷◌, ◌++◌, length, Option, None, Some, refl, sym, ap, subst, inl, inr, arith, ◌∙◌}
+use Rattle.std.proofs.Common.{◌≡◌, ◌⊎◌, ◌≤◌, ◌+◌, ℕ, Bool, true, false, cond, List, [], ◌∷◌, length, Option, None, Some, refl, sym, ap, subst, inl, inr, arith, ◌∙◌}
 use Rattle.std.specs.Global.{Vec}
 use Rattle.std.specs.List.{AllByRecursion}
-use Rattle.std.specs.Prelude.{⊤, is_some, find, slice_get, MatchOption}
+use Rattle.std.specs.Prelude.{⊤, is_some, find, MatchOption}
 use Rattle.std.specs.Vec.{vec_items}
-use Rattle.iox_machine.specs.Mailbox.{Mailbox}
 use Rattle.iox_machine.specs.Message.{Message, Sample}
 use Rattle.iox_machine.specs.Ports.{subscriber_in}
-use Rattle.iox_machine.specs.Receiving.{Receives, has_samples, lasting}
-use Rattle.iox_machine.specs.Replies.{IsRefused}
+use Rattle.iox_machine.specs.Receiving.{Receives, has_samples}
 use Rattle.iox_machine.specs.Run.{Step, Runs}
 use Rattle.iox_machine.specs.RunLaws.{AllMessages, BeginsToSend, Began, IsWithinSizes, SizesAreAgreed, MessagesWereSent, ReceivedWasSent, SamplesReadTheSame}
-use Rattle.iox_machine.specs.Service.{Service, Publisher, Subscriber, Send, with_subscriber, mailbox}
+use Rattle.iox_machine.specs.Service.{Service, Publisher, Subscriber, Send, mailbox}
 use Rattle.iox_machine.specs.State.{State, Made, new_state, counted}
 use Rattle.iox_machine.specs.SubscriberUpdate as subscribing
 use Rattle.iox_machine.specs.Table.{at}
 use Rattle.iox_machine.proofs.Cases.{same-some, never-some, chosen}
 use Rattle.iox_machine.proofs.Lists.{all-weaker, all-at, first-of}
 use Rattle.iox_machine.proofs.Moving.{at-one}
-use Rattle.iox_machine.proofs.Sound.{BoxFits, PublisherFits, SampleFits, Sound, Well, box-fits, subscriber-fits, subscriber-updates}
+use Rattle.iox_machine.proofs.Sound.{BoxFits, PublisherFits, SampleFits, Sound, box-fits, subscriber-fits, subscriber-updates}
 use Rattle.iox_machine.proofs.Steps.{step-sound}
 use Rattle.iox_command.specs.DomainValues.declared.port_error.ReceiveError.TheVariants as receive_error
 use Rattle.iox_command.specs.NegotiateErrors.DescribeBase.declared.message_type.MessageTypeDetails.{MessageTypeDetails}

@@ -1,5 +1,5 @@
 -- A command that is skipped changes nothing.
-use Rattle.std.proofs.Common.{◌≡◌, ◌⊎◌, ◌+◌, ℕ, Bool, true, false, cond, not, ◌&&◌, List, [], ◌∷◌, ◌++◌, length, map, set, Option, None, Some, refl, sym, ap, subst, inl, inr, ◌∙◌}
+use Rattle.std.proofs.Common.{◌≡◌, ◌⊎◌, ◌+◌, ℕ, Bool, true, false, cond, not, ◌&&◌, List, [], ◌∷◌, ◌++◌, length, map, set, Option, None, Some, refl, ap, inl, inr, ◌∙◌}
 use Rattle.std.specs.Global.{Vec}
 use Rattle.std.specs.Prelude.{◌==◌, nat_lt, nat_le, is_some, slice_get, MatchBool, MatchOption, MatchResult, ◌||◌, ◌^◌}
 use Rattle.std.specs.List.{list_all}
@@ -17,9 +17,9 @@ use Rattle.iox_machine.specs.Run.{Step, AtFactory, factory_of}
 use Rattle.iox_machine.specs.RunLaws.{SkippedChangesNothing}
 use Rattle.iox_machine.specs.Sending.{GoesOn, Begins, Sends, deliver}
 use Rattle.iox_machine.specs.Service.{Service, Publisher, Subscriber, Send, with_publisher, with_subscriber}
-use Rattle.iox_machine.specs.State.{State, Factory, AtOne, is_service_of, replaced, counted}
+use Rattle.iox_machine.specs.State.{State, Factory, AtOne, is_service_of, replaced}
 use Rattle.iox_machine.specs.SubscriberUpdate as subscribing
-use Rattle.iox_machine.specs.Table.{at, changed, removed}
+use Rattle.iox_machine.specs.Table.{at, removed}
 use Rattle.iox_machine.proofs.Cases.{by-bool, by-option, by-result}
 use Rattle.iox_machine.proofs.Moving.{IsNegotiated, IsClosed, at-one, replaced-same, creates, opens, opens-or-creates, closed}
 use Rattle.iox_command.specs.DomainValues.declared.connection_failure.ConnectionFailure.{ConnectionFailure}

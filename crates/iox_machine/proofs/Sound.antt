@@ -1,32 +1,31 @@
 -- What holds of each service of a run, and that what a port does keeps it.
-use Rattle.std.proofs.Common.{◌≡◌, ◌⊎◌, ◌≤◌, ◌<◌, ◌+◌, ◌-◌, ◌^◌, ℕ, zero, suc, Bool, true, false, cond, not, ◌&&◌, ◌||◌, List, [], ◌∷◌, ◌++◌, length, take, drop, Option, None, Some, Result, Ok, Err, refl, sym, ap, subst, inl, inr, arith, ◌∙◌, length-append, length-drop}
+use Rattle.std.proofs.Common.{◌≡◌, ◌⊎◌, ◌≤◌, ◌<◌, ◌+◌, ◌-◌, ◌^◌, ℕ, Bool, true, false, cond, not, ◌&&◌, ◌||◌, List, [], ◌∷◌, ◌++◌, length, take, Option, None, Some, refl, sym, subst, inl, inr, arith, length-append, length-drop}
 use Rattle.std.proofs.lemmas.Bool.{eqb-true, ltb-true, ltb-false}
-use Rattle.std.specs.List.{AllByRecursion, list_any, list_all}
+use Rattle.std.specs.List.{AllByRecursion, list_all}
 use Rattle.std.specs.Option.{option_map_or}
 use Rattle.std.specs.Global.{Vec}
 use Rattle.std.specs.Vec.{vec_items}
-use Rattle.std.specs.Prelude.{⊤, ◌==◌, nat_lt, nat_le, is_some, unwrap_or, option_map, option_and_then, filter, filter_map, map, fold, zip, find, slice_get, MatchBool, MatchOption, MatchResult}
-use Rattle.iox_machine.specs.Arriving.{new_publisher, new_subscriber, worst_case, PublisherArrives, SubscriberArrives}
+use Rattle.std.specs.Prelude.{⊤, ◌==◌, nat_lt, nat_le, is_some, unwrap_or, option_map, option_and_then, filter, find, slice_get, MatchBool, MatchOption, MatchResult}
+use Rattle.iox_machine.specs.Arriving.{worst_case, PublisherArrives, SubscriberArrives}
 use Rattle.iox_machine.specs.Lending.{Lends, LendsLonger, loan_refusal}
-use Rattle.iox_machine.specs.Mailbox.{Mailbox, newest, put, taken, given_back, has_data, is_idle}
+use Rattle.iox_machine.specs.Mailbox.{Mailbox, newest, put, taken, given_back, has_data}
 use Rattle.iox_machine.specs.Message.{Message, Loan, Sample, sent_as, is_written}
-use Rattle.iox_machine.specs.PortList.{those, unless, registered}
+use Rattle.iox_machine.specs.PortList.{those, registered}
 use Rattle.iox_machine.specs.Ports.{publisher_in, subscriber_in, LendsLoan, Puts, SendsLoan, Writes, Releases}
 use Rattle.iox_machine.specs.PublisherUpdate as publishing
 use Rattle.iox_machine.specs.PublisherUpdate.{update_answer}
-use Rattle.iox_machine.specs.Receiving.{Receives, Takes, IsGiver, gives, lasting, has_samples}
+use Rattle.iox_machine.specs.Receiving.{Receives, Takes, IsGiver, gives, lasting}
 use Rattle.iox_machine.specs.Replies.{IsSkipped, IsRefused}
 use Rattle.iox_machine.specs.Sending.{offered, deliver, decision_at, GoesOn, Begins, Sends}
 use Rattle.iox_machine.specs.Service.{Service, Publisher, Subscriber, Send, with_publisher, with_subscriber, mailbox, with_mailbox, connect, new_service}
 use Rattle.iox_machine.specs.SubscriberUpdate as subscribing
-use Rattle.iox_machine.specs.Table.{at, changed, removed, contains}
+use Rattle.iox_machine.specs.Table.{at, removed, contains}
 use Rattle.iox_machine.proofs.Cases.{by-bool, by-option, by-result, same-some, never-some, chosen, both-true}
-use Rattle.iox_machine.proofs.Lists.{all-joined, all-taken, all-dropped, all-newest, all-filtered, first-of, all-weaker, newest-fits, take-fits, filter-fits, fold-keeps, all-at, all-changed}
+use Rattle.iox_machine.proofs.Lists.{all-joined, all-taken, all-dropped, all-newest, all-filtered, first-of, newest-fits, take-fits, filter-fits, fold-keeps, all-at, all-changed}
 use Rattle.iox_command.specs.DomainValues.declared.backpressure.BackpressureDecision.{BackpressureDecision}
 use Rattle.iox_command.specs.DomainValues.declared.backpressure.BackpressureDecision.TheVariants.{Retry, DiscardData, DiscardDataAndFail}
 use Rattle.iox_command.specs.DomainValues.declared.connection_failure.ConnectionFailure.{ConnectionFailure}
 use Rattle.iox_command.specs.DomainValues.declared.port_error.LoanError.{LoanError}
-use Rattle.iox_command.specs.DomainValues.declared.port_error.ReceiveError.TheVariants.{ExceedsMaxBorrows}
 use Rattle.iox_command.specs.DomainValues.declared.port_error.SendError.TheVariants as error
 use Rattle.iox_command.specs.DomainValues.declared.create_error.PublisherCreateError.TheVariants as publisher_error
 use Rattle.iox_command.specs.DomainValues.declared.create_error.SubscriberCreateError.TheVariants as subscriber_error

@@ -1,30 +1,28 @@
 -- Each step keeps what holds of each service.
-use Rattle.std.proofs.Common.{◌≡◌, ◌⊎◌, ◌≤◌, ◌<◌, ◌+◌, ℕ, Bool, true, false, cond, not, ◌&&◌, List, [], ◌∷◌, ◌++◌, length, replicate, map, set, Option, None, Some, refl, sym, ap, subst, inl, inr, arith, ◌∙◌}
+use Rattle.std.proofs.Common.{◌≡◌, ◌+◌, ℕ, Bool, true, false, cond, ◌&&◌, [], ◌∷◌, ◌++◌, length, map, set, Option, None, Some, refl, sym, ap, subst, inl, inr, arith, ◌∙◌}
 use Rattle.std.specs.Global.{Vec}
 use Rattle.std.specs.List.{AllByRecursion}
-use Rattle.std.specs.Prelude.{⊤, ◌==◌, nat_lt, is_some, find, fold, take, slice_get, MatchOption}
+use Rattle.std.specs.Prelude.{⊤, ◌==◌, nat_lt, is_some, fold, take, slice_get, MatchOption}
 use Rattle.std.specs.Vec.{vec_items}
 use Rattle.iox_machine.specs.Arriving.{PublisherArrives, SubscriberArrives, new_publisher, new_subscriber}
-use Rattle.iox_machine.specs.Factories.{Acts}
 use Rattle.iox_machine.specs.Message.{Message, Loan, Sample, is_written, sent_as}
-use Rattle.iox_machine.specs.Mailbox.{Mailbox, newest}
+use Rattle.iox_machine.specs.Mailbox.{newest}
 use Rattle.iox_machine.specs.Phase.{acted}
 use Rattle.iox_machine.specs.PortList.{left, those}
 use Rattle.iox_machine.specs.Ports.{AtFree, AtBlocked, publisher_in, subscriber_in, LendsLoan, Puts, SendsLoan, Writes, Releases}
 use Rattle.iox_machine.specs.PublisherUpdate as publishing
 use Rattle.iox_machine.specs.Receiving.{Receives, has_samples}
-use Rattle.iox_machine.specs.Replies.{IsSkipped, IsRefused}
+use Rattle.iox_machine.specs.Replies.{IsSkipped}
 use Rattle.iox_machine.specs.Run.{Step, AtFactory, factory_of}
 use Rattle.iox_machine.specs.RunLaws.{BeginsToSend, has_begun}
 use Rattle.iox_machine.specs.Sending.{GoesOn, Begins, deliver}
-use Rattle.iox_machine.specs.Service.{Service, Publisher, Subscriber, Send, with_publisher, with_subscriber, new_service}
-use Rattle.iox_machine.specs.State.{State, Factory, AtOne, is_service_of, counted, with_phase}
+use Rattle.iox_machine.specs.Service.{Service, Publisher, Subscriber, Send, with_publisher, with_subscriber}
+use Rattle.iox_machine.specs.State.{State, AtOne, is_service_of, counted, with_phase}
 use Rattle.iox_machine.specs.SubscriberUpdate as subscribing
-use Rattle.iox_machine.specs.Table.{at, changed, removed}
-use Rattle.iox_machine.proofs.Cases.{by-bool, by-option, same-some}
-use Rattle.iox_machine.proofs.Lists.{all-filtered}
+use Rattle.iox_machine.specs.Table.{at, removed}
+use Rattle.iox_machine.proofs.Cases.{by-option}
 use Rattle.iox_machine.proofs.Moving.{Keeps, skipped-keeps, refused-keeps, at-one-keeps, creates, opens, opens-or-creates, negotiated-keeps, closed, closed-keeps}
-use Rattle.iox_machine.proofs.Sound.{Sound, Both, Well, PublisherFits, SampleFits, new-sound, publisher-fits, publisher-changed, updates-first, goes-on, lends-loan, puts, sends-loan, writes, subscriber-fits, subscriber-changed, subscriber-updates, receives, releases, publisher-arrives, subscriber-arrives}
+use Rattle.iox_machine.proofs.Sound.{Sound, Both, Well, new-sound, publisher-fits, publisher-changed, updates-first, goes-on, lends-loan, puts, sends-loan, writes, subscriber-fits, subscriber-changed, subscriber-updates, receives, releases, publisher-arrives, subscriber-arrives}
 use Rattle.iox_command.specs.DomainValues.declared.connection_failure.ConnectionFailure.{ConnectionFailure}
 use Rattle.iox_command.specs.DomainValues.declared.port_error.ReceiveError.TheVariants as receive_error
 use Rattle.iox_command.specs.DomainValues.declared.port_error.SendError.TheVariants as error

@@ -1,7 +1,12 @@
 //! The machine that a hub is: what each command does, and what it is answered, said with nodes, agreements, and bounded mailboxes over
 //! messages that never change. `docs/MACHINE.md` says how to read its definitions, which are in `specs/`.
 //!
-//! The functions here do nothing: the contract of each is a law of the definitions.
+//! The functions here do nothing: the contract of each is a law of the definitions. A proof cites a law by a call of its function;
+//! what it states is then among the facts of the caller:
+//!
+//! ```
+//! received_was_sent::<u64>();
+//! ```
 #![tactic(auto)]
 
 ghost use Rattle.iox_machine.specs.Laws.{PutAtUnknownIsSkipped, OverflowDropsTheOldest};
