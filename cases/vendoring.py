@@ -140,13 +140,17 @@ def vendor_brings_the_licence_and_the_notice_beside_the_users_own():
 
 
 @case
-def vendor_refuses_what_stands_in_the_way_of_the_licence():
+def vendor_refuses_what_stands_in_its_way():
     with Small() as small:
         small.write(small.user, {"third_party/kohepuri/NOTICE": "my own\n"})
         small.expect_refused(64, [small.user, "low"], "third_party/kohepuri is there already with another text")
         shutil.rmtree(small.user / "third_party")
         small.write(small.user, {"third_party": "a file\n"})
         small.expect_refused(66, [small.user, "low"], "third_party: not a directory")
+        (small.user / "third_party").unlink()
+        (small.user / "crates.txt").unlink()
+        (small.user / "crates.txt").mkdir()
+        small.expect_refused(66, [small.user, "low"], "crates.txt: Is a directory")
 
 
 @case
