@@ -1,1 +1,1 @@
-"""The cases of `./check` on the launcher; those on `vendor` and on the pages are in `check` itself."""
+"""The cases of `./check` on the launcher and on `vendor`; those on the pages are in `check` itself."""
