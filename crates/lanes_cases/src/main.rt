@@ -2,20 +2,15 @@
 #![tactic(auto)]
 
 mod calling;
-mod coming;
 mod making;
-mod ports;
 mod said;
-mod service;
 mod viewing;
-mod ways;
 mod words;
 
 use iox_lanes_machine::Lanes;
 use std::alloc::Global;
 use std::io;
-use std::str::{Lines, SplitWhitespace};
-use ways::Ways;
+use std::str::Lines;
 use words::word;
 
 // Each line of lanes, with its answer.
@@ -29,22 +24,7 @@ fn serve_lanes(rt: &HostRuntime, mut lanes: Lanes, lines: Lines<'_>) -> io::Resu
     Ok(())
 }
 
-// Each line of a domain, of which these words ask, and of what it becomes, with its answer.
-fn serve_domain(
-    rt: &HostRuntime,
-    asked: &mut SplitWhitespace<'_>,
-    lines: Lines<'_>,
-) -> io::Result<()> {
-    let mut ways = Ways::new(service::domain(rt.alloc(), asked)?);
-    for line in lines {
-        let mut words = line.split_whitespace();
-        let answer = ways::answer(rt.alloc(), &mut ways, &mut words)?;
-        println!(rt; "{line} = {answer}")?;
-    }
-    Ok(())
-}
-
-// A block: its first line is its title, and the second one says what it is about.
+// A block: its first line is its title, and the second one says which lanes it is about.
 fn serve(rt: &HostRuntime, alloc: Global, block: &str) -> io::Result<()> {
     let mut lines = block.lines();
     let title = lines.next().unwrap_or("");
@@ -56,7 +36,6 @@ fn serve(rt: &HostRuntime, alloc: Global, block: &str) -> io::Result<()> {
             Some(lanes) => serve_lanes(rt, lanes, lines),
             None => Ok(()),
         },
-        "domain" => serve_domain(rt, &mut words, lines),
         _ => Ok(()),
     }
 }

@@ -1,7 +1,4 @@
 //! What a line answers.
-use iox_domain_publisher::Sent;
-use iox_lanes::threads::{EndError, OpenError};
-use iox_lanes::{IntoDomainError, IntoLanesError};
 use iox_lanes_machine::Positions;
 use iox_lanes_parties::Answer;
 use iox_queues_steps::{Placed, Stepped};
@@ -20,20 +17,10 @@ pub(crate) enum Said<'a> {
     Nothing,
     /// It is refused, for the reason of this text.
     Refused(&'static str),
-    /// The domain isn't made into lanes, for this reason.
-    Kept(IntoLanesError),
-    /// The lanes aren't made into a domain, for this reason.
-    Stay(IntoDomainError),
-    /// The lanes aren't opened for threads, for this reason.
-    Closed(OpenError),
-    /// The threads aren't ended, for this reason.
-    Open(EndError),
     /// What a step came to.
     Stepped(Stepped),
     /// What a call answered as it ended.
     Ended(Answer),
-    /// What a send of a domain came to.
-    Sent(Sent),
     /// These words.
     Words(&'a [u64]),
     /// The positions of a connection.
@@ -54,13 +41,8 @@ impl<'a> fmt::Display for Said<'a> {
             Said::Done => f.write_str("ok"),
             Said::Nothing => f.write_str("none"),
             Said::Refused(text) => f.write_str(text),
-            Said::Kept(error) => write!(f, "{error}"),
-            Said::Stay(error) => write!(f, "{error}"),
-            Said::Closed(error) => write!(f, "{error}"),
-            Said::Open(error) => write!(f, "{error}"),
             Said::Stepped(stepped) => write!(f, "{stepped:?}"),
             Said::Ended(answer) => write!(f, "{answer:?}"),
-            Said::Sent(sent) => write!(f, "{sent:?}"),
             Said::Words(words) => write!(f, "{words:?}"),
             Said::Positions(positions) => write!(f, "{positions:?}"),
             Said::Placed(placed) => write!(f, "{placed:?}"),

@@ -28,7 +28,7 @@ fn place(word: &str, letter: char) -> Option<usize> {
     word.strip_prefix(letter)?.parse::<usize>().ok()
 }
 
-/// A port: of lanes `p0` is the first publisher and `s1` the second subscriber, of a domain `p1` the publisher of number 1.
+/// A port: `p0` is the first publisher, and `s1` the second subscriber.
 pub(crate) fn party(word: &str) -> Option<Party> {
     match place(word, 'p') {
         Some(place) => Some(Party::Publisher(place)),
