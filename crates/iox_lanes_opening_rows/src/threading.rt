@@ -1,0 +1,101 @@
+//! What the ports of a domain do in threads, and the domain that these leave.
+use crate::driving::{Service, Step};
+use crate::lanes::Lane;
+use crate::threads::Turn;
+use crate::ways::{Case, Next, Then, go_all};
+use iox_describe_base::TypeVariant;
+use iox_domain_publisher::Sent;
+use iox_lanes::threads::OpenError;
+use iox_lanes_parties::Party;
+use iox_lanes_parties::publisher::LoanAnswer;
+use std::alloc::AllocError;
+
+// Three messages may wait, and the last one of a publisher is its history.
+const SERVICE: Service = Service {
+    variant: TypeVariant::FixedSize,
+    overflow: true,
+    buffer: 3,
+    history: 1,
+};
+
+// Two publishers, and two subscribers of each of which a message of each waits.
+const PORTS: [Step; 8] = [
+    Step::Subscribe(1, None),
+    Step::Subscribe(2, None),
+    Step::Publish(3, 2, None),
+    Step::Publish(4, 2, None),
+    Step::Follow(1),
+    Step::Follow(2),
+    Step::Put(3, 31, Sent::Delivered(2)),
+    Step::Put(4, 41, Sent::Delivered(2)),
+];
+
+const LANES: [Lane; 2] = [Lane::Gets(0, 3, 31), Lane::Sends(1, 42, 2, 0)];
+
+const TURNS: [Turn; 6] = [
+    Turn::Gets(0, 4, 41),
+    Turn::Gets(0, 4, 42),
+    Turn::Nothing(0),
+    Turn::Gets(1, 3, 31),
+    Turn::Sends(0, 32, 2),
+    Turn::Gets(1, 3, 32),
+];
+
+// Nothing of what waited and was kept is there: a late subscriber gets no history.
+const AGAIN: [Step; 11] = [
+    Step::Nothing(1),
+    Step::Nothing(2),
+    Step::Subscribe(5, None),
+    Step::Update(3),
+    Step::Update(4),
+    Step::Follow(5),
+    Step::Nothing(5),
+    Step::Put(4, 43, Sent::Delivered(3)),
+    Step::Take(1, 43),
+    Step::Take(2, 43),
+    Step::Take(5, 43),
+];
+
+const PAIR: [Step; 3] = [
+    Step::Subscribe(1, None),
+    Step::Publish(2, 1, None),
+    Step::Follow(1),
+];
+
+const NO_STEP: [Lane; 0] = [];
+
+const BEGUN: [Lane; 1] = [Lane::Begins(Party::Publisher(0))];
+
+const LENT: [Lane; 1] = [Lane::Lends(0, 1, LoanAnswer::ExceedsMaxLoans)];
+
+const CASES: [Case; 4] = [
+    Case {
+        name: "by calls and lanes and in threads and by calls",
+        service: &SERVICE,
+        steps: &PORTS,
+        then: Then::Opens(&LANES, Next::Threads(&TURNS, &AGAIN)),
+    },
+    Case {
+        name: "all come back where a port is missing",
+        service: &SERVICE,
+        steps: &PAIR,
+        then: Then::Opens(&NO_STEP, Next::Misses),
+    },
+    Case {
+        name: "a party in a call",
+        service: &SERVICE,
+        steps: &PAIR,
+        then: Then::Opens(&BEGUN, Next::Refuses(OpenError::PartyInCall)),
+    },
+    Case {
+        name: "a loan that is out",
+        service: &SERVICE,
+        steps: &PAIR,
+        then: Then::Opens(&LENT, Next::Refuses(OpenError::SamplesOut)),
+    },
+];
+
+#[test]
+fn a_domain_goes_on_in_threads(rt: HostRuntime) -> Result<(), AllocError> {
+    go_all(&rt, rt.alloc(), &CASES)
+}
