@@ -47,7 +47,7 @@ def write_pages(folder):
         made = CratePage(library, words, crate)
         html = made.html()
         counts[crate.name] = html.count(" data-item=")
-        names.append((f"{crate.name}.html", [(crate.name, "crate", "content"), *made.names]))
+        names.append((f"{crate.name}.html", [(crate.name, "crate", "page-content"), *made.names]))
         (folder / f"{crate.name}.html").write_text(html, encoding="utf-8")
         html, of_words = definitions_page(words, crate)
         if of_words:

@@ -25,20 +25,20 @@ def page(title, body, contents=""):
 <script src="search.js" defer></script>
 </head>
 <body{' class="with-contents"' * bool(contents)}>
-<a class="skip" href="#content">To the text</a>
+<a class="skip" href="#page-content">To the text</a>
 <header>
 <a class="home" href="index.html">All crates</a>
 <div class="search" role="search">
-<input id="search" type="search" placeholder="Search names ( / )" aria-label="Search items and definitions" autocomplete="off" spellcheck="false"
- role="combobox" aria-expanded="false" aria-controls="found" aria-autocomplete="list">
-<ul id="found" role="listbox" aria-label="What was found" hidden></ul>
+<input id="page-search" type="search" placeholder="Search names ( / )" aria-label="Search items and definitions" autocomplete="off" spellcheck="false"
+ role="combobox" aria-expanded="false" aria-controls="page-found" aria-autocomplete="list">
+<ul id="page-found" role="listbox" aria-label="What was found" hidden></ul>
 </div>
 </header>
 {contents}
-<main id="content">
+<main id="page-content">
 {body}
 </main>
-<p id="says" role="status" hidden></p>
+<p id="page-says" role="status" hidden></p>
 </body>
 </html>
 """
@@ -69,19 +69,20 @@ class CratePage:
                 for member in it.members if not it.trait else ():
                     calls.setdefault(member.name, []).append(f"#{place.anchor}.{member.name}")
                     found[f"{place.name}::{member.name}"] = f"#{place.anchor}.{member.name}"
-            for member in place.item.members if place.item.kind == "trait" else ():
+            for member in (it for it in place.item.members if it.kind == "fn"):
                 found[f"{place.name}::{member.name}"] = f"#{place.anchor}.{member.name}"
-        return found
+        return {name: hrefs[0] for name, hrefs in calls.items() if len(hrefs) == 1} | found
 
     # ---- links
 
-    def name_link(self, module):
-        """Gives where a name leads in the text of a module."""
+    def name_link(self, module, owner=""):
+        """Gives where a name leads in the text of a module, or of an item there: a member of the item first."""
 
         def link(name):
             name = name.replace("()", "")
-            if re.fullmatch(r"[a-z]\w*", name) and module.item(name) is None:
-                return self.in_crate.get(name)
+            own = self.in_crate.get(f"{owner}::{name}".replace("::Self::", "::"))
+            if own or re.fullmatch(r"[a-z]\w*", name) and module.item(name) is None:
+                return own or self.in_crate.get(name)
             path = name.split("::")
             if not all(re.fullmatch(r"\w+", it) for it in path):
                 return None
@@ -90,22 +91,14 @@ class CratePage:
 
         return link
 
-    def type_link(self, module):
-        """Gives where a type leads in a signature or a piece of code."""
-
-        def link(name):
-            place = self.library.place(module, [name]) or self.library.place(self.crate.root, [name])
-            is_type = place and (place.item.kind in OF_TYPES or name.isupper())
-            return place.href if is_type and len(name) > 1 else None
-
-        return link
-
     def code_link(self, module):
-        """Gives where a name leads in an example: to a type, or to a function that stands by itself."""
+        """Gives where a type leads in a signature or a block of code."""
 
         def link(name):
+            if not re.match(r"[A-Z]\w", name):
+                return None
             place = self.library.place(module, [name]) or self.library.place(self.crate.root, [name])
-            return place.href if place and len(name) > 1 else None
+            return place.href if place else None
 
         return link
 
@@ -117,8 +110,8 @@ class CratePage:
         self.ids.add(found)
         return found
 
-    def doc(self, module, it):
-        return text.html(it, self.name_link(module), 4) if it else ""
+    def doc(self, module, it, owner=""):
+        return text.html(it, self.name_link(module, owner), self.code_link(module), 4) if it else ""
 
     # ---- items
 
@@ -134,7 +127,7 @@ class CratePage:
         return details("Contract", f'<pre tabindex="0"><code>{"".join(lines)}</code></pre>', "contract")
 
     def signature(self, head, module):
-        return f'<pre class="head" tabindex="0"><code>{text.code(head, self.type_link(module))}</code></pre>'
+        return f'<pre class="head" tabindex="0"><code>{text.code(head, self.code_link(module))}</code></pre>'
 
     def call(self, item, module, before, own=()):
         """A function, a method or another member that stands by itself."""
@@ -142,14 +135,14 @@ class CratePage:
         owner = before.rpartition(".")[2]
         self.names.append((f"{owner}::{item.name}" if owner[:1].isupper() else item.name, item.kind, here))
         head = "\n".join([*(it for it in item.attributes if "must_use" in it), item.head])
-        body = self.doc(module, item.doc) + self.contract(item, module, own)
+        body = self.doc(module, item.doc, owner) + self.contract(item, module, own)
         title = f'<h4><a class="here" href="#{here}">{escape(item.name)}</a></h4>'
         return f'<section class="call" id="{here}" data-item="{item.kind}">{title}{self.signature(head, module)}{body}</section>'
 
     def entries(self, place):
         """The fields of a struct that are public, or the variants of an enum."""
         item, module = place.item, place.written
-        rows, link = [], self.type_link(module)
+        rows, link = [], self.code_link(module)
         for it in reading.read_entries(item.inside):
             if item.kind == "struct" and not it.is_public:
                 continue
@@ -157,7 +150,7 @@ class CratePage:
             if item.kind == "enum":
                 self.names.append((f"{place.name}::{it.name}", "variant", here))
             shown = f'<dt id="{here}"><code>{text.code(without_comments(it.text), link)}</code></dt>'
-            rows.append(f"{shown}<dd>{self.doc(module, it.doc)}</dd>")
+            rows.append(f"{shown}<dd>{self.doc(module, it.doc, place.name)}</dd>")
         title = {"struct": "Fields", "enum": "Variants"}[item.kind]
         return f'<h4>{title}</h4><dl class="entries">{"".join(rows)}</dl>' if rows else ""
 
@@ -166,10 +159,10 @@ class CratePage:
         link, lines = self.words.of_file(module.text, module), []
         for it in item.members:
             if it.kind == "ghost" and not it.head.startswith("ghost use"):
-                note = f'<span class="comment">// {escape(it.note)}</span>\n' if it.note else ""
-                lines.append(f'<span class="clause">{note}{clause_html(it.head, link)}</span>')
+                note = f'<span class="clause comment">// {escape(it.note)}</span>' if it.note else ""
+                lines.append(f'{note}<span class="clause">{clause_html(it.head, link)}</span>')
             elif it.kind in ("type", "const"):
-                lines.append(f'<span class="clause">{text.code(it.head, self.type_link(module))}</span>')
+                lines.append(f'<span class="clause">{text.code(it.head, self.code_link(module))}</span>')
         return f'<pre tabindex="0"><code>{"".join(lines)}</code></pre>' if lines else ""
 
     def trait_members(self, place):
@@ -199,13 +192,13 @@ class CratePage:
                 continue
             said = text.first_sentence(module.doc) if module is not place.written else ""
             title = f'<p class="from">In <code>{escape(module.name)}</code>: {text.inline(said, lambda name: None)}</p>' if said else ""
-            found.append(f'{title}<pre class="of">{text.code(one_line(it.head), self.type_link(module))}</pre>')
+            found.append(f'{title}<pre class="of">{text.code(one_line(it.head), self.code_link(module))}</pre>')
             found += [self.call(member, module, place.anchor) for member in calls]
         shown = f'<h4>Traits</h4><ul class="traits">{"".join(traits)}</ul>' if traits else ""
         return "".join(found) + shown
 
     def of_trait(self, module, it):
-        head = f"<code>{text.code(one_line(it.head), self.type_link(module))}</code>"
+        head = f"<code>{text.code(one_line(it.head), self.code_link(module))}</code>"
         inner = self.doc(module, it.doc) + self.ghost_members(it, module)
         return f"<li>{details(head, inner, 'more', False) if inner else head}</li>"
 
@@ -216,7 +209,7 @@ class CratePage:
         here = self.own_id(place.anchor)
         self.names.append((place.name, item.kind, here))
         head = "\n".join([*(it for it in item.attributes if it.startswith("#[derive")), shown_head(item)])
-        parts = [self.signature(head, module), self.doc(module, item.doc)]
+        parts = [self.signature(head, module), self.doc(module, item.doc, place.name)]
         parts += [self.entries(place)] if item.kind in ("struct", "enum") else []
         parts += [self.trait_members(place)] if item.kind == "trait" else [self.impls(place)]
         title = f'<h3><span class="kind">{item.kind}</span> <a class="here" href="#{here}">{escape(place.name)}</a></h3>'
@@ -235,7 +228,8 @@ class CratePage:
             href = place.href if place else f"{found.crate}.html" if found and not isinstance(found, tuple) else None
             shown = f"<code>{escape('::'.join(path))}{f' as {name}' if name != path[-1] else ''}</code>"
             rows.append(f"<li>{anchor(href, shown) if href else shown}</li>")
-        return f'<h4>Names from elsewhere</h4><ul class="names">{"".join(rows)}</ul>' if rows else ""
+        title = f"<code>{escape(module.name)}</code> hands on"
+        return f'<p class="from">{title}</p><ul class="names">{"".join(rows)}</ul>' if rows else ""
 
     def module(self, module):
         here, parts = ".".join(module.path), []
@@ -279,8 +273,8 @@ class CratePage:
             f'<p class="where">Family: {anchor(f"index.html#{crate.family.lower()}", escape(crate.family))}. '
             + f"Source: <code>crates/{crate.name}/src</code>. "
             + (f"{anchor(f'{crate.name}.definitions.html', 'Definitions')}. " if words else "")
-            + '<button type="button" id="fold" aria-pressed="false">Fold contracts</button></p>',
-            text.html(crate.root.doc, link, 2),
+            + '<button type="button" id="page-fold" aria-pressed="false">Fold contracts</button></p>',
+            text.html(crate.root.doc, link, self.code_link(crate.root), 2),
             f"<p>First calls: {text.inline(calls, link)}</p>" if calls else "",
             *modules,
         ]
@@ -353,5 +347,7 @@ def index_page(library, counts):
 
 def item_href(library, crate, name):
     root = library.crates[crate].root
-    place = library.place(root, name.split("::")) if re.fullmatch(r"\w+", name) else None
-    return place.href if place else None
+    place = library.place(root, [name]) if re.fullmatch(r"\w+", name) else None
+    named = [place.href] if place else [it.href for it in library.crates[crate].places if it.name == name]
+    of_module = [f"{crate}.html#{it.name}" for it in library.crates[crate].modules.values() if it.is_public and it.path == (name,)]
+    return next(iter(named if len(named) == 1 else of_module), None)

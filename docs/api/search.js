@@ -1,10 +1,12 @@
 // Finds names of items and definitions; NAMES of names.js has them by their pages. No network is used.
 "use strict";
 (() => {
-  const box = document.getElementById("search");
-  const list = document.getElementById("found");
-  const says = document.getElementById("says");
+  const box = document.getElementById("page-search");
+  const list = document.getElementById("page-found");
+  const says = document.getElementById("page-says");
   const MOST = 60;
+  // Of names that are equally near, types come first.
+  const ORDER = ["crate", "struct", "enum", "trait", "type", "fn", "const", "variant", "mod", "definition"];
   const rows = [];
   for (const [page, names] of NAMES) {
     for (const [name, kind, at] of names) {
@@ -28,7 +30,7 @@
     const found = [];
     for (const row of rows) {
       const far = words.map((word) => (row.page.includes(word) && words.length > 1 ? 0.5 : distance(row, word)));
-      if (far.every((it) => it >= 0)) found.push([far.reduce((a, b) => a + b, 0) + (row.kind === "definition" ? 0.4 : 0), row]);
+      if (far.every((it) => it >= 0)) found.push([far.reduce((a, b) => a + b, 0) + ORDER.indexOf(row.kind) / 20, row]);
     }
     found.sort(([a, one], [b, two]) => a - b || one.name.length - two.name.length || one.name.localeCompare(two.name));
     return found.map((it) => it[1]);
@@ -46,7 +48,7 @@
 
   function entry(row, place) {
     const item = document.createElement("li");
-    item.id = "found-" + place;
+    item.id = "page-found-" + place;
     item.setAttribute("role", "option");
     const link = document.createElement("a");
     link.href = row.href;
@@ -114,7 +116,7 @@
     says.textContent = word ? word.title : "";
   });
 
-  const fold = document.getElementById("fold");
+  const fold = document.getElementById("page-fold");
   if (fold) {
     fold.addEventListener("click", () => {
       const folds = fold.getAttribute("aria-pressed") === "false";

@@ -27,7 +27,9 @@ def inline(text, link):
             code, href = f"<code>{escape(name)}</code>", link(name)
             return anchor(href, code) if href else code
         if it["url"]:
-            return anchor(it["url"], inline(it["shown"], link))
+            href = it["url"] if "/" in it["url"] else link(it["url"])
+            shown = re.sub(r"</?a\b[^>]*>", "", inline(it["shown"], link))
+            return anchor(href, shown) if href else shown
         return anchor(it["auto"], escape(it["auto"])) if it["auto"] else f"<strong>{inline(it['strong'], link)}</strong>"
 
     found, at = [], 0
@@ -101,13 +103,13 @@ def blocks(text):
     return found
 
 
-def html(text, link, level=3):
-    """A doc comment, where headings begin at a level."""
+def html(text, link, code_link, level=3):
+    """A doc comment, where headings begin at a level. The second link is that of names in blocks of code."""
     found = []
     for kind, lines in blocks(text):
         if kind == "code":
             shown = "\n".join(lines)
-            found.append(f'<pre class="example" tabindex="0"><code>{code(shown, link)}</code></pre>')
+            found.append(f'<pre class="example" tabindex="0"><code>{code(shown, code_link)}</code></pre>')
         elif kind == "table" and len(lines) > 1:
             found.append(table(lines, link))
         elif kind == "list":
