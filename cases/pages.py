@@ -18,7 +18,7 @@ LOCK = threading.Lock()
 SAID = [
     ("iox_hub_base", "hub.Hub.new", "Hubs.IsNewHub", "A hub without nodes and services."),
     ("iox_hub_base", "hub.Hub.foreign", "Foreign.ActsOn", "the steps are done on the table of a hub, and all else stays"),
-    ("iox_conversation", "conversation.serve", "Conversation.IsConversation", "what answers some lines, and the whole input, by whoever answers"),
+    ("iox_conversation", "conversation.serve", "Conversation.IsConversation", "the output answers each line of the input, from here on"),
 ]
 
 
@@ -126,8 +126,8 @@ def the_functions_without_an_example_are_as_many_as_the_page_says():
     ran = subprocess.run([sys.executable, SCRIPT, "--lacking"], capture_output=True, text=True)
     *functions, last = ran.stdout.splitlines()
     expect((ran.returncode, len(functions)), (0, int(last.split()[0])))
-    stated = re.search(r"\*\*(\d+ of \d+ public functions have no example)", (TOP / "docs" / "api" / "README.md").read_text(encoding="utf-8"))
-    expect(last, stated[1])
+    page = (TOP / "docs" / "api" / "README.md").read_text(encoding="utf-8")
+    expect(last, re.search(r"\*\*(\d+ of \d+ public functions have no example)", page)[1])
 
 
 @case

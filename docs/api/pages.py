@@ -29,8 +29,8 @@ def page(title, body, contents=""):
 <header>
 <a class="home" href="index.html">All crates</a>
 <div class="search" role="search">
-<input id="page-search" type="search" placeholder="Search names ( / )" aria-label="Search items and definitions" autocomplete="off" spellcheck="false"
- role="combobox" aria-expanded="false" aria-controls="page-found" aria-autocomplete="list">
+<input id="page-search" type="search" placeholder="Search names ( / )" aria-label="Search items and definitions"
+ autocomplete="off" spellcheck="false" role="combobox" aria-expanded="false" aria-controls="page-found" aria-autocomplete="list">
 <ul id="page-found" role="listbox" aria-label="What was found" hidden></ul>
 </div>
 </header>
@@ -61,7 +61,8 @@ class CratePage:
     def _names_of_crate(self):
         """Where names in the texts of the crate lead: to modules, items and calls, where a name is that of just one."""
         found = {it: f"{it}.html" for it in self.library.crates}
-        found |= {module.path[-1]: f"#{'.'.join(module.path)}" for module in self.crate.modules.values() if module.path and module.is_public}
+        modules = [it.path for it in self.crate.modules.values() if it.path and it.is_public]
+        found |= {path[-1]: f"#{'.'.join(path)}" for path in modules}
         calls = {}
         for place in self.crate.places:
             found[place.name] = f"#{place.anchor}"
@@ -183,7 +184,7 @@ class CratePage:
     def impls(self, place):
         """The methods of a type, by the modules that they are written in, and the traits that it has."""
         found, traits = [], []
-        for module, it in place.impls:
+        for module, it in sorted(place.impls, key=lambda it: it[0] is not place.written):
             if it.trait:
                 traits.append(self.of_trait(module, it))
                 continue
@@ -302,6 +303,20 @@ def shown_head(item):
     return item.head
 
 
+def definition(words, it, lines, link):
+    """What a definition says, where it stands, and its text."""
+    here, (start, end) = f"{it[1]}.{it[2]}", words.lines[it]
+    inner = clause_html("\n".join(lines[start - 1 : end]).rstrip(), link)
+    parts = [
+        f"<h3>{anchor(f'#{here}', escape(it[2]), of_class='here')}</h3>",
+        f"<p>{text.inline(words.says(it), lambda name: None)}</p>",
+        f"<p>With others: {text.inline(words.row(it), lambda name: None)}</p>" if words.row(it) else "",
+        f'<p class="where"><code>{path_of(it)}</code>, line {start}</p>',
+        details("Text", f'<pre tabindex="0"><code>{inner}</code></pre>', "contract", False),
+    ]
+    return f'<section class="definition" id="{escape(here)}">{"".join(parts)}</section>'
+
+
 def definitions_page(words, crate):
     """The definitions of a crate, file by file, each with what it says, where it stands and its text; and their names for the search."""
     names, parts, files = [], [], {}
@@ -314,16 +329,8 @@ def definitions_page(words, crate):
         head = re.match(r"--\s*(.*)", lines[0])
         parts.append(f"<h2>{escape(stem)}</h2><p>{text.inline(head[1], lambda name: None) if head else ''}</p>")
         for it in of_file:
-            start, end = words.lines[it]
             names.append((it[2], "definition", f"{it[1]}.{it[2]}"))
-            inner = clause_html("\n".join(lines[start - 1 : end]).rstrip(), link)
-            parts.append(
-                f'<section class="definition" id="{escape(f"{it[1]}.{it[2]}")}"><h3>{anchor(f"#{it[1]}.{it[2]}", escape(it[2]), of_class="here")}</h3>'
-                f"<p>{text.inline(words.says(it), lambda name: None)}</p>"
-                f'<p class="where"><code>{path_of(it)}</code>, line {start}</p>'
-                + details("Text", f'<pre tabindex="0"><code>{inner}</code></pre>', "contract", False)
-                + "</section>"
-            )
+            parts.append(definition(words, it, lines, link))
     head = f"<h1>Definitions of {anchor(f'{crate.name}.html', escape(crate.name))}</h1><p>What contracts name.</p>"
     return page(f"{crate.name}: definitions", head + "\n".join(parts), ""), names
 
@@ -333,15 +340,18 @@ def index_page(library, counts):
     parts = [
         "<h1>API</h1><p>Each crate has a page: its items with their signatures, what they do, and the contract that is proved of them. "
         "A definition that a contract names leads to a sentence that says it in plain words.</p>"
-        "<p>Keys: <kbd>/</kbd> goes to the search box, <kbd>↓</kbd> and <kbd>↑</kbd> choose, <kbd>Enter</kbd> opens, <kbd>Esc</kbd> closes.</p>"
+        "<p>Keys: <kbd>/</kbd> goes to the search box, <kbd>↓</kbd> and <kbd>↑</kbd> choose, <kbd>Enter</kbd> opens, "
+        "<kbd>Esc</kbd> closes.</p>"
     ]
     for family, of_it in library.families.items():
         rows = []
         for name, said in of_it.items():
             shown = text.inline(said, lambda word, name=name: f"{word}.html" if word in library.crates else item_href(library, name, word))
-            rows.append(f'<tr><td>{anchor(f"{name}.html", f"<code>{name}</code>")}</td><td>{shown}</td><td class="count">{counts[name]}</td></tr>')
+            cells = f'<td>{anchor(f"{name}.html", f"<code>{name}</code>")}</td><td>{shown}</td><td class="count">{counts[name]}</td>'
+            rows.append(f"<tr>{cells}</tr>")
         head = "<thead><tr><th>Crate</th><th>What it has</th><th>Items</th></tr></thead>"
-        parts.append(f'<section id="{family.lower()}"><h2>{family}</h2><div class="wide"><table class="crates">{head}<tbody>{"".join(rows)}</tbody></table></div></section>')
+        shown = f'<div class="wide"><table class="crates">{head}<tbody>{"".join(rows)}</tbody></table></div>'
+        parts.append(f'<section id="{family.lower()}"><h2>{family}</h2>{shown}</section>')
     return page("API of all crates", "\n".join(parts))
 
 

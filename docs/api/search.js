@@ -11,7 +11,8 @@
   for (const [page, names] of NAMES) {
     for (const [name, kind, at] of names) {
       const last = name.slice(name.lastIndexOf(":") + 1);
-      rows.push({ name, kind, href: page + "#" + (at || name), page: page.split(".")[0], low: name.toLowerCase(), last: last.toLowerCase() });
+      const href = page + "#" + (at || name);
+      rows.push({ name, kind, href, page: page.split(".")[0], low: name.toLowerCase(), last: last.toLowerCase() });
     }
   }
   let chosen = -1;

@@ -11,7 +11,10 @@ LONGEST = 300
 NAME = definitions.NAME
 # A name in a clause, with what stands behind its dots.
 WORD = re.compile(rf"{NAME}(?:\.{NAME})*")
-DECLARED = re.compile(rf"^\s*(?:pub |ghost )*use Rattle\.({NAME}(?:\.{NAME})*?)\.declared\.({NAME}(?:\.{NAME})*?)(?:\.\{{([^}}]*)\}})?(?: as ({NAME}))?;?$", re.M)
+PATH = rf"{NAME}(?:\.{NAME})*?"
+DECLARED = re.compile(
+    rf"^\s*(?:pub |ghost )*use Rattle\.({PATH})\.declared\.({PATH})(?:\.\{{([^}}]*)\}})?(?: as ({NAME}))?;?$", re.M
+)
 
 
 def sentences(known):
@@ -69,8 +72,13 @@ class Words:
         return it if it in self.known and it[0] in self.library.crates else None
 
     def says(self, it):
-        """What a definition says: its row on docs/DEFINITIONS.md, else the comment above it."""
-        return self.sentences.get(it) or self.known[it][0]
+        """What a definition says: the comment above it, else its row on docs/DEFINITIONS.md, which may be that of several."""
+        return self.known[it][0] or self.sentences.get(it, "")
+
+    def row(self, it):
+        """Its row on docs/DEFINITIONS.md, where that says something else."""
+        row = self.sentences.get(it, "")
+        return row if row != self.says(it) else ""
 
     def says_plainly(self, it):
         said = self.says(it).replace("`", "")
