@@ -83,6 +83,18 @@ class Uses:
         return found
 
 
+def comment_above(text, at):
+    """Returns the lines of the comment that ends just above the line that begins at a place."""
+    found = []
+    while at:
+        start = text.rfind("\n", 0, at - 1) + 1
+        if not text[start:at].lstrip(" ").startswith("--"):
+            break
+        found.insert(0, text[start : at - 1])
+        at = start
+    return found
+
+
 def definitions():
     """Returns each definition, (crate, file, name), with its comment and the definitions that it names; in their order."""
     found = {}
@@ -93,8 +105,7 @@ def definitions():
         own = {it[1]: (crate, file.stem, it[1]) for it in starts}
         uses = Uses(text)
         for it, behind in zip(starts, [*(it.start() for it in starts[1:]), len(text)]):
-            above = re.search(r"((?:^ *--.*\n)*)\Z", text[: it.start()], re.M)[1]
-            comment = " ".join(line.lstrip("- ") for line in above.splitlines())
+            comment = " ".join(line.lstrip("- ") for line in comment_above(text, it.start()))
             body = without_comments(text[it.start() : behind], "--")
             found[own[it[1]]] = (comment, uses.reached(body, own) - {own[it[1]]})
     # A name that a file brings in and hands on stands for the definition itself.

@@ -1,0 +1,139 @@
+"""The API pages: what docs/api.py writes, held against a plain count of the sources, and their links against their places."""
+import atexit
+import functools
+import html
+import json
+import re
+import subprocess
+import sys
+import tempfile
+import threading
+from pathlib import Path
+
+from cases.kit import TOP, case, expect, expect_in
+
+SCRIPT = TOP / "docs" / "api.py"
+LOCK = threading.Lock()
+# A call, what its contract names, and what is said of that: the row on docs/DEFINITIONS.md, and the file.
+SAID = [
+    ("iox_hub_base", "hub.Hub.new", "Hubs.IsNewHub", "A hub without nodes and services."),
+    ("iox_hub_base", "hub.Hub.foreign", "Foreign.ActsOn", "the steps are done on the table of a hub, and all else stays"),
+    ("iox_conversation", "conversation.serve", "Conversation.IsConversation", "the output answers each line of the input, from here on"),
+]
+
+
+@functools.cache
+def written():
+    """The pages by their names, with all that lies beside them; written once."""
+    folder = tempfile.TemporaryDirectory(prefix="iox-check-")
+    atexit.register(folder.cleanup)
+    ran = subprocess.run([sys.executable, SCRIPT, folder.name], capture_output=True, text=True)
+    expect((ran.returncode, ran.stderr), (0, ""))
+    return {it.name: it.read_text(encoding="utf-8") for it in Path(folder.name).iterdir()}
+
+
+def pages():
+    with LOCK:
+        return written()
+
+
+def libraries():
+    """The crates that have a page: all but tests and programs, and the main program."""
+    names = re.findall(r"(?m)^(\w+)[^:\n]*:", (TOP / "crates.txt").read_text(encoding="utf-8"))
+    is_library = lambda it: (TOP / "crates" / it / "src" / "lib.rt").exists() and not it.endswith("_rows")
+    return {it for it in names if is_library(it) or it == "iox"}
+
+
+def public_items(crate):
+    """How many public items a crate has, counted line by line: types, functions and constants at the margin, and what is public in them."""
+    src = TOP / "crates" / crate / "src"
+    texts = {it.relative_to(src).with_suffix("").as_posix(): it.read_text(encoding="utf-8") for it in src.rglob("*.rt")}
+    public, asked = set(), ["lib"]
+    while asked:
+        module = asked.pop()
+        public.add(module)
+        inner = re.findall(r"(?m)^pub mod (\w+)", texts.get(module, ""))
+        asked += inner if module == "lib" else [f"{module}/{it}" for it in inner]
+    handed_on = {it for text in texts.values() for use in re.findall(r"(?m)^pub use ([^;]*);", text) for it in re.findall(r"\w+", use)}
+    margin = r"(?m)^pub (?:const (?=fn))?(fn|struct|enum|trait|type|const) (\w+)"
+    shown = [it[2] for module, text in texts.items() for it in re.finditer(margin, text) if module in public or it[2] in handed_on]
+    count = len(shown)
+    for text in texts.values():
+        with_members = re.sub(r"(?m)^(?:impl|pub trait)\b[^{]*\{\}$", "", text)
+        for head, inside in re.findall(r"(?m)^((?:impl|pub trait)\b[^{]*)\{\n((?: .*\n|\n)*)\}", with_members):
+            plain = head
+            while re.search(r"<[^<>]*>", plain := plain.replace("->", "")):
+                plain = re.sub(r"<[^<>]*>", "", plain)
+            words = re.sub(r"\swhere\b.*", "", plain, flags=re.S).split()
+            if head.startswith("pub trait") and words[2].strip(":") in shown:
+                count += len(re.findall(r"(?m)^    (?:final )?fn ", inside))
+            elif head.startswith("impl") and "for" not in words and words[1] in shown:
+                count += len(re.findall(r"(?m)^    pub (?:const (?=fn)|final )*(?:fn|const) ", inside))
+    return count
+
+
+@case
+def each_public_item_is_on_the_page_of_its_crate():
+    shown = {it: pages()[f"{it}.html"].count(" data-item=") for it in libraries()}
+    expect(shown, {it: public_items(it) for it in libraries()})
+
+
+@case
+def each_crate_has_an_api_page_that_the_index_leads_to():
+    expect({it.split(".")[0] for it in pages() if it.count(".") == 1 and it.endswith(".html")}, {*libraries(), "index"})
+    expect({it for it in re.findall(r'<td><a href="(\w+)\.html"', pages()["index.html"])}, libraries())
+
+
+@case
+def links_of_the_api_pages_lead_somewhere():
+    places = {name: re.findall(r' id="([^"]*)"', text) for name, text in pages().items() if name.endswith(".html")}
+    for name, ids in places.items():
+        expect((name, len(ids)), (name, len({*ids})))
+        for link in {*re.findall(r' (?:href|src)="([^"]*)"', pages()[name])}:
+            page, _, at = html.unescape(link).partition("#")
+            expect_in(page or name, [*pages()])
+            if at:
+                expect_in(html.escape(at), places[page or name])
+
+
+@case
+def the_search_of_the_api_pages_has_each_item_and_definition():
+    found = json.loads(pages()["names.js"].removeprefix("const NAMES=").rstrip(";\n"))
+    for page, names in found:
+        ids = [html.unescape(it) for it in re.findall(r' id="([^"]*)"', pages()[page])]
+        expect({it[-1] if len(it) == 3 else it[0] for it in names} - {*ids}, set())
+        of_kind = "definition" if page.endswith(".definitions.html") else None
+        shown = len(re.findall(r'<section class="definition"| data-item=', pages()[page]))
+        expect((page, sum(1 for it in names if of_kind or it[1] not in ("crate", "mod", "variant"))), (page, shown))
+    expect(sorted({page for page, _ in found} | {"index.html"}), sorted(it for it in pages() if it.endswith(".html")))
+
+
+@case
+def a_contract_of_the_api_pages_says_what_its_definitions_mean():
+    for crate, call, definition, said in SAID:
+        page = pages()[f"{crate}.html"]
+        of_call = re.search(rf'<section class="call" id="{re.escape(call)}".*?</section>', page, re.S)[0]
+        file, name = definition.split(".")
+        title = re.search(rf'<a href="{crate}\.definitions\.html#{re.escape(definition)}" title="([^"]*)"', of_call)[1]
+        where = rf"{name}: {re.escape(said)} \(crates/{crate}/specs/{file}\.antt:(\d+)\)"
+        line = int(re.fullmatch(where, html.unescape(title))[1])
+        text = (TOP / "crates" / crate / "specs" / f"{file}.antt").read_text(encoding="utf-8").splitlines()
+        expect(bool(re.match(rf"(?:abbrev pub|pub record|pub data) {name}\b", text[line - 1])), True)
+
+
+@case
+def the_functions_without_an_example_are_as_many_as_the_page_says():
+    ran = subprocess.run([sys.executable, SCRIPT, "--lacking"], capture_output=True, text=True)
+    *functions, last = ran.stdout.splitlines()
+    expect((ran.returncode, len(functions)), (0, int(last.split()[0])))
+    page = (TOP / "docs" / "api" / "README.md").read_text(encoding="utf-8")
+    expect(last, re.search(r"\*\*(\d+ of \d+ public functions have no example)", page)[1])
+
+
+@case
+def api_pages_are_not_written_among_other_files():
+    with tempfile.TemporaryDirectory(prefix="iox-check-") as folder:
+        (Path(folder) / "mine.html").touch()
+        ran = subprocess.run([sys.executable, SCRIPT, folder], capture_output=True, text=True)
+        expect((ran.returncode, ran.stdout, ran.stderr), (1, "", f"docs/api.py: {folder} has other files\n"))
+        expect([it.name for it in Path(folder).iterdir()], ["mine.html"])

@@ -1,0 +1,1 @@
+"""What docs/api.py is made of."""
