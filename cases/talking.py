@@ -149,6 +149,8 @@ def a_read_fault_ends_with_status_1():
 @case
 @tries_unproved
 def the_unproved_program_answers_the_stored_run_as_the_proved_one_has_to():
+    # Where it isn't built yet, the first call builds it, and says so.
+    expect(Ran("--unproved", "-q", SCRIPT, timeout=LONG).out, REPLIES)
     Ran("--unproved", "-q", STORED / "stdin", timeout=LONG).expect(0, (STORED / "stdout").read_bytes())
 
 
