@@ -60,7 +60,7 @@ def only_the_crates_of_the_program_are_proved_in_order():
 def each_source_of_the_program_calls_for_a_build():
     with Copy() as copy:
         copy.expect_built(BUILD)
-        for it in ("crates/iox_string/src/lib.rt", "crates/iox_line/specs/Lib.antt"):
+        for it in ("crates/iox_container/src/lib.rt", "crates/iox_line/specs/Lib.antt"):
             copy.edit(it)
             copy.expect_built(BUILD)
         (copy.top / "crates" / "iox_line" / "specs" / "New.antt").touch()
@@ -78,7 +78,7 @@ def nothing_else_calls_for_a_build():
             copy.edit(it)
         (copy.top / "crates" / "iox_line" / "src" / "tests.rt").write_text("// no test\n")
         copy.edit("crates.txt", "# x\n")
-        (copy.top / "crates" / "iox_string" / "src" / "lib.rt").touch()
+        (copy.top / "crates" / "iox_container" / "src" / "lib.rt").touch()
         copy.expect_built([])
 
 
@@ -86,8 +86,8 @@ def nothing_else_calls_for_a_build():
 def crates_that_need_no_other_are_proved_side_by_side():
     with Copy() as copy:
         listed = copy.top / "crates.txt"
-        listed.write_text(listed.read_text(encoding="utf-8").replace("iox: ", "iox: iox_byte_cells "))
-        (copy.top / "crates" / "iox_byte_cells" / "out").mkdir()
+        listed.write_text(listed.read_text(encoding="utf-8").replace("iox: ", "iox: iox_queues_base "))
+        (copy.top / "crates" / "iox_queues_base" / "out").mkdir()
         copy.expect_built([f"iox all check --jobs {how_many_at_once()}", "iox run"])
 
 

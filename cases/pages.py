@@ -122,6 +122,48 @@ def a_contract_of_the_api_pages_says_what_its_definitions_mean():
 
 
 @case
+def a_name_of_iceoryx2_that_the_table_places_wrongly_is_told():
+    sys.path.insert(0, str(TOP / "docs"))
+    import differences
+
+    table = """## Some
+Hub | =
+  id | =
+Hub | =
+  identity | =
+Hub | Hubs
+Hub | =
+  id | -
+LoanError | =
+  OutOfMemory, ExceedsMaxLoans, ExceedsMaxLoanSize | =
+Publisher of both | iox_delivery::Publisher
+Link | Slots::lend
+"""
+    made, faults = differences.lists(differences.Names(), table)
+    told = ["Hub has no public identity", "there is no public Hubs", "id is there", "LoanError has InternalFailure too"]
+    told += ["there is no public Slots::lend"]
+    expect([it.partition(": line ")[2].partition(": ")[2] for it in faults], told)
+    expect_in("| `Hub` with `id` | the same (`iox_hub_base`) | |", made.splitlines())
+
+
+@case
+def an_example_that_calls_otherwise_than_the_function_is_told():
+    sys.path.insert(0, str(TOP / "docs"))
+    from api import examples, reading
+
+    head = "pub fn send(self, alloc: Global, home: &mut Home, values: &[u64]) -> Result<Sent, SendError> {}"
+    right = ["loan.send(alloc, home, values)?", "Loan::send(loan, alloc, &mut home, &[7, 8]).ok()", "loan.send(alloc, &mut home, &values)"]
+    wrong = ["loan.sent(alloc, home, values)", "loan.send(alloc, home)", "loan.send(alloc, &home, values)"]
+    wrong += ["send(loan, alloc, home, values)", "loan.send(&alloc, home, values)", "loan.send(alloc, home, &mut values)"]
+    wrong += ["Loan::send(alloc, home, values)"]
+    for example in right + wrong:
+        item = reading.read_items([f"/// Example: `{example}`", head])[0]
+        expect((example, bool([*examples.own_faults("Loan::send", item)])), (example, example in wrong))
+    item = reading.read_items(["/// Example: `port.id()?`", "pub fn id(&self) -> u64 {}"])[0]
+    expect(len([*examples.own_faults("Port::id", item)]), 1)
+
+
+@case
 def the_functions_without_an_example_are_as_many_as_the_page_says():
     ran = subprocess.run([sys.executable, SCRIPT, "--lacking"], capture_output=True, text=True)
     *functions, last = ran.stdout.splitlines()

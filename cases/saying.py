@@ -2,13 +2,14 @@
 import contextlib
 import json
 import re
+import shutil
 import subprocess
 import sys
 import tempfile
 import xml.etree.ElementTree as ElementTree
 from pathlib import Path
 
-from cases.kit import SCRIPT, TOP, Ran, case, expect, expect_in, talk
+from cases.kit import SCRIPT, TOP, NotHere, Ran, case, expect, expect_in, talk
 
 # A line that spells no command, the column at fault, and what is said of it.
 FAULTS = [
@@ -323,6 +324,52 @@ def the_prompt_is_quiet_and_timed_where_that_is_asked_for():
 def the_manual_page_and_the_completion_are_those_of_the_arguments():
     compared = subprocess.run([sys.executable, TOP / "tool" / "manual.py", "--check"], capture_output=True, text=True)
     expect((compared.returncode, compared.stderr), (0, ""))
+
+
+def completed(shell, *words):
+    """What a shell offers behind these words of a line. Of bash the function is called, fish completes a line itself."""
+    if not shutil.which(shell):
+        raise NotHere(f"no {shell}")
+    script = TOP / "tool" / f"completion.{shell}"
+    if shell == "fish":
+        words = ["fish", "--no-config", "-c", f"source {script}; complete -C '{' '.join(words)}'"]
+    else:
+        call = f'source {script}; COMP_WORDS=("$@") COMP_CWORD=$(($# - 1)); _iox; printf "%s\\n" "${{COMPREPLY[@]}}"'
+        words = ["bash", "--norc", "-c", call, "bash", *words]
+    ran = subprocess.run(words, cwd=TOP, capture_output=True, text=True)
+    expect((ran.returncode, ran.stderr), (0, ""))
+    return sorted(it.partition("\t")[0] for it in ran.stdout.split("\n") if it)
+
+
+@case
+def bash_completes_options_and_scripts():
+    expect(completed("bash", "./iox", "--m"), ["--model"])
+    expect(completed("bash", "./iox", "--svg", "examples/first.r"), ["examples/first.replies"])
+    expect(completed("bash", "./iox", "examples/fi"), ["examples/first.iox"])
+
+
+@case
+def fish_completes_options_and_scripts():
+    expect(completed("fish", "./iox", "--m"), ["--model"])
+    expect(completed("fish", "./iox", "--model", "--pro"), [])
+    expect(completed("fish", "./iox", "--svg", "examples/first.r"), ["examples/first.replies"])
+    expect_in("examples/first.iox", completed("fish", "./iox", "examples/fi"))
+
+
+@case
+def zsh_reads_its_completion():
+    if not shutil.which("zsh"):
+        raise NotHere("no zsh")
+    # Each option has a specification of its own, and the file is asked for last.
+    told = "_arguments() { for it; do print -r -- $it; done }; compdef() { _iox }; source $1"
+    ran = subprocess.run(["zsh", "-f", "-c", told, "zsh", TOP / "tool" / "completion.zsh"], capture_output=True, text=True)
+    expect((ran.returncode, ran.stderr), (0, ""))
+    *specs, last = ran.stdout.splitlines()
+    expect(last, '::FILE:_files -g "*.iox(-.)"')
+    from tool.arguments import parser
+
+    names = [name for option in parser()._actions for name in option.option_strings]
+    expect([re.search(r"\)(-[\w-]+)\[", it)[1] for it in specs], names)
 
 
 @case

@@ -15,6 +15,7 @@ from cases.kit import (
     TOP,
     NotHere,
     Ran,
+    answered,
     case,
     case_of_program,
     expect,
@@ -144,6 +145,22 @@ def a_read_fault_ends_with_status_1():
     with open(os.devnull, "wb") as not_for_reading:
         Ran(given=not_for_reading).expect(1, b"", b"read fault\n")
         Ran("--numbers", given=not_for_reading).expect(1, b"", b"read fault\n")
+
+
+@case
+def each_read_or_write_of_an_example_that_fails_leaves_the_replies_before_it():
+    given, wanted = [], []
+    for script in sorted((TOP / "examples").rglob("*.iox")):
+        lines, replies = script.read_text(encoding="latin-1"), script.with_suffix(".replies")
+        # A block of cases has neither empty lines nor other bytes than those of a text, and ends in a newline.
+        if not replies.exists() or not lines.isascii() or not lines.endswith("\n") or "\n\n" in f"\n{lines}":
+            continue
+        pairs = list(zip(lines.splitlines(), replies.read_text(encoding="ascii").splitlines()))
+        given.append(f"{script.stem}\n{lines}faults")
+        told = [f"{line} -> {reply}" for line, reply in pairs]
+        wanted.append("\n".join([script.stem, *told, f"faults -> {len(pairs) + 1} reads, {len(pairs)} writes", "", ""]))
+    expect(len(given) > 90, True)
+    expect(answered("script_cases", "\n\n".join(given).encode()).decode(), "".join(wanted))
 
 
 @case

@@ -2,7 +2,8 @@
 """Writes the API pages: HTML made from the doc comments of all public items, with the contract below each.
 
 Usage: docs/api.py [FOLDER]    writes the pages into a folder, `out/api` where none is named; `index.html` is the first
-       docs/api.py --lacking   lists the public functions of ports, builders and hubs without an example, and counts them
+       docs/api.py --lacking   lists the public functions of ports, builders and hubs without an example, and counts them;
+                               status 1 where an example calls what isn't there
 
 It reads crates.txt, the sources and definitions of crates/, docs/CRATES.md and docs/DEFINITIONS.md. The pages need no network, and
 can be copied anywhere. A folder that has other files is left alone.
@@ -15,7 +16,7 @@ from pathlib import Path
 
 sys.dont_write_bytecode = True
 
-from api.examples import lacking
+from api.examples import faults, lacking
 from api.library import TOP, Library
 from api.pages import CratePage, definitions_page, index_page
 from api.words import Words
@@ -26,10 +27,14 @@ MARK = "search.js"
 
 
 def print_lacking():
-    count, found = lacking(Library())
+    library = Library()
+    count, found = lacking(library)
     for crate, name in found:
         print(f"{crate}: {name}")
     print(f"{len(found)} of {count} public functions have no example")
+    wrong = [f"{crate}: {name}: {fault}" for crate, name, fault in faults(library)]
+    if wrong:
+        sys.exit("\n".join(wrong))
 
 
 def write_names(folder, names):

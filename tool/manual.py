@@ -1,5 +1,5 @@
 #!/usr/bin/env python3
-"""Writes the manual page and the completion of bash from the launcher's arguments: `tool/manual.py`; with `--check` it only compares."""
+"""Writes the manual page and the completions of bash, zsh and fish from the launcher's arguments; with `--check` it only compares."""
 import argparse
 import re
 import sys
@@ -13,7 +13,7 @@ from tool.arguments import ABOUT, STATUSES, parser
 from tool.grammar import MEANINGS, PORT_OPTIONS, VERBS, default_in_words
 
 WITHOUT_PROOFS = "one build of the same sources without proofs, which is made once and kept"
-PAGE, COMPLETION = TOP / "docs" / "iox.1", TOP / "tool" / "completion.bash"
+PAGE, COMPLETION = TOP / "docs" / "iox.1", TOP / "tool" / "completion"
 
 
 def options():
@@ -53,7 +53,14 @@ def manual():
     return "\n".join(lines) + "\n"
 
 
-def completion():
+def excluded(option):
+    """The names of the options of an option's group, of which there may be one at most; none where it is in no group."""
+    groups = [it._group_actions for it in parser()._mutually_exclusive_groups]
+    names = [[name for action in group for name in action.option_strings] for group in groups]
+    return next((it for it in names if option.option_strings[0] in it), [])
+
+
+def of_bash():
     words = " ".join(name for it in options() for name in it.option_strings)
     files = "|".join(name for it in options() if it.metavar for name in it.option_strings)
     return f"""\
@@ -76,12 +83,50 @@ complete -o filenames -F _iox ./iox iox
 """
 
 
+def of_zsh():
+    specs = []
+    for it in options():
+        names = it.option_strings
+        # A colon ends a part of a specification.
+        told = re.sub(r"([\\\[\]:])", r"\\\1", it.help).replace("'", "'\\''")
+        tail = f"'[{told}]" + (f":{it.metavar}:_files'" if it.metavar else "'")
+        others = " ".join(excluded(it) or names)
+        name = f"{{{','.join(names)}}}" if len(names) > 1 else names[0]
+        specs.append(f"'({others})'{name}{tail}")
+    lines = " \\\n        ".join([*specs, "'::FILE:_files -g \"*.iox(-.)\"'"])
+    return f"""\
+#compdef iox
+# Completion of ./iox in zsh, written by tool/manual.py: `source tool/completion.zsh`, behind `compinit`
+_iox() {{
+    _arguments \\
+        {lines}
+}}
+compdef _iox iox ./iox
+"""
+
+
+def of_fish():
+    lines = ["# Completion of ./iox in fish, written by tool/manual.py: `source tool/completion.fish`", "complete -c iox -f"]
+    lines += ["complete -c iox -a '(__fish_complete_suffix .iox)' -d 'a script'"]
+    for it in options():
+        names = " ".join(f"-l {name[2:]}" if name.startswith("--") else f"-s {name[1:]}" for name in it.option_strings)
+        others = " ".join(f"{name.lstrip('-')}" if name.startswith("--") else f"-s {name[1:]}" for name in excluded(it))
+        condition = f" -n 'not __fish_contains_opt {others}'" if others else ""
+        told = it.help.replace("\\", "\\\\").replace("'", "\\'")
+        lines.append(f"complete -c iox{condition} {names}{' -r -F' if it.metavar else ''} -d '{told}'")
+    return "\n".join(lines) + "\n"
+
+
+SHELLS = {"bash": of_bash, "zsh": of_zsh, "fish": of_fish}
+
+
 def main():
     arguments = argparse.ArgumentParser(description=__doc__)
     arguments.add_argument("--check", action="store_true", help="only compare, and say what differs")
     is_check = arguments.parse_args().check
     differs = False
-    for file, text in ((PAGE, manual()), (COMPLETION, completion())):
+    written = [(PAGE, manual())] + [(COMPLETION.with_suffix(f".{shell}"), of()) for shell, of in SHELLS.items()]
+    for file, text in written:
         if is_check and (not file.exists() or file.read_text(encoding="utf-8") != text):
             print(f"{file.relative_to(TOP)} isn't what tool/manual.py writes", file=sys.stderr)
             differs = True

@@ -83,7 +83,7 @@ def blocks(text):
     found, lines, at = [], text.splitlines(), 0
 
     def kind_of(line):
-        starts = ((r"```", "code"), (r"\|", "table"), (r"#+ ", "heading"), (r"(?:[-*]|\d+\.) ", "list"))
+        starts = ((r"```", "code"), (r"Example: ", "example"), (r"\|", "table"), (r"#+ ", "heading"), (r"(?:[-*]|\d+\.) ", "list"))
         return next((kind for start, kind in starts if re.match(start, line)), "" if not line.strip() else "text")
 
     while at < len(lines):
@@ -110,6 +110,9 @@ def html(text, link, code_link, level=3):
         if kind == "code":
             shown = "\n".join(lines)
             found.append(f'<pre class="example" tabindex="0"><code>{code(shown, code_link)}</code></pre>')
+        elif kind == "example":
+            shown = ", ".join(f"<code>{code(it, code_link)}</code>" for it in examples_of(lines))
+            found.append(f'<p class="example">Example: {shown}</p>')
         elif kind == "table" and len(lines) > 1:
             found.append(table(lines, link))
         elif kind == "list":
@@ -121,9 +124,15 @@ def html(text, link, code_link, level=3):
     return "\n".join(found)
 
 
+def examples_of(lines):
+    """What stands in backticks in the lines of an example."""
+    return re.findall(r"`([^`]+)`", " ".join(lines))
+
+
 def code_of(text):
-    """All blocks of code of a text."""
-    return "\n".join("\n".join(lines) for kind, lines in blocks(text) if kind == "code")
+    """All blocks of code of a text, and the code of its lines of examples."""
+    parts = [(kind, lines) for kind, lines in blocks(text) if kind in ("code", "example")]
+    return "\n".join("\n".join(lines if kind == "code" else examples_of(lines)) for kind, lines in parts)
 
 
 def first_sentence(text):

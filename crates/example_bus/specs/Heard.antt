@@ -2,7 +2,7 @@
 use Rattle.std.specs.Prelude.{ℕ, ◌≡◌, Bool, List, Option, None, Some, option_map}
 use Rattle.iox_domain_home.specs.declared.domain_id.DomainId.{DomainId}
 use Rattle.iox_domain_ports.specs.declared.service_ports.ServicePorts.{ServicePorts}
-use Rattle.iox_domain_sender.specs.Messages.{Message}
+use Rattle.iox_domain_publisher.specs.Messages.{Message}
 use Rattle.iox_delivery.specs.Holding.{message_found}
 use Rattle.iox_delivery.specs.Subscribing.{DropsSample}
 use Rattle.iox_delivery_slices.specs.declared.sample.Sample.{Sample}

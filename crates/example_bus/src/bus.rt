@@ -8,7 +8,7 @@ ghost use Rattle.example_bus.specs.Heard.{as_heard, as_sent, as_received, LetsGo
 use anyhow::{Context, Result, bail, ensure};
 use iox_delivery::{PortId, Sent};
 use iox_delivery_slices::{Publisher, Sample, Subscriber};
-use iox_describe::ServiceName;
+use iox_describe::{ServiceName, ZeroCopySend};
 use iox_domain::Nobody;
 use iox_domain_home::{DomainId, Home, MakesPorts};
 use iox_domain_ports::{PublisherConfig, SubscriberConfig};
@@ -17,11 +17,12 @@ use iox_domain_values::{
 };
 use iox_hub_base::{Hub, HubBuilder, NodeHandle};
 use iox_negotiate::Slice;
+use iox_queues_base::Words;
 use std::alloc::{AllocError, Global};
 
 /// All nodes and services of the robot. Messages are slices of numbers, and each has a time stamp as its user header. Nobody is asked at a full
-/// mailbox: it drops its oldest message.
-pub type Bus = Hub<u64, u64, Nobody, Nobody>;
+/// mailbox: it drops its oldest message. One bus has one type of values: a second type takes a second bus.
+pub type Bus<T = u64> = Hub<T, u64, Nobody, Nobody>;
 
 /// What a node heard.
 #[derive(Drop)]
@@ -32,16 +33,16 @@ pub struct Heard {
 
 /// A node opens the service of a name, or creates it: four messages wait at most, and a late joiner gets the last two. The answer is which service
 /// it is, and who owns what the node makes there.
-fn join(
+fn join<T: Words + ZeroCopySend>(
     alloc: Global,
-    bus: &mut Bus,
+    bus: &mut Bus<T>,
     node: &NodeHandle,
     name: &[u8],
 ) -> Result<(DomainId, PortOwner)> {
     ensure!(bus.holds_node(node), "a node of another bus");
     let asked = bus
         .service_builder(node, ServiceName::new(name)?)
-        .publish_subscribe::<Slice<u64>>()
+        .publish_subscribe::<Slice<T>>()
         .user_header::<u64>()
         .history_size(2)
         .subscriber_max_buffer_size(4);
@@ -57,9 +58,9 @@ fn join(
 }
 
 /// Makes a publisher of messages of at most so many values.
-pub fn advertise(
+pub fn advertise<T: Words + ZeroCopySend>(
     alloc: Global,
-    bus: &mut Bus,
+    bus: &mut Bus<T>,
     node: &NodeHandle,
     name: &[u8],
     values: usize,
@@ -80,7 +81,12 @@ pub fn advertise(
 }
 
 /// Makes a subscriber.
-pub fn listen(alloc: Global, bus: &mut Bus, node: &NodeHandle, name: &[u8]) -> Result<PortId> {
+pub fn listen<T: Words + ZeroCopySend>(
+    alloc: Global,
+    bus: &mut Bus<T>,
+    node: &NodeHandle,
+    name: &[u8],
+) -> Result<PortId> {
     let (domain, owner) = join(alloc, bus, node, name)?;
     let config = SubscriberConfig {
         owner,
@@ -93,12 +99,12 @@ pub fn listen(alloc: Global, bus: &mut Bus, node: &NodeHandle, name: &[u8]) -> R
 }
 
 /// Sends these values with a time stamp; the answer is to how many subscribers.
-pub fn publish(
+pub fn publish<T: Copy>(
     alloc: Global,
-    bus: &mut Bus,
+    bus: &mut Bus<T>,
     port: PortId,
     stamp: u64,
-    values: &[u64],
+    values: &[T],
 ) -> Result<usize> {
     let publisher = Publisher::of_port(port, BackpressureStrategy::DiscardData, values.len());
     if !publisher.holds(bus) || publisher.is_blocked(bus) {

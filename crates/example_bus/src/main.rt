@@ -2,12 +2,14 @@
 #![tactic(auto)]
 
 mod bus;
+mod pose;
 
 use anyhow::{Context, Result};
 use bus::{Bus, advertise, hear, listen, publish};
 use iox_delivery::PortId;
 use iox_domain_home::Home;
 use iox_hub_base::{Hub, HubConfig};
+use pose::{Pose, hear_pose};
 use std::alloc::Global;
 use std::fmt::Write;
 
@@ -51,6 +53,20 @@ fn converse(out: &mut String, alloc: Global, bus: &mut Bus) -> Result<()> {
     note(out, alloc, bus, "wheels, commands", orders)
 }
 
+/// A bus of values of the robot's own type.
+fn drive(alloc: Global, poses: &mut Bus<Pose>) -> Result<Option<Pose>> {
+    let (wheels, pilot) = (poses.new_node()?, poses.new_node()?);
+    let odometry = advertise(alloc, poses, &wheels, b"pose", 1)?;
+    let position = listen(alloc, poses, &pilot, b"pose")?;
+    let pose = Pose {
+        x: 0.5,
+        y: -2.25,
+        yaw: 90.0,
+    };
+    publish(alloc, poses, odometry, 100, &[pose])?;
+    hear_pose(alloc, poses, position)
+}
+
 fn main(rt: HostRuntime) -> Result<()> {
     let config = HubConfig {
         expired_connection_buffer: 8,
@@ -60,5 +76,8 @@ fn main(rt: HostRuntime) -> Result<()> {
     let mut out = String::new(rt.alloc());
     let ending = converse(&mut out, rt.alloc(), &mut bus);
     rt.print(&out)?;
-    ending
+    ending?;
+    let mut poses = Hub::new(rt.alloc(), HubConfig { id: 2, ..config });
+    let driven = drive(rt.alloc(), &mut poses)?;
+    Ok(println!(rt; "pilot, pose: {driven:?}")?)
 }

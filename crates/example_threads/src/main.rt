@@ -11,7 +11,7 @@ use iox_lanes_base::calls::Receipt;
 use iox_lanes_machine::{LaneSizes, Lanes};
 use iox_lanes_parties::publisher::LoanAnswer;
 use iox_lanes_threads::{LanePublisher, LaneSubscriber, LaneThreads, end, open_threads};
-use iox_queues_rings::RingKind;
+use iox_queues_steps::rings::RingKind;
 use std::alloc::{AllocError, Global};
 use std::sync::Wait;
 use std::thread::Threads;

@@ -23,7 +23,33 @@ impl AnswersLines for Echo {
     }
 }
 
-/// A conversation with it.
+/// Somebody who says so many lines again, and finds no memory for the rest of the next one.
+#[derive(Drop)]
+pub(crate) struct Forgetful {
+    pub(crate) answered: usize,
+}
+
+impl AnswersLines for Forgetful {
+    ghost answers = { λ old line text new. text ≡ line };
+
+    ghost used = { λ forgetful. 0 };
+
+    fn answer_line(
+        &mut self,
+        _alloc: Global,
+        line: &[u8],
+        out: &mut Vec<u8>,
+    ) -> Result<(), AllocError> {
+        if self.answered == 0 {
+            out.push(b'?')?;
+            return Err(AllocError);
+        }
+        self.answered -= 1;
+        out.extend_from_slice(line)
+    }
+}
+
+/// A conversation with who says each line again.
 pub(crate) fn converse<R: Read, W: Write>(
     alloc: Global,
     input: &mut Input<R>,

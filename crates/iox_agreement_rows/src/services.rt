@@ -11,8 +11,8 @@ use iox_describe::{
     TypeVariant, requirement, service_hash,
 };
 use iox_negotiate::{Builder, Negotiated, PortFactory, ServiceBuilder, Slice};
-use iox_negotiate_errors::PublishSubscribeOpenError;
-use iox_negotiate_rounds::{LookAnswer, Storage};
+use iox_negotiate_base::errors::PublishSubscribeOpenError;
+use iox_negotiate_base::{LookAnswer, Storage};
 use iox_negotiate_table::Table;
 use std::alloc::Global;
 use std::fmt::Debug;

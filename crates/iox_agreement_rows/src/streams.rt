@@ -1,9 +1,9 @@
 //! Readers and writers that give or take little at a time, or fail.
 ghost use Rattle.std.specs.Prelude.{◌+◌, ◌<◌, ◌^◌};
 
-use crate::echo::converse;
+use crate::echo::{Forgetful, converse};
 use crate::tables::wanted;
-use iox_conversation::{Input, Output, READ_CALLS, ServeError};
+use iox_conversation::{Input, Output, READ_CALLS, ServeError, serve};
 use std::alloc::Global;
 use std::io;
 use std::io::ErrorKind;
@@ -20,19 +20,60 @@ receive s1
 /// At which byte each line ends.
 const ENDS: [usize; 6] = [5, 20, 21, 31, 33, 44];
 
-/// Gives its bytes by pieces: the first of one size, the others of another. After so many calls each fails.
+/// How many calls signals interrupt before one is let through, and how many of these are still to come.
+#[derive(Clone, Copy)]
+struct Signals {
+    each: usize,
+    left: usize,
+}
+
+impl Signals {
+    fn new(each: usize) -> Self {
+        Signals { each, left: each }
+    }
+
+    /// Whether this call is interrupted.
+    fn interrupt(&mut self) -> bool {
+        if self.left == 0 {
+            self.left = self.each;
+            return false;
+        }
+        self.left -= 1;
+        true
+    }
+}
+
+/// An error of one kind or another, by a number. No call that fails so is made again.
+fn failure(number: usize) -> io::Error {
+    io::Error::from(match number % 6 {
+        0 => ErrorKind::WouldBlock,
+        1 => ErrorKind::TimedOut,
+        2 => ErrorKind::UnexpectedEof,
+        3 => ErrorKind::ConnectionReset,
+        4 => ErrorKind::BrokenPipe,
+        _ => ErrorKind::Other,
+    })
+}
+
+/// Gives its bytes by pieces: the first of one size, the others of another. After so many calls one fails, in a way that the bytes
+/// left decide, and none behind it.
 #[derive(Drop)]
 struct Pieces {
     rest: &'static [u8],
     first: usize,
     others: usize,
     good_calls: usize,
+    signals: Signals,
 }
 
 impl io::Read for Pieces {
     fn read(&mut self, buffer: &mut [u8]) -> io::Result<usize> {
+        if self.signals.interrupt() {
+            return Err(io::Error::from(ErrorKind::Interrupted));
+        }
         if self.good_calls == 0 {
-            return Err(io::Error::from(ErrorKind::ConnectionReset));
+            self.good_calls = usize::MAX;
+            return Err(failure(self.rest.len()));
         }
         self.good_calls -= 1;
         let count = buffer.len().min(self.rest.len()).min(self.first);
@@ -43,18 +84,24 @@ impl io::Read for Pieces {
     }
 }
 
-/// Takes so many bytes a call at most, and keeps them. After so many calls each fails.
+/// Takes so many bytes a call at most, and keeps them. After so many calls one fails, in a way that the bytes taken decide, and
+/// none behind it.
 #[derive(Drop)]
 struct Sips {
     taken: Vec<u8>,
     most: usize,
     good_calls: usize,
+    signals: Signals,
 }
 
 impl io::Write for Sips {
     fn write(&mut self, bytes: &[u8]) -> io::Result<usize> {
+        if self.signals.interrupt() {
+            return Err(io::Error::from(ErrorKind::Interrupted));
+        }
         if self.good_calls == 0 {
-            return Err(io::Error::from(ErrorKind::BrokenPipe));
+            self.good_calls = usize::MAX;
+            return Err(failure(self.taken.len()));
         }
         self.good_calls -= 1;
         let count = bytes.len().min(self.most);
@@ -70,7 +117,8 @@ impl io::Write for Sips {
 }
 
 /// How a conversation goes: what is read, in pieces of which sizes and in how many calls that go well, how many
-/// bytes are taken a call and in how many that go well; what it comes to, and how many bytes are written.
+/// bytes are taken a call and in how many that go well; how many calls signals interrupt before each such read and
+/// write; what it comes to, and how many bytes are written.
 #[derive(Clone, Copy)]
 struct Talk {
     rest: &'static [u8],
@@ -79,6 +127,8 @@ struct Talk {
     reads: usize,
     most: usize,
     writes: usize,
+    read_signals: usize,
+    write_signals: usize,
     result: Result<(), ServeError>,
     written: usize,
 }
@@ -91,6 +141,8 @@ const GOOD: Talk = Talk {
     reads: usize::MAX,
     most: usize::MAX,
     writes: usize::MAX,
+    read_signals: 0,
+    write_signals: 0,
     result: Ok(()),
     written: 44,
 };
@@ -105,11 +157,13 @@ fn told(alloc: Global, talk: Talk) -> Told {
         first: talk.first,
         others: talk.others,
         good_calls: talk.reads,
+        signals: Signals::new(talk.read_signals),
     });
     let mut output = Output::new(Sips {
         taken: Vec::new(alloc),
         most: talk.most,
         good_calls: talk.writes,
+        signals: Signals::new(talk.write_signals),
     });
     let result = converse(alloc, &mut input, &mut output);
     let taken = output.writer().taken.as_slice();
@@ -224,6 +278,120 @@ fn a_writer_may_take_one_byte_a_call_or_all_in_one_but_not_none(
             ..GOOD
         },
     )
+}
+
+/// Conversations in which signals interrupt calls. They are made again, also before one that fails, but a write no more than
+/// 2^20 times.
+const INTERRUPTED: [Talk; 6] = [
+    Talk {
+        read_signals: 1,
+        write_signals: 3,
+        ..GOOD
+    },
+    Talk {
+        first: 1,
+        others: 1,
+        most: 1,
+        read_signals: 7,
+        write_signals: 1,
+        ..GOOD
+    },
+    Talk {
+        first: 21,
+        reads: 1,
+        read_signals: 1,
+        result: Err(ServeError::ReadFault),
+        written: 21,
+        ..GOOD
+    },
+    Talk {
+        most: 8,
+        writes: 2,
+        write_signals: 2,
+        result: Err(ServeError::WriteFault),
+        written: 16,
+        ..GOOD
+    },
+    Talk {
+        write_signals: 1_000,
+        ..GOOD
+    },
+    Talk {
+        write_signals: usize::MAX,
+        result: Err(ServeError::WriteFault),
+        written: 0,
+        ..GOOD
+    },
+];
+
+#[test]
+fn interrupted_calls_are_made_again(rt: HostRuntime) -> Result<(), Fail> {
+    for talk in &INTERRUPTED {
+        goes(rt.alloc(), *talk)?;
+    }
+    Ok(())
+}
+
+/// What a conversation with a reader comes to whose calls are all interrupted, whether a read has failed, how many calls are
+/// made, and how many bytes are written.
+fn told_of_signals(alloc: Global) -> (Result<(), ServeError>, bool, u64, usize) {
+    let mut input = Input::new(Pieces {
+        rest: b"x",
+        first: 1,
+        others: 1,
+        good_calls: 1,
+        signals: Signals::new(usize::MAX),
+    });
+    let mut output = Output::new(Vec::new(alloc));
+    let result = converse(alloc, &mut input, &mut output);
+    (
+        result,
+        input.has_failed(),
+        input.calls(),
+        output.writer().len(),
+    )
+}
+
+#[test]
+fn a_reader_that_is_always_interrupted_is_left(rt: HostRuntime) -> Result<(), Fail> {
+    let left = (Err(ServeError::ReadFault), false, READ_CALLS, 0);
+    wanted(told_of_signals(rt.alloc()), left)
+}
+
+/// How many bytes are written of what is said again of so many lines, where no memory is found for the next one.
+fn written_before_a_want_of_memory(
+    alloc: Global,
+    answered: usize,
+    size: usize,
+) -> (Result<(), ServeError>, Option<usize>) {
+    let mut input = Input::new(Pieces {
+        rest: LINES,
+        first: size,
+        others: size,
+        good_calls: usize::MAX,
+        signals: Signals::new(0),
+    });
+    let mut output = Output::new(Vec::new(alloc));
+    let result = serve(alloc, Forgetful { answered }, &mut input, &mut output);
+    let taken = output.writer().as_slice();
+    let written = LINES.starts_with(taken).then_some(taken.len());
+    (result, written)
+}
+
+#[test]
+fn replies_before_a_want_of_memory_are_written(rt: HostRuntime) -> Result<(), Fail> {
+    let mut written = 0;
+    for (answered, end) in ENDS.iter().enumerate() {
+        let wanting = (Err(ServeError::OutOfMemory), Some(written));
+        for size in &[1, 2, 7, 30, LINES.len()] {
+            wanted(
+                written_before_a_want_of_memory(rt.alloc(), answered, *size),
+                wanting,
+            )?;
+        }
+        written = *end;
+    }
+    Ok(())
 }
 
 /// Gives one byte at each call: so many newlines, and then so many letters.

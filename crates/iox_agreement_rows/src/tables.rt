@@ -3,7 +3,7 @@ use iox_describe::{
     AttributeSpecifier, Description, LimitError, MessagingPattern, ServiceHash, ServiceName,
     Settings, event, service_hash,
 };
-use iox_negotiate_rounds::{
+use iox_negotiate_base::{
     LeaveAnswer, LockAnswer, LookAnswer, MakeSegmentAnswer, OpenSegmentAnswer, PublishAnswer,
     RemoveAnswer, Storage,
 };

@@ -2,7 +2,7 @@
 use iox_conversation::ServeError;
 use iox_describe::requirement::{event, publish_subscribe, request_response};
 use iox_describe::{AttributeError, DescriptionError, LimitError};
-use iox_negotiate_errors::{
+use iox_negotiate_base::errors::{
     CloseError, EventCreateError, EventOpenError, EventOpenOrCreateError,
     PublishSubscribeCreateError, PublishSubscribeOpenError, PublishSubscribeOpenOrCreateError,
     RequestResponseCreateError, RequestResponseOpenError, RequestResponseOpenOrCreateError,

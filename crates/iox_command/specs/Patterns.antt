@@ -1,6 +1,6 @@
 -- The pattern of a service's options.
-use Rattle.iox_negotiate_errors.specs.DescribeBase.declared.pattern.MessagingPattern.{MessagingPattern}
-use Rattle.iox_negotiate_errors.specs.DescribeBase.declared.pattern.MessagingPattern.TheVariants as pattern
+use Rattle.iox_negotiate_base.specs.DescribeBase.declared.pattern.MessagingPattern.{MessagingPattern}
+use Rattle.iox_negotiate_base.specs.DescribeBase.declared.pattern.MessagingPattern.TheVariants as pattern
 use Rattle.iox_command.specs.declared.service.ServiceOptions.{ServiceOptions}
 use Rattle.iox_command.specs.declared.service.ServiceOptions.TheVariants as options
 

@@ -1,10 +1,10 @@
 -- What a refusal displays as: the error within.
 use Rattle.std.specs.Prelude.{ℕ, List, codes}
 use Rattle.iox_domain_values.specs.ErrorTexts as domain
-use Rattle.iox_negotiate_errors.specs.CloseText as close
-use Rattle.iox_negotiate_errors.specs.EventTexts as event
-use Rattle.iox_negotiate_errors.specs.PublishSubscribeTexts as publish_subscribe
-use Rattle.iox_negotiate_errors.specs.RequestResponseTexts as request_response
+use Rattle.iox_negotiate_base.specs.CloseText as close
+use Rattle.iox_negotiate_base.specs.EventTexts as event
+use Rattle.iox_negotiate_base.specs.PublishSubscribeTexts as publish_subscribe
+use Rattle.iox_negotiate_base.specs.RequestResponseTexts as request_response
 use Rattle.iox_command.specs.declared.refusal.HubError.{HubError}
 use Rattle.iox_command.specs.declared.refusal.HubError.TheVariants as hub
 use Rattle.iox_command.specs.declared.refusal.Refusal.{Refusal}

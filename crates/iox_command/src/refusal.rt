@@ -6,7 +6,7 @@ use iox_domain_values::{
     ConnectionFailure, LoanError, PublisherCreateError, ReceiveError, SendError,
     SubscriberCreateError,
 };
-use iox_negotiate_errors::{
+use iox_negotiate_base::errors::{
     CloseError, EventCreateError, EventOpenError, EventOpenOrCreateError,
     PublishSubscribeCreateError, PublishSubscribeOpenError, PublishSubscribeOpenOrCreateError,
     RequestResponseCreateError, RequestResponseOpenError, RequestResponseOpenOrCreateError,

@@ -1,1 +1,4 @@
 pub mod VectorLemmas
+pub mod Retains
+pub mod TextRows
+pub mod Texts

@@ -7,4 +7,10 @@ pub mod QueueLends
 pub mod RelocatableOptionLends
 pub mod RelocatableOptions
 pub mod Vectors
-pub use Rattle.iox_string.specs as String
+pub mod BoundedText
+pub mod Bytes
+pub mod StringErrorTexts
+pub mod Retained
+pub mod StringBytes
+pub mod Text
+pub mod TextRow

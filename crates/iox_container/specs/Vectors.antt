@@ -1,5 +1,5 @@
 -- What a vector answers to changes, and which items it gets from calls.
-use Rattle.std.specs.Prelude.{ℕ, ◌≡◌, ◌+◌, ◌<◌, ◌≤◌, ◌↔◌, List, [], ◌∷◌, ◌++◌, drop, length, Result, Err, IsOk}
+use Rattle.std.specs.Prelude.{ℕ, ◌≡◌, ◌≢◌, ◌+◌, ◌<◌, ◌≤◌, ◌↔◌, List, [], ◌∷◌, ◌++◌, drop, length, Result, Err, IsOk}
 use Rattle.std.specs.List.{FoldsTo, refill}
 use Rattle.std.proofs.lemmas.List.{take_at}
 use Rattle.iox_container.specs.declared.vector.error.VectorModificationError.{VectorModificationError}
@@ -9,6 +9,12 @@ use Rattle.iox_container.specs.declared.vector.error.VectorModificationError.The
 pub record AnswersGrowth (capacity len : ℕ) (answer : Result (Unit {0}) VectorModificationError) : Type 0 where
   pub accepted : IsOk answer ↔ (len ≤ capacity)
   pub too_long : (answer ≡ Err InsertWouldExceedCapacity) ↔ (capacity < len)
+
+-- the answer to a change that would leave `len` items, some of them cloned, which may find no memory
+pub record AnswersClones (capacity len : ℕ) (answer : Result (Unit {0}) VectorModificationError) : Type 0 where
+  pub accepted : IsOk answer → len ≤ capacity
+  pub too_long : (answer ≡ Err InsertWouldExceedCapacity) ↔ (capacity < len)
+  pub in_bounds : answer ≢ Err OutOfBounds
 
 -- the answer to an item that is to go to `index`: the capacity is tested first, then the index
 pub record AnswersInsertionAt (capacity len index : ℕ) (answer : Result (Unit {0}) VectorModificationError) : Type 0 where

@@ -1,4 +1,4 @@
-//! Containers of fixed capacity, and the names of the strings below them.
+//! Containers and strings of fixed capacity.
 //!
 //! | Module | What it has |
 //! |---|---|
@@ -6,7 +6,7 @@
 //! | `queue` | queues, which may let their oldest item go for a new one |
 //! | `relocatable_option` | an option with a shape of its own |
 //! | `callback_progression` | what a callback answers to the loop that calls it |
-//! | `string` (`iox_string`) | strings over the bytes 1..=127: the trait `String`, `StaticString` and `PolymorphicString` |
+//! | `string` | strings over the bytes 1..=127: the trait `String`, `StaticString` and `PolymorphicString` |
 //!
 //! Each takes all its memory when it is made. A call that would pass the capacity is refused whole, and a refused call
 //! changes nothing.
@@ -26,11 +26,11 @@
 pub mod callback_progression;
 pub mod queue;
 pub mod relocatable_option;
+pub mod string;
 pub mod vector;
 
 pub use callback_progression::CallbackProgression;
-pub use iox_string as string;
-pub use iox_string::{PolymorphicString, StaticString, StringModificationError};
 pub use queue::FixedSizeQueue;
 pub use relocatable_option::RelocatableOption;
+pub use string::{PolymorphicString, StaticString, StringModificationError};
 pub use vector::{PolymorphicVec, StaticVec, VectorModificationError};

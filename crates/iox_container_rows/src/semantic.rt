@@ -1,12 +1,12 @@
 //! Names with rules of their own: none is empty, none has a slash, and the case of letters doesn't count.
 ghost use Rattle.std.specs.Prelude.{◌≡◌, ℕ, ◌==◌, List, map, length};
 ghost use Rattle.std.specs.List.{list_any};
-ghost use Rattle.iox_string.specs.StringBytes.{IsStringByte};
+ghost use Rattle.iox_container.specs.StringBytes.{IsStringByte};
 ghost use Rattle.iox_container_rows.specs.LetterCase.{lower_case, lower_case_once};
 
 use crate::answers::hold;
-use iox_semantic::{Rules, Semantic, SemanticStringError};
-use iox_string::{StaticString, String};
+use iox_container::string::{StaticString, String};
+use iox_maps::semantic_strings::{Rules, Semantic, SemanticStringError};
 use std::alloc::{AllocError, Global};
 use std::test::Fail;
 

@@ -1,6 +1,6 @@
 //! The JSON of strings, vectors and options: what is written, and what is read of it, from a text and from a tree.
+use iox_container::string::StaticString;
 use iox_container::{RelocatableOption, StaticVec};
-use iox_string::StaticString;
 use serde::{Deserialize, DeserializeOwned, Serialize};
 use serde_json::{Error, Value};
 use std::alloc::{AllocError, Global};

@@ -1,11 +1,11 @@
 //! What values are displayed and debugged as.
 use crate::answers::{hold, is_shown};
-use iox_byte_cells::{ByteAnswer, ByteStep};
+use iox_container::string::{PolymorphicString, StaticString, String, StringModificationError};
 use iox_container::vector::Vector;
 use iox_container::{FixedSizeQueue, PolymorphicVec, StaticVec, VectorModificationError};
+use iox_maps::byte_cells::{ByteAnswer, ByteStep};
+use iox_maps::semantic_strings::SemanticStringError;
 use iox_maps::{FixedSizeFlatMap, FixedSizeSlotMap, FlatMapError, SlotMapKey};
-use iox_semantic::SemanticStringError;
-use iox_string::{PolymorphicString, StaticString, String, StringModificationError};
 use std::alloc::{AllocError, Global};
 use std::fmt::{Debug, Display};
 use std::test::Fail;
@@ -21,7 +21,7 @@ const OF_STRINGS: [(StringModificationError, &str); 2] = [
     ),
 ];
 
-const OF_VECTORS: [(VectorModificationError, &str); 2] = [
+const OF_VECTORS: [(VectorModificationError, &str); 3] = [
     (
         VectorModificationError::InsertWouldExceedCapacity,
         "VectorModificationError::InsertWouldExceedCapacity InsertWouldExceedCapacity",
@@ -29,6 +29,10 @@ const OF_VECTORS: [(VectorModificationError, &str); 2] = [
     (
         VectorModificationError::OutOfBounds,
         "VectorModificationError::OutOfBounds OutOfBounds",
+    ),
+    (
+        VectorModificationError::OutOfMemory,
+        "VectorModificationError::OutOfMemory OutOfMemory",
     ),
 ];
 

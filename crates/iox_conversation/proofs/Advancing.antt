@@ -1,12 +1,14 @@
 -- How a conversation goes on.
-use Rattle.std.proofs.Common.{◌≡◌, ℕ, ◌+◌, ◌<◌, ◌≤◌, true, List, [], ◌∷◌, Option, IfSome, Result, Ok, Err, OnOk, ◌++◌, ◌∙◌, length, take, refl, sym, ap, inl, arith, append_assoc, length-append}
+use Rattle.std.proofs.Common.{◌≡◌, ℕ, ◌+◌, ◌<◌, ◌≤◌, ◌⊎◌, Bool, true, false, List, [], ◌∷◌, Option, IfSome, Result, Ok, Err, OnOk, OnErr, IfErr, is_err, ◌++◌, ◌∙◌, length, take, refl, sym, ap, inl, inr, arith, append_assoc, length-append}
 use Rattle.std.proofs.lemmas.List.{append-nil}
 use Rattle.std.specs.Io.KnownBytes.{Appends, Consumes}
 use Rattle.std.proofs.KnownBytes.{Consumes-whole}
 use Rattle.iox_conversation.specs.Lines.{heard}
-use Rattle.iox_conversation.specs.Conversation.{Served, SessionState, Advances, Ends, IsConversation, Converses, BreaksOff}
+use Rattle.iox_conversation.specs.Conversation.{Served, SessionState, Advances, StopsShort, Ends, IsConversation, Converses, AreBegun, IsDue, BreaksOff, WritesABeginning}
 use Rattle.iox_conversation.specs.declared.error.ServeError.{ServeError}
+use Rattle.iox_conversation.specs.declared.error.ServeError.TheVariants.{WriteFault, OutOfMemory}
 use Rattle.iox_conversation.proofs.LineLemmas.{is_unbroken, unbroken-append, heard-whole, heard-last, heard-cut}
+use Rattle.iox_conversation.proofs.WholeLineLemmas.{heard_whole-done, heard_whole-more}
 
 -- what answers some lines and then what answers more answers all of them
 pub Served-append : {M : Type 0} (answers : M → List ℕ → List ℕ → M → Type 0) (old mid new : M) (lines more : List (List ℕ)) (out next : List ℕ)
@@ -103,10 +105,11 @@ Converses-conversation answers used start left leaves held holds all =
     (all.text ++ all.last, all.written, IsConversation-ended answers used start all.mid all.bytes all.text all.last all.advances all.ends)
 
 -- a conversation broke off where all that was read is answered
-pub BreaksOff-answered : {M : Type 0} (answers : M → List ℕ → List ℕ → M → Type 0) (used : M → ℕ) (error : ServeError) (old mid : SessionState M) (left leaves held holds : Option (List ℕ)) (bytes text : List ℕ)
+pub BreaksOff-answered : {M : Type 0} (answers : M → List ℕ → List ℕ → M → Type 0) (used : M → ℕ) (error : ServeError) (ended : Bool) (old mid : SessionState M) (left leaves held holds : Option (List ℕ)) (bytes text : List ℕ)
     → Consumes left leaves bytes → Appends held holds text → Advances answers used old bytes text mid → is_unbroken mid.line ≡ true
-    → BreaksOff answers used error old left leaves held holds
-BreaksOff-answered answers used error old mid left leaves held holds bytes text consumed written advances whole = record {
+    → (error ≡ OutOfMemory → IsDue ended mid [] ⊎ ((bytes ≡ []) × (◌≡◌ {A = List ℕ} [] [])))
+    → BreaksOff answers used error ended old left leaves held holds
+BreaksOff-answered answers used error ended old mid left leaves held holds bytes text consumed written advances whole due = record {
   bytes = bytes;
   text = text;
   piece = [];
@@ -119,9 +122,106 @@ BreaksOff-answered answers used error old mid left leaves held holds bytes text 
   short = omega arith;
   read = λ _. refl;
   begun = inl refl;
+  due = due;
 }
 
 -- what holds on success holds of what follows from it
 pub OnOk-follows : {A E P Q : Type 0} (result : Result A E) → (P → Q) → OnOk result P → OnOk result Q
 OnOk-follows (Ok x) follows holds = follows holds
 OnOk-follows (Err e) follows holds = tt
+
+-- what holds anyway holds on an error
+pub OnErr-holds : {A E P : Type 0} (result : Result A E) → P → OnErr result P
+OnErr-holds (Ok x) holds = tt
+OnErr-holds (Err e) holds = holds
+
+-- and what holds of an error is followed by what says less of it
+pub IfErr-follows : {A E Q : Type 0} {P : E → Type 0} (result : Result A E) → ((e : E) → P e → Q) → IfErr result P → OnErr result Q
+IfErr-follows (Ok x) follows holds = tt
+IfErr-follows (Err e) follows holds = follows e holds
+
+-- what answers the lines that newlines end is a beginning of what answers the lines that were read whole, and so is a beginning of it
+pub WritesABeginning-advanced : {M : Type 0} (answers : M → List ℕ → List ℕ → M → Type 0) (used : M → ℕ) (ended : Bool) (start : M) (mid : SessionState M) (left leaves held holds : Option (List ℕ))
+    (read bytes more text written unwritten : List ℕ) → Advances answers used (record { machine = start; line = [] }) bytes text mid → is_unbroken mid.line ≡ true
+    → read ≡ bytes ++ more → text ≡ written ++ unwritten → Consumes left leaves read → Appends held holds written
+    → WritesABeginning answers ended start left leaves held holds
+WritesABeginning-advanced answers used ended start mid left leaves held holds read bytes more text written unwritten advances unbroken all parts consumed appended =
+    let done = heard_whole-done bytes mid.line advances.done unbroken advances.lines in
+    let others = heard_whole-more ended bytes more in
+    record {
+      read = read;
+      written = written;
+      unwritten = unwritten;
+      lines = advances.done;
+      others = others.0;
+      final = mid.machine;
+      consumed = consumed;
+      appended = appended;
+      whole = rw all (others.1 ∙ ap (λ l. l ++ others.0) done);
+      served = rw parts at advances.served;
+    }
+
+-- the same where the input ended, and of its last line
+pub WritesABeginning-ended : {M : Type 0} (answers : M → List ℕ → List ℕ → M → Type 0) (used : M → ℕ) (start : M) (mid : SessionState M) (left leaves held holds : Option (List ℕ))
+    (bytes text part rest : List ℕ) → Advances answers used (record { machine = start; line = [] }) bytes text mid → Ends answers mid [] (part ++ rest)
+    → Consumes left leaves (bytes ++ []) → Appends held holds (text ++ part)
+    → WritesABeginning answers true start left leaves held holds
+WritesABeginning-ended answers used start mid left leaves held holds bytes text part rest advances ends consumed appended =
+    let all = IsConversation-ended answers used start mid bytes text (part ++ rest) advances ends in
+    record {
+      read = bytes;
+      written = text ++ part;
+      unwritten = rest;
+      lines = heard bytes;
+      others = [];
+      final = all.0;
+      consumed = rw (append-nil bytes) at consumed;
+      appended = appended;
+      whole = sym (append-nil (heard bytes));
+      served = rw (append_assoc text part rest) all.1;
+    }
+
+BreaksOff-begun : {M : Type 0} (answers : M → List ℕ → List ℕ → M → Type 0) (used : M → ℕ) (error : ServeError) (ended : Bool) (start : M) (left leaves held holds : Option (List ℕ))
+    (broken : BreaksOff answers used error ended (record { machine = start; line = [] }) left leaves held holds)
+    → (broken.part ≡ []) ⊎ ((error ≡ WriteFault) × AreBegun answers used ended broken.mid broken.piece broken.part)
+    → WritesABeginning answers ended start left leaves held holds
+BreaksOff-begun answers used error ended start left leaves held holds broken (inl none) =
+    WritesABeginning-advanced answers used ended start broken.mid left leaves held holds (broken.bytes ++ broken.piece) broken.bytes broken.piece broken.text broken.text []
+    broken.advances broken.whole refl (sym (append-nil broken.text)) broken.consumed (rw (none, append-nil broken.text) at broken.written)
+BreaksOff-begun answers used error ended start left leaves held holds broken (inr (fault, (rest, inl (first, more, new, all, advances, unbroken)))) =
+    WritesABeginning-advanced answers used ended start new left leaves held holds (broken.bytes ++ broken.piece) (broken.bytes ++ first) more
+    (broken.text ++ (broken.part ++ rest)) (broken.text ++ broken.part) rest
+    (Advances-append _ _ _ _ _ _ _ _ _ broken.advances advances) unbroken
+    (rw all (sym (append_assoc broken.bytes first more))) (sym (append_assoc broken.text broken.part rest)) broken.consumed broken.written
+BreaksOff-begun answers used error ended start left leaves held holds broken (inr (fault, (rest, inr (none, end, ends)))) =
+    rw end (WritesABeginning-ended answers used start broken.mid left leaves held holds broken.bytes broken.text broken.part rest
+    broken.advances ends (rw none at broken.consumed) broken.written)
+
+-- where a conversation broke off, what was written is a beginning of what answers the lines that were read whole
+pub BreaksOff-beginning : {M : Type 0} (answers : M → List ℕ → List ℕ → M → Type 0) (used : M → ℕ) (error : ServeError) (ended : Bool) (start : M) (left leaves held holds : Option (List ℕ))
+    → BreaksOff answers used error ended (record { machine = start; line = [] }) left leaves held holds
+    → WritesABeginning answers ended start left leaves held holds
+BreaksOff-beginning answers used error ended start left leaves held holds broken =
+    BreaksOff-begun answers used error ended start left leaves held holds broken broken.begun
+
+-- what holds on success holds where it isn't an error, and what holds on an error holds where it is one
+pub OnOk-told : {A E P : Type 0} (result : Result A E) → is_err result ≡ false → OnOk result P → P
+OnOk-told (Ok x) ok holds = holds
+OnOk-told (Err e) ok holds = absurd (cc)
+
+pub OnErr-told : {A E P : Type 0} (result : Result A E) → is_err result ≡ true → OnErr result P → P
+OnErr-told (Ok x) failed holds = absurd (cc)
+OnErr-told (Err e) failed holds = holds
+
+-- of what answers a piece, or its first lines, a beginning was written
+pub AreBegun-told : {M A E : Type 0} (answers : M → List ℕ → List ℕ → M → Type 0) (used : M → ℕ) (ended : Bool) (old new : SessionState M) (piece before now part rest : List ℕ) (result : Result A E)
+    → OnOk result ((text : List ℕ) × (now ≡ before ++ text) × Advances answers used old piece text new)
+    → OnErr result ((text : List ℕ) × (now ≡ before ++ text) × StopsShort answers used old piece text)
+    → is_unbroken new.line ≡ true → before ≡ [] → now ≡ part ++ rest → AreBegun answers used ended old piece part
+AreBegun-told answers used ended old new piece before now part rest (Ok x) all stopped whole empty told =
+    let text : all.0 ≡ part ++ rest = ap (λ items. items ++ all.0) (sym empty) ∙ (sym all.1 ∙ told) in
+    (rest, inl (piece, [], new, sym (append-nil piece), rw text at all.2, whole))
+AreBegun-told answers used ended old new piece before now part rest (Err e) all stopped whole empty told =
+    let short = stopped.2 in
+    let text : stopped.0 ≡ part ++ rest = ap (λ items. items ++ stopped.0) (sym empty) ∙ (sym stopped.1 ∙ told) in
+    (rest, inl (short.first, short.more, short.mid, short.all, rw text at short.advances, short.whole))

@@ -1,3 +1,4 @@
 pub mod Rest
 pub mod LineLemmas
+pub mod WholeLineLemmas
 pub mod Advancing

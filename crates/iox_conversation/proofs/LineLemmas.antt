@@ -1,5 +1,5 @@
 -- What is heard of a line that comes in pieces.
-use Rattle.std.proofs.Common.{◌≡◌, ℕ, ◌<◌, ◌≤◌, ◌==◌, Bool, true, not, List, [], ◌∷◌, ◌++◌, length, take, map, drop, min, ◌+◌, ◌-◌, zero, suc, get_or, refl, sym, ap, ◌∙◌, arith, add-one, drop-cons, append_assoc, take-append-drop}
+use Rattle.std.proofs.Common.{◌≡◌, ℕ, ◌<◌, ◌≤◌, ◌==◌, Bool, true, false, not, List, [], ◌∷◌, ◌++◌, length, take, map, drop, min, ◌+◌, ◌-◌, zero, suc, get_or, refl, sym, ap, ◌∙◌, arith, add-one, drop-cons, append_assoc, take-append-drop}
 use Rattle.std.specs.List.{list_all}
 use Rattle.std.proofs.lemmas.List.{append-nil, take_all, take_min}
 use Rattle.std.proofs.Math.Nat.{min_comm}
@@ -106,3 +106,11 @@ newline-at xs n within is =
     let newline : get_or xs n 0 ≡ 10 = grind (arith, common_steps) in
     let after : drop n xs ≡ 10 ∷ drop (n + 1) xs = rw (add-one, drop-cons xs n 0) (ap (λ b. b ∷ drop (suc n) xs) newline) in
     rw (take-rest xs (n + 1), append_assoc (take n xs) (10 ∷ []) (drop (n + 1) xs)) (sym (take-append-drop n xs) ∙ ap (λ l. take n xs ++ l) after)
+
+-- bytes of which one is a newline
+pub broken-at : (xs : List ℕ) (n : ℕ) → n < length xs → (get_or xs n 0 == 10) ≡ true → is_unbroken xs ≡ false
+broken-at [] n within is = absurd (omega (arith, within))
+broken-at (x ∷ xs) zero within is = grind (arith, common_steps)
+broken-at (x ∷ xs) (suc n) within is =
+    let later = broken-at xs n (omega (arith, within)) is in
+    grind (arith, common_steps)

@@ -1,11 +1,11 @@
 -- What is written for what is read. `answers` says what one line is answered, and what becomes of who answers; `used` counts how many of
 -- the numbers below 2^64 they have given out.
-use Rattle.std.specs.Prelude.{◌≡◌, ◌⊎◌, ℕ, ◌+◌, ◌≤◌, ◌==◌, true, not, List, [], ◌∷◌, ◌++◌, Option, length}
+use Rattle.std.specs.Prelude.{◌≡◌, ◌⊎◌, ℕ, ◌+◌, ◌<◌, ◌≤◌, ◌==◌, Bool, true, false, not, List, [], ◌∷◌, ◌++◌, Option, length}
 use Rattle.std.specs.List.{list_all}
 use Rattle.std.specs.Io.KnownBytes.{Consumes, Appends, IsAtEnd}
-use Rattle.iox_conversation.specs.Lines.{heard}
+use Rattle.iox_conversation.specs.Lines.{heard, heard_whole}
 use Rattle.iox_conversation.specs.declared.error.ServeError.{ServeError}
-use Rattle.iox_conversation.specs.declared.error.ServeError.TheVariants.{ReadFault, WriteFault}
+use Rattle.iox_conversation.specs.declared.error.ServeError.TheVariants.{ReadFault, WriteFault, OutOfMemory}
 
 -- these bytes answer these lines, one line for each, in order
 abbrev pub Served : {M : Type 0} → (M → List ℕ → List ℕ → M → Type 0) → M → List (List ℕ) → List ℕ → M → Type 0
@@ -29,6 +29,16 @@ pub record Advances {M : Type 0} (answers : M → List ℕ → List ℕ → M �
   pub lines : (rest : List ℕ) → heard (old.line ++ (bytes ++ rest)) ≡ done ++ heard (new.line ++ rest)
   pub counts : used new.machine ≤ used old.machine + length bytes
 
+-- Those bytes answer each line that is whole by the first of these, and the others end a line.
+pub record StopsShort {M : Type 0} (answers : M → List ℕ → List ℕ → M → Type 0) (used : M → ℕ) (old : SessionState M) (bytes out : List ℕ) : Type 0 where
+  pub first : List ℕ
+  pub more : List ℕ
+  pub mid : SessionState M
+  pub all : bytes ≡ first ++ more
+  pub advances : Advances answers used old first out mid
+  pub whole : list_all (λ b. not (b == 10)) mid.line ≡ true
+  pub due : list_all (λ b. not (b == 10)) more ≡ false
+
 -- these bytes came last, and those answer each line
 pub record Ends {M : Type 0} (answers : M → List ℕ → List ℕ → M → Type 0) (old : SessionState M) (bytes out : List ℕ) : Type 0 where
   pub final : M
@@ -46,14 +56,22 @@ pub record Converses {M : Type 0} (answers : M → List ℕ → List ℕ → M �
   pub advances : Advances answers used old bytes text mid
   pub ends : Ends answers mid [] last
 
--- these bytes are a beginning of what answers the lines that are whole by a last piece, or at the end of the input the last line
-abbrev pub AreBegun : {M : Type 0} → (M → List ℕ → List ℕ → M → Type 0) → (M → ℕ) → SessionState M → List ℕ → List ℕ → Type 0
-AreBegun {M} answers used old piece part =
-    (rest : List ℕ) × (((new : SessionState M) × Advances answers used old piece (part ++ rest) new) ⊎ ((piece ≡ []) × Ends answers old [] (part ++ rest)))
+-- These bytes are a beginning of what answers the lines that are whole by a last piece, or by its first bytes where no memory was found for
+-- the next line, or at the end of the input the last line.
+abbrev pub AreBegun : {M : Type 0} → (M → List ℕ → List ℕ → M → Type 0) → (M → ℕ) → Bool → SessionState M → List ℕ → List ℕ → Type 0
+AreBegun {M} answers used ended old piece part =
+    (rest : List ℕ) × (((first : List ℕ) × (more : List ℕ) × (new : SessionState M) × (piece ≡ first ++ more) × Advances answers used old first (part ++ rest) new
+    × (list_all (λ b. not (b == 10)) new.line ≡ true))
+    ⊎ ((piece ≡ []) × (ended ≡ true) × Ends answers old [] (part ++ rest)))
 
--- A conversation from here that broke off. All that was read before a last piece is answered. After a read fault there is no such piece,
--- after a write fault a beginning of what answers it is written, and where memory was wanting nothing of it.
-pub record BreaksOff {M : Type 0} (answers : M → List ℕ → List ℕ → M → Type 0) (used : M → ℕ) (error : ServeError) (old : SessionState M) (left leaves held holds : Option (List ℕ)) : Type 0 where
+-- a line has to be answered next: these bytes end it, or it is the last one and isn't empty
+abbrev pub IsDue : {M : Type 0} → Bool → SessionState M → List ℕ → Type 0
+IsDue ended session piece = (list_all (λ b. not (b == 10)) piece ≡ false) ⊎ ((piece ≡ []) × (ended ≡ true) × (0 < length session.line))
+
+-- A conversation from here that broke off. All that was read before a last piece is answered. After a read fault there is no such piece, and
+-- after a write fault a beginning of what answers it is written. Where memory was wanting, nothing was read yet, or that piece ends the first
+-- line that isn't answered.
+pub record BreaksOff {M : Type 0} (answers : M → List ℕ → List ℕ → M → Type 0) (used : M → ℕ) (error : ServeError) (ended : Bool) (old : SessionState M) (left leaves held holds : Option (List ℕ)) : Type 0 where
   pub bytes : List ℕ
   pub text : List ℕ
   pub piece : List ℕ
@@ -65,4 +83,18 @@ pub record BreaksOff {M : Type 0} (answers : M → List ℕ → List ℕ → M �
   pub whole : list_all (λ b. not (b == 10)) mid.line ≡ true
   pub short : length piece ≤ 65536
   pub read : error ≡ ReadFault → piece ≡ []
-  pub begun : (part ≡ []) ⊎ ((error ≡ WriteFault) × AreBegun answers used mid piece part)
+  pub begun : (part ≡ []) ⊎ ((error ≡ WriteFault) × AreBegun answers used ended mid piece part)
+  pub due : error ≡ OutOfMemory → IsDue ended mid piece ⊎ ((bytes ≡ []) × (piece ≡ []))
+
+-- What was written is a beginning of the reply lines, in order, of lines that were read whole: the first ones, one reply line for each.
+pub record WritesABeginning {M : Type 0} (answers : M → List ℕ → List ℕ → M → Type 0) (ended : Bool) (start : M) (left leaves held holds : Option (List ℕ)) : Type 0 where
+  pub read : List ℕ
+  pub written : List ℕ
+  pub unwritten : List ℕ
+  pub lines : List (List ℕ)
+  pub others : List (List ℕ)
+  pub final : M
+  pub consumed : Consumes left leaves read
+  pub appended : Appends held holds written
+  pub whole : heard_whole ended read ≡ lines ++ others
+  pub served : Served answers start lines (written ++ unwritten) final

@@ -1,5 +1,5 @@
 -- A reader, and what its calls answered so far.
-use Rattle.std.specs.Prelude.{ℕ, Bool, false, ◌==◌, Option, None, Some}
+use Rattle.std.specs.Prelude.{ℕ, Bool, false, ◌==◌, Option, None, Some, Result, Ok, Err}
 
 -- the reader, how many read calls were made, whether one failed, and whether the last gave no bytes
 pub record InputState (R : Type 0) : Type 0 where
@@ -8,7 +8,8 @@ pub record InputState (R : Type 0) : Type 0 where
   pub failed : Bool
   pub ended : Bool
 
--- a read call gave no bytes
-abbrev pub is_end : Option ℕ → Bool
-is_end None = false
-is_end (Some count) = count == 0
+-- a read call went well and gave no bytes
+abbrev pub is_end : {E : Type 0} → Result (Option ℕ) E → Bool
+is_end (Ok (Some count)) = count == 0
+is_end (Ok None) = false
+is_end (Err error) = false

@@ -1,8 +1,8 @@
 //! Bytes in, bytes out.
-ghost use Rattle.std.specs.Prelude.{◌≡◌, ◌==◌, ℕ, List, [], ◌⊎◌, ◌+◌, ◌<◌, ◌^◌, true, not, OnOk, IfErr, IfSome, length};
+ghost use Rattle.std.specs.Prelude.{◌≡◌, ◌==◌, ℕ, List, [], ◌⊎◌, ◌+◌, ◌<◌, ◌^◌, true, not, OnOk, OnErr, IfErr, IfSome, length};
 ghost use Rattle.std.specs.List.{list_all};
 ghost use Rattle.std.specs.Io.KnownBytes.{Appends};
-ghost use Rattle.iox_conversation.specs.Conversation.{BreaksOff, IsConversation, Converses};
+ghost use Rattle.iox_conversation.specs.Conversation.{BreaksOff, IsConversation, Converses, WritesABeginning};
 
 use crate::error::ServeError;
 use crate::input::Input;
@@ -24,8 +24,12 @@ const PIECE: usize = 65536;
 /// Of a line of more than 1,024 bytes its first 1,025 are heard. A last line without a newline counts if it isn't empty. The
 /// lines of one read are answered before the next read, and their replies are written together.
 ///
-/// After an error the replies to all that was read before the last read are written. After `ReadFault` so are those to all
-/// that was read, after `WriteFault` a beginning of those to the last read, and after `OutOfMemory` none of those.
+/// After an error, what is written is a beginning of the replies, in order, to the lines that were read whole. After `ReadFault`
+/// those are all of them; after `WriteFault` all to what was read before the last read, and a beginning of the others; after
+/// `OutOfMemory` those to all lines before the one for which no memory was found.
+///
+/// A read or write that a signal interrupts is made again. Each such read counts as a read call, and a write that is interrupted
+/// 2^20 times one after the other has failed.
 pub fn serve<M: AnswersLines, R: Read, W: Write>(
     alloc: Global,
     machine: M,
@@ -38,7 +42,9 @@ pub fn serve<M: AnswersLines, R: Read, W: Write>(
     ensures conversation { OnOk result (IfSome (R.remaining input.old.reader) (λ bytes.
         (text : List ℕ) × Appends (W.contents output.old.writer) (W.contents output.new.writer) text
         × IsConversation M.answers machine bytes text)) }
-    ensures broken { IfErr result (λ error. BreaksOff M.answers M.used error (record { machine = machine; line = [] })
+    ensures broken { IfErr result (λ error. BreaksOff M.answers M.used error input.new.ended (record { machine = machine; line = [] })
+        (R.remaining input.old.reader) (R.remaining input.new.reader) (W.contents output.old.writer) (W.contents output.new.writer)) }
+    ensures beginning { OnErr result (WritesABeginning M.answers input.new.ended machine
         (R.remaining input.old.reader) (R.remaining input.new.reader) (W.contents output.old.writer) (W.contents output.new.writer)) }
     ensures ended { OnOk result (input.new.ended ≡ true) }
     ensures read_fault { result ≡ Err ServeError.ReadFault → (input.new.failed ≡ true) ⊎ (input.new.calls ≡ input.old.calls + 2 ^ 20) }
@@ -69,15 +75,18 @@ fn converse<M: AnswersLines, R: Read, W: Write>(
     requires calls { input.old.calls + 2 ^ 20 < 2 ^ 64 }
     ensures conversation { OnOk result (Converses M.answers M.used session.old (R.remaining input.old.reader) (R.remaining input.new.reader)
         (W.contents output.old.writer) (W.contents output.new.writer)) }
-    ensures broken { IfErr result (λ error. BreaksOff M.answers M.used error session.old (R.remaining input.old.reader) (R.remaining input.new.reader)
+    ensures broken { IfErr result (λ error. BreaksOff M.answers M.used error input.new.ended session.old (R.remaining input.old.reader) (R.remaining input.new.reader)
         (W.contents output.old.writer) (W.contents output.new.writer)) }
     ensures ended { OnOk result (input.new.ended ≡ true) }
     ensures read_fault { result ≡ Err ServeError.ReadFault → (input.new.failed ≡ true) ⊎ (input.new.calls ≡ input.old.calls + 2 ^ 20) }
     ensures write_fault { result ≡ Err ServeError.WriteFault → output.new.failed ≡ true }
 {
     for turn in 0..READ_CALLS {
-        let Some(count) = input.read(piece) else {
+        let Ok(given) = input.read(piece) else {
             return Err(ServeError::ReadFault);
+        };
+        let Some(count) = given else {
+            continue;
         };
         if count == 0 {
             let Ok(()) = session.finish(alloc, out) else {
@@ -88,11 +97,12 @@ fn converse<M: AnswersLines, R: Read, W: Write>(
             }
             return Ok(());
         }
-        let Ok(()) = session.take_bytes(alloc, &piece[..count], out) else {
-            return Err(ServeError::OutOfMemory);
-        };
+        let answered = session.take_bytes(alloc, &piece[..count], out);
         if !write_all(output, out) {
             return Err(ServeError::WriteFault);
+        }
+        if answered.is_err() {
+            return Err(ServeError::OutOfMemory);
         }
         out.clear();
     }

@@ -1,9 +1,11 @@
 //! A reader, with what its calls answered so far.
-ghost use Rattle.std.specs.Prelude.{◌≡◌, ◌+◌, ◌||◌, ◌<◌, ◌≤◌, ◌^◌, true, false, not, Some, take, length, IfSome, IfNone, is_none};
+ghost use Rattle.std.specs.Prelude.{◌≡◌, ◌≢◌, ◌+◌, ◌||◌, ◌<◌, ◌≤◌, ◌^◌, true, false, not, Ok, Some, take, length, IfOk, IfErr, OnErr, IfSome, IfNone, is_err};
 ghost use Rattle.std.specs.Io.KnownBytes.{Consumes, IsAtEnd, Keeps};
+ghost use Rattle.std.specs.IoError.{error_kind};
 ghost use Rattle.iox_conversation.specs.Input.{InputState, is_end};
 
-use std::io::Read;
+use std::io;
+use std::io::{ErrorKind, Read};
 use std::marker::Model;
 
 /// A reader that counts its read calls and remembers whether one failed or gave no bytes.
@@ -50,7 +52,7 @@ impl<R> Input<R> {
         self.calls
     }
 
-    /// Whether a read call failed.
+    /// Whether a read call failed. One that a signal interrupted didn't.
     pub fn has_failed(&self) -> bool
         ensures { result ≡ self.now.failed }
     {
@@ -66,27 +68,33 @@ impl<R> Input<R> {
 }
 
 impl<R: Read> Input<R> {
-    /// One read call: how many bytes it gave, or `None` where it failed. One that failed took no byte from the reader.
-    pub(crate) fn read(&mut self, buffer: &mut [u8]) -> Option<usize>
+    /// One read call: how many bytes it gave, or `None` where a signal interrupted it. One that was interrupted or failed took
+    /// no byte from the reader.
+    pub(crate) fn read(&mut self, buffer: &mut [u8]) -> io::Result<Option<usize>>
         requires { self.old.calls + 1 < 2 ^ 64 }
-        ensures bound { IfSome result (λ count. count ≤ length buffer.new) }
-        ensures bytes { IfSome result (λ count. Consumes (R.remaining self.old.reader) (R.remaining self.new.reader) (take count buffer.new)) }
-        ensures kept { IfNone result (Keeps (R.remaining self.old.reader) (R.remaining self.new.reader)) }
-        ensures end { result ≡ Some 0 → 0 < length buffer.old → IsAtEnd (R.remaining self.new.reader) }
+        ensures bound { IfOk result (λ given. IfSome given (λ count. count ≤ length buffer.new)) }
+        ensures bytes { IfOk result (λ given. IfSome given (λ count. Consumes (R.remaining self.old.reader) (R.remaining self.new.reader) (take count buffer.new))) }
+        ensures interrupted { IfOk result (λ given. IfNone given (Keeps (R.remaining self.old.reader) (R.remaining self.new.reader))) }
+        ensures kept { OnErr result (Keeps (R.remaining self.old.reader) (R.remaining self.new.reader)) }
+        ensures retried { IfErr result (λ error. error_kind error ≢ ErrorKind.Interrupted) }
+        ensures end { result ≡ Ok (Some 0) → 0 < length buffer.old → IsAtEnd (R.remaining self.new.reader) }
         ensures calls { self.new.calls ≡ self.old.calls + 1 }
-        ensures failed { self.new.failed ≡ (self.old.failed || is_none result) }
+        ensures failed { self.new.failed ≡ (self.old.failed || is_err result) }
         ensures ended { self.new.ended ≡ is_end result }
     {
         self.calls += 1;
         match self.reader.read(buffer) {
             Ok(count) => {
                 self.ended = count == 0;
-                Some(count)
+                Ok(Some(count))
             }
-            Err(_) => {
-                self.failed = true;
+            Err(error) => {
                 self.ended = false;
-                None
+                if error.kind() == ErrorKind::Interrupted {
+                    return Ok(None);
+                }
+                self.failed = true;
+                Err(error)
             }
         }
     }

@@ -1,5 +1,6 @@
 //! Who answers lines.
-ghost use Rattle.std.specs.Prelude.{◌≡◌, ℕ, ◌+◌, ◌≤◌, ◌<◌, ◌^◌, ◌++◌, List, OnOk};
+ghost use Rattle.std.specs.Prelude.{◌≡◌, ℕ, ◌+◌, ◌≤◌, ◌<◌, ◌^◌, ◌++◌, List, OnOk, OnErr};
+ghost use Rattle.std.specs.Io.{StartsWith};
 
 use std::alloc::{AllocError, Global};
 
@@ -15,7 +16,7 @@ pub trait AnswersLines: Drop {
 
     /// Answers a line, of which at most its first 1,025 bytes are given, and appends the answer without a newline.
     ///
-    /// Fails only where an allocation fails.
+    /// Fails only where an allocation fails. What stood there before stays; what was appended then is taken away again.
     fn answer_line(
         &mut self,
         alloc: Global,
@@ -24,5 +25,6 @@ pub trait AnswersLines: Drop {
     ) -> Result<(), AllocError>
         requires { used self.old + 1 < 2 ^ 64 }
         ensures answers { OnOk result ((text : List ℕ) × (out.new.items ≡ out.old.items ++ text) × answers self.old line.now text self.new) }
+        ensures kept { OnErr result (StartsWith out.new.items out.old.items) }
         ensures counts { used self.new ≤ used self.old + 1 };
 }

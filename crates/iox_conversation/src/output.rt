@@ -1,10 +1,15 @@
 //! A writer, with what its calls answered so far.
-ghost use Rattle.std.specs.Prelude.{◌≡◌, ◌||◌, ◌<◌, ◌≤◌, true, false, take, length, IfSome, IfNone, is_none};
+ghost use Rattle.std.specs.Prelude.{◌≡◌, ◌≢◌, ◌||◌, ◌<◌, ◌≤◌, true, false, take, length, IfOk, IfErr, OnErr, IfSome, IfNone, is_none, is_err};
 ghost use Rattle.std.specs.Io.KnownBytes.{Appends, Keeps};
+ghost use Rattle.std.specs.IoError.{error_kind};
 ghost use Rattle.iox_conversation.specs.Output.{OutputState};
 
-use std::io::Write;
+use std::io;
+use std::io::{ErrorKind, Write};
 use std::marker::Model;
+
+/// How often a write call is made at most where signals interrupt it.
+const WRITE_CALLS: u64 = 1 << 20;
 
 /// A writer that remembers whether a write call failed or took no bytes.
 #[derive(Drop)]
@@ -47,7 +52,7 @@ impl<W> Output<W> {
         writer
     }
 
-    /// Whether a write call failed, or took none of the bytes that it was given.
+    /// Whether a write call failed, or took none of the bytes that it was given. One that a signal interrupted did neither.
     pub fn has_failed(&self) -> bool
         ensures { result ≡ self.now.failed }
     {
@@ -56,24 +61,49 @@ impl<W> Output<W> {
 }
 
 impl<W: Write> Output<W> {
-    /// One write call: how many bytes it took, or `None` where it failed or took none. Then the writer holds what it held.
+    /// A write call that isn't interrupted: how many bytes it took, or `None` where it failed or took none. Then the writer holds
+    /// what it held. Interrupted 2^20 times one after the other, it has failed.
     pub(crate) fn write(&mut self, bytes: &[u8]) -> Option<usize>
         ensures bound { IfSome result (λ count. (0 < count) × (count ≤ length bytes.now)) }
         ensures taken { IfSome result (λ count. Appends (W.contents self.old.writer) (W.contents self.new.writer) (take count bytes.now)) }
         ensures kept { IfNone result (Keeps (W.contents self.old.writer) (W.contents self.new.writer)) }
         ensures failed { self.new.failed ≡ (self.old.failed || is_none result) }
     {
+        for _ in 0..WRITE_CALLS {
+            let Ok(took) = self.write_once(bytes) else {
+                return None;
+            };
+            if took.is_some() {
+                return took;
+            }
+        }
+        self.failed = true;
+        None
+    }
+
+    /// One write call: how many bytes it took, or `None` where a signal interrupted it. One that took none has failed.
+    fn write_once(&mut self, bytes: &[u8]) -> io::Result<Option<usize>>
+        ensures bound { IfOk result (λ took. IfSome took (λ count. (0 < count) × (count ≤ length bytes.now))) }
+        ensures taken { IfOk result (λ took. IfSome took (λ count. Appends (W.contents self.old.writer) (W.contents self.new.writer) (take count bytes.now))) }
+        ensures interrupted { IfOk result (λ took. IfNone took (Keeps (W.contents self.old.writer) (W.contents self.new.writer))) }
+        ensures kept { OnErr result (Keeps (W.contents self.old.writer) (W.contents self.new.writer)) }
+        ensures retried { IfErr result (λ error. error_kind error ≢ ErrorKind.Interrupted) }
+        ensures failed { self.new.failed ≡ (self.old.failed || is_err result) }
+    {
         match self.writer.write(bytes) {
             Ok(count) => {
                 if count == 0 {
                     self.failed = true;
-                    return None;
+                    return Err(io::Error::from(ErrorKind::WriteZero));
                 }
-                Some(count)
+                Ok(Some(count))
             }
-            Err(_) => {
+            Err(error) => {
+                if error.kind() == ErrorKind::Interrupted {
+                    return Ok(None);
+                }
                 self.failed = true;
-                None
+                Err(error)
             }
         }
     }

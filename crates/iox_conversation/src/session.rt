@@ -1,7 +1,8 @@
 //! A conversation under way: who answers, and what was heard of the line that isn't whole yet.
-ghost use Rattle.std.specs.Prelude.{◌≡◌, ◌==◌, ℕ, List, ◌+◌, ◌++◌, ◌∷◌, [], ◌<◌, ◌≤◌, ◌^◌, true, not, length, take, OnOk, IfOk};
+ghost use Rattle.std.specs.Prelude.{◌≡◌, ◌==◌, ℕ, List, ◌+◌, ◌++◌, ◌∷◌, [], ◌<◌, ◌≤◌, ◌^◌, true, not, length, take, OnOk, OnErr, IfOk};
+ghost use Rattle.std.specs.Io.{StartsWith};
 ghost use Rattle.std.specs.List.{list_all};
-ghost use Rattle.iox_conversation.specs.Conversation.{Advances, Ends};
+ghost use Rattle.iox_conversation.specs.Conversation.{Advances, Ends, StopsShort};
 
 use crate::machine::AnswersLines;
 use memchr::memchr;
@@ -56,12 +57,14 @@ impl<M: AnswersLines> Session<M> {
         };
     }
 
-    /// Ends the line under way by these bytes, and appends its reply line. A line that lies there whole isn't copied.
+    /// Ends the line under way by these bytes, and appends its reply line, or nothing where memory is wanting for it. A line that
+    /// lies there whole isn't copied.
     fn end_line(&mut self, alloc: Global, part: &[u8], out: &mut Vec<u8>) -> Result<(), AllocError>
         requires unbroken { list_all (λ b. not (b == 10)) part.now ≡ true }
         requires used { M.used self.old.machine + 1 < 2 ^ 64 }
         ensures whole { list_all (λ b. not (b == 10)) self.new.line ≡ true }
         ensures answers { OnOk result ((text : List ℕ) × (out.new.items ≡ out.old.items ++ text) × Advances M.answers M.used self.old (part.now ++ 10 ∷ []) text self.new) }
+        ensures kept { OnErr result (out.new.items ≡ out.old.items) }
     {
         if !self.line.is_empty() {
             self.hear(part);
@@ -74,7 +77,8 @@ impl<M: AnswersLines> Session<M> {
         Ok(())
     }
 
-    /// Takes the bytes of one read, and appends the reply line of each line that they end.
+    /// Takes the bytes of one read, and appends the reply line of each line that they end, up to the first for which memory is
+    /// wanting.
     pub fn take_bytes(
         &mut self,
         alloc: Global,
@@ -84,6 +88,7 @@ impl<M: AnswersLines> Session<M> {
         requires { M.used self.old.machine + length bytes.now < 2 ^ 64 }
         ensures whole { list_all (λ b. not (b == 10)) self.new.line ≡ true }
         ensures answers { OnOk result ((text : List ℕ) × (out.new.items ≡ out.old.items ++ text) × Advances M.answers M.used self.old bytes.now text self.new) }
+        ensures kept { OnErr result ((text : List ℕ) × (out.new.items ≡ out.old.items ++ text) × StopsShort M.answers M.used self.old bytes.now text) }
     {
         let _ = &self.line;
         let mut rest = bytes;
@@ -95,10 +100,11 @@ impl<M: AnswersLines> Session<M> {
         Ok(())
     }
 
-    /// Ends the input: a last line without a newline is answered if it isn't empty.
+    /// Ends the input: a last line without a newline is answered if it isn't empty. Nothing is appended where memory is wanting.
     pub fn finish(&mut self, alloc: Global, out: &mut Vec<u8>) -> Result<(), AllocError>
         requires { M.used self.old.machine + 1 < 2 ^ 64 }
-        ensures { OnOk result ((text : List ℕ) × (out.new.items ≡ out.old.items ++ text) × Ends M.answers self.old [] text) }
+        ensures answers { OnOk result ((text : List ℕ) × (out.new.items ≡ out.old.items ++ text) × Ends M.answers self.old [] text) }
+        ensures kept { OnErr result ((out.new.items ≡ out.old.items) × (0 < length self.old.line)) }
     {
         if self.line.is_empty() {
             return Ok(());
@@ -108,7 +114,7 @@ impl<M: AnswersLines> Session<M> {
     }
 }
 
-/// Answers one line, and appends the answer and a newline.
+/// Answers one line, and appends the answer and a newline, or nothing where memory is wanting for it.
 fn answer<M: AnswersLines>(
     alloc: Global,
     machine: &mut M,
@@ -117,6 +123,27 @@ fn answer<M: AnswersLines>(
 ) -> Result<(), AllocError>
     requires { M.used machine.old + 1 < 2 ^ 64 }
     ensures answers { OnOk result ((text : List ℕ) × (out.new.items ≡ out.old.items ++ (text ++ 10 ∷ [])) × M.answers machine.old line.now text machine.new) }
+    ensures kept { OnErr result (out.new.items ≡ out.old.items) }
+    ensures counts { M.used machine.new ≤ M.used machine.old + 1 }
+{
+    let start = out.len();
+    let answered = append_answer(alloc, machine, line, out);
+    if answered.is_err() {
+        out.truncate(start);
+    }
+    answered
+}
+
+/// The same, but that something of the answer may stand there where memory is wanting for it.
+fn append_answer<M: AnswersLines>(
+    alloc: Global,
+    machine: &mut M,
+    line: &[u8],
+    out: &mut Vec<u8>,
+) -> Result<(), AllocError>
+    requires { M.used machine.old + 1 < 2 ^ 64 }
+    ensures answers { OnOk result ((text : List ℕ) × (out.new.items ≡ out.old.items ++ (text ++ 10 ∷ [])) × M.answers machine.old line.now text machine.new) }
+    ensures kept { OnErr result (StartsWith out.new.items out.old.items) }
     ensures counts { M.used machine.new ≤ M.used machine.old + 1 }
 {
     machine.answer_line(alloc, line, out)?;

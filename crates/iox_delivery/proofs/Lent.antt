@@ -12,8 +12,8 @@ use Rattle.iox_domain_laws.specs.DomainValues.declared.port_error.LoanError.{Loa
 use Rattle.iox_domain_laws.specs.DomainSlots.Counting.{times}
 use Rattle.iox_domain_laws.specs.DomainSlots.Uses.{in_use, held}
 use Rattle.iox_domain_laws.proofs.DomainSlots.Counts.{times_append, times_cons}
-use Rattle.iox_domain_laws.specs.DomainSender.Messages.{Loan, new_loan}
-use Rattle.iox_domain_laws.specs.DomainSender.Sending.{SenderState, slots_of, is_written_loan}
+use Rattle.iox_domain_laws.specs.DomainPublisher.Messages.{Loan, new_loan}
+use Rattle.iox_domain_laws.specs.DomainPublisher.MessagesSending.{SenderState, slots_of, is_written_loan}
 use Rattle.iox_domain_laws.proofs.DomainPublisher.Finding.{no_loan}
 use Rattle.iox_domain_laws.proofs.DomainPublisher.Lent.{loan_tells}
 use Rattle.iox_domain_laws.specs.DomainPublisher.Loaning as loaning

@@ -6,8 +6,8 @@ use Rattle.iox_domain_laws.specs.DomainValues.declared.backpressure.Backpressure
 use Rattle.iox_domain_laws.specs.DomainValues.declared.connection_failure.ConnectionFailure.{ConnectionFailure}
 use Rattle.iox_domain_laws.specs.DomainValues.declared.degradation.DegradationAction.{DegradationAction}
 use Rattle.iox_domain_laws.specs.DomainValues.declared.degradation.DegradationInfo.{DegradationInfo}
-use Rattle.iox_domain_laws.specs.DomainSender.Messages.{Loan, Message}
-use Rattle.iox_domain_laws.specs.DomainSender.Sending.{is_written_loan}
+use Rattle.iox_domain_laws.specs.DomainPublisher.Messages.{Loan, Message}
+use Rattle.iox_domain_laws.specs.DomainPublisher.MessagesSending.{is_written_loan}
 use Rattle.iox_domain_laws.proofs.DomainPublisher.Finding.{at_place, at_none}
 use Rattle.iox_domain_laws.specs.DomainPublisher.Ports.{connection_of}
 use Rattle.iox_domain_laws.specs.DomainPublisher.Sending.{ready_at, Sends, SendsIf, SendsAfter}

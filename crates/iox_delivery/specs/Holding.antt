@@ -1,7 +1,7 @@
 -- What a home has of a port, a loan or a sample: the conditions of its calls. `ports` are the ports of its domain, if the home has them.
 use Rattle.std.specs.Prelude.{ℕ, ◌&&◌, Bool, false, is_some, slice_get, Option, None, Some}
-use Rattle.iox_domain_laws.specs.DomainSender.Messages.{Loan, Message}
-use Rattle.iox_domain_laws.specs.DomainSender.Sending.{is_written_loan}
+use Rattle.iox_domain_laws.specs.DomainPublisher.Messages.{Loan, Message}
+use Rattle.iox_domain_laws.specs.DomainPublisher.MessagesSending.{is_written_loan}
 use Rattle.iox_domain_laws.specs.DomainPublisher.Writing.{value_at}
 use Rattle.iox_domain_laws.specs.DomainPublisher.declared.publisher_port.PublisherPort.{PublisherPort}
 use Rattle.iox_domain_laws.specs.DomainSubscriber.Publishers.{port_of}

@@ -1,6 +1,6 @@
 -- What a loan comes to that was just made.
 use Rattle.std.specs.Prelude.{ℕ, ◌≡◌, true, false, List, map, Option, Some, Ok}
-use Rattle.iox_domain_laws.specs.DomainSender.Messages.{new_loan}
+use Rattle.iox_domain_laws.specs.DomainPublisher.Messages.{new_loan}
 use Rattle.iox_domain_laws.specs.DomainPublisher.declared.publisher_port.PublisherPort.{PublisherPort}
 use Rattle.iox_domain_laws.specs.DomainPorts.Lending.{loan_in, loan_header_in, passes}
 use Rattle.iox_domain_laws.specs.DomainPorts.Publishing.{is_blocked}

@@ -10,8 +10,8 @@ use Rattle.iox_domain_laws.specs.DomainValues.declared.degradation.DegradationIn
 use Rattle.iox_domain_laws.specs.DomainValues.declared.port_error.LoanError.{LoanError}
 use Rattle.iox_domain_laws.specs.DomainValues.declared.port_error.SendError.{SendError}
 use Rattle.iox_domain_laws.specs.DomainValues.declared.port_error.SendError.TheVariants as refusal
-use Rattle.iox_domain_laws.specs.DomainSender.Messages.{Loan, write_value, write_user_header}
-use Rattle.iox_domain_laws.specs.DomainSender.Sending.{has_loan, has_length}
+use Rattle.iox_domain_laws.specs.DomainPublisher.Messages.{Loan, write_value, write_user_header}
+use Rattle.iox_domain_laws.specs.DomainPublisher.MessagesSending.{has_loan, has_length}
 use Rattle.iox_domain_laws.specs.DomainPublisher.declared.meeting.Sent.{Sent as Sending}
 use Rattle.iox_domain_laws.specs.DomainPublisher.declared.meeting.Sent.TheVariants as sending
 use Rattle.iox_domain_laws.specs.DomainPorts.Lending.{written_in, loan_changed_in, loan_header_in, gave_up_in}

@@ -2,8 +2,8 @@
 ghost use Rattle.std.specs.Prelude.{◌≡◌, true, false, Some, is_some, option_map};
 ghost use Rattle.std.specs.Borrow.{sem, LendsIf};
 ghost use Rattle.std.specs.Option.{option_copied_mut};
-ghost use Rattle.iox_domain_laws.specs.DomainSender.Messages.{write_value, write_user_header};
-ghost use Rattle.iox_domain_laws.specs.DomainSender.Sending.{is_written_loan};
+ghost use Rattle.iox_domain_laws.specs.DomainPublisher.Messages.{write_value, write_user_header};
+ghost use Rattle.iox_domain_laws.specs.DomainPublisher.MessagesSending.{is_written_loan};
 ghost use Rattle.iox_domain_laws.specs.DomainPublisher.Writing.{value_at};
 ghost use Rattle.iox_delivery.specs.Holding.{loan_found, publisher_blocked};
 ghost use Rattle.iox_delivery.specs.Publishing.{loan_changed, loan_header_found, SendsSample, WritesUserHeader, GivesUpLoan};
@@ -18,6 +18,7 @@ use std::alloc::Global;
 /// Whether the loan of a publisher in a slot is out.
 ///
 /// This port's own.
+/// Example: `let is_there = lending::is_out(port, slot, home);`
 pub fn is_out<T: Copy, U: Copy, H: Home<T, U>>(port: PortId, slot: usize, home: &H) -> bool
     ensures { result ≡ is_some (loan_found port.number slot (H.ports_of port.domain home.now)) }
 {
@@ -33,6 +34,7 @@ pub fn is_out<T: Copy, U: Copy, H: Home<T, U>>(port: PortId, slot: usize, home: 
 /// Whether each value of the loan in a slot is written; false where none is out.
 ///
 /// This port's own.
+/// Example: `let may_be_sent = lending::is_written(port, slot, home);`
 pub fn is_written<T: Copy, U: Copy, H: Home<T, U>>(port: PortId, slot: usize, home: &H) -> bool
     ensures { result ≡ is_written_loan (loan_found port.number slot (H.ports_of port.domain home.now)) }
 {
@@ -45,6 +47,7 @@ pub fn is_written<T: Copy, U: Copy, H: Home<T, U>>(port: PortId, slot: usize, ho
 /// The user header of the loan in a slot.
 ///
 /// Ported from `iceoryx2::sample_mut_uninit::SampleMutUninit::user_header`.
+/// Example: `let stamp = *lending::user_header(port, slot, home);`
 pub fn user_header<'a, T: Copy, U: Copy, H: Home<T, U>>(
     port: PortId,
     slot: usize,
@@ -68,6 +71,7 @@ where
 /// What the header of the loan in a slot tells: who is to send it, and how many elements it has.
 ///
 /// Ported from `iceoryx2::sample_mut_uninit::SampleMutUninit::header`.
+/// Example: `let header = lending::header(port, slot, home);`
 pub fn header<T: Copy, U: Copy, H: Home<T, U>>(port: PortId, slot: usize, home: &H) -> Header
     requires { is_some (loan_found port.number slot (H.ports_of port.domain home.now)) ≡ true }
     ensures { Some result ≡ loan_header_found port.number slot (H.ports_of port.domain home.now) }
@@ -84,6 +88,7 @@ pub fn header<T: Copy, U: Copy, H: Home<T, U>>(port: PortId, slot: usize, home: 
 /// Writes the user header of the loan in a slot; nothing happens where none is out.
 ///
 /// Ported from writing through `iceoryx2::sample_mut_uninit::SampleMutUninit::user_header_mut`.
+/// Example: `lending::write_user_header(port, slot, home, 150);`
 pub fn write_user_header<T: Copy, U: Copy, H: Home<T, U>>(
     port: PortId,
     slot: usize,
@@ -100,6 +105,7 @@ pub fn write_user_header<T: Copy, U: Copy, H: Home<T, U>>(
 /// The value at a place of the loan in a slot, to be changed there, if the loan is out, and has that place, and it is written.
 ///
 /// Ported from changing it through `iceoryx2::sample_mut::SampleMut::payload_mut`.
+/// Example: `let value = lending::value_mut(home, port, slot, 0)?;`
 pub fn value_mut<'a, T: Copy, U: Copy, H: Home<T, U>>(
     home: &'a mut H,
     port: PortId,
@@ -121,6 +127,7 @@ where
 /// The user header of the loan in a slot, to be changed there, if the loan is out.
 ///
 /// Ported from `iceoryx2::sample_mut_uninit::SampleMutUninit::user_header_mut`.
+/// Example: `let stamp = lending::user_header_mut(home, port, slot)?;`
 pub fn user_header_mut<'a, T: Copy, U: Copy, H: Home<T, U>>(
     home: &'a mut H,
     port: PortId,
@@ -140,6 +147,7 @@ where
 /// loan is spent in every case.
 ///
 /// Ported from `iceoryx2::sample_mut::SampleMut::send`.
+/// Example: `let sent = lending::send(port, slot, alloc, home)?;`
 pub fn send<T: Copy, U: Copy, H: Home<T, U>>(
     port: PortId,
     slot: usize,
@@ -159,6 +167,7 @@ pub fn send<T: Copy, U: Copy, H: Home<T, U>>(
 /// Gives the loan in a slot up; nothing happens where none is out.
 ///
 /// Ported from dropping an `iceoryx2::sample_mut::SampleMut`.
+/// Example: `lending::drop_loan(port, slot, home);`
 pub fn drop_loan<T: Copy, U: Copy, H: Home<T, U>>(port: PortId, slot: usize, home: &mut H)
     ensures { GivesUpLoan H.ports_of H.with_ports port slot home.old home.new }
 {

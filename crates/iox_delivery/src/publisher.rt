@@ -27,6 +27,7 @@ impl<T: Copy, U: Copy> Publisher<T, U> {
     /// The publisher that was made under a number, as a value. It is to be had once.
     ///
     /// This port's own: what makes ports by number hands them out so.
+    /// Example: `let publisher = Publisher::of_port(port, BackpressureStrategy::DiscardData);`
     pub fn of_port(port: PortId, strategy: BackpressureStrategy) -> Self
         ensures port { result.port ≡ port }
         ensures strategy { result.strategy ≡ strategy }
@@ -41,6 +42,7 @@ impl<T: Copy, U: Copy> Publisher<T, U> {
     /// Its number in its domain.
     ///
     /// Ported from `iceoryx2::port::publisher::Publisher::id`, with a number of 64 bits.
+    /// Example: `let number = publisher.id();`
     pub fn id(&self) -> u64
         ensures { result ≡ self.now.port.number }
     {
@@ -48,6 +50,7 @@ impl<T: Copy, U: Copy> Publisher<T, U> {
     }
 
     /// The id of its domain.
+    /// Example: `let domain = publisher.domain();`
     pub fn domain(&self) -> DomainId
         ensures { result ≡ self.now.port.domain }
     {
@@ -57,6 +60,7 @@ impl<T: Copy, U: Copy> Publisher<T, U> {
     /// What it does at a full mailbox where no handler decides.
     ///
     /// Ported from `iceoryx2::port::publisher::Publisher::backpressure_strategy`.
+    /// Example: `let strategy = publisher.backpressure_strategy();`
     pub fn backpressure_strategy(&self) -> BackpressureStrategy
         ensures { result ≡ self.now.strategy }
     {
@@ -64,6 +68,7 @@ impl<T: Copy, U: Copy> Publisher<T, U> {
     }
 
     /// Whether it stands in this home: the condition of its calls.
+    /// Example: `let is_there = publisher.holds(home);`
     pub fn holds<H: Home<T, U>>(&self, home: &H) -> bool
         ensures { result ≡ publisher_stands self.now.port.number (H.ports_of self.now.port.domain home.now) }
     {
@@ -71,6 +76,7 @@ impl<T: Copy, U: Copy> Publisher<T, U> {
     }
 
     /// Whether a send of it waits: that it doesn't is the condition of its calls.
+    /// Example: `let waits = publisher.is_blocked(home);`
     pub fn is_blocked<H: Home<T, U>>(&self, home: &H) -> bool
         ensures { result ≡ publisher_blocked self.now.port.number (H.ports_of self.now.port.domain home.now) }
     {
@@ -81,6 +87,7 @@ impl<T: Copy, U: Copy> Publisher<T, U> {
     /// have, else with `OutOfMemory` where each of its slots is in use.
     ///
     /// Ported from `iceoryx2::port::publisher::Publisher::loan_uninit`.
+    /// Example: `let loan = publisher.loan_uninit(alloc, home)?;`
     pub fn loan_uninit<H: Home<T, U>>(
         &self,
         alloc: Global,
@@ -98,6 +105,7 @@ impl<T: Copy, U: Copy> Publisher<T, U> {
     /// send waits.
     ///
     /// Ported from `iceoryx2::port::publisher::Publisher::loan`.
+    /// Example: `let sample = publisher.loan(alloc, home)?;`
     pub fn loan<H: Home<T, U>>(
         &self,
         alloc: Global,
@@ -118,6 +126,7 @@ impl<T: Copy, U: Copy> Publisher<T, U> {
     /// answers as `SampleMut::send` does.
     ///
     /// Ported from `iceoryx2::port::publisher::Publisher::send_copy`.
+    /// Example: `let sent = publisher.send_copy(alloc, home, 7)?;`
     pub fn send_copy<H: Home<T, U>>(
         &self,
         alloc: Global,
@@ -136,6 +145,7 @@ impl<T: Copy, U: Copy> Publisher<T, U> {
     /// connection isn't made.
     ///
     /// Ported from `iceoryx2::port::update_connections::UpdateConnections`.
+    /// Example: `publisher.update_connections(alloc, home)?;`
     pub fn update_connections<H: Home<T, U>>(
         &self,
         alloc: Global,
@@ -151,6 +161,7 @@ impl<T: Copy, U: Copy> Publisher<T, U> {
     /// Its port, of which `of_port` makes a value again. The publisher stays.
     ///
     /// This port's own.
+    /// Example: `let port = publisher.into_port();`
     pub fn into_port(self) -> PortId
         ensures { result ≡ self.port }
     {
@@ -165,6 +176,7 @@ impl<T: Copy, U: Copy> Publisher<T, U> {
     /// Lets it go: it leaves as by `leave`, if it exists and no send of it waits; else nothing happens. Whether it left is the answer.
     ///
     /// Ported from dropping an `iceoryx2::port::publisher::Publisher`.
+    /// Example: `let has_left = publisher.drop_with(home);`
     pub fn drop_with<H: Home<T, U>>(self, home: &mut H) -> bool
         ensures ends { EndsPublisher H.ports_of H.with_ports H.without_publisher self.port home.old result home.new }
         ensures left { result ≡ (publisher_stands self.port.number (H.ports_of self.port.domain home.old) && not (publisher_blocked self.port.number (H.ports_of self.port.domain home.old))) }
@@ -175,6 +187,7 @@ impl<T: Copy, U: Copy> Publisher<T, U> {
     /// Leaves: what was sent stays to be read, and what is lent can't be sent any longer. Its handlers are dropped.
     ///
     /// Ported from dropping an `iceoryx2::port::publisher::Publisher`.
+    /// Example: `publisher.leave(home);`
     pub fn leave<H: Home<T, U>>(self, home: &mut H)
         requires holds { publisher_stands self.port.number (H.ports_of self.port.domain home.old) ≡ true }
         requires free { publisher_blocked self.port.number (H.ports_of self.port.domain home.old) ≡ false }

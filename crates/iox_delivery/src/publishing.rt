@@ -13,6 +13,7 @@ use std::alloc::Global;
 /// Whether a publisher stands.
 ///
 /// This port's own.
+/// Example: `let is_there = publishing::holds(port, home);`
 pub fn holds<T: Copy, U: Copy, H: Home<T, U>>(port: PortId, home: &H) -> bool
     ensures { result ≡ publisher_stands port.number (H.ports_of port.domain home.now) }
 {
@@ -28,6 +29,7 @@ pub fn holds<T: Copy, U: Copy, H: Home<T, U>>(port: PortId, home: &H) -> bool
 /// Whether a send of a publisher waits.
 ///
 /// This port's own.
+/// Example: `let waits = publishing::is_blocked(port, home);`
 pub fn is_blocked<T: Copy, U: Copy, H: Home<T, U>>(port: PortId, home: &H) -> bool
     ensures { result ≡ publisher_blocked port.number (H.ports_of port.domain home.now) }
 {
@@ -45,6 +47,7 @@ pub fn is_blocked<T: Copy, U: Copy, H: Home<T, U>>(port: PortId, home: &H) -> bo
 /// loans are out as it may have, else with `OutOfMemory` where each slot is in use or a new segment isn't made.
 ///
 /// Ported from `iceoryx2::port::publisher::Publisher::loan_slice_uninit`.
+/// Example: `let slot = publishing::loan(port, alloc, home, 4, 4)?;`
 pub fn loan<T: Copy, U: Copy, H: Home<T, U>>(
     port: PortId,
     alloc: Global,
@@ -82,6 +85,7 @@ pub(crate) fn loan_value<T: Copy, U: Copy, H: Home<T, U>>(
 /// A publisher follows the subscribers that came and left: `ServicePorts::update_publisher` says what that does, and when it fails.
 ///
 /// Ported from `iceoryx2::port::update_connections::UpdateConnections`.
+/// Example: `publishing::update(port, alloc, home)?;`
 pub fn update<T: Copy, U: Copy, H: Home<T, U>>(
     port: PortId,
     alloc: Global,
@@ -101,6 +105,7 @@ pub fn update<T: Copy, U: Copy, H: Home<T, U>>(
 /// answer.
 ///
 /// Ported from dropping an `iceoryx2::port::publisher::Publisher`.
+/// Example: `let has_left = publishing::drop_port(port, home);`
 #[tactic(auto, using(crate::proofs::Ending::publisher_end_tells))]
 pub fn drop_port<T: Copy, U: Copy, H: Home<T, U>>(port: PortId, home: &mut H) -> bool
     ensures ends { EndsPublisher H.ports_of H.with_ports H.without_publisher port home.old result home.new }
@@ -112,6 +117,7 @@ pub fn drop_port<T: Copy, U: Copy, H: Home<T, U>>(port: PortId, home: &mut H) ->
 /// A publisher leaves, and its handlers are dropped.
 ///
 /// Ported from dropping an `iceoryx2::port::publisher::Publisher`.
+/// Example: `publishing::leave(port, home);`
 pub fn leave<T: Copy, U: Copy, H: Home<T, U>>(port: PortId, home: &mut H)
     requires holds { publisher_stands port.number (H.ports_of port.domain home.old) ≡ true }
     requires free { publisher_blocked port.number (H.ports_of port.domain home.old) ≡ false }

@@ -32,6 +32,7 @@ impl<T: Copy, U: Copy> Sample<T, U> {
     }
 
     /// Whether the message is held in this home: the condition of its calls.
+    /// Example: `let is_held = sample.holds(home);`
     pub fn holds<H: Home<T, U>>(&self, home: &H) -> bool
         ensures { result ≡ holds_sample self.now.port.number self.now.taken (H.ports_of self.now.port.domain home.now) }
     {
@@ -50,6 +51,7 @@ impl<T: Copy, U: Copy> Sample<T, U> {
     /// The value, as it was sent.
     ///
     /// Ported from `iceoryx2::sample::Sample::payload`.
+    /// Example: `let value = *sample.payload(home);`
     #[tactic(auto, using(crate::proofs::Ready::sample_is_message))]
     pub fn payload<'a, H: Home<T, U>>(&self, home: &'a H) -> &'a T
     where
@@ -67,6 +69,7 @@ impl<T: Copy, U: Copy> Sample<T, U> {
     /// The user header, as it was sent.
     ///
     /// Ported from `iceoryx2::sample::Sample::user_header`.
+    /// Example: `let stamp = *sample.user_header(home);`
     #[tactic(auto, using(crate::proofs::Ready::sample_is_message))]
     pub fn user_header<'a, H: Home<T, U>>(&self, home: &'a H) -> &'a U
     where
@@ -81,6 +84,7 @@ impl<T: Copy, U: Copy> Sample<T, U> {
     /// What its header tells: who sent it, and how many elements it has.
     ///
     /// Ported from `iceoryx2::sample::Sample::header`.
+    /// Example: `let header = sample.header(home);`
     #[tactic(auto, using(crate::proofs::Ready::sample_is_message))]
     pub fn header<H: Home<T, U>>(&self, home: &H) -> Header
         requires { holds_sample self.now.port.number self.now.taken (H.ports_of self.now.port.domain home.now) ≡ true }
@@ -92,6 +96,7 @@ impl<T: Copy, U: Copy> Sample<T, U> {
     /// The number of the publisher that sent it.
     ///
     /// Ported from `iceoryx2::sample::Sample::origin`, with a number of 64 bits.
+    /// Example: `let publisher = sample.origin(home);`
     pub fn origin<H: Home<T, U>>(&self, home: &H) -> u64
         requires { holds_sample self.now.port.number self.now.taken (H.ports_of self.now.port.domain home.now) ≡ true }
         ensures { Some result ≡ option_map (λ header. header.publisher_id) (header_found self.now.taken (H.ports_of self.now.port.domain home.now)) }
@@ -102,6 +107,7 @@ impl<T: Copy, U: Copy> Sample<T, U> {
     /// Lets it go: the message is released, if it is held; else nothing happens. Whether it was released is the answer.
     ///
     /// Ported from dropping an `iceoryx2::sample::Sample`.
+    /// Example: `let was_held = sample.drop_with(home);`
     pub fn drop_with<H: Home<T, U>>(self, home: &mut H) -> bool
         ensures { DropsSample H.ports_of H.with_ports self.port self.taken home.old result home.new }
     {
@@ -112,6 +118,7 @@ impl<T: Copy, U: Copy> Sample<T, U> {
     /// Releases the message: its slot may be lent again once nothing else refers to it.
     ///
     /// Ported from dropping an `iceoryx2::sample::Sample`.
+    /// Example: `sample.release(home);`
     #[tactic(auto, using(crate::proofs::Ready::sample_is_message))]
     pub fn release<H: Home<T, U>>(self, home: &mut H)
         requires { holds_sample self.port.number self.taken (H.ports_of self.port.domain home.old) ≡ true }

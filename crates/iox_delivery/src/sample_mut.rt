@@ -2,7 +2,7 @@
 ghost use Rattle.std.specs.Prelude.{◌≡◌, true, false, Some, option_map};
 ghost use Rattle.std.specs.Borrow.{sem, LendsIf};
 ghost use Rattle.std.specs.Option.{option_copied_mut};
-ghost use Rattle.iox_domain_laws.specs.DomainSender.Messages.{write_value, write_user_header};
+ghost use Rattle.iox_domain_laws.specs.DomainPublisher.Messages.{write_value, write_user_header};
 ghost use Rattle.iox_domain_laws.specs.DomainPublisher.Writing.{value_at};
 ghost use Rattle.iox_delivery.specs.Holding.{loan_found, is_sample, publisher_blocked};
 ghost use Rattle.iox_delivery.specs.Publishing.{sample_mut_of, loan_changed, loan_header_found, SendsSample, WritesUserHeader, GivesUpLoan};
@@ -39,6 +39,7 @@ impl<T: Copy, U: Copy> SampleMut<T, U> {
     }
 
     /// Whether the loan is out in this home, and written: the condition of its calls.
+    /// Example: `let is_there = sample.holds(home);`
     pub fn holds<H: Home<T, U>>(&self, home: &H) -> bool
         ensures { result ≡ is_sample (loan_found self.now.port.number self.now.slot (H.ports_of self.now.port.domain home.now)) }
     {
@@ -48,6 +49,7 @@ impl<T: Copy, U: Copy> SampleMut<T, U> {
     /// The value.
     ///
     /// Ported from `iceoryx2::sample_mut::SampleMut::payload`.
+    /// Example: `let value = *sample.payload(home);`
     pub fn payload<'a, H: Home<T, U>>(&self, home: &'a H) -> &'a T
     where
         T: 'a,
@@ -67,6 +69,7 @@ impl<T: Copy, U: Copy> SampleMut<T, U> {
     /// The value, to be changed, if the loan is out and written.
     ///
     /// Ported from `iceoryx2::sample_mut::SampleMut::payload_mut`.
+    /// Example: `let value = SampleMut::payload_mut(home, &sample)?;`
     pub fn payload_mut<'a, H: Home<T, U>>(home: &'a mut H, sample: &Self) -> Option<&'a mut T>
     where
         T: 'a,
@@ -80,6 +83,7 @@ impl<T: Copy, U: Copy> SampleMut<T, U> {
     /// What its header tells: who is to send it, and how many elements it has.
     ///
     /// Ported from `iceoryx2::sample_mut::SampleMut::header`.
+    /// Example: `let header = sample.header(home);`
     #[tactic(auto, using(crate::proofs::Ready::sample_is_loan))]
     pub fn header<H: Home<T, U>>(&self, home: &H) -> Header
         requires { is_sample (loan_found self.now.port.number self.now.slot (H.ports_of self.now.port.domain home.now)) ≡ true }
@@ -91,6 +95,7 @@ impl<T: Copy, U: Copy> SampleMut<T, U> {
     /// The user header.
     ///
     /// Ported from `iceoryx2::sample_mut::SampleMut::user_header`.
+    /// Example: `let stamp = *sample.user_header(home);`
     #[tactic(auto, using(crate::proofs::Ready::sample_is_loan))]
     pub fn user_header<'a, H: Home<T, U>>(&self, home: &'a H) -> &'a U
     where
@@ -105,6 +110,7 @@ impl<T: Copy, U: Copy> SampleMut<T, U> {
     /// The user header, to be changed, if the loan is out.
     ///
     /// Ported from `iceoryx2::sample_mut::SampleMut::user_header_mut`.
+    /// Example: `let stamp = SampleMut::user_header_mut(home, &sample)?;`
     pub fn user_header_mut<'a, H: Home<T, U>>(home: &'a mut H, sample: &Self) -> Option<&'a mut U>
     where
         T: 'a,
@@ -118,6 +124,7 @@ impl<T: Copy, U: Copy> SampleMut<T, U> {
     /// Writes the user header.
     ///
     /// Ported from writing through `iceoryx2::sample_mut::SampleMut::user_header_mut`.
+    /// Example: `sample.user_header_write(home, 150);`
     pub fn user_header_write<H: Home<T, U>>(&mut self, home: &mut H, user_header: U)
         ensures writes { WritesUserHeader H.ports_of H.with_ports self.old.port self.old.slot user_header home.old home.new }
         ensures same { self.new ≡ self.old }
@@ -126,6 +133,7 @@ impl<T: Copy, U: Copy> SampleMut<T, U> {
     }
 
     /// Whether a send of its publisher waits: that none does is the condition of `send`.
+    /// Example: `let waits = sample.is_blocked(home);`
     pub fn is_blocked<H: Home<T, U>>(&self, home: &H) -> bool
         ensures { result ≡ publisher_blocked self.now.port.number (H.ports_of self.now.port.domain home.now) }
     {
@@ -135,6 +143,7 @@ impl<T: Copy, U: Copy> SampleMut<T, U> {
     /// Sends the message: `ServicePorts::send` says which connections take it, and when it is refused. The loan is spent in every case.
     ///
     /// Ported from `iceoryx2::sample_mut::SampleMut::send`.
+    /// Example: `let sent = sample.send(alloc, home)?;`
     #[tactic(auto, using(crate::proofs::Ready::sample_is_written))]
     pub fn send<H: Home<T, U>>(self, alloc: Global, home: &mut H) -> Result<Sent<T, U>, SendError>
         requires holds { is_sample (loan_found self.port.number self.slot (H.ports_of self.port.domain home.old)) ≡ true }
@@ -148,6 +157,7 @@ impl<T: Copy, U: Copy> SampleMut<T, U> {
     /// Gives the loan up.
     ///
     /// Ported from dropping an `iceoryx2::sample_mut::SampleMut`.
+    /// Example: `sample.drop_with(home);`
     pub fn drop_with<H: Home<T, U>>(self, home: &mut H)
         ensures { GivesUpLoan H.ports_of H.with_ports self.port self.slot home.old home.new }
     {

@@ -2,7 +2,7 @@
 ghost use Rattle.std.specs.Prelude.{◌≡◌, true, Some, is_some, option_copied, option_map};
 ghost use Rattle.std.specs.Borrow.{sem, LendsIf};
 ghost use Rattle.std.specs.Option.{option_copied_mut};
-ghost use Rattle.iox_domain_laws.specs.DomainSender.Messages.{write_user_header};
+ghost use Rattle.iox_domain_laws.specs.DomainPublisher.Messages.{write_user_header};
 ghost use Rattle.iox_domain_laws.specs.DomainPublisher.Writing.{value_at};
 ghost use Rattle.iox_delivery.specs.Holding.{loan_found, is_sample};
 ghost use Rattle.iox_delivery.specs.Publishing.{loan_of, loan_changed, loan_header_found, sample_mut_of, WritesPayload, WritesUserHeader, GivesUpLoan};
@@ -36,6 +36,7 @@ impl<T: Copy, U: Copy> SampleMutUninit<T, U> {
     }
 
     /// Whether the loan is out in this home: the condition of its calls.
+    /// Example: `let is_there = loan.holds(home);`
     pub fn holds<H: Home<T, U>>(&self, home: &H) -> bool
         ensures { result ≡ is_some (loan_found self.now.port.number self.now.slot (H.ports_of self.now.port.domain home.now)) }
     {
@@ -43,6 +44,7 @@ impl<T: Copy, U: Copy> SampleMutUninit<T, U> {
     }
 
     /// Whether the value is written: the condition of `assume_init`.
+    /// Example: `let may_be_sent = loan.is_written(home);`
     pub fn is_written<H: Home<T, U>>(&self, home: &H) -> bool
         ensures { result ≡ is_sample (loan_found self.now.port.number self.now.slot (H.ports_of self.now.port.domain home.now)) }
     {
@@ -52,6 +54,7 @@ impl<T: Copy, U: Copy> SampleMutUninit<T, U> {
     /// The value, if it is written.
     ///
     /// Ported from `iceoryx2::sample_mut_uninit::SampleMutUninit::payload`, which gives a `MaybeUninit`.
+    /// Example: `let value = loan.payload(home);`
     pub fn payload<'a, H: Home<T, U>>(&self, home: &'a H) -> Option<&'a T>
     where
         T: 'a,
@@ -67,6 +70,7 @@ impl<T: Copy, U: Copy> SampleMutUninit<T, U> {
     /// Writes the value.
     ///
     /// Ported from writing through `iceoryx2::sample_mut_uninit::SampleMutUninit::payload_mut`.
+    /// Example: `loan.payload_write(home, 7);`
     pub fn payload_write<H: Home<T, U>>(&mut self, home: &mut H, value: T)
         ensures writes { WritesPayload H.ports_of H.with_ports self.old.port self.old.slot value home.old home.new }
         ensures same { self.new ≡ self.old }
@@ -77,6 +81,7 @@ impl<T: Copy, U: Copy> SampleMutUninit<T, U> {
     /// Writes the value, and is a loan that is written.
     ///
     /// Ported from `iceoryx2::sample_mut_uninit::SampleMutUninit::write_payload`.
+    /// Example: `let sample = loan.write_payload(home, 7);`
     pub fn write_payload<H: Home<T, U>>(self, home: &mut H, value: T) -> SampleMut<T, U>
         ensures writes { WritesPayload H.ports_of H.with_ports self.port self.slot value home.old home.new }
         ensures same { result ≡ sample_mut_of self.port self.slot }
@@ -89,6 +94,7 @@ impl<T: Copy, U: Copy> SampleMutUninit<T, U> {
     /// It is a loan that is written.
     ///
     /// Ported from `iceoryx2::sample_mut_uninit::SampleMutUninit::assume_init`.
+    /// Example: `let sample = loan.assume_init(home);`
     pub fn assume_init<H: Home<T, U>>(self, home: &H) -> SampleMut<T, U>
         requires { is_sample (loan_found self.port.number self.slot (H.ports_of self.port.domain home.now)) ≡ true }
         ensures { result ≡ sample_mut_of self.port self.slot }
@@ -101,6 +107,7 @@ impl<T: Copy, U: Copy> SampleMutUninit<T, U> {
     /// What its header tells: who is to send it, and how many elements it has.
     ///
     /// Ported from `iceoryx2::sample_mut_uninit::SampleMutUninit::header`.
+    /// Example: `let header = loan.header(home);`
     pub fn header<H: Home<T, U>>(&self, home: &H) -> Header
         requires { is_some (loan_found self.now.port.number self.now.slot (H.ports_of self.now.port.domain home.now)) ≡ true }
         ensures { Some result ≡ loan_header_found self.now.port.number self.now.slot (H.ports_of self.now.port.domain home.now) }
@@ -111,6 +118,7 @@ impl<T: Copy, U: Copy> SampleMutUninit<T, U> {
     /// The user header.
     ///
     /// Ported from `iceoryx2::sample_mut_uninit::SampleMutUninit::user_header`.
+    /// Example: `let stamp = *loan.user_header(home);`
     pub fn user_header<'a, H: Home<T, U>>(&self, home: &'a H) -> &'a U
     where
         T: 'a,
@@ -124,6 +132,7 @@ impl<T: Copy, U: Copy> SampleMutUninit<T, U> {
     /// The user header, to be changed, if the loan is out.
     ///
     /// Ported from `iceoryx2::sample_mut_uninit::SampleMutUninit::user_header_mut`.
+    /// Example: `let stamp = SampleMutUninit::user_header_mut(home, &loan)?;`
     pub fn user_header_mut<'a, H: Home<T, U>>(home: &'a mut H, sample: &Self) -> Option<&'a mut U>
     where
         T: 'a,
@@ -137,6 +146,7 @@ impl<T: Copy, U: Copy> SampleMutUninit<T, U> {
     /// Writes the user header.
     ///
     /// Ported from writing through `iceoryx2::sample_mut_uninit::SampleMutUninit::user_header_mut`.
+    /// Example: `loan.user_header_write(home, 150);`
     pub fn user_header_write<H: Home<T, U>>(&mut self, home: &mut H, user_header: U)
         ensures writes { WritesUserHeader H.ports_of H.with_ports self.old.port self.old.slot user_header home.old home.new }
         ensures same { self.new ≡ self.old }
@@ -147,6 +157,7 @@ impl<T: Copy, U: Copy> SampleMutUninit<T, U> {
     /// Gives the loan up.
     ///
     /// Ported from dropping an `iceoryx2::sample_mut_uninit::SampleMutUninit`.
+    /// Example: `loan.drop_with(home);`
     pub fn drop_with<H: Home<T, U>>(self, home: &mut H)
         ensures { GivesUpLoan H.ports_of H.with_ports self.port self.slot home.old home.new }
     {

@@ -30,6 +30,7 @@ pub struct BlockedSend<T, U> {
 
 impl<T: Copy, U: Copy> BlockedSend<T, U> {
     /// Whether the send waits in this home: the condition of its calls.
+    /// Example: `let waits = blocked.holds(home);`
     pub fn holds<H: Home<T, U>>(&self, home: &H) -> bool
         ensures { result ≡ publisher_blocked self.now.port.number (H.ports_of self.now.port.domain home.now) }
     {
@@ -40,6 +41,7 @@ impl<T: Copy, U: Copy> BlockedSend<T, U> {
     /// as the send did. The mailbox's count of retries is one higher.
     ///
     /// This port's own.
+    /// Example: `let sent = blocked.retry(home, 1_000)?;`
     pub fn retry<H: Home<T, U>>(
         self,
         home: &mut H,
@@ -59,6 +61,7 @@ impl<T: Copy, U: Copy> BlockedSend<T, U> {
     /// it doesn't wait.
     ///
     /// This port's own.
+    /// Example: `let delivered = blocked.drop_with(home);`
     pub fn drop_with<H: Home<T, U>>(self, home: &mut H) -> Option<usize>
         ensures { EndsSend H.ports_of H.with_ports self.port home.old result home.new }
     {
@@ -69,6 +72,7 @@ impl<T: Copy, U: Copy> BlockedSend<T, U> {
     /// Ends the send, and answers how many connections took the message.
     ///
     /// This port's own.
+    /// Example: `let delivered = blocked.give_up(home);`
     pub fn give_up<H: Home<T, U>>(self, home: &mut H) -> usize
         requires { publisher_blocked self.port.number (H.ports_of self.port.domain home.old) ≡ true }
         ensures { GivesUpSend H.ports_of H.with_ports self.port home.old result home.new }

@@ -13,6 +13,7 @@ use std::alloc::Global;
 /// Whether a subscriber stands.
 ///
 /// This port's own.
+/// Example: `let is_there = subscribing::holds(port, home);`
 pub fn holds<T: Copy, U: Copy, H: Home<T, U>>(port: PortId, home: &H) -> bool
     ensures { result ≡ subscriber_stands port.number (H.ports_of port.domain home.now) }
 {
@@ -28,6 +29,7 @@ pub fn holds<T: Copy, U: Copy, H: Home<T, U>>(port: PortId, home: &H) -> bool
 /// Whether some connection of a subscriber has data, after it followed the publishers: it fails where that does.
 ///
 /// Ported from `iceoryx2::port::subscriber::Subscriber::has_samples`.
+/// Example: `let has = subscribing::has_samples(port, alloc, home)?;`
 pub fn has_samples<T: Copy, U: Copy, H: Home<T, U>>(
     port: PortId,
     alloc: Global,
@@ -45,6 +47,7 @@ pub fn has_samples<T: Copy, U: Copy, H: Home<T, U>>(
 /// A subscriber receives the next message, if one waits: `ServicePorts::receive` says which, and when it is refused.
 ///
 /// Ported from `iceoryx2::port::subscriber::Subscriber::receive`.
+/// Example: `let taken = subscribing::take(port, alloc, home)?;`
 pub fn take<T: Copy, U: Copy, H: Home<T, U>>(
     port: PortId,
     alloc: Global,
@@ -62,6 +65,7 @@ pub fn take<T: Copy, U: Copy, H: Home<T, U>>(
 /// A subscriber follows the publishers that came and left: `ServicePorts::update_subscriber` says what that does, and when it fails.
 ///
 /// Ported from `iceoryx2::port::update_connections::UpdateConnections`.
+/// Example: `subscribing::update(port, alloc, home)?;`
 pub fn update<T: Copy, U: Copy, H: Home<T, U>>(
     port: PortId,
     alloc: Global,
@@ -79,6 +83,7 @@ pub fn update<T: Copy, U: Copy, H: Home<T, U>>(
 /// A subscriber that is let go leaves, and its handler is dropped, if it exists; else nothing happens. Whether it left is the answer.
 ///
 /// Ported from dropping an `iceoryx2::port::subscriber::Subscriber`.
+/// Example: `let has_left = subscribing::drop_port(port, home);`
 #[tactic(auto, using(crate::proofs::Ending::subscriber_end_tells))]
 pub fn drop_port<T: Copy, U: Copy, H: Home<T, U>>(port: PortId, home: &mut H) -> bool
     ensures ends { EndsSubscriber H.ports_of H.with_ports H.without_subscriber port home.old result home.new }
@@ -90,6 +95,7 @@ pub fn drop_port<T: Copy, U: Copy, H: Home<T, U>>(port: PortId, home: &mut H) ->
 /// A subscriber leaves, and its handler is dropped.
 ///
 /// Ported from dropping an `iceoryx2::port::subscriber::Subscriber`.
+/// Example: `subscribing::leave(port, home);`
 pub fn leave<T: Copy, U: Copy, H: Home<T, U>>(port: PortId, home: &mut H)
     requires { subscriber_stands port.number (H.ports_of port.domain home.old) ≡ true }
     ensures { SubscriberGoes H.ports_of H.with_ports H.without_subscriber port home.old home.new }
@@ -102,6 +108,7 @@ pub fn leave<T: Copy, U: Copy, H: Home<T, U>>(port: PortId, home: &mut H)
 /// The values of a message that is held.
 ///
 /// Ported from `iceoryx2::sample::Sample::payload`.
+/// Example: `let first = subscribing::values(port, taken, home).get(0);`
 pub fn values<'a, T: Copy, U: Copy, H: Home<T, U>>(
     port: PortId,
     taken: Taken,
@@ -125,6 +132,7 @@ where
 /// The user header of a message that is held.
 ///
 /// Ported from `iceoryx2::sample::Sample::user_header`.
+/// Example: `let stamp = *subscribing::user_header(port, taken, home);`
 pub fn user_header<'a, T: Copy, U: Copy, H: Home<T, U>>(
     port: PortId,
     taken: Taken,
@@ -148,6 +156,7 @@ where
 /// What the header of a message that is held tells: who sent it, and how many elements it has.
 ///
 /// Ported from `iceoryx2::sample::Sample::header`.
+/// Example: `let header = subscribing::header(port, taken, home);`
 pub fn header<T: Copy, U: Copy, H: Home<T, U>>(port: PortId, taken: Taken, home: &H) -> Header
     requires { holds_message port.number taken (H.ports_of port.domain home.now) ≡ true }
     ensures { Some result ≡ header_found taken (H.ports_of port.domain home.now) }
@@ -164,6 +173,7 @@ pub fn header<T: Copy, U: Copy, H: Home<T, U>>(port: PortId, taken: Taken, home:
 /// A message that is held is released.
 ///
 /// Ported from dropping an `iceoryx2::sample::Sample`.
+/// Example: `subscribing::release(port, taken, home);`
 pub fn release<T: Copy, U: Copy, H: Home<T, U>>(port: PortId, taken: Taken, home: &mut H)
     requires { holds_message port.number taken (H.ports_of port.domain home.old) ≡ true }
     ensures { ReleasesSample H.ports_of H.with_ports port taken home.old home.new }
@@ -179,6 +189,7 @@ pub fn release<T: Copy, U: Copy, H: Home<T, U>>(port: PortId, taken: Taken, home
 /// A message that is let go is released, if it is held; else nothing happens. Whether it was released is the answer.
 ///
 /// Ported from dropping an `iceoryx2::sample::Sample`.
+/// Example: `let was_held = subscribing::drop_sample(port, taken, home);`
 pub fn drop_sample<T: Copy, U: Copy, H: Home<T, U>>(
     port: PortId,
     taken: Taken,
@@ -195,6 +206,7 @@ pub fn drop_sample<T: Copy, U: Copy, H: Home<T, U>>(
 /// Whether a message is held.
 ///
 /// This port's own.
+/// Example: `let is_held = subscribing::holds_message(port, taken, home);`
 pub fn holds_message<T: Copy, U: Copy, H: Home<T, U>>(port: PortId, taken: Taken, home: &H) -> bool
     ensures { result ≡ holds_message port.number taken (H.ports_of port.domain home.now) }
 {

@@ -19,6 +19,7 @@ use std::marker::PhantomData;
 /// as many values as its agreed size has of theirs: more than one only where they are the bytes of a payload that the description tells.
 ///
 /// Ported from `iceoryx2::service::port_factory::publish_subscribe::PortFactory::publisher_builder`.
+/// Example: `let builder = publisher_builder(&domain, 5, 9);`
 pub fn publisher_builder<T: ZeroCopySend, U, B, D>(
     domain: &Domain<T, U, B, D>,
     node_id: u64,
@@ -51,6 +52,7 @@ pub fn publisher_builder<T: ZeroCopySend, U, B, D>(
 /// a connection fails.
 ///
 /// Ported from `iceoryx2::service::port_factory::publish_subscribe::PortFactory::subscriber_builder`.
+/// Example: `let builder = subscriber_builder(&domain, 5, 9);`
 pub fn subscriber_builder<T, U, B, D>(
     domain: &Domain<T, U, B, D>,
     node_id: u64,

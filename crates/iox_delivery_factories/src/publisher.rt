@@ -46,6 +46,7 @@ impl<T, U> PortFactoryPublisher<T, U, Handlers, PreallocatedSamplesOverride> {
     /// Names who decides how many slots the publisher gets.
     ///
     /// Ported from `PortFactoryPublisher::override_sample_preallocation`.
+    /// Example: `builder.override_sample_preallocation(PreallocatedSamplesOverride::new_with(16))`
     pub fn override_sample_preallocation(mut self, overriding: PreallocatedSamplesOverride) -> Self
         ensures { result ≡ record self { overriding = overriding } }
     {
@@ -56,6 +57,7 @@ impl<T, U> PortFactoryPublisher<T, U, Handlers, PreallocatedSamplesOverride> {
     /// Names how many loans may be out at once.
     ///
     /// Ported from `PortFactoryPublisher::max_loaned_samples`.
+    /// Example: `builder.max_loaned_samples(6)`
     pub fn max_loaned_samples(mut self, value: usize) -> Self
         ensures { result ≡ record self { settings = record self.settings { max_loaned_samples = value } } }
     {
@@ -66,6 +68,7 @@ impl<T, U> PortFactoryPublisher<T, U, Handlers, PreallocatedSamplesOverride> {
     /// Names what is done at a full mailbox where the service doesn't overflow and no handler decides.
     ///
     /// Ported from `PortFactoryPublisher::backpressure_strategy`.
+    /// Example: `builder.backpressure_strategy(BackpressureStrategy::DiscardData)`
     pub fn backpressure_strategy(mut self, strategy: BackpressureStrategy) -> Self
         ensures { result ≡ with_strategy strategy self }
     {
@@ -77,6 +80,7 @@ impl<T, U> PortFactoryPublisher<T, U, Handlers, PreallocatedSamplesOverride> {
     /// Names who is asked where a connection failed.
     ///
     /// Ported from `PortFactoryPublisher::set_degradation_handler`.
+    /// Example: `builder.set_degradation_handler(DegradationHandler::new_with(DegradationAction::Ignore))`
     pub fn set_degradation_handler(mut self, handler: DegradationHandler) -> Self
         ensures { result ≡ with_degradation handler self }
     {
@@ -87,6 +91,7 @@ impl<T, U> PortFactoryPublisher<T, U, Handlers, PreallocatedSamplesOverride> {
     /// Names who is asked at a full mailbox.
     ///
     /// Ported from `PortFactoryPublisher::set_backpressure_handler`.
+    /// Example: `builder.set_backpressure_handler(BackpressureHandler::new_with(BackpressureAction::DiscardData))`
     pub fn set_backpressure_handler(mut self, handler: BackpressureHandler) -> Self
         ensures { result ≡ with_backpressure (Some handler) self }
     {
@@ -97,6 +102,7 @@ impl<T, U> PortFactoryPublisher<T, U, Handlers, PreallocatedSamplesOverride> {
     /// Names how many values a loan of a slice may have at first.
     ///
     /// Ported from `PortFactoryPublisher::initial_max_slice_len`.
+    /// Example: `builder.initial_max_slice_len(64)`
     pub fn initial_max_slice_len(mut self, value: usize) -> Self
         ensures { result ≡ record self { settings = record self.settings { initial_max_slice_len = value } } }
     {
@@ -107,6 +113,7 @@ impl<T, U> PortFactoryPublisher<T, U, Handlers, PreallocatedSamplesOverride> {
     /// Names what a loan of a longer slice does.
     ///
     /// Ported from `PortFactoryPublisher::allocation_strategy`.
+    /// Example: `builder.allocation_strategy(AllocationStrategy::PowerOfTwo)`
     pub fn allocation_strategy(mut self, value: AllocationStrategy) -> Self
         ensures { result ≡ record self { settings = record self.settings { allocation = value } } }
     {
@@ -118,6 +125,7 @@ impl<T, U> PortFactoryPublisher<T, U, Handlers, PreallocatedSamplesOverride> {
     /// warning where a connection fails.
     ///
     /// Ported from `PortFactoryPublisher::__internal_partial_clone`, whose name stands for a macro's here.
+    /// Example: `let second = builder.partial_clone();`
     pub fn partial_clone(&self) -> Self
         ensures { result ≡ cloned self.now }
     {
@@ -147,6 +155,7 @@ impl<T: Copy, U: Copy + Default, B: Degrades, O: Overrides> PortFactoryPublisher
     /// has changed.
     ///
     /// Ported from `PortFactoryPublisher::create`.
+    /// Example: `let publisher = builder.create(alloc, home)?;`
     pub fn create<D: Degrades, H: MakesPorts<T, U, B, D>>(
         self,
         alloc: Global,
@@ -177,6 +186,7 @@ impl<T: Copy, U: Copy + Default, B: Degrades, O: Overrides> PortFactoryPublisher
     /// Refused as `create` is, and with `UnableToCreateDataSegment` also if a loan may have 2^32 elements or values or more at first.
     ///
     /// Ported from `PortFactoryPublisher::create`.
+    /// Example: `let publisher = builder.create_slice(alloc, home)?;`
     pub fn create_slice<D: Degrades, H: MakesPorts<T, U, B, D>>(
         self,
         alloc: Global,

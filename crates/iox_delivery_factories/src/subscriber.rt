@@ -38,6 +38,7 @@ impl<T, U> PortFactorySubscriber<T, U, DegradationHandler> {
     /// Names how many messages of one publisher may wait for it; 0 stands for 1.
     ///
     /// Ported from `PortFactorySubscriber::buffer_size`.
+    /// Example: `builder.buffer_size(4)`
     pub fn buffer_size(mut self, value: usize) -> Self
         ensures { result ≡ record self { settings = record { buffer_size = Some value } } }
     {
@@ -48,6 +49,7 @@ impl<T, U> PortFactorySubscriber<T, U, DegradationHandler> {
     /// Names who is asked where a connection failed.
     ///
     /// Ported from `PortFactorySubscriber::set_degradation_handler`.
+    /// Example: `builder.set_degradation_handler(DegradationHandler::new_with(DegradationAction::Ignore))`
     pub fn set_degradation_handler(mut self, handler: DegradationHandler) -> Self
         ensures { result ≡ record self { handler = handler } }
     {
@@ -58,6 +60,7 @@ impl<T, U> PortFactorySubscriber<T, U, DegradationHandler> {
     /// The same settings once more, with a warning where a connection fails.
     ///
     /// Ported from `PortFactorySubscriber::__internal_partial_clone`, whose name stands for a macro's here.
+    /// Example: `let second = builder.partial_clone();`
     pub fn partial_clone(&self) -> Self
         ensures { result ≡ subscriber_cloned self.now }
     {
@@ -79,6 +82,7 @@ impl<T: Copy, U: Copy, D: Degrades> PortFactorySubscriber<T, U, D> {
     /// `ExceedsMaxSupportedSubscribers` if no place is free; else with `OutOfMemory` where an allocation fails. Then nothing has changed.
     ///
     /// Ported from `PortFactorySubscriber::create`.
+    /// Example: `let subscriber = builder.create(alloc, home)?;`
     pub fn create<B: Degrades, H: MakesPorts<T, U, B, D>>(
         self,
         alloc: Global,
@@ -100,6 +104,7 @@ impl<T: Copy, U: Copy, D: Degrades> PortFactorySubscriber<T, U, D> {
     /// Makes the subscriber, of slices, in the home of its domain, as `create` does, and refused as it is.
     ///
     /// Ported from `PortFactorySubscriber::create`.
+    /// Example: `let subscriber = builder.create_slice(alloc, home)?;`
     pub fn create_slice<B: Degrades, H: MakesPorts<T, U, B, D>>(
         self,
         alloc: Global,

@@ -6,7 +6,6 @@ pub use Rattle.iox_delivery.specs.DomainHome as DomainHome
 pub use Rattle.iox_delivery.specs.DomainLaws as DomainLaws
 pub use Rattle.iox_delivery.specs.DomainPorts as DomainPorts
 pub use Rattle.iox_delivery.specs.DomainPublisher as DomainPublisher
-pub use Rattle.iox_delivery.specs.DomainSender as DomainSender
 pub use Rattle.iox_domain_settings.specs as DomainSettings
 pub use Rattle.iox_delivery.specs.DomainSubscriber as DomainSubscriber
 pub use Rattle.iox_domain_settings.specs.DomainValues as DomainValues

@@ -8,8 +8,8 @@ use Rattle.iox_domain_settings.specs.DomainValues.declared.port_error.LoanError.
 use Rattle.iox_domain_settings.specs.DomainValues.declared.port_error.ReceiveError.{ReceiveError}
 use Rattle.iox_domain_settings.specs.DomainValues.declared.port_error.SendError.{SendError}
 use Rattle.iox_domain_settings.specs.DomainValues.declared.port_error.SendError.TheVariants as refusal
-use Rattle.iox_delivery.specs.DomainSender.Messages.{Loan, write_value, write_all}
-use Rattle.iox_delivery.specs.DomainSender.Sending.{has_place, has_length}
+use Rattle.iox_delivery.specs.DomainPublisher.Messages.{Loan, write_value, write_all}
+use Rattle.iox_delivery.specs.DomainPublisher.MessagesSending.{has_place, has_length}
 use Rattle.iox_delivery.specs.DomainPublisher.Writing.{changed_if}
 use Rattle.iox_delivery.specs.DomainPublisher.declared.meeting.Sent.{Sent as Sending}
 use Rattle.iox_delivery.specs.DomainPublisher.declared.publisher_port.PublisherPort.{PublisherPort}

@@ -16,6 +16,7 @@ use std::alloc::Global;
 /// refused as `publishing::loan` says. It may be sent at once: it is a slice that is written, and no send waits.
 ///
 /// Ported from `iceoryx2::port::publisher::Publisher::loan_slice`, where each value is a default.
+/// Example: `let slot = loan_filled(port, alloc, home, 4, 0)?;`
 pub fn loan_filled<T: Copy, U: Copy, H: Home<T, U>>(
     port: PortId,
     alloc: Global,
@@ -38,6 +39,7 @@ pub fn loan_filled<T: Copy, U: Copy, H: Home<T, U>>(
 /// refused or waits.
 ///
 /// This port's own: `iceoryx2::port::publisher::Publisher::send_copy` for slices, with an answer that needn't be spent.
+/// Example: `let sent = send_values(port, alloc, home, &[7, 8])?;`
 pub fn send_values<T: Copy, U: Copy, H: Home<T, U>>(
     port: PortId,
     alloc: Global,

@@ -30,6 +30,7 @@ impl<T: Copy, U: Copy> Publisher<T, U> {
     /// The publisher that was made under a number, as a value. It is to be had once.
     ///
     /// This port's own: what makes ports by number hands them out so.
+    /// Example: `let publisher = Publisher::of_port(port, BackpressureStrategy::DiscardData, 8);`
     pub fn of_port(
         port: PortId,
         strategy: BackpressureStrategy,
@@ -50,6 +51,7 @@ impl<T: Copy, U: Copy> Publisher<T, U> {
     /// Its number in its domain.
     ///
     /// Ported from `iceoryx2::port::publisher::Publisher::id`, with a number of 64 bits.
+    /// Example: `let number = publisher.id();`
     pub fn id(&self) -> u64
         ensures { result ≡ self.now.port.number }
     {
@@ -57,6 +59,7 @@ impl<T: Copy, U: Copy> Publisher<T, U> {
     }
 
     /// The id of its domain.
+    /// Example: `let domain = publisher.domain();`
     pub fn domain(&self) -> DomainId
         ensures { result ≡ self.now.port.domain }
     {
@@ -66,6 +69,7 @@ impl<T: Copy, U: Copy> Publisher<T, U> {
     /// What it does at a full mailbox where no handler decides.
     ///
     /// Ported from `iceoryx2::port::publisher::Publisher::backpressure_strategy`.
+    /// Example: `let strategy = publisher.backpressure_strategy();`
     pub fn backpressure_strategy(&self) -> BackpressureStrategy
         ensures { result ≡ self.now.strategy }
     {
@@ -75,6 +79,7 @@ impl<T: Copy, U: Copy> Publisher<T, U> {
     /// How many values a loan might have at first.
     ///
     /// Ported from `iceoryx2::port::publisher::Publisher::initial_max_slice_len`.
+    /// Example: `let values = publisher.initial_max_slice_len();`
     pub fn initial_max_slice_len(&self) -> usize
         ensures { result ≡ self.now.initial_max_slice_len }
     {
@@ -82,6 +87,7 @@ impl<T: Copy, U: Copy> Publisher<T, U> {
     }
 
     /// Whether it stands in this home: the condition of its calls.
+    /// Example: `let is_there = publisher.holds(home);`
     pub fn holds<H: Home<T, U>>(&self, home: &H) -> bool
         ensures { result ≡ publisher_stands self.now.port.number (H.ports_of self.now.port.domain home.now) }
     {
@@ -89,6 +95,7 @@ impl<T: Copy, U: Copy> Publisher<T, U> {
     }
 
     /// Whether a send of it waits: that it doesn't is the condition of its calls.
+    /// Example: `let waits = publisher.is_blocked(home);`
     pub fn is_blocked<H: Home<T, U>>(&self, home: &H) -> bool
         ensures { result ≡ publisher_blocked self.now.port.number (H.ports_of self.now.port.domain home.now) }
     {
@@ -100,6 +107,7 @@ impl<T: Copy, U: Copy> Publisher<T, U> {
     /// `OutOfMemory` where each slot is in use or a new segment isn't made.
     ///
     /// Ported from `iceoryx2::port::publisher::Publisher::loan_slice_uninit`.
+    /// Example: `let loan = publisher.loan_slice_uninit(alloc, home, 4)?;`
     pub fn loan_slice_uninit<H: Home<T, U>>(
         &self,
         alloc: Global,
@@ -118,6 +126,7 @@ impl<T: Copy, U: Copy> Publisher<T, U> {
     /// that is written, and no send waits.
     ///
     /// Ported from `iceoryx2::port::publisher::Publisher::loan_slice`.
+    /// Example: `let sample = publisher.loan_slice(alloc, home, 4)?;`
     pub fn loan_slice<H: Home<T, U>>(
         &self,
         alloc: Global,
@@ -139,6 +148,7 @@ impl<T: Copy, U: Copy> Publisher<T, U> {
     /// sent; else it answers as `SampleMut::send` does.
     ///
     /// This port's own: `iceoryx2::port::publisher::Publisher::send_copy` for slices.
+    /// Example: `let sent = publisher.send_slice(alloc, home, &[7, 8])?;`
     pub fn send_slice<H: Home<T, U>>(
         &self,
         alloc: Global,
@@ -159,6 +169,7 @@ impl<T: Copy, U: Copy> Publisher<T, U> {
     /// connection isn't made.
     ///
     /// Ported from `iceoryx2::port::update_connections::UpdateConnections`.
+    /// Example: `publisher.update_connections(alloc, home)?;`
     pub fn update_connections<H: Home<T, U>>(
         &self,
         alloc: Global,
@@ -174,6 +185,7 @@ impl<T: Copy, U: Copy> Publisher<T, U> {
     /// Its port, of which `of_port` makes a value again. The publisher stays.
     ///
     /// This port's own.
+    /// Example: `let port = publisher.into_port();`
     pub fn into_port(self) -> PortId
         ensures { result ≡ self.port }
     {
@@ -189,6 +201,7 @@ impl<T: Copy, U: Copy> Publisher<T, U> {
     /// Lets it go: it leaves as by `leave`, if it exists and no send of it waits; else nothing happens. Whether it left is the answer.
     ///
     /// Ported from dropping an `iceoryx2::port::publisher::Publisher`.
+    /// Example: `let has_left = publisher.drop_with(home);`
     pub fn drop_with<H: Home<T, U>>(self, home: &mut H) -> bool
         ensures ends { EndsPublisher H.ports_of H.with_ports H.without_publisher self.port home.old result home.new }
         ensures left { result ≡ (publisher_stands self.port.number (H.ports_of self.port.domain home.old) && not (publisher_blocked self.port.number (H.ports_of self.port.domain home.old))) }
@@ -199,6 +212,7 @@ impl<T: Copy, U: Copy> Publisher<T, U> {
     /// Leaves: what was sent stays to be read, and what is lent can't be sent any longer. Its handlers are dropped.
     ///
     /// Ported from dropping an `iceoryx2::port::publisher::Publisher`.
+    /// Example: `publisher.leave(home);`
     pub fn leave<H: Home<T, U>>(self, home: &mut H)
         requires holds { publisher_stands self.port.number (H.ports_of self.port.domain home.old) ≡ true }
         requires free { publisher_blocked self.port.number (H.ports_of self.port.domain home.old) ≡ false }
@@ -214,6 +228,7 @@ impl<U: Copy> Publisher<CustomPayloadMarker, U> {
     ///
     /// Ported from `iceoryx2::port::publisher::Publisher::loan_custom_payload`, which is unsafe and asks for one element where the payload
     /// isn't a slice.
+    /// Example: `let loan = publisher.loan_custom_payload(alloc, home, 2)?;`
     pub fn loan_custom_payload<H: Home<CustomPayloadMarker, U>>(
         &self,
         alloc: Global,

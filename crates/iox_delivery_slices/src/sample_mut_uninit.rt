@@ -3,9 +3,9 @@ ghost use Rattle.std.specs.Prelude.{◌≡◌, ◌==◌, ◌<◌, true, Some, Li
 ghost use Rattle.std.specs.Borrow.{sem, LendsIf};
 ghost use Rattle.std.specs.Option.{option_copied_mut};
 ghost use Rattle.iox_delivery.specs.Container.Vectors.{MakesInTurn};
-ghost use Rattle.iox_delivery.specs.DomainSender.Messages.{write_user_header};
+ghost use Rattle.iox_delivery.specs.DomainPublisher.Messages.{write_user_header};
 ghost use Rattle.iox_delivery.specs.DomainPublisher.Writing.{value_at};
-ghost use Rattle.iox_delivery.specs.DomainSender.Sending.{is_written_loan};
+ghost use Rattle.iox_delivery.specs.DomainPublisher.MessagesSending.{is_written_loan};
 ghost use Rattle.iox_delivery.specs.Holding.{loan_found};
 ghost use Rattle.iox_delivery.specs.Publishing.{loan_changed, loan_header_found, WritesUserHeader, GivesUpLoan};
 ghost use Rattle.iox_delivery_slices.specs.Slices.{loan_of, sample_mut_of, WritesAt, WritesAll, WritesEach};
@@ -43,6 +43,7 @@ impl<T: Copy, U: Copy> SampleMutUninit<T, U> {
     /// How many values it has.
     ///
     /// This port's own: the length of what `iceoryx2::sample_mut_uninit::SampleMutUninit::payload` gives.
+    /// Example: `let values = loan.len();`
     pub fn len(&self) -> usize
         ensures { result ≡ self.now.len }
     {
@@ -50,6 +51,7 @@ impl<T: Copy, U: Copy> SampleMutUninit<T, U> {
     }
 
     /// Whether it has no values.
+    /// Example: `let has_none = loan.is_empty();`
     pub fn is_empty(&self) -> bool
         ensures { result ≡ (self.now.len == 0) }
     {
@@ -57,6 +59,7 @@ impl<T: Copy, U: Copy> SampleMutUninit<T, U> {
     }
 
     /// Whether the loan is out in this home: the condition of its calls.
+    /// Example: `let is_there = loan.holds(home);`
     pub fn holds<H: Home<T, U>>(&self, home: &H) -> bool
         ensures { result ≡ is_some (loan_found self.now.port.number self.now.slot (H.ports_of self.now.port.domain home.now)) }
     {
@@ -64,6 +67,7 @@ impl<T: Copy, U: Copy> SampleMutUninit<T, U> {
     }
 
     /// Whether each value is written: the condition of `assume_init`.
+    /// Example: `let may_be_sent = loan.is_written(home);`
     pub fn is_written<H: Home<T, U>>(&self, home: &H) -> bool
         ensures { result ≡ is_written_loan (loan_found self.now.port.number self.now.slot (H.ports_of self.now.port.domain home.now)) }
     {
@@ -73,6 +77,7 @@ impl<T: Copy, U: Copy> SampleMutUninit<T, U> {
     /// The value at a place, if it is written.
     ///
     /// Ported from reading `iceoryx2::sample_mut_uninit::SampleMutUninit::payload`, which gives a slice of `MaybeUninit`.
+    /// Example: `let value = loan.payload_at(home, 0);`
     pub fn payload_at<'a, H: Home<T, U>>(&self, home: &'a H, place: usize) -> Option<&'a T>
     where
         T: 'a,
@@ -89,6 +94,7 @@ impl<T: Copy, U: Copy> SampleMutUninit<T, U> {
     /// Writes the value at a place.
     ///
     /// Ported from writing through `iceoryx2::sample_mut_uninit::SampleMutUninit::payload_mut`.
+    /// Example: `loan.payload_write_at(home, 0, 7);`
     pub fn payload_write_at<H: Home<T, U>>(&mut self, home: &mut H, place: usize, value: T)
         requires { place < self.old.len }
         ensures writes { WritesAt H.ports_of H.with_ports self.old.port self.old.slot place value home.old home.new }
@@ -102,6 +108,7 @@ impl<T: Copy, U: Copy> SampleMutUninit<T, U> {
     /// Writes all values, and is a slice that is written.
     ///
     /// Ported from `iceoryx2::sample_mut_uninit::SampleMutUninit::write_from_slice`, which panics at another length.
+    /// Example: `let sample = loan.write_from_slice(home, &[7, 8]);`
     pub fn write_from_slice<H: Home<T, U>>(self, home: &mut H, values: &[T]) -> SampleMut<T, U>
         requires { length values.now ≡ self.len }
         ensures writes { WritesAll H.ports_of H.with_ports self.port self.slot values.now home.old home.new }
@@ -120,6 +127,7 @@ impl<T: Copy, U: Copy> SampleMutUninit<T, U> {
     /// Writes what `make` gives at 0, 1 and so on, call by call: one call for each value, and no further one. It is a slice that is written then.
     ///
     /// Ported from `iceoryx2::sample_mut_uninit::SampleMutUninit::write_from_fn`.
+    /// Example: `let sample = loan.write_from_fn(home, &mut |place: usize| place as u64);`
     pub fn write_from_fn<H: Home<T, U>, F: FnMut(usize) -> T>(
         self,
         home: &mut H,
@@ -144,6 +152,7 @@ impl<T: Copy, U: Copy> SampleMutUninit<T, U> {
     /// It is a slice that is written.
     ///
     /// Ported from `iceoryx2::sample_mut_uninit::SampleMutUninit::assume_init`.
+    /// Example: `let sample = loan.assume_init(home);`
     pub fn assume_init<H: Home<T, U>>(self, home: &H) -> SampleMut<T, U>
         requires { is_written_loan (loan_found self.port.number self.slot (H.ports_of self.port.domain home.now)) ≡ true }
         ensures { result ≡ sample_mut_of self.port self.slot }
@@ -161,6 +170,7 @@ impl<T: Copy, U: Copy> SampleMutUninit<T, U> {
     /// What its header tells: who is to send it, and how many elements it has.
     ///
     /// Ported from `iceoryx2::sample_mut_uninit::SampleMutUninit::header`.
+    /// Example: `let header = loan.header(home);`
     pub fn header<H: Home<T, U>>(&self, home: &H) -> Header
         requires { is_some (loan_found self.now.port.number self.now.slot (H.ports_of self.now.port.domain home.now)) ≡ true }
         ensures { Some result ≡ loan_header_found self.now.port.number self.now.slot (H.ports_of self.now.port.domain home.now) }
@@ -171,6 +181,7 @@ impl<T: Copy, U: Copy> SampleMutUninit<T, U> {
     /// The user header.
     ///
     /// Ported from `iceoryx2::sample_mut_uninit::SampleMutUninit::user_header`.
+    /// Example: `let stamp = *loan.user_header(home);`
     pub fn user_header<'a, H: Home<T, U>>(&self, home: &'a H) -> &'a U
     where
         T: 'a,
@@ -184,6 +195,7 @@ impl<T: Copy, U: Copy> SampleMutUninit<T, U> {
     /// The user header, to be changed, if the loan is out.
     ///
     /// Ported from `iceoryx2::sample_mut_uninit::SampleMutUninit::user_header_mut`.
+    /// Example: `let stamp = SampleMutUninit::user_header_mut(home, &loan)?;`
     pub fn user_header_mut<'a, H: Home<T, U>>(home: &'a mut H, sample: &Self) -> Option<&'a mut U>
     where
         T: 'a,
@@ -197,6 +209,7 @@ impl<T: Copy, U: Copy> SampleMutUninit<T, U> {
     /// Writes the user header.
     ///
     /// Ported from writing through `iceoryx2::sample_mut_uninit::SampleMutUninit::user_header_mut`.
+    /// Example: `loan.user_header_write(home, 150);`
     pub fn user_header_write<H: Home<T, U>>(&mut self, home: &mut H, user_header: U)
         ensures writes { WritesUserHeader H.ports_of H.with_ports self.old.port self.old.slot user_header home.old home.new }
         ensures same { self.new ≡ self.old }
@@ -207,6 +220,7 @@ impl<T: Copy, U: Copy> SampleMutUninit<T, U> {
     /// Gives the loan up.
     ///
     /// Ported from dropping an `iceoryx2::sample_mut_uninit::SampleMutUninit`.
+    /// Example: `loan.drop_with(home);`
     pub fn drop_with<H: Home<T, U>>(self, home: &mut H)
         ensures { GivesUpLoan H.ports_of H.with_ports self.port self.slot home.old home.new }
     {

@@ -25,6 +25,7 @@ impl<T: Copy, U: Copy> Subscriber<T, U> {
     /// The subscriber that was made under a number, as a value. It is to be had once.
     ///
     /// This port's own: what makes ports by number hands them out so.
+    /// Example: `let subscriber = Subscriber::of_port(port, 4);`
     pub fn of_port(port: PortId, buffer_size: usize) -> Self
         ensures port { result.port ≡ port }
         ensures buffer_size { result.buffer_size ≡ buffer_size }
@@ -39,6 +40,7 @@ impl<T: Copy, U: Copy> Subscriber<T, U> {
     /// Its number in its domain.
     ///
     /// Ported from `iceoryx2::port::subscriber::Subscriber::id`, with a number of 64 bits.
+    /// Example: `let number = subscriber.id();`
     pub fn id(&self) -> u64
         ensures { result ≡ self.now.port.number }
     {
@@ -46,6 +48,7 @@ impl<T: Copy, U: Copy> Subscriber<T, U> {
     }
 
     /// The id of its domain.
+    /// Example: `let domain = subscriber.domain();`
     pub fn domain(&self) -> DomainId
         ensures { result ≡ self.now.port.domain }
     {
@@ -55,6 +58,7 @@ impl<T: Copy, U: Copy> Subscriber<T, U> {
     /// How many messages of one publisher may wait for it.
     ///
     /// Ported from `iceoryx2::port::subscriber::Subscriber::buffer_size`.
+    /// Example: `let most = subscriber.buffer_size();`
     pub fn buffer_size(&self) -> usize
         ensures { result ≡ self.now.buffer_size }
     {
@@ -62,6 +66,7 @@ impl<T: Copy, U: Copy> Subscriber<T, U> {
     }
 
     /// Whether it stands in this home: the condition of its calls.
+    /// Example: `let is_there = subscriber.holds(home);`
     pub fn holds<H: Home<T, U>>(&self, home: &H) -> bool
         ensures { result ≡ subscriber_stands self.now.port.number (H.ports_of self.now.port.domain home.now) }
     {
@@ -71,6 +76,7 @@ impl<T: Copy, U: Copy> Subscriber<T, U> {
     /// Whether some connection of it has data, after it followed the publishers: it fails where that does.
     ///
     /// Ported from `iceoryx2::port::subscriber::Subscriber::has_samples`.
+    /// Example: `let has = subscriber.has_samples(alloc, home)?;`
     pub fn has_samples<H: Home<T, U>>(
         &self,
         alloc: Global,
@@ -85,6 +91,7 @@ impl<T: Copy, U: Copy> Subscriber<T, U> {
     /// Receives the next message, if one waits: `ServicePorts::receive` says which, and when it is refused. It is held until it is released.
     ///
     /// Ported from `iceoryx2::port::subscriber::Subscriber::receive`.
+    /// Example: `let sample = subscriber.receive(alloc, home)?;`
     pub fn receive<H: Home<T, U>>(
         &self,
         alloc: Global,
@@ -103,6 +110,7 @@ impl<T: Copy, U: Copy> Subscriber<T, U> {
     /// connection isn't made.
     ///
     /// Ported from `iceoryx2::port::update_connections::UpdateConnections`.
+    /// Example: `subscriber.update_connections(alloc, home)?;`
     pub fn update_connections<H: Home<T, U>>(
         &self,
         alloc: Global,
@@ -117,6 +125,7 @@ impl<T: Copy, U: Copy> Subscriber<T, U> {
     /// Its port, of which `of_port` makes a value again. The subscriber stays.
     ///
     /// This port's own.
+    /// Example: `let port = subscriber.into_port();`
     pub fn into_port(self) -> PortId
         ensures { result ≡ self.port }
     {
@@ -131,6 +140,7 @@ impl<T: Copy, U: Copy> Subscriber<T, U> {
     /// Lets it go: it leaves as by `leave`, if it exists; else nothing happens. Whether it left is the answer.
     ///
     /// Ported from dropping an `iceoryx2::port::subscriber::Subscriber`.
+    /// Example: `let has_left = subscriber.drop_with(home);`
     pub fn drop_with<H: Home<T, U>>(self, home: &mut H) -> bool
         ensures ends { EndsSubscriber H.ports_of H.with_ports H.without_subscriber self.port home.old result home.new }
         ensures left { result ≡ subscriber_stands self.port.number (H.ports_of self.port.domain home.old) }
@@ -141,6 +151,7 @@ impl<T: Copy, U: Copy> Subscriber<T, U> {
     /// Leaves: the samples that it holds stay to be read and released. Its handler is dropped.
     ///
     /// Ported from dropping an `iceoryx2::port::subscriber::Subscriber`.
+    /// Example: `subscriber.leave(home);`
     pub fn leave<H: Home<T, U>>(self, home: &mut H)
         requires { subscriber_stands self.port.number (H.ports_of self.port.domain home.old) ≡ true }
         ensures { SubscriberGoes H.ports_of H.with_ports H.without_subscriber self.port home.old home.new }
@@ -153,6 +164,7 @@ impl<U: Copy> Subscriber<CustomPayloadMarker, U> {
     /// Receives the next message of a payload that only the description says, as `receive` does: all bytes of its elements.
     ///
     /// Ported from `iceoryx2::port::subscriber::Subscriber::receive_custom_payload`, which is unsafe.
+    /// Example: `let sample = subscriber.receive_custom_payload(alloc, home)?;`
     pub fn receive_custom_payload<H: Home<CustomPayloadMarker, U>>(
         &self,
         alloc: Global,

@@ -4,7 +4,7 @@ use Rattle.std.specs.Prelude.{All}
 use Rattle.hex.specs.Hex.{lower_digits}
 use Rattle.hex.proofs.HexLemmas.{length-encode_with}
 use Rattle.serde_json.specs.View.{items_of}
-use Rattle.iox_json.proofs.Length.{bound, items_bound, text_bound}
+use Rattle.iox_describe.proofs.JsonValuesLength.{bound, items_bound, text_bound}
 use Rattle.iox_describe_verdict.specs.DescribeBase.declared.attribute.Attribute.{Attribute}
 use Rattle.iox_describe_verdict.specs.DescribeBase.declared.message_type.MessageTypeDetails.{MessageTypeDetails}
 use Rattle.iox_describe_verdict.specs.DescribeBase.declared.type_detail.TypeVariant.{TypeVariant}

@@ -1,3 +1,5 @@
 pub mod Length
 pub mod Plain
 pub mod Trees
+pub mod ReadBack
+pub mod JsonValuesLength

@@ -7,13 +7,13 @@ use Rattle.std.proofs.lemmas.Bool.{ltb-true}
 use Rattle.std.proofs.lemmas.Str.{IsUtf8-from_ascii}
 use Rattle.hex.specs.Hex.{encode_lower, lower_digits}
 use Rattle.hex.proofs.HexLemmas.{IsAscii-encode_with}
-use Rattle.iox_json.proofs.ReadBack.{IsUtf8-are_ascii, are_ascii}
+use Rattle.iox_describe.proofs.ReadBack.{IsUtf8-are_ascii, are_ascii}
 use Rattle.serde_json.specs.View.{items_of}
 use Rattle.serde_json.specs.Read.{read}
 use Rattle.serde_json.specs.Written.{has_float, items_have_float}
-use Rattle.iox_describe_verdict.specs.String.StringBytes.{IsStringBytes}
-use Rattle.iox_json.specs.Plain.{IsPlain, AreItems, AreMembers}
-use Rattle.iox_json.proofs.ReadBack.{plain-read, plain-utf8}
+use Rattle.iox_describe_verdict.specs.Container.StringBytes.{IsStringBytes}
+use Rattle.iox_describe.specs.Plain.{IsPlain, AreItems, AreMembers}
+use Rattle.iox_describe.proofs.ReadBack.{plain-read, plain-utf8}
 use Rattle.iox_describe_verdict.specs.DescribeBase.declared.attribute.Attribute.{Attribute}
 use Rattle.iox_describe_verdict.specs.DescribeBase.declared.message_type.MessageTypeDetails.{MessageTypeDetails}
 use Rattle.iox_describe_verdict.specs.DescribeBase.declared.type_detail.TypeVariant.{TypeVariant}

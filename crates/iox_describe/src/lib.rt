@@ -5,6 +5,7 @@
 //! | `writer` | a description as its one line |
 //! | `reader` | the description of a line, if the line is spelled as `encode` spells it |
 //! | `error` | why a line was not read |
+//! | `json_values` | looking into a JSON value by key |
 //!
 //! Names, types and attributes are in `iox_describe_base`, settings and the description in `iox_describe_settings`,
 //! what an opener requires of one in `iox_describe_verdict`; their items are named again here.
@@ -24,6 +25,7 @@
 #![tactic(auto)]
 
 pub mod error;
+mod json_values;
 pub mod reader;
 pub mod writer;
 

@@ -19,6 +19,7 @@ ghost use Rattle.iox_describe.specs.Reading.{AreFound};
 ghost use Rattle.iox_describe.specs.Within.{AreSettings, AreTypes, AreValues, HasForm, IsHash, IsTypeDetail, IsValue, IsWithinLimits};
 
 use crate::error::DescriptionError;
+use crate::json_values::{number_at, text_at};
 use crate::writer::encode;
 use iox_describe_base::{
     AttributeSpecifier, MessageTypeDetails, MessagingPattern, ServiceHash, ServiceName, TypeDetail,
@@ -28,7 +29,6 @@ use iox_describe_settings::{
     Description, PatternSetting, Rule, SettingValue, Settings, event, publish_subscribe,
     request_response,
 };
-use iox_json::{number_at, text_at};
 use serde_json::Value;
 use std::alloc::Global;
 

@@ -1,1 +1,2 @@
 pub mod CompatibleLemmas
+pub mod ArrayNames

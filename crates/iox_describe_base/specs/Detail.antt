@@ -1,5 +1,5 @@
 -- How a type lies in memory.
-use Rattle.std.specs.Prelude.{ℕ, ◌≤◌, List}
+use Rattle.std.specs.Prelude.{ℕ, ◌≤◌, ◌++◌, List, codes, decimal}
 use Rattle.iox_describe_base.specs.declared.type_detail.TypeVariant.{TypeVariant}
 use Rattle.iox_describe_base.specs.Limits.{IsText}
 
@@ -17,3 +17,7 @@ detail variant name size alignment = record { variant = variant; name = name; si
 -- the name has 1 to 255 bytes of 1 to 127, and the alignment is at least 1
 abbrev pub IsDetail : Detail → Type 0
 IsDetail d = IsText 1 255 d.name × (1 ≤ d.alignment)
+
+-- the name of an array of n elements of a type of this name
+abbrev pub array_name : List ℕ → ℕ → List ℕ
+array_name name n = codes "[" ++ name ++ codes "; " ++ decimal n ++ codes "]"

@@ -6,4 +6,4 @@ pub mod Hash
 pub mod Few
 pub mod Attributes
 pub mod SameAttributes
-pub use Rattle.iox_string.specs as String
+pub use Rattle.iox_container.specs as Container

@@ -7,7 +7,7 @@ use crate::few::Few;
 use crate::limits::{
     LimitError, MAX_ATTRIBUTE_KEY_LENGTH, MAX_ATTRIBUTE_VALUE_LENGTH, MAX_ATTRIBUTES,
 };
-use iox_string::StaticString;
+use iox_container::string::StaticString;
 use std::alloc::{AllocError, Global};
 use std::marker::Model;
 use thiserror::Error;

@@ -3,7 +3,7 @@ ghost use Rattle.std.specs.Prelude.{◌≡◌, ◌↔◌, IsOk, IfOk, Some};
 ghost use Rattle.iox_describe_base.specs.Limits.{IsText};
 
 use crate::limits::{LimitError, MAX_SERVICE_NAME_LENGTH};
-use iox_string::{StaticString, String};
+use iox_container::string::{StaticString, String};
 use std::fmt;
 use std::marker::Model;
 
@@ -58,6 +58,17 @@ impl ServiceName {
         ensures within { IsText 1 255 self.now }
     {
         self.value.as_bytes()
+    }
+}
+
+/// As `new`, of the bytes of the text.
+impl TryFrom<&str> for ServiceName {
+    type Error = LimitError;
+
+    ghost try_from_gives = { λ text r. (IsOk r ↔ IsText 1 255 text.now) × IfOk r (λ name. name ≡ text.now) };
+
+    fn try_from(text: &str) -> Result<ServiceName, LimitError> {
+        ServiceName::new(text.as_bytes())
     }
 }
 

@@ -3,7 +3,7 @@ ghost use Rattle.std.specs.Prelude.{◌≡◌, ◌≤◌, ◌↔◌, IsOk, IfOk}
 ghost use Rattle.iox_describe_base.specs.Limits.{IsText};
 
 use crate::limits::{LimitError, MAX_TYPE_NAME_LENGTH};
-use iox_string::{StaticString, String as _};
+use iox_container::string::{StaticString, String as _};
 use std::marker::Model;
 
 /// Whether a value of a type is one element or a slice of them.
@@ -71,8 +71,8 @@ impl TypeDetail {
         }
     }
 
-    /// The detail of a type whose name is known to be within the limits.
-    pub(crate) fn known(variant: TypeVariant, name: &[u8], size: u64, alignment: u64) -> Self
+    /// The detail of a type whose name is known to be within the limits, as that of a type that says its own.
+    pub fn known(variant: TypeVariant, name: &[u8], size: u64, alignment: u64) -> Self
         requires name { IsText 1 255 name.now }
         requires alignment { 1 ≤ alignment }
         ensures { result ≡ detail variant name.now size alignment }

@@ -2,6 +2,8 @@
 ghost use Rattle.std.specs.Prelude.{◌≡◌, ℕ, List, codes};
 ghost use Rattle.iox_describe_base.specs.Detail.{detail};
 
+mod arrays;
+
 use crate::header::Header;
 use crate::type_detail::{TypeDetail, TypeVariant};
 
@@ -165,6 +167,42 @@ impl ZeroCopySend for isize {
 
     fn type_detail(variant: TypeVariant) -> TypeDetail {
         TypeDetail::known(variant, b"isize", 8, 8)
+    }
+}
+
+impl ZeroCopySend for f32 {
+    ghost name = { codes "f32" };
+
+    ghost size = { 4 };
+
+    ghost alignment = { 4 };
+
+    fn type_detail(variant: TypeVariant) -> TypeDetail {
+        TypeDetail::known(variant, b"f32", 4, 4)
+    }
+}
+
+impl ZeroCopySend for f64 {
+    ghost name = { codes "f64" };
+
+    ghost size = { 8 };
+
+    ghost alignment = { 8 };
+
+    fn type_detail(variant: TypeVariant) -> TypeDetail {
+        TypeDetail::known(variant, b"f64", 8, 8)
+    }
+}
+
+impl ZeroCopySend for char {
+    ghost name = { codes "char" };
+
+    ghost size = { 4 };
+
+    ghost alignment = { 4 };
+
+    fn type_detail(variant: TypeVariant) -> TypeDetail {
+        TypeDetail::known(variant, b"char", 4, 4)
     }
 }
 

@@ -6,5 +6,5 @@ pub mod RequestResponseSettings
 pub mod Agreement
 pub mod SameAgreement
 pub use Rattle.iox_describe_base.specs as DescribeBase
-pub use Rattle.iox_describe_base.specs.String as String
+pub use Rattle.iox_describe_base.specs.Container as Container
 pub use Rattle.iox_describe_base.proofs.CompatibleLemmas as CompatibleLemmas

@@ -11,4 +11,4 @@ pub mod RequestResponseLaws
 pub mod Patterns
 pub use Rattle.iox_describe_settings.specs.DescribeBase as DescribeBase
 pub use Rattle.iox_describe_settings.specs as DescribeSettings
-pub use Rattle.iox_describe_settings.specs.String as String
+pub use Rattle.iox_describe_settings.specs.Container as Container

@@ -7,7 +7,7 @@ use Rattle.std.specs.List.{remove}
 use Rattle.iox_domain_ports.specs.DomainSlots.Uses.{Connection, nobody, given_back, ended, settled}
 use Rattle.iox_domain_ports.specs.DomainSlots.declared.stage.Stage.{Stage}
 use Rattle.iox_domain_ports.specs.DomainSlots.declared.stage.Stage.TheVariants as stage
-use Rattle.iox_domain_ports.specs.DomainSender.Messages.{Message}
+use Rattle.iox_domain_ports.specs.DomainPublisher.Messages.{Message}
 use Rattle.iox_domain_ports.specs.DomainPublisher.Leaving.{parted_at, parted_from, departed}
 use Rattle.iox_domain_ports.specs.DomainPublisher.Places.{leads_to, left, is_attached}
 use Rattle.iox_domain_ports.specs.DomainPublisher.Ports.{connection_of, connection_to, goes_on, is_live, with_connection_of, detached_at, ended_at, Joins, attached_at}

@@ -12,8 +12,8 @@ use Rattle.iox_domain_ports.specs.DomainValues.declared.port_error.LoanError.{Lo
 use Rattle.iox_domain_ports.specs.DomainValues.declared.port_error.SendError.{SendError}
 use Rattle.iox_domain_ports.specs.DomainValues.declared.port_error.SendError.TheVariants as sending
 use Rattle.iox_domain_ports.specs.DomainSlots.Uses.{nobody}
-use Rattle.iox_domain_ports.specs.DomainSender.Messages.{Message, Loan}
-use Rattle.iox_domain_ports.specs.DomainSender.Sending.{opened_for, is_written_at}
+use Rattle.iox_domain_ports.specs.DomainPublisher.Messages.{Message, Loan}
+use Rattle.iox_domain_ports.specs.DomainPublisher.MessagesSending.{opened_for, is_written_at}
 use Rattle.iox_domain_ports.proofs.DomainPublisher.Finding.{at_place}
 use Rattle.iox_domain_ports.specs.DomainPublisher.Lengths.{extent}
 use Rattle.iox_domain_ports.specs.DomainPublisher.Loaning.{with_sender, LendsHere, LendsInNew, LendsBeyond, LendsWhere, LendsUnless, LoansIf, first_refusal}

@@ -7,7 +7,7 @@ use Rattle.iox_domain_ports.specs.DomainValues.declared.degradation.DegradationA
 use Rattle.iox_domain_ports.specs.DomainValues.declared.degradation.DegradationInfo.{DegradationInfo}
 use Rattle.iox_domain_ports.specs.DomainValues.declared.port_error.ReceiveError.{ReceiveError}
 use Rattle.iox_domain_ports.specs.DomainSlots.Uses.{Connection, nobody, taken}
-use Rattle.iox_domain_ports.specs.DomainSender.Messages.{Message}
+use Rattle.iox_domain_ports.specs.DomainPublisher.Messages.{Message}
 use Rattle.iox_domain_ports.specs.DomainPublisher.Ports.{connection_of, goes_on}
 use Rattle.iox_domain_ports.specs.DomainPublisher.declared.publisher_port.PublisherPort.{PublisherPort}
 use Rattle.iox_domain_ports.specs.DomainSubscriber.Publishers.{port_of, port_stands, with_port, changed, changed_at_port, connection_in, connection_at_port}

@@ -4,7 +4,7 @@ use Rattle.iox_domain_ports.specs.DomainValues.declared.backpressure.Backpressur
 use Rattle.iox_domain_ports.specs.DomainValues.declared.backpressure.BackpressureInfo.{BackpressureInfo}
 use Rattle.iox_domain_ports.specs.DomainValues.declared.port_error.SendError.{SendError}
 use Rattle.iox_domain_ports.specs.DomainSlots.Uses.{Connection, nobody, offered}
-use Rattle.iox_domain_ports.specs.DomainSender.Messages.{Message, Loan, sent_as}
+use Rattle.iox_domain_ports.specs.DomainPublisher.Messages.{Message, Loan, sent_as}
 use Rattle.iox_domain_ports.specs.DomainPublisher.Places.{leads_to}
 use Rattle.iox_domain_ports.specs.DomainPublisher.Ports.{connection_of, goes_on}
 use Rattle.iox_domain_ports.specs.DomainPublisher.Sending.{concluded, Finishes, begun_by}

@@ -16,8 +16,8 @@ use Rattle.iox_domain_ports.specs.DomainValues.declared.degradation.DegradationA
 use Rattle.iox_domain_ports.specs.DomainValues.declared.degradation.DegradationInfo.{DegradationInfo}
 use Rattle.iox_domain_ports.specs.DomainValues.declared.port_error.LoanError.{LoanError}
 use Rattle.iox_domain_ports.specs.DomainValues.declared.port_error.SendError.{SendError}
-use Rattle.iox_domain_ports.specs.DomainSender.Messages.{Loan}
-use Rattle.iox_domain_ports.specs.DomainSender.Sending.{is_written_at}
+use Rattle.iox_domain_ports.specs.DomainPublisher.Messages.{Loan}
+use Rattle.iox_domain_ports.specs.DomainPublisher.MessagesSending.{is_written_at}
 use Rattle.iox_domain_ports.specs.DomainPublisher.Leaving.{departed}
 use Rattle.iox_domain_ports.specs.DomainPublisher.Loaning as lending
 use Rattle.iox_domain_ports.specs.DomainPublisher.Progress.{tried_again}

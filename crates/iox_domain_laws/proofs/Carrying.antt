@@ -11,10 +11,10 @@ use Rattle.iox_domain_ports.specs.DomainValues.declared.degradation.DegradationI
 use Rattle.iox_domain_ports.specs.DomainValues.declared.port_error.LoanError.{LoanError}
 use Rattle.iox_domain_ports.specs.DomainValues.declared.port_error.SendError.{SendError}
 use Rattle.iox_domain_ports.specs.DomainSlots.Uses.{offered, Connection}
-use Rattle.iox_domain_ports.specs.DomainSender.Messages.{Message, Loan}
+use Rattle.iox_domain_ports.specs.DomainPublisher.Messages.{Message, Loan}
 use Rattle.iox_domain_ports.specs.DomainPublisher.Lengths.{extent}
 use Rattle.iox_domain_ports.specs.DomainPublisher.Loaning.{with_sender, LendsHere, LendsInNew, LendsBeyond, LendsWhere, LendsUnless, LoansIf, first_refusal}
-use Rattle.iox_domain_ports.specs.DomainSender.Sending.{opened_for}
+use Rattle.iox_domain_ports.specs.DomainPublisher.MessagesSending.{opened_for}
 use Rattle.iox_domain_ports.specs.DomainPublisher.Ports.{connection_of, with_connection_of, is_live}
 use Rattle.iox_domain_ports.specs.DomainPublisher.Progress.{tried_again}
 use Rattle.iox_domain_ports.specs.DomainPublisher.Sending.{with_message, met_by, met, meeting_at, with_progress, decided_by, Steps, GoesOn, Delivers, concluded, Finishes, begun_by, begun_at, dropped_at, SendsAfter, SendsIf, Sends}

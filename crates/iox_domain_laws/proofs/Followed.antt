@@ -8,7 +8,7 @@ use Rattle.iox_domain_ports.specs.DomainValues.declared.connection_failure.Conne
 use Rattle.iox_domain_ports.specs.DomainValues.declared.degradation.DegradationAction.{DegradationAction}
 use Rattle.iox_domain_ports.specs.DomainValues.declared.degradation.DegradationInfo.{DegradationInfo}
 use Rattle.iox_domain_ports.specs.DomainSlots.Uses.{nobody, newest, ended, welcomed}
-use Rattle.iox_domain_ports.specs.DomainSender.Messages.{Message}
+use Rattle.iox_domain_ports.specs.DomainPublisher.Messages.{Message}
 use Rattle.iox_domain_ports.specs.DomainPublisher.Places.{leads_to, reached}
 use Rattle.iox_domain_ports.specs.DomainPublisher.Ports.{connection_of, connection_to, goes_on, is_live, with_connection_of, greeted_at, Joins}
 use Rattle.iox_domain_ports.specs.DomainPublisher.Ties.{tie_put}

@@ -14,7 +14,7 @@ use Rattle.iox_domain_ports.specs.DomainValues.declared.port_error.SendError.{Se
 use Rattle.iox_domain_ports.specs.DomainValues.declared.port_owner.PortOwner.{PortOwner}
 use Rattle.iox_domain_ports.specs.DomainValues.Sizes.{buffer_of}
 use Rattle.iox_domain_ports.specs.DomainSlots.Uses.{nobody}
-use Rattle.iox_domain_ports.specs.DomainSender.Messages.{Message}
+use Rattle.iox_domain_ports.specs.DomainPublisher.Messages.{Message}
 use Rattle.iox_domain_ports.specs.DomainPublisher.Leaving.{new_port, departed}
 use Rattle.iox_domain_ports.specs.DomainPublisher.Ports.{connection_of}
 use Rattle.iox_domain_ports.specs.DomainPublisher.Writing.{changed_if, given_up, loan_of}

@@ -6,7 +6,7 @@ use Rattle.std.proofs.lemmas.List.Folds.{find-append}
 use Rattle.iox_domain_ports.specs.DomainSlots.Uses.{Connection, nobody, connected, placed, ended, settled, taken}
 use Rattle.iox_domain_ports.specs.DomainSlots.declared.stage.Stage.{Stage}
 use Rattle.iox_domain_ports.specs.DomainSlots.declared.stage.Stage.TheVariants as stage
-use Rattle.iox_domain_ports.specs.DomainSender.Messages.{Message}
+use Rattle.iox_domain_ports.specs.DomainPublisher.Messages.{Message}
 use Rattle.iox_domain_ports.specs.DomainPublisher.Ports.{connection_of, goes_on, is_live, ended_at}
 use Rattle.iox_domain_ports.specs.DomainPublisher.declared.publisher_port.PublisherPort.{PublisherPort}
 use Rattle.iox_domain_laws.specs.SizeLaws.{MadeFor, made_for, IsWithin}

@@ -6,7 +6,7 @@ use Rattle.std.specs.declared.alloc.AllocError.{AllocError}
 use Rattle.iox_domain_ports.specs.DomainSlots.Uses.{Connection, nobody, is_open, is_there}
 use Rattle.iox_domain_ports.specs.DomainSlots.declared.stage.Stage.{Stage}
 use Rattle.iox_domain_ports.specs.DomainSlots.declared.stage.Stage.TheVariants as stage
-use Rattle.iox_domain_ports.specs.DomainSender.Messages.{Message}
+use Rattle.iox_domain_ports.specs.DomainPublisher.Messages.{Message}
 use Rattle.iox_domain_ports.specs.DomainPublisher.Ports.{connection_of, detached_at, ended_at}
 use Rattle.iox_domain_ports.specs.DomainPublisher.declared.publisher_port.PublisherPort.{PublisherPort}
 use Rattle.iox_domain_ports.specs.DomainSubscriber.Publishers.{port_of, with_port, changed, changed_at_port, is_over_port, is_over_in, removed, settled, ended_if_left, AttachesAtPort, connection_at_port, most_borrowed_at_port}

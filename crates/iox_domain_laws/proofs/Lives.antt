@@ -10,7 +10,7 @@ use Rattle.iox_domain_ports.specs.DomainValues.declared.degradation.DegradationA
 use Rattle.iox_domain_ports.specs.DomainValues.declared.degradation.DegradationInfo.{DegradationInfo}
 use Rattle.iox_domain_ports.specs.DomainValues.declared.port_error.SendError.{SendError}
 use Rattle.iox_domain_ports.specs.DomainValues.declared.port_error.SendError.TheVariants as sending
-use Rattle.iox_domain_ports.specs.DomainSender.Messages.{Message}
+use Rattle.iox_domain_ports.specs.DomainPublisher.Messages.{Message}
 use Rattle.iox_domain_ports.specs.DomainPublisher.Leaving.{parted_at, parted_from, departed}
 use Rattle.iox_domain_ports.specs.DomainPublisher.Places.{is_attached}
 use Rattle.iox_domain_ports.specs.DomainPublisher.Ports.{Joins, connection_to, connection_of, is_live, ended_at, welcomed_at, greeted_at}

@@ -7,7 +7,7 @@ use Rattle.iox_domain_ports.specs.DomainValues.declared.backpressure.Backpressur
 use Rattle.iox_domain_ports.specs.DomainValues.declared.backpressure.BackpressureInfo.{BackpressureInfo}
 use Rattle.iox_domain_ports.specs.DomainValues.declared.port_error.SendError.{SendError}
 use Rattle.iox_domain_ports.specs.DomainSlots.Uses.{Connection, accepts, nobody, offered}
-use Rattle.iox_domain_ports.specs.DomainSender.Messages.{Message}
+use Rattle.iox_domain_ports.specs.DomainPublisher.Messages.{Message}
 use Rattle.iox_domain_ports.specs.DomainPublisher.Places.{unheard}
 use Rattle.iox_domain_ports.specs.DomainPublisher.Ports.{connection_of, goes_on, is_live}
 use Rattle.iox_domain_ports.specs.DomainPublisher.Progress.{ProgressState}

@@ -9,8 +9,8 @@ use Rattle.std.proofs.lemmas.Map.Entries.{sum_by-set_value, sum_by-remove_entry}
 use Rattle.iox_domain_ports.specs.DomainValues.declared.data_segment.AllocationStrategy.{AllocationStrategy}
 use Rattle.iox_domain_ports.specs.DomainValues.declared.port_error.LoanError.{LoanError}
 use Rattle.iox_domain_ports.specs.DomainSlots.Uses.{is_there}
-use Rattle.iox_domain_ports.specs.DomainSender.Messages.{new_loan}
-use Rattle.iox_domain_ports.specs.DomainSender.Sending.{opened_for}
+use Rattle.iox_domain_ports.specs.DomainPublisher.Messages.{new_loan}
+use Rattle.iox_domain_ports.specs.DomainPublisher.MessagesSending.{opened_for}
 use Rattle.iox_domain_ports.specs.DomainPublisher.Loaning.{with_sender, LendsHere, LendsBeyond, LendsWhere, LendsUnless, Lends, first_refusal, LacksMemory}
 use Rattle.iox_domain_ports.specs.DomainPublisher.declared.publisher_port.PublisherPort.{PublisherPort}
 use Rattle.iox_domain_ports.specs.DomainSubscriber.Living.{living_of_publisher, counted, living_publishers}

@@ -10,7 +10,7 @@ use Rattle.iox_domain_ports.specs.DomainValues.declared.degradation.DegradationI
 use Rattle.iox_domain_ports.specs.DomainValues.declared.port_error.LoanError.{LoanError}
 use Rattle.iox_domain_ports.specs.DomainValues.declared.port_error.SendError.{SendError}
 use Rattle.iox_domain_ports.specs.DomainSlots.Uses.{Connection, welcomed, newest, taken}
-use Rattle.iox_domain_ports.specs.DomainSender.Messages.{Message, Loan}
+use Rattle.iox_domain_ports.specs.DomainPublisher.Messages.{Message, Loan}
 use Rattle.iox_domain_ports.specs.DomainPublisher.Leaving.{parted_at, parted_from, departed}
 use Rattle.iox_domain_ports.specs.DomainPublisher.Places.{is_attached}
 use Rattle.iox_domain_ports.specs.DomainPublisher.Ports.{connection_of, connection_to, is_live, greeted_at, welcomed_at, Joins, Attaches, detached_at}

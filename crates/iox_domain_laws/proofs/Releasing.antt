@@ -7,7 +7,7 @@ use Rattle.std.specs.List.{All, find, remove}
 use Rattle.iox_domain_ports.specs.DomainSlots.Uses.{Connection, nobody, given_back, settled}
 use Rattle.iox_domain_ports.specs.DomainSlots.declared.stage.Stage.{Stage}
 use Rattle.iox_domain_ports.specs.DomainSlots.declared.stage.Stage.TheVariants as stage
-use Rattle.iox_domain_ports.specs.DomainSender.Messages.{Message}
+use Rattle.iox_domain_ports.specs.DomainPublisher.Messages.{Message}
 use Rattle.iox_domain_ports.specs.DomainPublisher.Ports.{connection_of}
 use Rattle.iox_domain_ports.specs.DomainPublisher.declared.publisher_port.PublisherPort.{PublisherPort}
 use Rattle.iox_domain_ports.specs.DomainSubscriber.Publishers.{port_of, connection_in, connection_at_port, with_port, changed, changed_at_port, released}

@@ -9,7 +9,7 @@ use Rattle.iox_domain_ports.specs.DomainValues.declared.degradation.DegradationA
 use Rattle.iox_domain_ports.specs.DomainValues.declared.degradation.DegradationInfo.{DegradationInfo}
 use Rattle.iox_domain_ports.specs.DomainSlots.Uses.{Connection, nobody, is_there, ended, settled as settled_connection, taken}
 use Rattle.iox_domain_ports.specs.DomainSlots.declared.stage.Stage.TheVariants as stage
-use Rattle.iox_domain_ports.specs.DomainSender.Messages.{Message}
+use Rattle.iox_domain_ports.specs.DomainPublisher.Messages.{Message}
 use Rattle.iox_domain_ports.specs.DomainPublisher.Ports.{connection_of, is_live, ended_at}
 use Rattle.iox_domain_ports.specs.DomainPublisher.declared.publisher_port.PublisherPort.{PublisherPort}
 use Rattle.iox_domain_ports.specs.DomainSubscriber.Publishers.{port_of, with_port, changed, changed_at_port, connection_at_port, is_over_port, is_over_in, removed, settled, ended_if_left}

@@ -9,7 +9,7 @@ use Rattle.iox_domain_ports.specs.DomainValues.declared.connection_failure.Conne
 use Rattle.iox_domain_ports.specs.DomainValues.declared.degradation.DegradationAction.{DegradationAction}
 use Rattle.iox_domain_ports.specs.DomainValues.declared.degradation.DegradationInfo.{DegradationInfo}
 use Rattle.iox_domain_ports.specs.DomainSlots.Uses.{Connection, nobody, connected, ended, welcomed}
-use Rattle.iox_domain_ports.specs.DomainSender.Messages.{Message}
+use Rattle.iox_domain_ports.specs.DomainPublisher.Messages.{Message}
 use Rattle.iox_domain_ports.specs.DomainPublisher.Places.{reached, leads_to}
 use Rattle.iox_domain_ports.specs.DomainPublisher.Ports.{connection_of, connection_to, goes_on, is_live, greeted_at, with_connection_of, Connects, Joins, Attaches, attached_at}
 use Rattle.iox_domain_ports.specs.DomainPublisher.Ties.{tie_put}

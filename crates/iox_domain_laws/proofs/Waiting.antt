@@ -15,9 +15,9 @@ use Rattle.iox_domain_ports.specs.DomainValues.declared.port_error.LoanError.{Lo
 use Rattle.iox_domain_ports.specs.DomainValues.declared.port_error.ReceiveError.{ReceiveError}
 use Rattle.iox_domain_ports.specs.DomainValues.declared.port_error.SendError.{SendError}
 use Rattle.iox_domain_ports.specs.DomainValues.declared.port_owner.PortOwner.{PortOwner}
-use Rattle.iox_domain_ports.specs.DomainSender.Messages.{Loan}
+use Rattle.iox_domain_ports.specs.DomainPublisher.Messages.{Loan}
 use Rattle.iox_domain_ports.specs.DomainSlots.Uses.{is_there}
-use Rattle.iox_domain_ports.specs.DomainSender.Sending.{is_written_at}
+use Rattle.iox_domain_ports.specs.DomainPublisher.MessagesSending.{is_written_at}
 use Rattle.iox_domain_ports.specs.DomainPublisher.Leaving.{departed}
 use Rattle.iox_domain_ports.specs.DomainPublisher.Loaning as loaning
 use Rattle.iox_domain_ports.specs.DomainPublisher.Ports.{connection_to, is_live, ended_at, detached_at, attached_at, Joins}

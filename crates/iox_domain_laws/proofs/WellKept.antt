@@ -12,7 +12,7 @@ use Rattle.iox_domain_ports.specs.DomainValues.declared.port_error.SendError.{Se
 use Rattle.iox_domain_ports.specs.DomainSlots.Uses.{taken, given_back, settled}
 use Rattle.iox_domain_ports.specs.DomainSlots.declared.stage.Stage.{Stage}
 use Rattle.iox_domain_ports.specs.DomainSlots.declared.stage.Stage.TheVariants as stage
-use Rattle.iox_domain_ports.specs.DomainSender.Messages.{Message}
+use Rattle.iox_domain_ports.specs.DomainPublisher.Messages.{Message}
 use Rattle.iox_domain_ports.specs.DomainPublisher.Leaving.{parted_at, parted_from, departed}
 use Rattle.iox_domain_ports.specs.DomainPublisher.Places.{leads_to, left, is_attached}
 use Rattle.iox_domain_ports.specs.DomainPublisher.Ports.{connection_of, connection_to, goes_on, is_live, ended_at, detached_at, Joins, Attaches}

@@ -11,7 +11,7 @@ use Rattle.iox_domain_ports.specs.DomainValues.declared.port_error.LoanError.{Lo
 use Rattle.iox_domain_ports.specs.DomainValues.declared.port_error.ReceiveError.{ReceiveError}
 use Rattle.iox_domain_ports.specs.DomainValues.declared.port_error.SendError.{SendError}
 use Rattle.iox_domain_ports.specs.DomainValues.declared.port_owner.PortOwner.{PortOwner}
-use Rattle.iox_domain_ports.specs.DomainSender.Messages.{Loan}
+use Rattle.iox_domain_ports.specs.DomainPublisher.Messages.{Loan}
 use Rattle.iox_domain_ports.specs.DomainPublisher.declared.meeting.Sent.{Sent}
 use Rattle.iox_domain_ports.specs.DomainPublisher.declared.publisher_port.PublisherPort.{PublisherPort}
 use Rattle.iox_domain_ports.specs.DomainSubscriber.Publishers.{port_of}

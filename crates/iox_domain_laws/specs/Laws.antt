@@ -12,7 +12,7 @@ use Rattle.iox_domain_ports.specs.DomainValues.declared.port_error.SendError.The
 use Rattle.iox_domain_ports.specs.DomainValues.declared.service_sizes.ServiceSizes.{ServiceSizes}
 use Rattle.iox_domain_ports.specs.DomainSlots.Uses.{nobody, offered}
 use Rattle.iox_domain_ports.specs.DomainSlots.declared.stage.Stage.TheVariants as stage
-use Rattle.iox_domain_ports.specs.DomainSender.Messages.{Message}
+use Rattle.iox_domain_ports.specs.DomainPublisher.Messages.{Message}
 use Rattle.iox_domain_ports.specs.DomainPublisher.Places.{leads_to}
 use Rattle.iox_domain_ports.specs.DomainPublisher.Ports.{connection_of, connection_to, is_live}
 use Rattle.iox_domain_ports.specs.DomainPublisher.Sending.{Finishes}

@@ -12,7 +12,6 @@ pub use Rattle.iox_domain_ports.specs.Container as Container
 pub use Rattle.iox_domain_ports.specs.DescribeBase as DescribeBase
 pub use Rattle.iox_domain_ports.specs as DomainPorts
 pub use Rattle.iox_domain_ports.specs.DomainPublisher as DomainPublisher
-pub use Rattle.iox_domain_ports.specs.DomainSender as DomainSender
 pub use Rattle.iox_domain_ports.specs.DomainSlots as DomainSlots
 pub use Rattle.iox_domain_ports.specs.DomainSubscriber as DomainSubscriber
 pub use Rattle.iox_domain_ports.specs.DomainValues as DomainValues

@@ -8,7 +8,7 @@ use Rattle.iox_domain_ports.specs.DomainValues.declared.port_error.ReceiveError.
 use Rattle.iox_domain_ports.specs.DomainValues.declared.port_error.SendError.{SendError}
 use Rattle.iox_domain_ports.specs.DomainValues.declared.port_error.SendError.TheVariants as sending
 use Rattle.iox_domain_ports.specs.DomainValues.declared.service_sizes.ServiceSizes.{ServiceSizes}
-use Rattle.iox_domain_ports.specs.DomainSender.Messages.{Message, Loan, sent_as}
+use Rattle.iox_domain_ports.specs.DomainPublisher.Messages.{Message, Loan, sent_as}
 use Rattle.iox_domain_ports.specs.DomainPublisher.Places.{leads_to}
 use Rattle.iox_domain_ports.specs.DomainPublisher.Ports.{is_live}
 use Rattle.iox_domain_ports.specs.DomainPublisher.declared.meeting.Sent.{Sent}

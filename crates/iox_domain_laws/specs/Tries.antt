@@ -6,7 +6,7 @@ use Rattle.iox_domain_ports.specs.DomainValues.declared.degradation.DegradationA
 use Rattle.iox_domain_ports.specs.DomainValues.declared.degradation.DegradationInfo.{DegradationInfo}
 use Rattle.iox_domain_ports.specs.DomainValues.declared.port_error.SendError.{SendError}
 use Rattle.iox_domain_ports.specs.DomainSlots.Uses.{accepts, offered}
-use Rattle.iox_domain_ports.specs.DomainSender.Messages.{Message, Loan}
+use Rattle.iox_domain_ports.specs.DomainPublisher.Messages.{Message, Loan}
 use Rattle.iox_domain_ports.specs.DomainPublisher.Ports.{connection_of, is_live}
 use Rattle.iox_domain_ports.specs.DomainPublisher.Sending.{begun_by, Finishes}
 use Rattle.iox_domain_ports.specs.DomainPublisher.declared.meeting.Sent.{Sent}

@@ -14,7 +14,7 @@ use Rattle.iox_domain_subscriber.specs.DomainValues.declared.degradation.Degrada
 use Rattle.iox_domain_subscriber.specs.DomainValues.declared.degradation.DegradationInfo.{DegradationInfo}
 use Rattle.iox_domain_subscriber.specs.DomainValues.declared.port_owner.PortIdentity.{PortIdentity}
 use Rattle.iox_domain_subscriber.specs.DomainValues.declared.port_owner.PortOwner.{PortOwner}
-use Rattle.iox_domain_subscriber.specs.DomainSender.declared.sender_config.SenderConfig.{SenderConfig}
+use Rattle.iox_domain_subscriber.specs.DomainPublisher.declared.messages.sender_config.SenderConfig.{SenderConfig}
 use Rattle.iox_domain_subscriber.specs.DomainPublisher.Leaving.{new_port}
 use Rattle.iox_domain_subscriber.specs.DomainPublisher.Updating as publisher
 use Rattle.iox_domain_subscriber.specs.DomainPublisher.declared.publisher_port.PublisherPort.{PublisherPort}

@@ -2,7 +2,7 @@
 use Rattle.std.specs.Prelude.{ℕ, ◌≡◌, Bool, true, false, Option, None, Some, option_map, Result}
 use Rattle.iox_describe_base.specs.declared.header.Header.{Header}
 use Rattle.iox_domain_subscriber.specs.DomainValues.declared.port_error.LoanError.{LoanError}
-use Rattle.iox_domain_subscriber.specs.DomainSender.Messages.{Loan}
+use Rattle.iox_domain_subscriber.specs.DomainPublisher.Messages.{Loan}
 use Rattle.iox_domain_subscriber.specs.DomainPublisher.Loaning.{Loans}
 use Rattle.iox_domain_subscriber.specs.DomainPublisher.Writing.{loan_of, changed_if, changed_there, given_up}
 use Rattle.iox_domain_subscriber.specs.DomainPublisher.declared.publisher_port.PublisherPort.{PublisherPort}

@@ -12,7 +12,6 @@ pub mod Living
 pub use Rattle.iox_domain_subscriber.specs.Container as Container
 pub use Rattle.iox_describe_base.specs as DescribeBase
 pub use Rattle.iox_domain_subscriber.specs.DomainPublisher as DomainPublisher
-pub use Rattle.iox_domain_subscriber.specs.DomainSender as DomainSender
 pub use Rattle.iox_domain_subscriber.specs.DomainSlots as DomainSlots
 pub use Rattle.iox_domain_subscriber.specs as DomainSubscriber
 pub use Rattle.iox_domain_subscriber.specs.DomainValues as DomainValues

@@ -1,7 +1,7 @@
 -- What is read of a sample.
 use Rattle.std.specs.Prelude.{Option, None, Some, option_map}
 use Rattle.iox_describe_base.specs.declared.header.Header.{Header}
-use Rattle.iox_domain_subscriber.specs.DomainSender.Messages.{Message}
+use Rattle.iox_domain_subscriber.specs.DomainPublisher.Messages.{Message}
 use Rattle.iox_domain_subscriber.specs.DomainPublisher.Ports.{connection_of}
 use Rattle.iox_domain_subscriber.specs.DomainPublisher.declared.publisher_port.PublisherPort.{PublisherPort}
 use Rattle.iox_domain_subscriber.specs.Publishers.{port_of}

@@ -1,13 +1,13 @@
 -- A send by its parts.
 use Rattle.std.proofs.Common.{◌≡◌, ◌≢◌, ℕ, Bool, true, false, List, Result, Ok, Err, Option, Some, refl, sym, ◌∙◌, if◌then◌else◌}
-use Rattle.iox_domain_sender.specs.DomainValues.declared.backpressure.BackpressureInfo.{BackpressureInfo}
-use Rattle.iox_domain_sender.specs.DomainValues.declared.backpressure.BackpressureDecision.{BackpressureDecision}
-use Rattle.iox_domain_sender.specs.DomainValues.declared.connection_failure.ConnectionFailure.{ConnectionFailure}
-use Rattle.iox_domain_sender.specs.DomainValues.declared.degradation.DegradationAction.{DegradationAction}
-use Rattle.iox_domain_sender.specs.DomainValues.declared.degradation.DegradationInfo.{DegradationInfo}
-use Rattle.iox_domain_sender.specs.DomainValues.declared.port_error.SendError.{SendError}
-use Rattle.iox_domain_sender.specs.DomainValues.declared.port_error.SendError.TheVariants as sending
-use Rattle.iox_domain_sender.specs.IndexBase.declared.container.Member.{Member}
+use Rattle.iox_domain_publisher.specs.DomainValues.declared.backpressure.BackpressureInfo.{BackpressureInfo}
+use Rattle.iox_domain_publisher.specs.DomainValues.declared.backpressure.BackpressureDecision.{BackpressureDecision}
+use Rattle.iox_domain_publisher.specs.DomainValues.declared.connection_failure.ConnectionFailure.{ConnectionFailure}
+use Rattle.iox_domain_publisher.specs.DomainValues.declared.degradation.DegradationAction.{DegradationAction}
+use Rattle.iox_domain_publisher.specs.DomainValues.declared.degradation.DegradationInfo.{DegradationInfo}
+use Rattle.iox_domain_publisher.specs.DomainValues.declared.port_error.SendError.{SendError}
+use Rattle.iox_domain_publisher.specs.DomainValues.declared.port_error.SendError.TheVariants as sending
+use Rattle.iox_domain_publisher.specs.IndexBase.declared.container.Member.{Member}
 use Rattle.iox_domain_publisher.specs.declared.meeting.Sent.{Sent}
 use Rattle.iox_domain_publisher.specs.declared.meeting.Sent.TheVariants as sent
 use Rattle.iox_domain_publisher.specs.declared.publisher_port.PublisherPort.{PublisherPort}

@@ -1,9 +1,9 @@
 -- A loan that is out begins to be sent.
 use Rattle.std.proofs.Common.{◌≡◌, ◌<◌, ℕ, zero, suc, true, List, [], ◌∷◌, length, slice_get, Some, is_some, refl, ap}
 use Rattle.std.proofs.Common.{arith}
-use Rattle.iox_domain_sender.specs.DomainSlots.Uses.{begun}
-use Rattle.iox_domain_sender.specs.Messages.{Loan, sent_as}
-use Rattle.iox_domain_sender.specs.Sending.{SenderState, with_uses}
+use Rattle.iox_domain_publisher.specs.DomainSlots.Uses.{begun}
+use Rattle.iox_domain_publisher.specs.Messages.{Loan, sent_as}
+use Rattle.iox_domain_publisher.specs.MessagesSending.{SenderState, with_uses}
 
 -- a place of a list has something
 there : {X : Type 0} (xs : List X) (at : ℕ) → at < length xs → (x : X) × (slice_get xs at ≡ Some x)

@@ -4,10 +4,10 @@ use Rattle.std.proofs.Math.Logic.{⊎_elim}
 use Rattle.std.proofs.Math.Nat.{mul-le-mul_left, mul-le-mul_right, le_of_mul-le-mul_right}
 use Rattle.std.proofs.lemmas.Bool.{cases_Bool}
 use Rattle.std.proofs.lemmas.Option.{none-some}
-use Rattle.iox_domain_sender.proofs.DomainValues.Powers.{fits_one_segment}
-use Rattle.iox_domain_sender.specs.DomainValues.Segments.{SegmentLength}
-use Rattle.iox_domain_sender.specs.DomainValues.Sizes.{within}
-use Rattle.iox_domain_sender.specs.DomainValues.declared.data_segment.AllocationStrategy.{AllocationStrategy}
+use Rattle.iox_domain_publisher.proofs.DomainValues.Powers.{fits_one_segment}
+use Rattle.iox_domain_publisher.specs.DomainValues.Segments.{SegmentLength}
+use Rattle.iox_domain_publisher.specs.DomainValues.Sizes.{within}
+use Rattle.iox_domain_publisher.specs.DomainValues.declared.data_segment.AllocationStrategy.{AllocationStrategy}
 use Rattle.iox_domain_publisher.specs.Lengths.{span, extent, SegmentRoom, CountsElements}
 
 -- a number that is found within 2^32 - 1

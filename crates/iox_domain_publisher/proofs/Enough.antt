@@ -4,11 +4,11 @@ use Rattle.std.proofs.lemmas.List.{get_or-set_other, length-set}
 use Rattle.std.proofs.lemmas.List.Folds.{position_or_len-set}
 use Rattle.std.specs.List.{position, position_or_len}
 use Rattle.std.specs.declared.alloc.AllocError.{AllocError}
-use Rattle.iox_domain_sender.specs.IndexBase.declared.container.Member.{Member}
-use Rattle.iox_domain_sender.specs.Messages.{Message}
-use Rattle.iox_domain_sender.specs.DomainValues.declared.connection_failure.ConnectionFailure.{ConnectionFailure}
-use Rattle.iox_domain_sender.specs.DomainValues.declared.degradation.DegradationAction.{DegradationAction}
-use Rattle.iox_domain_sender.specs.DomainValues.declared.degradation.DegradationInfo.{DegradationInfo}
+use Rattle.iox_domain_publisher.specs.IndexBase.declared.container.Member.{Member}
+use Rattle.iox_domain_publisher.specs.Messages.{Message}
+use Rattle.iox_domain_publisher.specs.DomainValues.declared.connection_failure.ConnectionFailure.{ConnectionFailure}
+use Rattle.iox_domain_publisher.specs.DomainValues.declared.degradation.DegradationAction.{DegradationAction}
+use Rattle.iox_domain_publisher.specs.DomainValues.declared.degradation.DegradationInfo.{DegradationInfo}
 use Rattle.iox_domain_publisher.specs.Places.{reached, leads_to}
 use Rattle.iox_domain_publisher.specs.Ties.{tie_put, ties_reached}
 use Rattle.iox_domain_publisher.specs.Ports.{connection_to, connection_of, is_live, greeted_at, Joins}

@@ -8,8 +8,8 @@ use Rattle.std.proofs.lemmas.Bool.Decides.{eqb_tells}
 use Rattle.std.proofs.lemmas.List.{get_or_past}
 use Rattle.std.proofs.lemmas.List.Folds.{find_at}
 use Rattle.std.proofs.lemmas.Option.{none-some, slice_get_cases}
-use Rattle.iox_domain_sender.specs.Messages.{Loan, written_of}
-use Rattle.iox_domain_sender.specs.Sending.{is_written_loan}
+use Rattle.iox_domain_publisher.specs.Messages.{Loan, written_of}
+use Rattle.iox_domain_publisher.specs.MessagesSending.{is_written_loan}
 use Rattle.iox_domain_publisher.specs.Writing.{value_at, values_at}
 
 -- false isn't true

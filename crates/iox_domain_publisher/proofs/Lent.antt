@@ -1,12 +1,12 @@
 -- What a loan comes to.
 use Rattle.std.proofs.Common.{rules, arith, ◌≡◌, inl, inr, ◌+◌, ◌<◌, ◌≤◌, ◌∙◌, ℕ, Bool, true, false, length, nat_lt, nat_le, is_some, Option, None, Some, Result, Ok, Err, refl, ap, if◌then◌else◌}
 use Rattle.std.proofs.Math.Logic.{⊎_elim}
-use Rattle.iox_domain_sender.specs.DomainValues.declared.data_segment.AllocationStrategy.{AllocationStrategy}
-use Rattle.iox_domain_sender.specs.DomainValues.declared.data_segment.AllocationStrategy.TheVariants as strategy
-use Rattle.iox_domain_sender.specs.DomainValues.declared.port_error.LoanError.{LoanError}
-use Rattle.iox_domain_sender.specs.DomainValues.declared.port_error.LoanError.TheVariants as refusal
-use Rattle.iox_domain_sender.specs.DomainSlots.Uses.{in_use}
-use Rattle.iox_domain_sender.specs.Sending.{SenderState, slots_of, opened_for, LoanMade}
+use Rattle.iox_domain_publisher.specs.DomainValues.declared.data_segment.AllocationStrategy.{AllocationStrategy}
+use Rattle.iox_domain_publisher.specs.DomainValues.declared.data_segment.AllocationStrategy.TheVariants as strategy
+use Rattle.iox_domain_publisher.specs.DomainValues.declared.port_error.LoanError.{LoanError}
+use Rattle.iox_domain_publisher.specs.DomainValues.declared.port_error.LoanError.TheVariants as refusal
+use Rattle.iox_domain_publisher.specs.DomainSlots.Uses.{in_use}
+use Rattle.iox_domain_publisher.specs.MessagesSending.{SenderState, slots_of, opened_for, LoanMade}
 use Rattle.iox_domain_publisher.proofs.Counted.{room_fits}
 use Rattle.iox_domain_publisher.specs.Lengths.{extent, SegmentRoom}
 use Rattle.iox_domain_publisher.specs.Loaning.{with_sender, is_too_long, LendsHere, LacksMemory, LendsBeyond, LendsWhere, LendsUnless, LoansIf}

@@ -9,5 +9,22 @@ pub mod Enough
 pub mod Counted
 pub mod Lent
 pub mod Finding
-pub use Rattle.iox_domain_sender.proofs.DomainSlots as DomainSlots
-pub use Rattle.iox_domain_sender.proofs.IndexBase as IndexBase
+pub mod RowsIn
+pub mod Segments
+pub mod Marking
+pub mod Naming
+pub mod Kept
+pub mod Seen
+pub mod Agreeing
+pub mod Putting
+pub mod MessagesLoaning
+pub mod Again
+pub mod MessagesWriting
+pub mod Reading
+pub mod Opening
+pub mod Fullness
+pub mod Holding
+pub mod Inside
+pub use Rattle.iox_domain_slots.proofs as DomainSlots
+pub use Rattle.iox_domain_values.proofs as DomainValues
+pub use Rattle.iox_domain_slots.proofs.IndexBase as IndexBase

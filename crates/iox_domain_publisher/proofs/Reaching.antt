@@ -2,14 +2,14 @@
 use Rattle.std.proofs.Common.{arith, ◌≡◌, ◌+◌, ◌-◌, ◌<◌, ◌≤◌, ℕ, zero, suc, Bool, true, false, List, [], ◌∷◌, map, set, length, get_or, nat_lt, Result, Ok, Err, Option, None, Some, refl, sym, ap, ◌∙◌, if◌then◌else◌, is_some}
 use Rattle.std.proofs.Math.Logic.{⊎_elim}
 use Rattle.std.proofs.lemmas.Bool.{cases_Bool}
-use Rattle.iox_domain_sender.specs.DomainSlots.Uses.{Connection, nobody, offered}
-use Rattle.iox_domain_sender.specs.DomainSlots.declared.stage.Stage.{Stage}
-use Rattle.iox_domain_sender.specs.DomainSlots.declared.stage.Stage.TheVariants as stage
-use Rattle.iox_domain_sender.specs.Messages.{Message}
-use Rattle.iox_domain_sender.specs.DomainValues.declared.backpressure.BackpressureInfo.{BackpressureInfo}
-use Rattle.iox_domain_sender.specs.DomainValues.declared.backpressure.BackpressureDecision.{BackpressureDecision}
-use Rattle.iox_domain_sender.specs.DomainValues.declared.port_error.SendError.{SendError}
-use Rattle.iox_domain_sender.specs.DomainValues.declared.port_error.SendError.TheVariants as sending_error
+use Rattle.iox_domain_publisher.specs.DomainSlots.Uses.{Connection, nobody, offered}
+use Rattle.iox_domain_publisher.specs.DomainSlots.declared.stage.Stage.{Stage}
+use Rattle.iox_domain_publisher.specs.DomainSlots.declared.stage.Stage.TheVariants as stage
+use Rattle.iox_domain_publisher.specs.Messages.{Message}
+use Rattle.iox_domain_publisher.specs.DomainValues.declared.backpressure.BackpressureInfo.{BackpressureInfo}
+use Rattle.iox_domain_publisher.specs.DomainValues.declared.backpressure.BackpressureDecision.{BackpressureDecision}
+use Rattle.iox_domain_publisher.specs.DomainValues.declared.port_error.SendError.{SendError}
+use Rattle.iox_domain_publisher.specs.DomainValues.declared.port_error.SendError.TheVariants as sending_error
 use Rattle.iox_domain_publisher.specs.declared.meeting.Meeting.TheVariants as meeting
 use Rattle.iox_domain_publisher.specs.declared.meeting.Sent.{Sent}
 use Rattle.iox_domain_publisher.specs.declared.meeting.Sent.TheVariants as sent

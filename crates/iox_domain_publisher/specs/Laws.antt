@@ -1,7 +1,7 @@
 -- What a send comes to, in other words than its steps.
 use Rattle.std.specs.Prelude.{zero, suc, ℕ, ◌+◌, ◌≡◌, Bool, false, length, get_or, Option, None, Some, Result, Ok, Err, ◌≢◌, if◌then◌else◌}
-use Rattle.iox_domain_sender.specs.DomainValues.declared.port_error.SendError.{SendError}
-use Rattle.iox_domain_sender.specs.DomainValues.declared.port_error.SendError.TheVariants as sending
+use Rattle.iox_domain_publisher.specs.DomainValues.declared.port_error.SendError.{SendError}
+use Rattle.iox_domain_publisher.specs.DomainValues.declared.port_error.SendError.TheVariants as sending
 use Rattle.iox_domain_publisher.specs.declared.meeting.Sent.{Sent}
 use Rattle.iox_domain_publisher.specs.declared.meeting.Sent.TheVariants as sent
 use Rattle.iox_domain_publisher.specs.Ports.{is_live}

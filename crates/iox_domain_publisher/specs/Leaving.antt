@@ -1,8 +1,8 @@
 -- A publisher comes and leaves.
 use Rattle.std.specs.Prelude.{zero, suc, ℕ, ◌+◌, true, false, [], length, get_or, None, if◌then◌else◌}
-use Rattle.iox_domain_sender.specs.DomainValues.declared.data_segment.AllocationStrategy.{AllocationStrategy}
-use Rattle.iox_domain_sender.specs.DomainValues.declared.port_owner.PortIdentity.{PortIdentity}
-use Rattle.iox_domain_sender.specs.declared.sender_config.SenderConfig.{SenderConfig}
+use Rattle.iox_domain_publisher.specs.DomainValues.declared.data_segment.AllocationStrategy.{AllocationStrategy}
+use Rattle.iox_domain_publisher.specs.DomainValues.declared.port_owner.PortIdentity.{PortIdentity}
+use Rattle.iox_domain_publisher.specs.declared.messages.sender_config.SenderConfig.{SenderConfig}
 use Rattle.iox_domain_publisher.specs.Places.{is_attached}
 use Rattle.iox_domain_publisher.specs.Ties.{no_ties}
 use Rattle.iox_domain_publisher.specs.Progress.{start}

@@ -1,8 +1,8 @@
 -- How long loans and segments are: their lengths are counted in elements, of which each has so many values.
 use Rattle.std.specs.Prelude.{ℕ, ◌*◌, ◌^◌, ◌<◌, ◌≤◌, ◌≡◌, ◌↔◌, max, Option, None, Some}
-use Rattle.iox_domain_sender.specs.DomainValues.Segments.{SegmentLength}
-use Rattle.iox_domain_sender.specs.DomainValues.Sizes.{within}
-use Rattle.iox_domain_sender.specs.DomainValues.declared.data_segment.AllocationStrategy.{AllocationStrategy}
+use Rattle.iox_domain_publisher.specs.DomainValues.Segments.{SegmentLength}
+use Rattle.iox_domain_publisher.specs.DomainValues.Sizes.{within}
+use Rattle.iox_domain_publisher.specs.DomainValues.declared.data_segment.AllocationStrategy.{AllocationStrategy}
 
 -- how much room so many elements take, of so many values each; one without values takes as much as one value
 abbrev pub span : ℕ → ℕ → ℕ

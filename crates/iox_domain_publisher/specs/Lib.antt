@@ -13,7 +13,15 @@ pub mod Laws
 pub mod UpdateLaws
 pub mod Memory
 pub mod LoanLaws
-pub use Rattle.iox_domain_sender.specs as DomainSender
-pub use Rattle.iox_domain_sender.specs.DomainSlots as DomainSlots
-pub use Rattle.iox_domain_sender.specs.DomainValues as DomainValues
-pub use Rattle.iox_domain_sender.specs.IndexBase as IndexBase
+pub mod Rows
+pub mod Payloads
+pub mod Marks
+pub mod Messages
+pub mod MessagesSending
+pub mod MessagesLaws
+pub mod RowsLends
+pub mod PayloadsLends
+pub mod SenderLends
+pub use Rattle.iox_domain_slots.specs as DomainSlots
+pub use Rattle.iox_domain_values.specs as DomainValues
+pub use Rattle.iox_domain_slots.specs.IndexBase as IndexBase

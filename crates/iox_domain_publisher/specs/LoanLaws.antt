@@ -1,13 +1,13 @@
 -- What a loan comes to, in other words than its steps.
 use Rattle.std.specs.Prelude.{ℕ, ◌+◌, ◌<◌, ◌≤◌, ◌≡◌, ◌⊎◌, ◌++◌, ◌∷◌, [], length, IsSome, Option, None, Some, Result, Ok, Err}
-use Rattle.iox_domain_sender.specs.DomainValues.declared.data_segment.AllocationStrategy.{AllocationStrategy}
-use Rattle.iox_domain_sender.specs.DomainValues.declared.data_segment.AllocationStrategy.TheVariants as strategy
-use Rattle.iox_domain_sender.specs.DomainValues.declared.port_error.LoanError.{LoanError}
-use Rattle.iox_domain_sender.specs.DomainValues.declared.port_error.LoanError.TheVariants as refusal
-use Rattle.iox_domain_sender.specs.DomainSlots.Counting.{times}
-use Rattle.iox_domain_sender.specs.DomainSlots.Uses.{in_use, worst_case}
-use Rattle.iox_domain_sender.specs.Messages.{new_loan}
-use Rattle.iox_domain_sender.specs.Sending.{SenderState, slots_of, opened_for}
+use Rattle.iox_domain_publisher.specs.DomainValues.declared.data_segment.AllocationStrategy.{AllocationStrategy}
+use Rattle.iox_domain_publisher.specs.DomainValues.declared.data_segment.AllocationStrategy.TheVariants as strategy
+use Rattle.iox_domain_publisher.specs.DomainValues.declared.port_error.LoanError.{LoanError}
+use Rattle.iox_domain_publisher.specs.DomainValues.declared.port_error.LoanError.TheVariants as refusal
+use Rattle.iox_domain_publisher.specs.DomainSlots.Counting.{times}
+use Rattle.iox_domain_publisher.specs.DomainSlots.Uses.{in_use, worst_case}
+use Rattle.iox_domain_publisher.specs.Messages.{new_loan}
+use Rattle.iox_domain_publisher.specs.MessagesSending.{SenderState, slots_of, opened_for}
 use Rattle.iox_domain_publisher.specs.Lengths.{extent, SegmentRoom}
 use Rattle.iox_domain_publisher.specs.Loaning.{with_sender, Loans}
 use Rattle.iox_domain_publisher.specs.declared.publisher_port.PublisherPort.{PublisherPort}

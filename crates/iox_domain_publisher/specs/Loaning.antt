@@ -1,10 +1,10 @@
 -- A publisher lends a slot, and what lies in a loan is written and read.
 use Rattle.std.specs.Prelude.{ℕ, ◌≡◌, ◌⊎◌, Bool, true, false, length, is_some, nat_lt, nat_le, Option, None, Some, Result, Ok, Err, if◌then◌else◌}
-use Rattle.iox_domain_sender.specs.DomainValues.declared.data_segment.AllocationStrategy.{AllocationStrategy}
-use Rattle.iox_domain_sender.specs.DomainValues.declared.data_segment.AllocationStrategy.TheVariants as strategy
-use Rattle.iox_domain_sender.specs.DomainValues.declared.port_error.LoanError.{LoanError}
-use Rattle.iox_domain_sender.specs.DomainValues.declared.port_error.LoanError.TheVariants as refusal
-use Rattle.iox_domain_sender.specs.Sending.{SenderState, LoanMade, opened_for}
+use Rattle.iox_domain_publisher.specs.DomainValues.declared.data_segment.AllocationStrategy.{AllocationStrategy}
+use Rattle.iox_domain_publisher.specs.DomainValues.declared.data_segment.AllocationStrategy.TheVariants as strategy
+use Rattle.iox_domain_publisher.specs.DomainValues.declared.port_error.LoanError.{LoanError}
+use Rattle.iox_domain_publisher.specs.DomainValues.declared.port_error.LoanError.TheVariants as refusal
+use Rattle.iox_domain_publisher.specs.MessagesSending.{SenderState, LoanMade, opened_for}
 use Rattle.iox_domain_publisher.specs.Lengths.{extent, SegmentRoom}
 use Rattle.iox_domain_publisher.specs.declared.publisher_port.PublisherPort.{PublisherPort}
 

@@ -1,10 +1,10 @@
 -- When an update of a publisher takes no memory.
 use Rattle.std.specs.Prelude.{ℕ, ◌<◌, ◌≡◌, ◌≢◌, is_some, true, false, List, get_or, Option, None, Some, Result, Ok}
 use Rattle.std.specs.declared.alloc.AllocError.{AllocError}
-use Rattle.iox_domain_sender.specs.IndexBase.declared.container.Member.{Member}
-use Rattle.iox_domain_sender.specs.DomainValues.declared.connection_failure.ConnectionFailure.{ConnectionFailure}
-use Rattle.iox_domain_sender.specs.DomainValues.declared.degradation.DegradationAction.{DegradationAction}
-use Rattle.iox_domain_sender.specs.DomainValues.declared.degradation.DegradationInfo.{DegradationInfo}
+use Rattle.iox_domain_publisher.specs.IndexBase.declared.container.Member.{Member}
+use Rattle.iox_domain_publisher.specs.DomainValues.declared.connection_failure.ConnectionFailure.{ConnectionFailure}
+use Rattle.iox_domain_publisher.specs.DomainValues.declared.degradation.DegradationAction.{DegradationAction}
+use Rattle.iox_domain_publisher.specs.DomainValues.declared.degradation.DegradationInfo.{DegradationInfo}
 use Rattle.iox_domain_publisher.specs.Ports.{connection_to}
 use Rattle.iox_domain_publisher.specs.Updating.{is_tie_to, Follows, Updates}
 use Rattle.iox_domain_publisher.specs.declared.publisher_port.PublisherPort.{PublisherPort}

@@ -2,11 +2,11 @@
 use Rattle.std.specs.Prelude.{ℕ, ◌+◌, ◌≡◌, ◌≤◌, Bool, true, false, List, [], length, get_or, set, Option, None, Some, Result, Ok, Err, if◌then◌else◌}
 use Rattle.std.specs.List.{position}
 use Rattle.std.specs.declared.alloc.AllocError.{AllocError}
-use Rattle.iox_domain_sender.specs.DomainSlots.Uses.{Connection, connection_at, with_connection, connected, placed, nobody, ended, welcomed}
-use Rattle.iox_domain_sender.specs.DomainSlots.declared.stage.Stage.{Stage}
-use Rattle.iox_domain_sender.specs.DomainSlots.declared.stage.Stage.TheVariants as stage
-use Rattle.iox_domain_sender.specs.Messages.{Message}
-use Rattle.iox_domain_sender.specs.Sending.{with_uses}
+use Rattle.iox_domain_publisher.specs.DomainSlots.Uses.{Connection, connection_at, with_connection, connected, placed, nobody, ended, welcomed}
+use Rattle.iox_domain_publisher.specs.DomainSlots.declared.stage.Stage.{Stage}
+use Rattle.iox_domain_publisher.specs.DomainSlots.declared.stage.Stage.TheVariants as stage
+use Rattle.iox_domain_publisher.specs.Messages.{Message}
+use Rattle.iox_domain_publisher.specs.MessagesSending.{with_uses}
 use Rattle.iox_domain_publisher.specs.Places.{reached, leads_to, left}
 use Rattle.iox_domain_publisher.specs.declared.reader.Reader.{Reader}
 use Rattle.iox_domain_publisher.specs.declared.publisher_port.PublisherPort.{PublisherPort}

@@ -1,18 +1,18 @@
 -- How a message is sent to the connections of a publisher.
 use Rattle.std.specs.Prelude.{zero, suc, ℕ, ◌-◌, ◌≡◌, ◌==◌, ◌&&◌, ◌||◌, not, is_some, nat_lt, slice_get, List, Bool, true, false, length, get_or, Option, None, Some, Result, Ok, Err, if◌then◌else◌}
 use Rattle.std.specs.List.{position}
-use Rattle.iox_domain_sender.specs.DomainSlots.Uses.{accepts, offered, begun, dropped, finished}
-use Rattle.iox_domain_sender.specs.Messages.{Message, Loan, sent_as}
-use Rattle.iox_domain_sender.specs.Sending.{with_uses, is_written_at}
-use Rattle.iox_domain_sender.specs.IndexBase.declared.container.Member.{Member}
-use Rattle.iox_domain_sender.specs.DomainValues.declared.connection_failure.ConnectionFailure.{ConnectionFailure}
-use Rattle.iox_domain_sender.specs.DomainValues.declared.degradation.DegradationAction.{DegradationAction}
-use Rattle.iox_domain_sender.specs.DomainValues.declared.degradation.DegradationInfo.{DegradationInfo}
-use Rattle.iox_domain_sender.specs.DomainValues.declared.backpressure.BackpressureInfo.{BackpressureInfo}
-use Rattle.iox_domain_sender.specs.DomainValues.declared.backpressure.BackpressureDecision.{BackpressureDecision}
-use Rattle.iox_domain_sender.specs.DomainValues.declared.backpressure.BackpressureDecision.TheVariants as decided
-use Rattle.iox_domain_sender.specs.DomainValues.declared.port_error.SendError.{SendError}
-use Rattle.iox_domain_sender.specs.DomainValues.declared.port_error.SendError.TheVariants as sending
+use Rattle.iox_domain_publisher.specs.DomainSlots.Uses.{accepts, offered, begun, dropped, finished}
+use Rattle.iox_domain_publisher.specs.Messages.{Message, Loan, sent_as}
+use Rattle.iox_domain_publisher.specs.MessagesSending.{with_uses, is_written_at}
+use Rattle.iox_domain_publisher.specs.IndexBase.declared.container.Member.{Member}
+use Rattle.iox_domain_publisher.specs.DomainValues.declared.connection_failure.ConnectionFailure.{ConnectionFailure}
+use Rattle.iox_domain_publisher.specs.DomainValues.declared.degradation.DegradationAction.{DegradationAction}
+use Rattle.iox_domain_publisher.specs.DomainValues.declared.degradation.DegradationInfo.{DegradationInfo}
+use Rattle.iox_domain_publisher.specs.DomainValues.declared.backpressure.BackpressureInfo.{BackpressureInfo}
+use Rattle.iox_domain_publisher.specs.DomainValues.declared.backpressure.BackpressureDecision.{BackpressureDecision}
+use Rattle.iox_domain_publisher.specs.DomainValues.declared.backpressure.BackpressureDecision.TheVariants as decided
+use Rattle.iox_domain_publisher.specs.DomainValues.declared.port_error.SendError.{SendError}
+use Rattle.iox_domain_publisher.specs.DomainValues.declared.port_error.SendError.TheVariants as sending
 use Rattle.iox_domain_publisher.specs.declared.meeting.Sent.{Sent}
 use Rattle.iox_domain_publisher.specs.declared.meeting.Sent.TheVariants as sent
 use Rattle.iox_domain_publisher.specs.declared.meeting.Meeting.{Meeting}

@@ -1,9 +1,9 @@
 -- What an update comes to, in other words than its steps.
 use Rattle.std.specs.Prelude.{ℕ, ◌≡◌, ◌≢◌, List, get_or, Option, None, Result}
-use Rattle.iox_domain_sender.specs.IndexBase.declared.container.Member.{Member}
-use Rattle.iox_domain_sender.specs.DomainValues.declared.connection_failure.ConnectionFailure.{ConnectionFailure}
-use Rattle.iox_domain_sender.specs.DomainValues.declared.degradation.DegradationAction.{DegradationAction}
-use Rattle.iox_domain_sender.specs.DomainValues.declared.degradation.DegradationInfo.{DegradationInfo}
+use Rattle.iox_domain_publisher.specs.IndexBase.declared.container.Member.{Member}
+use Rattle.iox_domain_publisher.specs.DomainValues.declared.connection_failure.ConnectionFailure.{ConnectionFailure}
+use Rattle.iox_domain_publisher.specs.DomainValues.declared.degradation.DegradationAction.{DegradationAction}
+use Rattle.iox_domain_publisher.specs.DomainValues.declared.degradation.DegradationInfo.{DegradationInfo}
 use Rattle.iox_domain_publisher.specs.Updating.{Updates}
 use Rattle.iox_domain_publisher.specs.declared.publisher_port.PublisherPort.{PublisherPort}
 use Rattle.iox_domain_publisher.specs.declared.subscriber_entry.SubscriberEntry.{SubscriberEntry}

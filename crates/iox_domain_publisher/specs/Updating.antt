@@ -1,13 +1,13 @@
 -- A publisher follows the list of subscribers.
 use Rattle.std.specs.Prelude.{zero, suc, ℕ, ◌+◌, ◌-◌, ◌==◌, ◌≡◌, ◌||◌, min, nat_le, is_ok, is_none, Bool, true, false, List, [], ◌∷◌, length, get_or, Option, None, Some, Result, Ok, Err}
 use Rattle.std.specs.declared.alloc.AllocError.{AllocError}
-use Rattle.iox_domain_sender.specs.DomainValues.declared.connection_failure.ConnectionFailure.{ConnectionFailure}
-use Rattle.iox_domain_sender.specs.DomainValues.declared.connection_failure.ConnectionFailure.TheVariants.{FailedToEstablishConnection}
-use Rattle.iox_domain_sender.specs.DomainValues.declared.connection_failure.ZeroCopyCreationError.TheVariants as creation
-use Rattle.iox_domain_sender.specs.DomainValues.declared.degradation.DegradationAction.{DegradationAction}
-use Rattle.iox_domain_sender.specs.DomainValues.declared.degradation.DegradationAction.TheVariants as action
-use Rattle.iox_domain_sender.specs.DomainValues.declared.degradation.DegradationInfo.{DegradationInfo}
-use Rattle.iox_domain_sender.specs.IndexBase.declared.container.Member.{Member}
+use Rattle.iox_domain_publisher.specs.DomainValues.declared.connection_failure.ConnectionFailure.{ConnectionFailure}
+use Rattle.iox_domain_publisher.specs.DomainValues.declared.connection_failure.ConnectionFailure.TheVariants.{FailedToEstablishConnection}
+use Rattle.iox_domain_publisher.specs.DomainValues.declared.connection_failure.ZeroCopyCreationError.TheVariants as creation
+use Rattle.iox_domain_publisher.specs.DomainValues.declared.degradation.DegradationAction.{DegradationAction}
+use Rattle.iox_domain_publisher.specs.DomainValues.declared.degradation.DegradationAction.TheVariants as action
+use Rattle.iox_domain_publisher.specs.DomainValues.declared.degradation.DegradationInfo.{DegradationInfo}
+use Rattle.iox_domain_publisher.specs.IndexBase.declared.container.Member.{Member}
 use Rattle.iox_domain_publisher.specs.Places.{leads_to}
 use Rattle.iox_domain_publisher.specs.Ties.{ties_reached, tie_put}
 use Rattle.iox_domain_publisher.specs.Ports.{connection_to, with_connections, Joins, ended_at, welcomed_at}

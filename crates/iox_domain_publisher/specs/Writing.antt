@@ -1,8 +1,8 @@
 -- What lies in a loan is written and read, and a loan is given up.
 use Rattle.std.specs.Prelude.{ℕ, Bool, List, get_or, ◌==◌, Option, None, Some, if◌then◌else◌}
 use Rattle.std.specs.List.{find, position}
-use Rattle.iox_domain_sender.specs.Messages.{Loan, is_written, written_of}
-use Rattle.iox_domain_sender.specs.Sending.{with_uses, change_loan}
+use Rattle.iox_domain_publisher.specs.Messages.{Loan, is_written, written_of}
+use Rattle.iox_domain_publisher.specs.MessagesSending.{with_uses, change_loan}
 use Rattle.iox_domain_publisher.specs.Sending.{dropped_at}
 use Rattle.iox_domain_publisher.specs.declared.publisher_port.PublisherPort.{PublisherPort}
 

@@ -1,7 +1,7 @@
 -- What a publisher ends as, once a `&mut` into one of its loans has ended.
 use Rattle.std.specs.Prelude.{ℕ, Option}
 use Rattle.std.specs.Borrow.{Fml, LendsIf, MutBor, RattleType}
-use Rattle.iox_domain_sender.specs.Messages.{write_value, write_user_header}
+use Rattle.iox_domain_publisher.specs.Messages.{write_value, write_user_header}
 use Rattle.iox_domain_publisher.specs.Writing.{changed_there}
 use Rattle.iox_domain_publisher.specs.declared.publisher_port.PublisherPort.{PublisherPort}
 use Rattle.iox_domain_publisher.specs.contracts.publisher_port.PublisherPort.{the_row}

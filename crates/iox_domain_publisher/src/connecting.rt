@@ -1,12 +1,12 @@
 //! The connections of a publisher are made and ended.
 ghost use Rattle.std.specs.Prelude.{◌≡◌, ◌+◌, ◌<◌, ◌≤◌, ◌^◌, ◌&&◌, ◌==◌, length, get_or, None, Some, true};
-ghost use Rattle.iox_domain_sender.specs.DomainSlots.declared.stage.Stage.TheVariants as stage;
+ghost use Rattle.iox_domain_publisher.specs.DomainSlots.declared.stage.Stage.TheVariants as stage;
 ghost use Rattle.iox_domain_publisher.specs.Ports.{connection_of, is_live, connection_to, Connects, Joins, Attaches, attached_at, detached_at, ended_at, welcomed_at};
 ghost use Rattle.iox_domain_publisher.specs.Places.{reached};
 
+use crate::messages::Stage;
 use crate::publisher_port::PublisherPort;
 use crate::reader::Reader;
-use iox_domain_sender::Stage;
 use std::alloc::{AllocError, Global};
 
 impl<T: Copy, U: Copy> PublisherPort<T, U> {

@@ -1,5 +1,5 @@
 //! Laws of what a publisher does, in other words than its steps. They are the contracts of functions that do nothing.
-ghost use Rattle.iox_domain_sender.specs.DomainValues.declared.degradation.DegradationCause.TheVariants as cause;
+ghost use Rattle.iox_domain_publisher.specs.DomainValues.declared.degradation.DegradationCause.TheVariants as cause;
 ghost use Rattle.iox_domain_publisher.specs.Lengths.{CountsElements};
 ghost use Rattle.iox_domain_publisher.specs.LoanLaws.{LoanTells, NewSegmentIsFree};
 ghost use Rattle.iox_domain_publisher.specs.Memory.{NeedsNoMemory};

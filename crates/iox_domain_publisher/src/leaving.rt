@@ -2,11 +2,11 @@
 ghost use Rattle.std.specs.Prelude.{◌≡◌, ◌<◌, ◌^◌, IfOk, true, [], length};
 ghost use Rattle.iox_domain_publisher.specs.Leaving.{new_port, parted_at, departed};
 
+use crate::messages::{Sender, SenderConfig};
 use crate::places::Places;
 use crate::progress::Progress;
 use crate::publisher_port::PublisherPort;
 use crate::ties::Ties;
-use iox_domain_sender::{Sender, SenderConfig};
 use iox_domain_values::{AllocationStrategy, PortIdentity};
 use std::alloc::{AllocError, Global};
 

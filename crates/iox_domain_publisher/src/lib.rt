@@ -1,5 +1,7 @@
-//! One publisher with its connections: who they lead to, how they are made and ended, and how a message is sent to all of them.
+//! One publisher with its messages and its connections: who they lead to, how they are made and ended, and how a message is
+//! sent to all of them.
 //!
+//! - [`messages`]: its messages and loans by what they hold, over the slots that they are in.
 //! - [`places`]: values at places, as they are first needed.
 //! - [`ties`]: which connection each place of a list is tied to.
 //! - [`meeting`]: what comes of a message at a place, and of a send.
@@ -30,6 +32,7 @@ pub mod leaving;
 pub mod lengths;
 pub mod loaning;
 pub mod meeting;
+pub mod messages;
 pub mod places;
 pub mod progress;
 pub mod publisher_port;
@@ -40,8 +43,8 @@ pub mod ties;
 pub mod updating;
 pub mod writing;
 
-pub use iox_domain_sender::{Member, SenderConfig, Stage};
 pub use meeting::{Meeting, Sent};
+pub use messages::{Member, SenderConfig, Stage};
 pub use places::Places;
 pub use progress::Progress;
 pub use publisher_port::PublisherPort;

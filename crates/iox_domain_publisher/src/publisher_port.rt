@@ -1,9 +1,9 @@
 //! A publisher.
+use crate::messages::Sender;
 use crate::places::Places;
 use crate::progress::Progress;
 use crate::reader::Reader;
 use crate::ties::Ties;
-use iox_domain_sender::Sender;
 use iox_domain_values::{AllocationStrategy, PortOwner};
 
 /// A publisher with its messages and connections.

@@ -1,21 +1,21 @@
 //! A publisher sends.
 ghost use Rattle.std.specs.Prelude.{◌≡◌, ◌≢◌, ℕ, ◌+◌, ◌-◌, ◌<◌, ◌≤◌, ◌^◌, Ok, Err, length, get_or, is_some, true, None, Some, IfSome, IsSome};
-ghost use Rattle.iox_domain_sender.specs.DomainValues.declared.degradation.DegradationCause.TheVariants as cause;
-ghost use Rattle.iox_domain_sender.specs.Sending.{is_written_at};
+ghost use Rattle.iox_domain_publisher.specs.DomainValues.declared.degradation.DegradationCause.TheVariants as cause;
+ghost use Rattle.iox_domain_publisher.specs.MessagesSending.{is_written_at};
 ghost use Rattle.iox_domain_publisher.specs.declared.meeting.Meeting.TheVariants as meeting;
 ghost use Rattle.iox_domain_publisher.specs.declared.meeting.Sent.TheVariants as sent;
 ghost use Rattle.iox_domain_publisher.specs.Laws.{live_ties, ReachesAll};
 ghost use Rattle.iox_domain_publisher.specs.Memory.{HasRoom};
-ghost use Rattle.iox_domain_sender.specs.DomainValues.declared.connection_failure.ConnectionFailure.{ConnectionFailure};
-ghost use Rattle.iox_domain_sender.specs.DomainValues.declared.port_error.SendError.TheVariants as sending;
+ghost use Rattle.iox_domain_publisher.specs.DomainValues.declared.connection_failure.ConnectionFailure.{ConnectionFailure};
+ghost use Rattle.iox_domain_publisher.specs.DomainValues.declared.port_error.SendError.TheVariants as sending;
 ghost use Rattle.iox_domain_publisher.specs.Progress.{start, passed, counted, failing, tried_again};
 ghost use Rattle.iox_domain_publisher.specs.Sending.{meeting_of, meeting_at, put_at, met, with_progress, info_of, goes_on_by, decided_by, sent_answer, concluded, ready_loan, begun_at, dropped_at, Sends, Steps, Delivers, Finishes};
 
 use crate::meeting::{Meeting, Sent};
+use crate::messages::Member;
 use crate::progress::Progress;
 use crate::publisher_port::PublisherPort;
 use crate::subscriber_entry::SubscriberEntry;
-use iox_domain_sender::Member;
 use iox_domain_values::{BackpressureDecision, BackpressureInfo, Decides, Degrades, SendError};
 use std::alloc::Global;
 

@@ -1,15 +1,15 @@
 //! A publisher follows the list of subscribers.
 ghost use Rattle.std.specs.Prelude.{◌≡◌, ℕ, ◌+◌, ◌-◌, ◌<◌, ◌≤◌, ◌^◌, Ok, IfOk, OnErr, length, get_or, None, Some};
-ghost use Rattle.iox_domain_sender.specs.DomainValues.declared.degradation.DegradationCause.TheVariants as cause;
+ghost use Rattle.iox_domain_publisher.specs.DomainValues.declared.degradation.DegradationCause.TheVariants as cause;
 ghost use Rattle.iox_domain_publisher.specs.Places.{leads_to};
 ghost use Rattle.iox_domain_publisher.specs.Ports.{with_connections};
 ghost use Rattle.iox_domain_publisher.specs.Memory.{HasRoom};
 ghost use Rattle.iox_domain_publisher.specs.Updating.{is_tie_to, untied, untied_from, within_reach, Ties, Follows, first_failure, update_answer, told_of, Updates, FollowsAll, Asks, OnlyConnections};
 
+use crate::messages::Member;
 use crate::publisher_port::PublisherPort;
 use crate::reader::Reader;
 use crate::subscriber_entry::SubscriberEntry;
-use iox_domain_sender::Member;
 use iox_domain_values::{
     ConnectionFailure, DegradationAction, DegradationCause, DegradationInfo, Degrades,
     ZeroCopyCreationError,

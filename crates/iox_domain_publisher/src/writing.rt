@@ -2,8 +2,8 @@
 ghost use Rattle.std.specs.Prelude.{◌≡◌, length, is_some, option_copied, option_map};
 ghost use Rattle.std.specs.Borrow.{sem};
 ghost use Rattle.std.specs.Option.{option_copied_mut};
-ghost use Rattle.iox_domain_sender.specs.Messages.{write_value, write_all, write_user_header};
-ghost use Rattle.iox_domain_sender.specs.Sending.{has_loan, has_place, has_length, is_written_loan};
+ghost use Rattle.iox_domain_publisher.specs.Messages.{write_value, write_all, write_user_header};
+ghost use Rattle.iox_domain_publisher.specs.MessagesSending.{has_loan, has_place, has_length, is_written_loan};
 ghost use Rattle.iox_domain_publisher.specs.Writing.{place_of, loan_of, changed_if, value_at, values_at, given_up};
 
 use crate::publisher_port::PublisherPort;

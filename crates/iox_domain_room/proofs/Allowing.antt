@@ -9,7 +9,7 @@ use Rattle.iox_domain_ports.specs.DomainValues.declared.connection_failure.Conne
 use Rattle.iox_domain_ports.specs.DomainValues.declared.degradation.DegradationAction.{DegradationAction}
 use Rattle.iox_domain_ports.specs.DomainValues.declared.degradation.DegradationInfo.{DegradationInfo}
 use Rattle.iox_domain_ports.specs.DomainValues.declared.port_error.SendError.{SendError}
-use Rattle.iox_domain_ports.specs.DomainSender.Messages.{Message}
+use Rattle.iox_domain_ports.specs.DomainPublisher.Messages.{Message}
 use Rattle.iox_domain_ports.specs.DomainPublisher.Leaving.{parted_at, parted_from, departed}
 use Rattle.iox_domain_ports.specs.DomainPublisher.Places.{is_attached}
 use Rattle.iox_domain_ports.specs.DomainPublisher.Ports.{Joins, Attaches, connection_to, connection_of, is_live, ended_at, welcomed_at, greeted_at}

@@ -15,7 +15,7 @@ use Rattle.iox_domain_laws.specs.DomainPublisher.Updating.{is_tie_to, let_go_of,
 use Rattle.iox_domain_laws.specs.DomainPublisher.declared.meeting.Sent.{Sent}
 use Rattle.iox_domain_laws.specs.DomainPublisher.declared.publisher_port.PublisherPort.{PublisherPort}
 use Rattle.iox_domain_laws.specs.DomainPublisher.declared.subscriber_entry.SubscriberEntry.{SubscriberEntry}
-use Rattle.iox_domain_laws.specs.DomainSender.Messages.{Message}
+use Rattle.iox_domain_laws.specs.DomainPublisher.Messages.{Message}
 use Rattle.iox_domain_laws.specs.DomainSlots.Uses.{Connection, nobody, connected, ended, settled, taken, welcomed}
 use Rattle.iox_domain_laws.specs.DomainSlots.declared.stage.Stage.{Stage}
 use Rattle.iox_domain_laws.specs.DomainSlots.declared.stage.Stage.TheVariants as stage

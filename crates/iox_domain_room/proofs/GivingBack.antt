@@ -6,7 +6,7 @@ use Rattle.std.specs.List.{All, list_any}
 use Rattle.std.specs.Prelude.{sum_by}
 use Rattle.iox_domain_laws.specs.DomainPublisher.Ports.{connection_of}
 use Rattle.iox_domain_laws.specs.DomainPublisher.declared.publisher_port.PublisherPort.{PublisherPort}
-use Rattle.iox_domain_laws.specs.DomainSender.Messages.{Message}
+use Rattle.iox_domain_laws.specs.DomainPublisher.Messages.{Message}
 use Rattle.iox_domain_laws.specs.DomainSlots.Uses.{Connection, nobody, is_there, settled, given_back}
 use Rattle.iox_domain_laws.specs.DomainSlots.declared.stage.Stage.{Stage}
 use Rattle.iox_domain_laws.specs.DomainSlots.declared.stage.Stage.TheVariants as stage

@@ -12,8 +12,8 @@ use Rattle.iox_domain_ports.specs.DomainValues.declared.port_error.LoanError.{Lo
 use Rattle.iox_domain_ports.specs.DomainValues.declared.port_error.LoanError.TheVariants as refusal
 use Rattle.iox_domain_ports.specs.DomainValues.declared.port_error.SendError.{SendError}
 use Rattle.iox_domain_ports.specs.IndexBase.declared.container.Member.{Member}
-use Rattle.iox_domain_ports.specs.DomainSender.Messages.{Loan, new_loan}
-use Rattle.iox_domain_ports.specs.DomainSender.Sending.{opened_for}
+use Rattle.iox_domain_ports.specs.DomainPublisher.Messages.{Loan, new_loan}
+use Rattle.iox_domain_ports.specs.DomainPublisher.MessagesSending.{opened_for}
 use Rattle.iox_domain_ports.specs.DomainPublisher.Loaning.{with_sender, LendsHere, LacksMemory, LendsBeyond, LendsWhere, LendsUnless, is_too_long, first_refusal}
 use Rattle.iox_domain_ports.specs.DomainPublisher.Loaning as loaning
 use Rattle.iox_domain_ports.specs.DomainPublisher.Progress.{tried_again}

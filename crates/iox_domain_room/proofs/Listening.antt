@@ -14,7 +14,7 @@ use Rattle.iox_domain_laws.specs.DomainPublisher.Updating.{is_tie_to, let_go_of,
 use Rattle.iox_domain_laws.specs.DomainPublisher.declared.meeting.Sent.{Sent}
 use Rattle.iox_domain_laws.specs.DomainPublisher.declared.publisher_port.PublisherPort.{PublisherPort}
 use Rattle.iox_domain_laws.specs.DomainPublisher.declared.subscriber_entry.SubscriberEntry.{SubscriberEntry}
-use Rattle.iox_domain_laws.specs.DomainSender.Messages.{Message}
+use Rattle.iox_domain_laws.specs.DomainPublisher.Messages.{Message}
 use Rattle.iox_domain_laws.specs.DomainSlots.Uses.{welcomed}
 use Rattle.iox_domain_laws.specs.DomainValues.declared.backpressure.BackpressureDecision.{BackpressureDecision}
 use Rattle.iox_domain_laws.specs.DomainValues.declared.backpressure.BackpressureInfo.{BackpressureInfo}

@@ -75,7 +75,7 @@ impl Words for CustomPayloadMarker {
         }
     }
 
-    fn gives_back(&self) {
+    fn shows(&self) {
         let _byte = self.byte;
     }
 
@@ -103,7 +103,7 @@ impl Words for CustomHeaderMarker {
         CustomHeaderMarker
     }
 
-    fn gives_back(&self) {}
+    fn shows(&self) {}
 
     ghost as_many = { λ x. refl };
 

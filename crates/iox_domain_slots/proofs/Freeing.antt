@@ -1,7 +1,6 @@
 -- The places of a segment while those without a use are freed, from the highest on.
-use Rattle.std.proofs.Common.{arith, rules, ◌≡◌, ◌≢◌, ◌+◌, ◌-◌, ◌<◌, ◌≤◌, ◌∷◌, [], ℕ, Bool, true, false, List, nat_lt, get_or, length, refl, sym, subst, ap, ◌∙◌}
+use Rattle.std.proofs.Common.{arith, ◌≡◌, ◌+◌, ◌-◌, ◌<◌, ◌≤◌, ℕ, true, false, List, nat_lt, get_or, refl, sym, subst, ◌∙◌}
 use Rattle.std.proofs.Math.Logic.{⊎_elim}
-use Rattle.std.proofs.Math.Dec.{eqb}
 use Rattle.std.proofs.lemmas.Bool.Decides.{eqb_tells}
 use Rattle.iox_index_base.specs.Unique.{UniqueSetState, is_held, freed, settled, Takes}
 use Rattle.iox_index_base.specs.declared.release.ReleaseMode.TheVariants.{Default}

@@ -6,6 +6,7 @@ use Rattle.std.proofs.lemmas.List.{get_or_past, length-replicate, take_all}
 use Rattle.iox_index_base.specs.declared.error.UniqueIndexSetAcquireFailure.{UniqueIndexSetAcquireFailure}
 use Rattle.iox_index_base.specs.Unique.{answer_of, is_among, is_held, new_unique_set}
 use Rattle.iox_index_base.proofs.FreeLists.{AreFree-start}
+use Rattle.iox_domain_slots.specs.Counting.{SlotsState}
 
 -- a set of indices that refuses an acquire although it isn't locked has each index held
 pub all_held : (free : List ℕ) (capacity : ℕ) (e : UniqueIndexSetAcquireFailure) → Err e ≡ answer_of false free
@@ -24,6 +25,10 @@ all_used references first size held marks all slot low high =
     let used : nat_lt 0 (get_or references (first + (slot - first)) 0) ≡ true = sym (marks (slot - first) below) ∙ all (slot - first) below in
     let there : 0 < get_or references (first + (slot - first)) 0 = grind (arith, used) in
     subst (λ k. 0 < get_or references k 0) at there
+
+-- the bookkeeping with segments of another size
+abbrev pub with_size : SlotsState → ℕ → SlotsState
+with_size slots size = record slots { size = size }
 
 -- of a new set no index is held
 pub none_held : (size index : ℕ) → index < size → is_held index (new_unique_set size) ≡ false

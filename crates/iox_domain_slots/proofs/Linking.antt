@@ -15,6 +15,14 @@ head_times (y ∷ ys) x first k = times_cons k y ys ∙ ap (λ z. one k z + time
     some_is : Some y ≡ Some x → y ≡ x
     some_is same = search (rules, same)
 
+-- what leaves a queue is the first of it
+pub first_is : {xs rest : List ℕ} {x : ℕ} → xs ≡ x ∷ rest → slice_get xs 0 ≡ Some x
+first_is same = rw same refl
+
+-- and the rest stays
+pub rest_is : {xs rest : List ℕ} {x : ℕ} → xs ≡ x ∷ rest → rest ≡ drop 1 xs
+rest_is same = rw same refl
+
 -- a slot that a connection uses has a use that is neither a loan nor of the history
 pub covered_use : (slots : SlotsState) (all : List ℕ) (slot : ℕ) → Covers slots all → 0 < times slot all
     → times slot slots.loans + times slot slots.history < uses_of slot slots

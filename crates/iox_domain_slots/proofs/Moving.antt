@@ -1,10 +1,16 @@
 -- Counts that move from one list to another.
-use Rattle.std.proofs.Common.{arith, ◌≡◌, ◌+◌, ◌-◌, ◌<◌, ◌≤◌, ◌∷◌, [], ◌++◌, ℕ, List, get_or, refl, sym, subst, ap, ◌∙◌}
+use Rattle.std.proofs.Common.{arith, rules, ◌≡◌, ◌+◌, ◌-◌, ◌<◌, ◌≤◌, ◌∷◌, [], ◌++◌, ℕ, Bool, true, false, IsTrue, ◌↔◌, if◌then◌else◌, List, length, get_or, refl, sym, subst, ap, ◌∙◌}
 use Rattle.std.proofs.Math.Logic.{⊎_elim}
 use Rattle.std.proofs.lemmas.Bool.Decides.{eqb_tells}
 use Rattle.std.proofs.lemmas.List.{length-set}
 use Rattle.iox_domain_slots.specs.Counting.{SlotsState, Moves, times, uses_of, referred, let_go}
 use Rattle.iox_domain_slots.proofs.Counts.{one, times_end, one_more, one_less, one_at_most, one_other}
+
+-- a queue with room has a slot more once it was pushed
+pub pushed : (items after : List ℕ) (slot capacity : ℕ) (answer : Bool) → IsTrue answer ↔ (length items < capacity) → length items < capacity
+    → after ≡ (if answer then items ++ slot ∷ [] else items) → after ≡ items ++ slot ∷ []
+pushed items after slot capacity true told room is = is
+pushed items after slot capacity false told room is = let answer : false ≡ true = told.1 room in search (rules, answer)
 
 -- a use more of a slot that is at the end of the list then
 pub refer_moves : (old : SlotsState) (slot : ℕ) (before after : List ℕ) → 0 < uses_of slot old

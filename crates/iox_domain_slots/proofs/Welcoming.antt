@@ -1,7 +1,7 @@
 -- The history comes to a new connection, entry by entry.
 use Rattle.std.proofs.Common.{rules, arith, ◌≡◌, ◌+◌, ◌-◌, ◌<◌, ◌≤◌, ◌∷◌, [], ◌++◌, ℕ, zero, suc, Bool, true, false, List, length, take, drop, get_or, nat_lt, if◌then◌else◌, refl, sym, ap, ◌∙◌}
 use Rattle.std.proofs.lemmas.List.{take_more, get_or-drop, length-take-le, length-drop, get_or-set_same}
-use Rattle.iox_queues_base.specs.Waiting.{put, put_over}
+use Rattle.iox_domain_slots.specs.Waiting.{put, put_over}
 use Rattle.iox_domain_slots.specs.Uses.{nobody}
 use Rattle.iox_domain_slots.specs.declared.stage.Stage.TheVariants as stage
 use Rattle.iox_domain_slots.proofs.AllSlots.{set_twice}

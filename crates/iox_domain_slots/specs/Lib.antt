@@ -1,5 +1,5 @@
+pub mod Waiting
 pub mod Uses
 pub mod Counting
 pub mod Links
 pub use Rattle.iox_index_base.specs as IndexBase
-pub use Rattle.iox_queues_base.specs as QueuesBase

@@ -1,6 +1,5 @@
 //! A connection by the slots that it holds.
 ghost use Rattle.std.specs.Prelude.{◌≡◌, ℕ, ◌+◌, ◌^◌, ◌<◌, ◌≤◌, ◌==◌, ◌&&◌, ◌++◌, ◌∷◌, [], length, drop, take, get_or, remove, nat_lt, not, slice_get, position, IfOk, Some, true, false};
-ghost use Rattle.iox_queues_base.specs.Waiting.{Bounded};
 ghost use Rattle.iox_domain_slots.specs.Uses.{accepts, offered, taken};
 ghost use Rattle.iox_domain_slots.specs.Counting.{SlotsState, times, uses_of, let_go, Moves, Covers};
 ghost use Rattle.iox_domain_slots.specs.Links.{LinkState, all_of, connection_of, room_of, IsSameLink, IsFit, put_into, put_answer};
@@ -8,7 +7,7 @@ ghost use Rattle.iox_domain_slots.specs.Links.{LinkState, all_of, connection_of,
 use crate::lists::take_out;
 use crate::mailbox::{Mailbox, Put};
 use crate::slots::Slots;
-use iox_queues_base::IndexQueue;
+use iox_container::queue::Queue;
 use std::alloc::{AllocError, Global};
 use std::marker::Model;
 
@@ -19,7 +18,7 @@ use std::marker::Model;
 pub struct Link {
     mailbox: Mailbox,
     borrowed: Vec<u64>,
-    returned: IndexQueue,
+    returned: Queue<u64>,
     most_borrowed: usize,
     ended: bool,
     // Whether a message was put since the returned ones were last taken back.
@@ -39,7 +38,7 @@ impl Model for Link {
       most_borrowed = l.most_borrowed;
       waiting = waiting_in l.mailbox;
       borrowed = l.borrowed.items;
-      returned = l.returned.waiting;
+      returned = l.returned.items;
       delivered = l.delivered;
     } };
 
@@ -47,7 +46,7 @@ impl Model for Link {
     ghost invariant = { λ l. (length (waiting_in l.mailbox) ≤ limit_of l.mailbox)
         × (length l.borrowed.items ≤ l.most_borrowed) × (l.most_borrowed ≤ vec_capacity l.borrowed)
         × (limit_of l.mailbox + l.most_borrowed < l.returned.capacity)
-        × (length (waiting_in l.mailbox) + (length l.borrowed.items + length l.returned.waiting) ≤ limit_of l.mailbox + l.most_borrowed + cond l.delivered 1 0) };
+        × (length (waiting_in l.mailbox) + (length l.borrowed.items + length l.returned.items) ≤ limit_of l.mailbox + l.most_borrowed + cond l.delivered 1 0) };
 }
 
 impl Link {
@@ -233,7 +232,7 @@ impl Link {
         Ok(Link {
             mailbox: Mailbox::new(alloc, overflows, limit)?,
             borrowed: Vec::with_capacity(alloc, most_borrowed)?,
-            returned: IndexQueue::new(alloc, ring)?,
+            returned: Queue::new(alloc, ring)?,
             most_borrowed,
             ended: false,
             delivered: false,

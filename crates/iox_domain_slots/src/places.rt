@@ -1,5 +1,5 @@
 //! The places of a segment's slots: each is free or held.
-ghost use Rattle.std.specs.Prelude.{◌≡◌, ℕ, ◌+◌, ◌<◌, [], length, get_or, nat_lt, true, false};
+ghost use Rattle.std.specs.Prelude.{◌≡◌, ℕ, ◌+◌, ◌<◌, ◌||◌, [], length, get_or, nat_lt, true, false};
 ghost use Rattle.iox_index_base.specs.Unique.{is_held};
 
 use iox_index_base::{ReleaseMode, UniqueIndexSet};
@@ -12,8 +12,22 @@ pub(crate) fn hold_all(places: &mut UniqueIndexSet)
     while places.acquire_raw_index().is_ok() {}
 }
 
+// Frees the places whose slots have no use, if all are held.
+pub(crate) fn settle(places: &mut UniqueIndexSet, all_held: bool, references: &[u64], first: usize)
+    requires unlocked { places.old.locked ≡ false }
+    requires marks { (index : ℕ) → index < places.old.capacity → is_held index places.old ≡ (all_held || nat_lt 0 (get_or references.now (first + index) 0)) }
+    requires slots { first + places.old.capacity ≡ length references.now }
+    ensures capacity { places.new.capacity ≡ places.old.capacity }
+    ensures unlocked { places.new.locked ≡ false }
+    ensures held { (index : ℕ) → index < places.old.capacity → is_held index places.new ≡ nat_lt 0 (get_or references.now (first + index) 0) }
+{
+    if all_held {
+        free_unused(places, references, first);
+    }
+}
+
 // Frees the places whose slots have no use, where each is held. The lowest is handed out next.
-pub(crate) fn free_unused(places: &mut UniqueIndexSet, references: &[u64], first: usize)
+fn free_unused(places: &mut UniqueIndexSet, references: &[u64], first: usize)
     requires unlocked { places.old.locked ≡ false }
     requires all { (index : ℕ) → index < places.old.capacity → is_held index places.old ≡ true }
     requires slots { first + places.old.capacity ≡ length references.now }

@@ -4,10 +4,10 @@ ghost use Rattle.iox_domain_slots.specs.Uses.{newest};
 ghost use Rattle.iox_domain_slots.specs.Counting.{SlotsState, times, uses_of, referred, let_go, IsCurrent, LoanSlot, Moves, Covers};
 
 use crate::lists::take_out;
-use crate::places::{free_unused, hold_all};
+use crate::places::{hold_all, settle};
+use iox_container::queue::Queue;
 use iox_index_base::{ReleaseMode, UniqueIndexSet};
 use std::alloc::{AllocError, Global};
-use std::collections::VecDeque;
 use std::marker::Model;
 
 /// Which slots of a publisher are used, and how often: by its loans, its history and its connections.
@@ -17,17 +17,17 @@ use std::marker::Model;
 pub struct Slots {
     // Of the current segment, the places whose slots have a use are held.
     places: UniqueIndexSet,
+    // Whether all others are held too: from the first claim to the next loan, so that no claim looks for its place among the free ones.
+    all_held: bool,
     references: Vec<u64>,
     loans: Vec<usize>,
-    history: VecDeque<usize>,
+    history: Queue<usize>,
     first: usize,
     most_loans: usize,
-    kept: usize,
 }
 
 impl Model for Slots {
-    ghost use Rattle.std.specs.Prelude.{◌≡◌, ◌+◌, ◌<◌, ◌≤◌, ℕ, length, false, nat_lt, get_or, vec_capacity};
-    ghost use Rattle.std.specs.VecDeque.{deque_capacity};
+    ghost use Rattle.std.specs.Prelude.{◌≡◌, ◌+◌, ◌<◌, ◌≤◌, ◌||◌, ℕ, length, false, nat_lt, get_or, vec_capacity};
     ghost use Rattle.iox_index_base.specs.Unique.{is_held};
     ghost use Rattle.iox_domain_slots.specs.Counting.{SlotsState, times};
 
@@ -37,7 +37,7 @@ impl Model for Slots {
       first = s.first;
       size = s.places.capacity;
       most_loans = s.most_loans;
-      kept = s.kept;
+      kept = s.history.capacity;
       references = s.references.items;
       loans = s.loans.items;
       history = s.history.items;
@@ -45,10 +45,10 @@ impl Model for Slots {
 
     ghost invariant = { λ s. (s.first + s.places.capacity ≡ length s.references.items)
         × (s.places.locked ≡ false)
-        × ((index : ℕ) → index < s.places.capacity → is_held index s.places ≡ nat_lt 0 (get_or s.references.items (s.first + index) 0))
+        × ((index : ℕ) → index < s.places.capacity → is_held index s.places ≡ (s.all_held || nat_lt 0 (get_or s.references.items (s.first + index) 0)))
         × ((slot : ℕ) → times slot s.loans.items + times slot s.history.items ≤ get_or s.references.items slot 0)
         × (length s.loans.items ≤ s.most_loans) × (s.most_loans ≤ vec_capacity s.loans)
-        × (length s.history.items ≤ s.kept) × (s.kept < deque_capacity s.history) };
+        × (length s.history.items ≤ s.history.capacity) };
 }
 
 impl Slots {
@@ -68,13 +68,13 @@ impl Slots {
         ensures after { self.new ≡ referred slot self.old }
         ensures there { slot < length self.old.references }
     {
-        if self.references[slot] > 0 {
+        if self.all_held || self.references[slot] > 0 {
             self.references[slot] += 1;
             return;
         }
         hold_all(&mut self.places);
+        self.all_held = true;
         self.references[slot] = 1;
-        free_unused(&mut self.places, &self.references, self.first);
     }
 
     /// Takes one use off that is neither a loan nor of the history. A slot of the current segment without a use is free.
@@ -83,7 +83,7 @@ impl Slots {
         ensures { self.new ≡ let_go slot self.old }
     {
         self.references[slot] -= 1;
-        if self.references[slot] == 0 && slot >= self.first {
+        if self.references[slot] == 0 && slot >= self.first && !self.all_held {
             let _state = self
                 .places
                 .release_raw_index(slot - self.first, ReleaseMode::Default);
@@ -95,6 +95,13 @@ impl Slots {
         requires { length self.old.loans < self.old.most_loans }
         ensures { LoanSlot self.old result self.new }
     {
+        settle(
+            &mut self.places,
+            self.all_held,
+            &self.references,
+            self.first,
+        );
+        self.all_held = false;
         let Ok(index) = self.places.acquire_raw_index() else {
             return None;
         };
@@ -129,7 +136,7 @@ impl Slots {
         ensures history { self.new.history ≡ newest self.old.kept (self.old.history ++ slot ∷ []) }
         ensures moved { Moves self.old self.old.history (record self.new { history = self.old.history }) self.new.history }
     {
-        if self.kept == 0 {
+        if self.history.capacity() == 0 {
             return;
         }
         self.refer(slot);
@@ -144,7 +151,7 @@ impl Slots {
         ensures rest { self.new.history ≡ newest (self.old.kept - 1) self.old.history }
         ensures moved { Moves self.old self.old.history (record self.new { history = self.old.history }) self.new.history }
     {
-        if self.history.len() == self.kept {
+        if self.history.is_full() {
             self.forget_oldest();
         }
     }
@@ -154,7 +161,7 @@ impl Slots {
         requires { 0 < length self.old.history }
         ensures { self.new ≡ record (let_go (get_or self.old.history 0 0) self.old) { history = drop 1 self.old.history } }
     {
-        if let Some(oldest) = self.history.pop_front() {
+        if let Some(oldest) = self.history.pop() {
             self.let_go(oldest);
         }
     }
@@ -165,7 +172,7 @@ impl Slots {
         requires room { length self.old.history < self.old.kept }
         ensures { self.new ≡ record self.old { history = self.old.history ++ slot ∷ [] } }
     {
-        self.history.push_back_reserved(slot);
+        let _has_room = self.history.push(slot);
     }
 
     /// Slots without a use, and room for so many loans and so long a history.
@@ -180,12 +187,12 @@ impl Slots {
     {
         Ok(Slots {
             places: UniqueIndexSet::new(alloc, size)?,
+            all_held: false,
             references: vec![in alloc; 0; size]?,
             loans: Vec::with_capacity(alloc, most_loans)?,
-            history: VecDeque::with_capacity(alloc, kept + 1)?,
+            history: Queue::new(alloc, kept)?,
             first: 0,
             most_loans,
-            kept,
         })
     }
 
@@ -205,6 +212,7 @@ impl Slots {
         self.references.resize(before + size, 0)?;
         self.first = before;
         self.places = places;
+        self.all_held = false;
         Ok(())
     }
 
@@ -242,7 +250,7 @@ impl Slots {
         requires { place < length self.now.history }
         ensures { result ≡ get_or self.now.history place 0 }
     {
-        self.history[place]
+        self.history.get(place)
     }
 
     /// The first slot of the current segment.
@@ -270,7 +278,7 @@ impl Slots {
     pub fn kept(&self) -> usize
         ensures { result ≡ self.now.kept }
     {
-        self.kept
+        self.history.capacity()
     }
 
     /// Whether one more loan may be out: the condition of `loan`.

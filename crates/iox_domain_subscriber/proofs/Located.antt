@@ -6,7 +6,7 @@ use Rattle.std.proofs.lemmas.List.Quantifiers.{position-Some}
 use Rattle.std.proofs.lemmas.Option.{slice_get_cases}
 use Rattle.std.specs.List.{find}
 use Rattle.iox_domain_publisher.specs.DomainSlots.Uses.{connection_at}
-use Rattle.iox_domain_publisher.specs.DomainSender.Messages.{Message}
+use Rattle.iox_domain_publisher.specs.Messages.{Message}
 use Rattle.iox_domain_publisher.proofs.Finding.{at_place, at_none}
 use Rattle.iox_domain_publisher.specs.Ports.{connection_of}
 use Rattle.iox_domain_publisher.specs.declared.publisher_port.PublisherPort.{PublisherPort}

@@ -12,7 +12,6 @@ pub mod Arriving
 pub mod Living
 pub use Rattle.iox_maps.specs.Container as Container
 pub use Rattle.iox_domain_publisher.specs as DomainPublisher
-pub use Rattle.iox_domain_publisher.specs.DomainSender as DomainSender
 pub use Rattle.iox_domain_publisher.specs.DomainSlots as DomainSlots
 pub use Rattle.iox_domain_publisher.specs.DomainValues as DomainValues
 pub use Rattle.iox_domain_publisher.specs.IndexBase as IndexBase

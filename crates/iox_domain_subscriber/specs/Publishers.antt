@@ -5,7 +5,7 @@ use Rattle.std.specs.BTreeMap.{insert_entry, is_at}
 use Rattle.std.specs.Map.{lookup, set_value, remove_entry}
 use Rattle.std.specs.declared.alloc.AllocError.{AllocError}
 use Rattle.iox_domain_publisher.specs.DomainSlots.Uses.{Connection, nobody}
-use Rattle.iox_domain_publisher.specs.DomainSender.Messages.{Message}
+use Rattle.iox_domain_publisher.specs.Messages.{Message}
 use Rattle.iox_domain_publisher.specs.Ports.{connection_of, connection_to, ended_at, Attaches}
 use Rattle.iox_domain_publisher.specs.declared.publisher_port.PublisherPort.{PublisherPort}
 use Rattle.iox_domain_subscriber.specs.Reading.{is_over, given_back_at}

@@ -2,7 +2,7 @@
 use Rattle.std.specs.Prelude.{ℕ, ◌==◌, ◌&&◌, Bool, length, is_some, not, position, Option, None, Some}
 use Rattle.std.specs.List.{list_any, find}
 use Rattle.iox_domain_publisher.specs.DomainSlots.Uses.{Connection, is_there, taken, given_back}
-use Rattle.iox_domain_publisher.specs.DomainSender.Messages.{Message}
+use Rattle.iox_domain_publisher.specs.Messages.{Message}
 use Rattle.iox_domain_publisher.specs.Ports.{connection_of, with_connection_of}
 use Rattle.iox_domain_publisher.specs.declared.publisher_port.PublisherPort.{PublisherPort}
 

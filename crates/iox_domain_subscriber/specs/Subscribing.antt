@@ -2,7 +2,7 @@
 use Rattle.std.specs.Prelude.{ℕ, ◌==◌, ◌&&◌, Bool, List, length, map, get_or, nat_lt, Option, None, Some}
 use Rattle.iox_maps.specs.SlotTable.{value_at, released}
 use Rattle.iox_domain_publisher.specs.DomainSlots.Uses.{Connection, nobody}
-use Rattle.iox_domain_publisher.specs.DomainSender.Messages.{Message}
+use Rattle.iox_domain_publisher.specs.Messages.{Message}
 use Rattle.iox_domain_publisher.specs.declared.publisher_port.PublisherPort.{PublisherPort}
 use Rattle.iox_domain_subscriber.specs.Reading.{taken_at}
 use Rattle.iox_domain_subscriber.specs.Publishers.{connection_in, most_borrowed_in, changed, ended_if_left, settled}

@@ -26,7 +26,7 @@ use Rattle.iox_hub_run.specs.HubCommands.Making.{NumbersPort}
 use Rattle.iox_hub_run.specs.HubCommands.declared.ports.made.Made.{Made}
 use Rattle.iox_hub_run.specs.HubCommands.Naming.{publisher_config, publisher_handlers, subscriber_config, subscriber_handler}
 use Rattle.iox_hub_run.specs.HubCommands.Replies.{publisher_reply, subscriber_reply}
-use Rattle.iox_hub_factories.specs.Numbered.NumberTable.{value_at}
+use Rattle.iox_hub_factories.specs.Maps.NumberTable.{value_at}
 use Rattle.iox_hub_factories.specs.Tables.{publish_subscribe_in}
 use Rattle.iox_hub_run.specs.Runs.{Runs, IsRun}
 use Rattle.iox_hub_run.specs.Services.{PublisherComes, SubscriberComes, domain_of_factory, owner_of_factory}

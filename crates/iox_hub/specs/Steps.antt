@@ -18,7 +18,7 @@ use Rattle.iox_hub_run.specs.HubCommands.DomainPorts.declared.service_ports.Serv
 use Rattle.iox_hub_run.specs.HubBase.AsHome.{hub_ports}
 use Rattle.iox_hub_run.specs.HubBase.Opening.{Made as Opened}
 use Rattle.iox_hub_run.specs.HubBase.declared.hub.Hub.{Hub}
-use Rattle.iox_hub_factories.specs.Numbered.NumberTable.{value_at}
+use Rattle.iox_hub_factories.specs.Maps.NumberTable.{value_at}
 use Rattle.iox_hub_factories.specs.Tables.{publish_subscribe_in}
 use Rattle.iox_hub_run.specs.Services.{MakesPublisher, MakesSubscriber, domain_of_factory}
 use Rattle.iox_hub_run.specs.Steps.{IsReplied, Step}

@@ -26,6 +26,7 @@ pub struct GivenHandlers<P, D> {
 
 impl<P, D> GivenHandlers<P, D> {
     /// No handlers. It takes no memory.
+    /// Example: `let mut given = GivenHandlers::new(alloc);`
     pub fn new(alloc: Global) -> Self
         ensures { result.places.items ≡ [] }
     {
@@ -39,6 +40,7 @@ impl<P: Drop, D: Drop> GivenHandlers<P, D> {
     /// Hands a handler in, and answers its place, which is the next one.
     ///
     /// Fails only where an allocation fails: then nothing has changed, and the handler is dropped.
+    /// Example: `let place = given.hand_in(GivenHandler::Degradation(handler))?;`
     pub fn hand_in(&mut self, handler: GivenHandler<P, D>) -> Result<u64, AllocError>
         ensures place { IfOk result (λ place. place ≡ length self.new.places.items) }
         ensures lies { IfOk result (λ place. self.new.places.items ≡ self.old.places.items ++ Some handler ∷ []) }

@@ -22,6 +22,7 @@ pub trait TakesHandlers<P, D>: PublisherHandlers {
     ghost handled: { BackpressureStrategy → Option BackpressureAction → DegradationAction → Option P → Option D → Self };
 
     /// Who decides by this strategy and these handlers, and by these actions in the place of handlers that there aren't.
+    /// Example: `Handlers::with_handlers(strategy, None, DegradationAction::Warn, Some(at_full), None)`
     fn with_handlers(
         strategy: BackpressureStrategy,
         backpressure: Option<BackpressureAction>,

@@ -4,7 +4,7 @@ ghost use Rattle.std.specs.Option.{option_map};
 ghost use Rattle.iox_hub_run.specs.HubCommands.Naming.{publisher_handlers};
 ghost use Rattle.iox_hub_run.specs.PortRoom.{KeepsRoom};
 ghost use Rattle.iox_hub_run.specs.Services.{domain_of_factory, owner_of_factory};
-ghost use Rattle.iox_hub_factories.specs.Numbered.NumberTable.{value_at};
+ghost use Rattle.iox_hub_factories.specs.Maps.NumberTable.{value_at};
 ghost use Rattle.iox_hub_factories.specs.Tables.{publish_subscribe_in};
 ghost use Rattle.iox_hub.specs.Places.{lies_at, named as handler_named, backpressure_of, degradation_of, emptied, emptied_if};
 ghost use Rattle.iox_hub.specs.Steps.{PublisherTakes, SubscriberTakes, ports_of_factory};

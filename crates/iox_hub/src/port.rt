@@ -4,8 +4,8 @@ pub mod publisher;
 pub mod subscriber;
 
 pub use iox_delivery::PortId;
+pub use iox_domain_publisher::messages::{Sender, SenderConfig};
 pub use iox_domain_publisher::{PublisherPort, Sent, SubscriberEntry};
-pub use iox_domain_sender::{Sender, SenderConfig};
 pub use iox_domain_values::{
     AllocationStrategy, BackpressureAction, BackpressureDecision, BackpressureHandler,
     BackpressureInfo, BackpressureStrategy, BackpressureToReceiverAction, ConnectionFailure,

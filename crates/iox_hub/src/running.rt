@@ -31,6 +31,7 @@ use std::alloc::Global;
 ///
 /// It stops before the first command, where an allocation fails for that room, and then nothing has changed; or at a command that receives
 /// or reads, where an allocation fails for the values of its reply, and those before it are replied to.
+/// Example: `let report = run(&mut hub, alloc, commands, &mut given);`
 pub fn run<
     T: Words + ZeroCopySend + Default,
     U: Copy + ZeroCopySend + Default,

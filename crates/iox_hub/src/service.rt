@@ -9,10 +9,10 @@ pub use iox_describe::{
 pub use iox_domain::{Domain, DomainId, DomainParts};
 pub use iox_domain_home::{Home, MakesPorts};
 pub use iox_negotiate::{Builder, Payload, PortFactory, ServiceBuilder, Slice};
-pub use iox_negotiate_errors::{
+pub use iox_negotiate_base::Storage;
+pub use iox_negotiate_base::errors::{
     CloseError, EventCreateError, EventOpenError, EventOpenOrCreateError,
     PublishSubscribeCreateError, PublishSubscribeOpenError, PublishSubscribeOpenOrCreateError,
     RequestResponseCreateError, RequestResponseOpenError, RequestResponseOpenOrCreateError,
 };
-pub use iox_negotiate_rounds::Storage;
 pub use iox_negotiate_table::Table;

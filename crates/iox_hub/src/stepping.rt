@@ -29,6 +29,7 @@ use std::alloc::{AllocError, Global};
 /// that a skipped command names stay where they are.
 ///
 /// Fails as `NumberedHub::step` does, and never where a handler is named.
+/// Example: `let reply = step(&mut hub, alloc, HandledCommand::Plain(Command::Node), &mut given)?;`
 pub fn step<
     T: Words + ZeroCopySend + Default,
     U: Copy + ZeroCopySend + Default,

@@ -4,8 +4,8 @@ use Rattle.std.specs.Result.{result_map_both}
 use Rattle.iox_negotiate.specs.Factory.{membership}
 use Rattle.iox_negotiate.specs.Negotiation.{Negotiates}
 use Rattle.iox_negotiate.specs.declared.factory.Membership.{Membership}
-use Rattle.iox_negotiate_table.specs.NegotiateRounds.Access.{Access}
-use Rattle.iox_negotiate_table.specs.NegotiateRounds.declared.request.Opened.{Opened}
+use Rattle.iox_negotiate_table.specs.NegotiateBase.Access.{Access}
+use Rattle.iox_negotiate_table.specs.NegotiateBase.declared.request.Opened.{Opened}
 use Rattle.iox_negotiate_table.specs.Stepped.{Steps, SteppedSight}
 use Rattle.iox_hub_base.proofs.SameTable.{went-keeps}
 

@@ -3,17 +3,17 @@ use Rattle.std.proofs.Common.{ℕ, ◌≡◌, Bool, true, false, cond, List, [],
 use Rattle.std.specs.declared.alloc.AllocError.{AllocError}
 use Rattle.iox_delivery_factories.specs.DescribeBase.declared.hash.ServiceHash.{ServiceHash}
 use Rattle.iox_delivery_factories.specs.DescribeSettings.Agreement.{Agreement}
-use Rattle.iox_negotiate_table.specs.NegotiateRounds.Access.{Access, Look, Lock, MakeSegment, Publish, Unlock, OpenSegment, Leave, RemoveDescription, RemoveSegment}
-use Rattle.iox_negotiate_table.specs.NegotiateRounds.Runs.{Went}
-use Rattle.iox_negotiate_table.specs.NegotiateRounds.declared.answer.LeaveAnswer.{LeaveAnswer}
-use Rattle.iox_negotiate_table.specs.NegotiateRounds.declared.answer.LockAnswer.{LockAnswer}
-use Rattle.iox_negotiate_table.specs.NegotiateRounds.declared.answer.LockAnswer.TheVariants as lock
-use Rattle.iox_negotiate_table.specs.NegotiateRounds.declared.answer.LookAnswer.TheVariants as look
-use Rattle.iox_negotiate_table.specs.NegotiateRounds.declared.answer.MakeSegmentAnswer.TheVariants as making
-use Rattle.iox_negotiate_table.specs.NegotiateRounds.declared.answer.OpenSegmentAnswer.TheVariants as opening
-use Rattle.iox_negotiate_table.specs.NegotiateRounds.declared.answer.PublishAnswer.TheVariants as publishing
-use Rattle.iox_negotiate_table.specs.NegotiateRounds.declared.answer.OpenSegmentAnswer.{OpenSegmentAnswer}
-use Rattle.iox_negotiate_table.specs.NegotiateRounds.declared.answer.RemoveAnswer.{RemoveAnswer}
+use Rattle.iox_negotiate_table.specs.NegotiateBase.Access.{Access, Look, Lock, MakeSegment, Publish, Unlock, OpenSegment, Leave, RemoveDescription, RemoveSegment}
+use Rattle.iox_negotiate_table.specs.NegotiateBase.Runs.{Went}
+use Rattle.iox_negotiate_table.specs.NegotiateBase.declared.answer.LeaveAnswer.{LeaveAnswer}
+use Rattle.iox_negotiate_table.specs.NegotiateBase.declared.answer.LockAnswer.{LockAnswer}
+use Rattle.iox_negotiate_table.specs.NegotiateBase.declared.answer.LockAnswer.TheVariants as lock
+use Rattle.iox_negotiate_table.specs.NegotiateBase.declared.answer.LookAnswer.TheVariants as look
+use Rattle.iox_negotiate_table.specs.NegotiateBase.declared.answer.MakeSegmentAnswer.TheVariants as making
+use Rattle.iox_negotiate_table.specs.NegotiateBase.declared.answer.OpenSegmentAnswer.TheVariants as opening
+use Rattle.iox_negotiate_table.specs.NegotiateBase.declared.answer.PublishAnswer.TheVariants as publishing
+use Rattle.iox_negotiate_table.specs.NegotiateBase.declared.answer.OpenSegmentAnswer.{OpenSegmentAnswer}
+use Rattle.iox_negotiate_table.specs.NegotiateBase.declared.answer.RemoveAnswer.{RemoveAnswer}
 use Rattle.iox_negotiate_table.specs.Contents.{Contents, entry_at, segment_at, with_lock, may_make, may_publish, may_unlock, is_published, may_remove_description, may_remove_segment, without_entry, without_segment}
 use Rattle.iox_negotiate_table.specs.Foreign.{Acts, DoneOrLacking, Done, PublishesForeign, RegistersForeign, RegistersAt, foreign_lock, published_number, after_leaving, left_at, after_removal, is_left_by, with_service}
 use Rattle.iox_negotiate_table.specs.Sights.{Sight, LocksAt, LocksFree, Makes, Publishes, Unlocks, OpensAt, OpensPublished, LeavesAt, LeavesPublished, Removes}

@@ -8,9 +8,9 @@ use Rattle.iox_hub_services.specs.declared.presence.Presence.{Presence}
 use Rattle.iox_hub_services.specs.declared.presence.Presence.TheVariants.{Here, Out}
 use Rattle.iox_negotiate.specs.Factory.{Closes as ClosesIn}
 use Rattle.iox_negotiate.specs.declared.factory.Membership.{Membership}
-use Rattle.iox_command.specs.NegotiateErrors.declared.close.CloseError.{CloseError}
-use Rattle.iox_command.specs.NegotiateErrors.declared.close.CloseError.TheVariants.{StillInUse}
-use Rattle.iox_negotiate_table.specs.NegotiateRounds.Runs.{Does}
+use Rattle.iox_command.specs.NegotiateBase.declared.errors.close.CloseError.{CloseError}
+use Rattle.iox_command.specs.NegotiateBase.declared.errors.close.CloseError.TheVariants.{StillInUse}
+use Rattle.iox_negotiate_table.specs.NegotiateBase.Runs.{Does}
 use Rattle.iox_negotiate_table.specs.Sights.{Sight}
 use Rattle.iox_hub_base.specs.Hubs.{factories_of}
 use Rattle.iox_hub_base.specs.declared.hub.Hub.{Hub}

@@ -5,12 +5,12 @@ use Rattle.iox_delivery_factories.specs.DescribeBase.Detail.{Detail}
 use Rattle.iox_hub_services.specs.Opening.{Opens}
 use Rattle.iox_negotiate.specs.Factory.{Closes}
 use Rattle.iox_negotiate.specs.declared.factory.Membership.{Membership}
-use Rattle.iox_command.specs.NegotiateErrors.declared.close.CloseError.{CloseError}
-use Rattle.iox_negotiate_table.specs.NegotiateRounds.Runs.{Does}
-use Rattle.iox_negotiate_table.specs.NegotiateRounds.declared.failure.CreateFailure.TheVariants as uncreated
-use Rattle.iox_negotiate_table.specs.NegotiateRounds.declared.failure.OpenFailure.TheVariants as unopened
-use Rattle.iox_negotiate_table.specs.NegotiateRounds.declared.failure.OpenOrCreateFailure.{OpenOrCreateFailure}
-use Rattle.iox_negotiate_table.specs.NegotiateRounds.declared.failure.OpenOrCreateFailure.TheVariants as either
+use Rattle.iox_command.specs.NegotiateBase.declared.errors.close.CloseError.{CloseError}
+use Rattle.iox_negotiate_table.specs.NegotiateBase.Runs.{Does}
+use Rattle.iox_negotiate_table.specs.NegotiateBase.declared.failure.CreateFailure.TheVariants as uncreated
+use Rattle.iox_negotiate_table.specs.NegotiateBase.declared.failure.OpenFailure.TheVariants as unopened
+use Rattle.iox_negotiate_table.specs.NegotiateBase.declared.failure.OpenOrCreateFailure.{OpenOrCreateFailure}
+use Rattle.iox_negotiate_table.specs.NegotiateBase.declared.failure.OpenOrCreateFailure.TheVariants as either
 use Rattle.iox_negotiate_table.specs.Sights.{Sight}
 use Rattle.iox_negotiate_table.specs.Stepped.{Steps}
 use Rattle.iox_negotiate_table.specs.declared.step.ForeignStep.{ForeignStep}

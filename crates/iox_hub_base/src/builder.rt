@@ -6,9 +6,9 @@ ghost use Rattle.iox_delivery_factories.specs.DescribeBase.Hash.{service_hash_of
 ghost use Rattle.iox_delivery_factories.specs.DescribeBase.declared.type_detail.TypeVariant.TheVariants.{FixedSize};
 ghost use Rattle.iox_delivery_factories.specs.DescribeSettings.Agreement.{agreement};
 ghost use Rattle.iox_negotiate.specs.Negotiation.{Negotiates, Creates, Either};
-ghost use Rattle.iox_negotiate_table.specs.NegotiateRounds.Opening.{Opens};
-ghost use Rattle.iox_negotiate_table.specs.NegotiateRounds.declared.failure.CreateFailure.TheVariants as uncreated;
-ghost use Rattle.iox_negotiate_table.specs.NegotiateRounds.declared.failure.OpenFailure.TheVariants as unopened;
+ghost use Rattle.iox_negotiate_table.specs.NegotiateBase.Opening.{Opens};
+ghost use Rattle.iox_negotiate_table.specs.NegotiateBase.declared.failure.CreateFailure.TheVariants as uncreated;
+ghost use Rattle.iox_negotiate_table.specs.NegotiateBase.declared.failure.OpenFailure.TheVariants as unopened;
 ghost use Rattle.iox_negotiate_table.specs.Stepped.{SteppedSight};
 ghost use Rattle.iox_hub_base.specs.Opening.{OpensInHub, lacking_either};
 
@@ -17,7 +17,7 @@ use crate::factory::PortFactory;
 use crate::hub::Hub;
 use iox_describe::{AttributeSpecifier, AttributeVerifier, ZeroCopySend};
 use iox_negotiate::{Negotiated, ServiceBuilder};
-use iox_negotiate_rounds::{CreateFailure, OpenFailure, OpenOrCreateFailure};
+use iox_negotiate_base::{CreateFailure, OpenFailure, OpenOrCreateFailure};
 use iox_negotiate_table::StepList;
 use iox_queues_base::Words;
 use std::alloc::Global;
@@ -43,10 +43,12 @@ pub trait HubBuilder<P: Negotiated>: Sized {
     ghost requirement_of: { Self → P.Requirement };
 
     /// Whether it is a builder of this hub.
+    /// Example: `let is_of_it = builder.holds(&hub);`
     fn holds<T: Copy, U: Copy, B: Drop, D: Drop>(&self, hub: &Hub<T, U, B, D>) -> bool
         ensures { result ≡ nat_eq (hub_of self.now) hub.now.table.id };
 
     /// Creates the service, with no attributes but those that were asked for. See `create_with_attributes_in`.
+    /// Example: `let factory = builder.create_in(alloc, &mut hub, Vec::new(alloc))?;`
     fn create_in<T: Words + ZeroCopySend, U: Copy + ZeroCopySend, B: Drop, D: Drop>(
         self,
         alloc: Global,
@@ -59,6 +61,7 @@ pub trait HubBuilder<P: Negotiated>: Sized {
     /// Creates the service with these attributes.
     ///
     /// Refused as `ServiceBuilder::create_with_attributes` refuses it.
+    /// Example: `let factory = builder.create_with_attributes_in(alloc, &attributes, &mut hub, Vec::new(alloc))?;`
     fn create_with_attributes_in<T: Words + ZeroCopySend, U: Copy + ZeroCopySend, B: Drop, D: Drop>(
         self,
         alloc: Global,
@@ -70,6 +73,7 @@ pub trait HubBuilder<P: Negotiated>: Sized {
         ensures { OpensInHub (detail FixedSize T.name T.size T.alignment) (detail FixedSize U.name U.size U.alignment) (λ was_new. P.create_error uncreated.OutOfMemory) (λ old answer new. Creates SteppedSight old.table.id (service_hash_of P.pattern (name_of self)) (node_of self) (agreement (name_of self) (service_hash_of P.pattern (name_of self)) (P.settings (P.adjusted (P.asked (requirement_of self)))) attributes.now) (P.IsWithinLimits (P.adjusted (P.asked (requirement_of self)))) (P.IsHistoryTooLong (P.adjusted (P.asked (requirement_of self)))) P.create_error old answer new) steps.items hub.old (result_map_both (λ factory. (factory.service.membership, factory.owner)) (λ error. error) result) hub.new };
 
     /// Opens the service, whatever its attributes. See `open_with_attributes_in`.
+    /// Example: `let factory = builder.open_in(alloc, &mut hub, Vec::new(alloc))?;`
     fn open_in<T: Words + ZeroCopySend, U: Copy + ZeroCopySend, B: Drop, D: Drop>(
         self,
         alloc: Global,
@@ -82,6 +86,7 @@ pub trait HubBuilder<P: Negotiated>: Sized {
     /// Opens the service if it has these attributes too.
     ///
     /// Refused as `ServiceBuilder::open_with_attributes` refuses it.
+    /// Example: `let factory = builder.open_with_attributes_in(alloc, attributes, &mut hub, Vec::new(alloc))?;`
     fn open_with_attributes_in<T: Words + ZeroCopySend, U: Copy + ZeroCopySend, B: Drop, D: Drop>(
         self,
         alloc: Global,
@@ -93,6 +98,7 @@ pub trait HubBuilder<P: Negotiated>: Sized {
         ensures { OpensInHub (detail FixedSize T.name T.size T.alignment) (detail FixedSize U.name U.size U.alignment) (λ was_new. P.open_error unopened.OutOfMemory) (λ old answer new. Negotiates SteppedSight old.table.id (node_of self) P.open_error (λ made answer. Opens (service_hash_of P.pattern (name_of self)) (node_of self) (λ given. P.verdict (P.with_attributes (requirement_of self) attributes) given) made answer) old answer new) steps.items hub.old (result_map_both (λ factory. (factory.service.membership, factory.owner)) (λ error. error) result) hub.new };
 
     /// Opens the service, whatever its attributes, or creates it with none. See `open_or_create_with_attributes_in`.
+    /// Example: `let factory = builder.open_or_create_in(alloc, &mut hub, Vec::new(alloc))?;`
     fn open_or_create_in<T: Words + ZeroCopySend, U: Copy + ZeroCopySend, B: Drop, D: Drop>(
         self,
         alloc: Global,
@@ -105,6 +111,7 @@ pub trait HubBuilder<P: Negotiated>: Sized {
     /// Opens the service if it has these attributes too, or creates it with the required pairs where none exists.
     ///
     /// Refused as `ServiceBuilder::open_or_create_with_attributes` refuses it.
+    /// Example: `let factory = builder.open_or_create_with_attributes_in(alloc, attributes, &mut hub, Vec::new(alloc))?;`
     fn open_or_create_with_attributes_in<
         T: Words + ZeroCopySend,
         U: Copy + ZeroCopySend,

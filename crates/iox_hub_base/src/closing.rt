@@ -6,7 +6,7 @@ ghost use Rattle.iox_hub_base.specs.Closing.{is_last, in_use, Closes, less_one};
 use crate::factory::{NotClosed, PortFactory};
 use crate::hub::Hub;
 use iox_describe::pattern::Pattern;
-use iox_negotiate_errors::CloseError;
+use iox_negotiate_base::errors::CloseError;
 
 impl<T: Copy, U: Copy, B: Drop, D: Drop> Hub<T, U, B, D> {
     /// Closes a factory of this hub: takes it off the segment of its service, and removes description and segment if its node was the
@@ -18,6 +18,7 @@ impl<T: Copy, U: Copy, B: Drop, D: Drop> Hub<T, U, B, D> {
     /// `UnableToRemoveDescription` and `UnableToRemoveSegment` as the table answers; the factory is spent then.
     ///
     /// Stands for dropping an `iceoryx2::service::port_factory`, which its ports hold on to.
+    /// Example: `let closed = hub.close(factory);`
     pub fn close<P: Pattern>(&mut self, factory: PortFactory<P>) -> Result<(), NotClosed<P>>
         requires { factory.service.membership.storage ≡ self.old.table.id }
         ensures { Closes factory.service.membership factory.owner factory self.old (result_map_both (λ done. done) (λ refused. (refused.error, refused.factory)) result) self.new }
@@ -43,6 +44,7 @@ impl<T: Copy, U: Copy, B: Drop, D: Drop> Hub<T, U, B, D> {
     /// Whether something lives that keeps a factory of this hub from being closed: `close` answers `StillInUse` just then.
     ///
     /// This port's own.
+    /// Example: `let stays = hub.is_in_use(&factory);`
     pub fn is_in_use<P: Pattern>(&self, factory: &PortFactory<P>) -> bool
         requires { factory.now.service.membership.storage ≡ self.now.table.id }
         ensures { result ≡ in_use factory.now.service.membership.service.number factory.now.owner self.now }

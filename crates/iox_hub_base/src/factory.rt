@@ -5,7 +5,7 @@ ghost use Rattle.iox_negotiate_table.specs.Describe.Within.{HasForm};
 use iox_describe::pattern::Pattern;
 use iox_describe::{AttributeSpecifier, Description, ServiceName};
 use iox_negotiate as negotiated;
-use iox_negotiate_errors::CloseError;
+use iox_negotiate_base::errors::CloseError;
 
 /// A service that is open in a hub, from which its ports are made. It is to be closed in that hub.
 ///
@@ -27,6 +27,7 @@ pub struct NotClosed<P: Pattern> {
 
 impl<P: Pattern> PortFactory<P> {
     /// The name of the service.
+    /// Example: `factory.name().as_bytes()`
     pub fn name(&self) -> &ServiceName
         ensures { result.now ≡ self.now.service.membership.service.description.name }
     {
@@ -34,6 +35,7 @@ impl<P: Pattern> PortFactory<P> {
     }
 
     /// The settings that are agreed.
+    /// Example: `let history = factory.static_config().history_size;`
     pub fn static_config(&self) -> &P::StaticConfig
         ensures { P.static_config self.now.service.membership.service.description.settings ≡ Some result.now }
     {
@@ -41,6 +43,7 @@ impl<P: Pattern> PortFactory<P> {
     }
 
     /// The attributes of the service.
+    /// Example: `let pairs = factory.attributes().as_slice();`
     pub fn attributes(&self) -> &AttributeSpecifier
         ensures { result.now ≡ self.now.service.membership.service.description.attributes }
     {
@@ -50,6 +53,7 @@ impl<P: Pattern> PortFactory<P> {
     /// What the nodes of the service agree on.
     ///
     /// This port's own.
+    /// Example: `let hash = factory.description().service_hash();`
     pub fn description(&self) -> &Description
         ensures value { result.now ≡ self.now.service.membership.service.description }
         ensures form { HasForm self.now.service.membership.service.description }
@@ -58,6 +62,7 @@ impl<P: Pattern> PortFactory<P> {
     }
 
     /// What tells apart the hub that it is of.
+    /// Example: `let is_of_it = factory.hub() == hub.id();`
     pub fn hub(&self) -> u64
         ensures { result ≡ self.now.service.membership.storage }
     {
@@ -65,6 +70,7 @@ impl<P: Pattern> PortFactory<P> {
     }
 
     /// The number of the service.
+    /// Example: `let service = factory.number();`
     pub fn number(&self) -> u64
         ensures { result ≡ self.now.service.membership.service.number }
     {
@@ -72,6 +78,7 @@ impl<P: Pattern> PortFactory<P> {
     }
 
     /// The number of the node that the factory is of.
+    /// Example: `let node = factory.node();`
     pub fn node(&self) -> u64
         ensures { result ≡ self.now.service.membership.node }
     {
@@ -79,6 +86,7 @@ impl<P: Pattern> PortFactory<P> {
     }
 
     /// The number of the factory, counted from 1 in each hub: who owns the ports that are made by it.
+    /// Example: `let owner = factory.owner();`
     pub fn owner(&self) -> u64
         ensures { result ≡ self.now.owner }
     {

@@ -17,6 +17,7 @@ impl<T: Copy, U: Copy, B: Drop, D: Drop> Hub<T, U, B, D> {
     /// Refused with `HubError::OutOfMemory` at the first step that finds no memory; the steps before it stay done.
     ///
     /// This port's own: in `iceoryx2` other processes act by themselves.
+    /// Example: `hub.foreign(MessagingPattern::PublishSubscribe, &name, &steps)?;`
     pub fn foreign(
         &mut self,
         pattern: MessagingPattern,

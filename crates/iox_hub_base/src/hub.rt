@@ -11,7 +11,7 @@ use iox_describe::pattern::Pattern;
 use iox_domain_values::{DegradationHandler, Handlers};
 use iox_hub_services::{Kept, Services};
 use iox_negotiate::Builder;
-use iox_negotiate_rounds::Storage;
+use iox_negotiate_base::Storage;
 use iox_negotiate_table::Table;
 use std::alloc::Global;
 
@@ -23,6 +23,18 @@ pub struct HubConfig {
     pub expired_connection_buffer: u32,
     /// What tells hubs apart.
     pub id: u64,
+}
+
+/// Room for 128 connections of publishers that left, and the id 0.
+impl Default for HubConfig {
+    ghost is_default = { λ made. (made.expired_connection_buffer ≡ 128) × (made.id ≡ 0) };
+
+    fn default() -> Self {
+        HubConfig {
+            expired_connection_buffer: 128,
+            id: 0,
+        }
+    }
 }
 
 /// All nodes and services of a program: one owned value, which each call is handed.
@@ -43,6 +55,7 @@ pub struct Hub<T, U, B = Handlers, D = DegradationHandler> {
 
 impl<T: Copy, U: Copy, B: Drop, D: Drop> Hub<T, U, B, D> {
     /// A hub without nodes and services. It takes no memory.
+    /// Example: `let mut hub = Hub::<u64, (), Nobody, Nobody>::new(alloc, config);`
     pub fn new(alloc: Global, config: HubConfig) -> Self
         ensures { IsNewHub config result }
     {
@@ -57,6 +70,7 @@ impl<T: Copy, U: Copy, B: Drop, D: Drop> Hub<T, U, B, D> {
     }
 
     /// What tells hubs apart.
+    /// Example: `let id = hub.id();`
     pub fn id(&self) -> u64
         ensures { result ≡ self.now.table.id }
     {
@@ -68,6 +82,7 @@ impl<T: Copy, U: Copy, B: Drop, D: Drop> Hub<T, U, B, D> {
     /// `HubError::OutOfMemory` would say that an allocation failed; a node takes none.
     ///
     /// Stands for `iceoryx2::node::NodeBuilder::create`.
+    /// Example: `let node = hub.new_node()?;`
     pub fn new_node(&mut self) -> Result<NodeHandle, HubError>
         ensures node { result ≡ Ok (record { hub = self.old.table.id; number = one_more self.old.nodes }) }
         ensures rest { self.new ≡ record self.old { nodes = one_more self.old.nodes } }
@@ -82,6 +97,7 @@ impl<T: Copy, U: Copy, B: Drop, D: Drop> Hub<T, U, B, D> {
     /// Whether a node of this number was made: they are counted from 1.
     ///
     /// This port's own.
+    /// Example: `let was_made = hub.has_node(1);`
     pub fn has_node(&self, number: u64) -> bool
         ensures { result ≡ is_node number self.now.nodes }
     {
@@ -89,6 +105,7 @@ impl<T: Copy, U: Copy, B: Drop, D: Drop> Hub<T, U, B, D> {
     }
 
     /// Whether a node is of this hub.
+    /// Example: `let is_of_it = hub.holds_node(&node);`
     pub fn holds_node(&self, node: &NodeHandle) -> bool
         ensures { result ≡ nat_eq node.now.hub self.now.table.id }
     {
@@ -96,6 +113,7 @@ impl<T: Copy, U: Copy, B: Drop, D: Drop> Hub<T, U, B, D> {
     }
 
     /// Whether a factory is of this hub.
+    /// Example: `let is_of_it = hub.holds(&factory);`
     pub fn holds<P: Pattern>(&self, factory: &PortFactory<P>) -> bool
         ensures { result ≡ nat_eq factory.now.service.membership.storage self.now.table.id }
     {
@@ -105,6 +123,7 @@ impl<T: Copy, U: Copy, B: Drop, D: Drop> Hub<T, U, B, D> {
     /// How many loans the publishers of all domains that are here may still make, beside those that are out. Past 2^64 - 1 it is that.
     ///
     /// This port's own.
+    /// Example: `let loans = hub.loans_left();`
     pub fn loans_left(&self) -> u64
         ensures { result ≡ min (loans_left_in self.now.services.domains) (2 ^ 64 - 1) }
     {
@@ -115,6 +134,7 @@ impl<T: Copy, U: Copy, B: Drop, D: Drop> Hub<T, U, B, D> {
     /// connection that it has room for. Past 2^64 - 1 it is that.
     ///
     /// This port's own.
+    /// Example: `let samples = hub.samples_at_most();`
     pub fn samples_at_most(&self) -> u64
         ensures { result ≡ min (samples_at_most_in self.now.services.domains) (2 ^ 64 - 1) }
     {
@@ -124,6 +144,7 @@ impl<T: Copy, U: Copy, B: Drop, D: Drop> Hub<T, U, B, D> {
     /// A builder of the service of this name, for a node of this hub.
     ///
     /// Ported from `iceoryx2::node::Node::service_builder`.
+    /// Example: `let builder = hub.service_builder(&node, name).publish_subscribe::<u64>();`
     pub fn service_builder(&self, node: &NodeHandle, name: ServiceName) -> Builder
         requires { node.now.hub ≡ self.now.table.id }
         ensures { result ≡ record { hub = self.now.table.id; node = node.now.number; name = name } }

@@ -12,6 +12,7 @@ pub struct NodeHandle {
 
 impl NodeHandle {
     /// Its number, counted from 1 in each hub.
+    /// Example: `let number = node.number();`
     pub fn number(&self) -> u64
         ensures { result ≡ self.now.number }
     {

@@ -20,6 +20,7 @@ use std::marker::PhantomData;
 
 impl<T: Copy, U: Copy, B: Drop, D: Drop> Hub<T, U, B, D> {
     /// The domain of a factory's service; None where it is out, or none was made.
+    /// Example: `let domain = hub.domain(&factory)?;`
     pub fn domain(&self, factory: &PortFactory<PublishSubscribe>) -> Option<&Domain<T, U, B, D>>
         requires { factory.now.service.membership.storage ≡ self.now.table.id }
         ensures { option_copied result ≡ domain_of factory.now.service.membership.service.number self.now.services.domains }
@@ -31,6 +32,7 @@ impl<T: Copy, U: Copy, B: Drop, D: Drop> Hub<T, U, B, D> {
     /// it back.
     ///
     /// Refused with `DomainIsOut` where it is out, or none was made; then nothing has changed.
+    /// Example: `let domain = hub.take_domain(&factory)?;`
     pub fn take_domain(
         &mut self,
         factory: &PortFactory<PublishSubscribe>,
@@ -46,6 +48,7 @@ impl<T: Copy, U: Copy, B: Drop, D: Drop> Hub<T, U, B, D> {
     ///
     /// Refused where hub, service and agreement aren't those of a domain that is out; the domain is handed back then, and nothing has
     /// changed.
+    /// Example: `let put = hub.put_domain(domain);`
     pub fn put_domain(
         &mut self,
         domain: Domain<T, U, B, D>,
@@ -64,6 +67,7 @@ impl<T: Copy + ZeroCopySend, U: Copy, B: Drop, D: Drop> Hub<T, U, B, D> {
     /// or none was made.
     ///
     /// Ported from `iceoryx2::service::port_factory::publish_subscribe::PortFactory::publisher_builder`.
+    /// Example: `let builder = hub.publisher_builder(&factory)?;`
     pub fn publisher_builder(
         &self,
         factory: &PortFactory<PublishSubscribe>,
@@ -99,6 +103,7 @@ impl<T: Copy, U: Copy, B: Drop, D: Drop> Hub<T, U, B, D> {
     /// or none was made.
     ///
     /// Ported from `iceoryx2::service::port_factory::publish_subscribe::PortFactory::subscriber_builder`.
+    /// Example: `let builder = hub.subscriber_builder(&factory)?;`
     pub fn subscriber_builder(
         &self,
         factory: &PortFactory<PublishSubscribe>,

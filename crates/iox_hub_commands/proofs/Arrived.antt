@@ -10,7 +10,7 @@ use Rattle.iox_hub_commands.specs.DomainHome.declared.domain_id.DomainId.{Domain
 use Rattle.iox_hub_commands.proofs.DomainLaws.TakenHeld.{received_is_held}
 use Rattle.iox_hub_commands.specs.DomainPorts.Reading.{sample_in}
 use Rattle.iox_hub_commands.specs.DomainPorts.declared.service_ports.ServicePorts.{ServicePorts}
-use Rattle.iox_hub_commands.specs.DomainSender.Messages.{Message}
+use Rattle.iox_hub_commands.specs.DomainPublisher.Messages.{Message}
 use Rattle.iox_hub_commands.specs.DomainSubscriber.declared.attached.Taken.{Taken}
 use Rattle.iox_command.specs.DomainValues.declared.degradation.DegradationAction.{DegradationAction}
 use Rattle.iox_command.specs.DomainValues.declared.degradation.DegradationInfo.{DegradationInfo}
@@ -23,8 +23,8 @@ use Rattle.iox_hub_commands.specs.Tables.{IsFull}
 use Rattle.iox_hub_commands.specs.declared.ports.made.Made.{Made}
 use Rattle.iox_hub_commands.specs.declared.ports.made.MadeSample.{MadeSample}
 use Rattle.iox_hub_commands.specs.Receiving.{IsShown, IsTold}
-use Rattle.iox_hub_commands.proofs.Numbered.Telling.{found_and_gone}
-use Rattle.iox_hub_commands.specs.Numbered.NumberTable.{Rises, value_at}
+use Rattle.iox_hub_commands.proofs.Maps.Telling.{found_and_gone}
+use Rattle.iox_hub_commands.specs.Maps.NumberTable.{Rises, value_at}
 
 some_of : {A : Type 0} (found : Option A) (x : A) → found ≡ Some x → IsSome found
 some_of found x is = rw is refl

@@ -5,4 +5,4 @@ pub mod Answering
 pub mod PortsRefused
 pub mod Written
 pub use Rattle.iox_delivery_slices.proofs.DomainLaws as DomainLaws
-pub use Rattle.iox_numbered.proofs as Numbered
+pub use Rattle.iox_maps.proofs as Maps

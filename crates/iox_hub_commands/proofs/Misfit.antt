@@ -3,8 +3,8 @@ use Rattle.std.proofs.Common.{◌≡◌, ◌∙◌, ℕ, false, List, length, Op
 use Rattle.std.specs.BTreeMap.{is_at}
 use Rattle.std.specs.Ordering.{nat_cmp}
 use Rattle.std.proofs.lemmas.Map.Steps.{set_value_same}
-use Rattle.iox_delivery_slices.specs.DomainSender.Messages.{write_all}
-use Rattle.iox_delivery_slices.specs.DomainSender.Sending.{has_length}
+use Rattle.iox_delivery_slices.specs.DomainPublisher.Messages.{write_all}
+use Rattle.iox_delivery_slices.specs.DomainPublisher.MessagesSending.{has_length}
 use Rattle.iox_delivery_slices.specs.DomainPublisher.Writing.{changed_if}
 use Rattle.iox_delivery_slices.specs.DomainPublisher.declared.publisher_port.PublisherPort.{PublisherPort}
 use Rattle.iox_delivery_slices.specs.DomainSubscriber.Publishers.{port_of, changed_at_port}

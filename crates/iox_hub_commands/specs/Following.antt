@@ -12,7 +12,7 @@ use Rattle.iox_hub_commands.specs.Calls.{AtPort, AtPortIf, Follows, PublisherGoe
 use Rattle.iox_hub_commands.specs.Numbering.{removed_if}
 use Rattle.iox_hub_commands.specs.Tables.{port_under, without_publisher, without_subscriber}
 use Rattle.iox_hub_commands.specs.declared.ports.made.Made.{Made}
-use Rattle.iox_hub_commands.specs.Numbered.NumberTable.{value_at}
+use Rattle.iox_hub_commands.specs.Maps.NumberTable.{value_at}
 use Rattle.iox_hub_commands.specs.Replies.{updated_reply, has_reply, done_reply}
 
 -- A publisher or a subscriber follows the list of the others.

@@ -16,7 +16,7 @@ use Rattle.iox_hub_commands.specs.Growing.{GrowsFirst}
 use Rattle.iox_hub_commands.specs.Numbering.{LendsNumbered, LendsWrittenNumbered}
 use Rattle.iox_hub_commands.specs.Tables.{IsFull, lender}
 use Rattle.iox_hub_commands.specs.declared.ports.made.Made.{Made}
-use Rattle.iox_hub_commands.specs.Numbered.NumberTable.{value_at}
+use Rattle.iox_hub_commands.specs.Maps.NumberTable.{value_at}
 use Rattle.iox_hub_commands.specs.Replies.{loan_reply, sent_reply}
 
 -- what a loan is replied as, if memory was found for its number

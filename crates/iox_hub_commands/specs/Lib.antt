@@ -22,10 +22,9 @@ pub use Rattle.iox_delivery_slices.specs.DomainHome as DomainHome
 pub use Rattle.iox_delivery_slices.specs.DomainLaws as DomainLaws
 pub use Rattle.iox_delivery_slices.specs.DomainPorts as DomainPorts
 pub use Rattle.iox_delivery_slices.specs.DomainPublisher as DomainPublisher
-pub use Rattle.iox_delivery_slices.specs.DomainSender as DomainSender
 pub use Rattle.iox_delivery_slices.specs.DomainSettings as DomainSettings
 pub use Rattle.iox_delivery_slices.specs.DomainSubscriber as DomainSubscriber
 pub use Rattle.iox_delivery_slices.specs.IndexBase as IndexBase
-pub use Rattle.iox_numbered.specs as Numbered
+pub use Rattle.iox_maps.specs as Maps
 pub use Rattle.iox_delivery_slices.specs.Delivery as Delivery
 pub use Rattle.iox_delivery_slices.specs as DeliverySlices

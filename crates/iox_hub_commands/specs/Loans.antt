@@ -5,8 +5,8 @@ use Rattle.iox_delivery_slices.specs.DomainValues.declared.backpressure.Backpres
 use Rattle.iox_delivery_slices.specs.DomainValues.declared.degradation.DegradationAction.{DegradationAction}
 use Rattle.iox_delivery_slices.specs.DomainValues.declared.degradation.DegradationInfo.{DegradationInfo}
 use Rattle.iox_delivery_slices.specs.DomainValues.declared.port_error.SendError.{SendError}
-use Rattle.iox_delivery_slices.specs.DomainSender.Messages.{Loan, write_value, write_all}
-use Rattle.iox_delivery_slices.specs.DomainSender.Sending.{has_place, has_length, is_written_loan}
+use Rattle.iox_delivery_slices.specs.DomainPublisher.Messages.{Loan, write_value, write_all}
+use Rattle.iox_delivery_slices.specs.DomainPublisher.MessagesSending.{has_place, has_length, is_written_loan}
 use Rattle.iox_delivery_slices.specs.DomainPublisher.Writing.{value_at}
 use Rattle.iox_delivery_slices.specs.DomainPublisher.declared.meeting.Sent.{Sent}
 use Rattle.iox_delivery_slices.specs.DomainPorts.Lending.{passes, written_in}

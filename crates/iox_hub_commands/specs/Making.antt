@@ -1,6 +1,6 @@
 -- Ports come to a domain, and get numbers.
 use Rattle.std.specs.Prelude.{ℕ, ◌≡◌, Bool, Option, None, Some, Result, Ok, Err}
-use Rattle.iox_numbered.specs.NumberTable.{inserted}
+use Rattle.iox_maps.specs.NumberTable.{inserted}
 use Rattle.iox_delivery_slices.specs.DomainHome.declared.domain_id.DomainId.{DomainId}
 use Rattle.iox_hub_commands.specs.Tables.{IsRoomier}
 use Rattle.iox_hub_commands.specs.declared.ports.made.Made.{Made}

@@ -21,7 +21,7 @@ use Rattle.iox_hub_commands.specs.Numbering.{removed_if}
 use Rattle.iox_hub_commands.specs.Reading.{values_under, is_held, ReleasesUnder}
 use Rattle.iox_hub_commands.specs.Tables.{port_under, without_loan, without_sample}
 use Rattle.iox_hub_commands.specs.declared.ports.made.Made.{Made}
-use Rattle.iox_hub_commands.specs.Numbered.NumberTable.{value_at}
+use Rattle.iox_hub_commands.specs.Maps.NumberTable.{value_at}
 use Rattle.iox_hub_commands.specs.Replies.{sent_reply, given_up_reply, done_reply}
 
 -- One value of a written loan is written.

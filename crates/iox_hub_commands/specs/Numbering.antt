@@ -1,6 +1,6 @@
 -- How loans and samples get numbers, and when a number is spent.
 use Rattle.std.specs.Prelude.{ℕ, ◌≡◌, Bool, true, false, Option, None, Some, Result, Ok, Err}
-use Rattle.iox_numbered.specs.NumberTable.{inserted}
+use Rattle.iox_maps.specs.NumberTable.{inserted}
 use Rattle.iox_delivery_slices.specs.DomainValues.declared.degradation.DegradationAction.{DegradationAction}
 use Rattle.iox_delivery_slices.specs.DomainValues.declared.degradation.DegradationInfo.{DegradationInfo}
 use Rattle.iox_delivery_slices.specs.DomainValues.declared.port_error.LoanError.{LoanError}

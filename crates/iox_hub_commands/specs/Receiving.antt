@@ -16,7 +16,7 @@ use Rattle.iox_hub_commands.specs.Numbering.{ReceivesNumbered}
 use Rattle.iox_hub_commands.specs.Reading.{values_under}
 use Rattle.iox_hub_commands.specs.Tables.{IsFull}
 use Rattle.iox_hub_commands.specs.declared.ports.made.Made.{Made}
-use Rattle.iox_hub_commands.specs.Numbered.NumberTable.{value_at}
+use Rattle.iox_hub_commands.specs.Maps.NumberTable.{value_at}
 use Rattle.iox_hub_commands.specs.Messages.{SomeValues}
 
 module _ {T : Type 0} where

@@ -12,7 +12,7 @@ use Rattle.iox_command.specs.DomainValues.declared.create_error.PublisherCreateE
 use Rattle.iox_command.specs.DomainValues.declared.create_error.SubscriberCreateError.{SubscriberCreateError}
 use Rattle.iox_command.specs.DomainValues.declared.port_error.LoanError.{LoanError}
 use Rattle.iox_command.specs.DomainValues.declared.port_error.SendError.{SendError}
-use Rattle.iox_command.specs.NegotiateErrors.declared.close.CloseError.{CloseError}
+use Rattle.iox_command.specs.NegotiateBase.declared.errors.close.CloseError.{CloseError}
 
 module _ {T : Type 0} where
   -- a service that was created or opened

@@ -7,7 +7,7 @@ use iox_domain_publisher::Sent;
 use iox_domain_values::{
     ConnectionFailure, LoanError, PublisherCreateError, SendError, SubscriberCreateError,
 };
-use iox_negotiate_errors::CloseError;
+use iox_negotiate_base::errors::CloseError;
 
 pub fn factory_reply<T>(answer: Option<Result<u64, Refusal>>) -> Reply<T>
     ensures { result ≡ replied.factory_reply answer }

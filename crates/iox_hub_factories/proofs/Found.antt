@@ -18,11 +18,11 @@ use Rattle.iox_hub_base.specs.DescribeBase.declared.pattern.MessagingPattern.The
 use Rattle.iox_hub_base.specs.Opening.{Made}
 use Rattle.iox_hub_base.specs.declared.hub.Hub.{Hub}
 use Rattle.iox_hub_base.specs.Negotiate.declared.factory.Membership.{Membership}
-use Rattle.iox_hub_factories.specs.NegotiateErrors.declared.close.CloseError.{CloseError}
-use Rattle.iox_hub_factories.specs.NegotiateErrors.declared.close.CloseError.TheVariants as closing
+use Rattle.iox_hub_factories.specs.NegotiateBase.declared.errors.close.CloseError.{CloseError}
+use Rattle.iox_hub_factories.specs.NegotiateBase.declared.errors.close.CloseError.TheVariants as closing
 use Rattle.iox_hub_factories.specs.NegotiateTable.declared.step.ForeignStep.{ForeignStep}
-use Rattle.iox_numbered.proofs.Telling.{found_and_gone}
-use Rattle.iox_numbered.specs.NumberTable.{Rises, value_at, inserted}
+use Rattle.iox_maps.proofs.Telling.{found_and_gone}
+use Rattle.iox_maps.specs.NumberTable.{Rises, value_at, inserted}
 use Rattle.iox_hub_factories.specs.Closing.{Leaves, ClosesUnless, ClosesIfOf, ClosesNumbered}
 use Rattle.iox_hub_factories.specs.Creating.{CreatesAs, CreatesPrepared, CreatesNumbered}
 use Rattle.iox_hub_factories.specs.Either.{EitherAs, EitherPrepared, EitherNumbered}

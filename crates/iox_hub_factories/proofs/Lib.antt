@@ -1,4 +1,4 @@
 pub mod Unused
 pub mod Found
 pub mod Accesses
-pub use Rattle.iox_numbered.proofs as Numbered
+pub use Rattle.iox_maps.proofs as Maps

@@ -4,11 +4,11 @@ use Rattle.iox_hub_base.specs.Closing.{in_use, less_one}
 use Rattle.iox_hub_base.specs.declared.hub.Hub.{Hub}
 use Rattle.iox_hub_base.specs.Negotiate.Factory.{Closes}
 use Rattle.iox_hub_base.specs.Negotiate.declared.factory.Membership.{Membership}
-use Rattle.iox_hub_factories.specs.NegotiateErrors.declared.close.CloseError.{CloseError}
-use Rattle.iox_hub_factories.specs.NegotiateErrors.declared.close.CloseError.TheVariants.{StillInUse}
-use Rattle.iox_hub_factories.specs.NegotiateRounds.Runs.{Does}
+use Rattle.iox_hub_factories.specs.NegotiateBase.declared.errors.close.CloseError.{CloseError}
+use Rattle.iox_hub_factories.specs.NegotiateBase.declared.errors.close.CloseError.TheVariants.{StillInUse}
+use Rattle.iox_hub_factories.specs.NegotiateBase.Runs.{Does}
 use Rattle.iox_hub_factories.specs.NegotiateTable.Sights.{Sight}
-use Rattle.iox_numbered.specs.NumberTable.{removed}
+use Rattle.iox_maps.specs.NumberTable.{removed}
 use Rattle.iox_hub_factories.specs.Numbering.{IsSkipped}
 use Rattle.iox_hub_factories.specs.Tables.{FactoryTable, parts_of}
 use Rattle.iox_hub_factories.specs.declared.made.MadeFactory.{MadeFactory}

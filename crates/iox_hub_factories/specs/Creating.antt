@@ -15,14 +15,14 @@ use Rattle.iox_hub_base.specs.DescribeSettings.Agreement.{Agreement, AreWithinLi
 use Rattle.iox_hub_base.specs.Opening.{Made, OpensInHub}
 use Rattle.iox_hub_base.specs.declared.hub.Hub.{Hub}
 use Rattle.iox_hub_base.specs.Negotiate.Negotiation.{Creates}
-use Rattle.iox_hub_factories.specs.NegotiateErrors.EventErrors as event
-use Rattle.iox_hub_factories.specs.NegotiateErrors.PublishSubscribeErrors as publish_subscribe
-use Rattle.iox_hub_factories.specs.NegotiateErrors.RequestResponseErrors as request_response
-use Rattle.iox_hub_factories.specs.NegotiateErrors.declared.event.EventCreateError.TheVariants as event_error
-use Rattle.iox_hub_factories.specs.NegotiateErrors.declared.publish_subscribe.PublishSubscribeCreateError.TheVariants as publish_subscribe_error
-use Rattle.iox_hub_factories.specs.NegotiateErrors.declared.request_response.RequestResponseCreateError.TheVariants as request_response_error
-use Rattle.iox_hub_factories.specs.NegotiateRounds.declared.failure.CreateFailure.{CreateFailure}
-use Rattle.iox_hub_factories.specs.NegotiateRounds.declared.failure.CreateFailure.TheVariants.{OutOfMemory}
+use Rattle.iox_hub_factories.specs.NegotiateBase.EventErrors as event
+use Rattle.iox_hub_factories.specs.NegotiateBase.PublishSubscribeErrors as publish_subscribe
+use Rattle.iox_hub_factories.specs.NegotiateBase.RequestResponseErrors as request_response
+use Rattle.iox_hub_factories.specs.NegotiateBase.declared.errors.event.EventCreateError.TheVariants as event_error
+use Rattle.iox_hub_factories.specs.NegotiateBase.declared.errors.publish_subscribe.PublishSubscribeCreateError.TheVariants as publish_subscribe_error
+use Rattle.iox_hub_factories.specs.NegotiateBase.declared.errors.request_response.RequestResponseCreateError.TheVariants as request_response_error
+use Rattle.iox_hub_factories.specs.NegotiateBase.declared.failure.CreateFailure.{CreateFailure}
+use Rattle.iox_hub_factories.specs.NegotiateBase.declared.failure.CreateFailure.TheVariants.{OutOfMemory}
 use Rattle.iox_hub_factories.specs.NegotiateTable.Stepped.{SteppedSight}
 use Rattle.iox_hub_factories.specs.NegotiateTable.declared.step.ForeignStep.{ForeignStep}
 use Rattle.iox_hub_factories.specs.Asking.{hash_of, agreed_of, IsHistoryTooLong}

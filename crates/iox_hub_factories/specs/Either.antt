@@ -19,16 +19,16 @@ use Rattle.iox_hub_factories.specs.DescribeVerdict.Verdict.{first_unmet}
 use Rattle.iox_hub_base.specs.Opening.{Made, OpensInHub, lacking_either}
 use Rattle.iox_hub_base.specs.declared.hub.Hub.{Hub}
 use Rattle.iox_hub_base.specs.Negotiate.Negotiation.{Either}
-use Rattle.iox_hub_factories.specs.NegotiateErrors.EventErrors as event
-use Rattle.iox_hub_factories.specs.NegotiateErrors.PublishSubscribeErrors as publish_subscribe
-use Rattle.iox_hub_factories.specs.NegotiateErrors.RequestResponseErrors as request_response
-use Rattle.iox_hub_factories.specs.NegotiateErrors.declared.event.EventOpenError.TheVariants as event_unopened
-use Rattle.iox_hub_factories.specs.NegotiateErrors.declared.event.EventOpenOrCreateError.TheVariants.{EventOpenError}
-use Rattle.iox_hub_factories.specs.NegotiateErrors.declared.publish_subscribe.PublishSubscribeOpenError.TheVariants as publish_subscribe_unopened
-use Rattle.iox_hub_factories.specs.NegotiateErrors.declared.publish_subscribe.PublishSubscribeOpenOrCreateError.TheVariants.{PublishSubscribeOpenError}
-use Rattle.iox_hub_factories.specs.NegotiateErrors.declared.request_response.RequestResponseOpenError.TheVariants as request_response_unopened
-use Rattle.iox_hub_factories.specs.NegotiateErrors.declared.request_response.RequestResponseOpenOrCreateError.TheVariants.{RequestResponseOpenError}
-use Rattle.iox_hub_factories.specs.NegotiateRounds.declared.failure.OpenOrCreateFailure.{OpenOrCreateFailure}
+use Rattle.iox_hub_factories.specs.NegotiateBase.EventErrors as event
+use Rattle.iox_hub_factories.specs.NegotiateBase.PublishSubscribeErrors as publish_subscribe
+use Rattle.iox_hub_factories.specs.NegotiateBase.RequestResponseErrors as request_response
+use Rattle.iox_hub_factories.specs.NegotiateBase.declared.errors.event.EventOpenError.TheVariants as event_unopened
+use Rattle.iox_hub_factories.specs.NegotiateBase.declared.errors.event.EventOpenOrCreateError.TheVariants.{EventOpenError}
+use Rattle.iox_hub_factories.specs.NegotiateBase.declared.errors.publish_subscribe.PublishSubscribeOpenError.TheVariants as publish_subscribe_unopened
+use Rattle.iox_hub_factories.specs.NegotiateBase.declared.errors.publish_subscribe.PublishSubscribeOpenOrCreateError.TheVariants.{PublishSubscribeOpenError}
+use Rattle.iox_hub_factories.specs.NegotiateBase.declared.errors.request_response.RequestResponseOpenError.TheVariants as request_response_unopened
+use Rattle.iox_hub_factories.specs.NegotiateBase.declared.errors.request_response.RequestResponseOpenOrCreateError.TheVariants.{RequestResponseOpenError}
+use Rattle.iox_hub_factories.specs.NegotiateBase.declared.failure.OpenOrCreateFailure.{OpenOrCreateFailure}
 use Rattle.iox_hub_factories.specs.NegotiateTable.Stepped.{SteppedSight}
 use Rattle.iox_hub_factories.specs.NegotiateTable.declared.step.ForeignStep.{ForeignStep}
 use Rattle.iox_hub_factories.specs.Asking.{hash_of, required_agreement, IsHistoryTooLong, required_publish_subscribe, required_event, required_request_response}

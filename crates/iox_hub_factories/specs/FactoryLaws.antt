@@ -9,9 +9,9 @@ use Rattle.iox_hub_base.specs.DescribeBase.declared.attribute.Attribute.{Attribu
 use Rattle.iox_hub_base.specs.DescribeBase.declared.message_type.MessageTypeDetails.{MessageTypeDetails}
 use Rattle.iox_hub_base.specs.DescribeBase.declared.pattern.MessagingPattern.{MessagingPattern}
 use Rattle.iox_hub_base.specs.declared.hub.Hub.{Hub}
-use Rattle.iox_hub_factories.specs.NegotiateErrors.declared.close.CloseError.{CloseError}
-use Rattle.iox_hub_factories.specs.NegotiateErrors.declared.close.CloseError.TheVariants.{StillInUse}
-use Rattle.iox_numbered.specs.NumberTable.{Rises, value_at}
+use Rattle.iox_hub_factories.specs.NegotiateBase.declared.errors.close.CloseError.{CloseError}
+use Rattle.iox_hub_factories.specs.NegotiateBase.declared.errors.close.CloseError.TheVariants.{StillInUse}
+use Rattle.iox_maps.specs.NumberTable.{Rises, value_at}
 use Rattle.iox_hub_factories.specs.Closing.{ClosesNumbered}
 use Rattle.iox_hub_factories.specs.Creating.{CreatesNumbered}
 use Rattle.iox_hub_factories.specs.Either.{EitherNumbered}

@@ -11,13 +11,12 @@ pub mod FactoryLaws
 pub mod Asked
 pub mod Described
 pub mod Steps
-pub use Rattle.iox_numbered.specs as Numbered
+pub use Rattle.iox_maps.specs as Maps
 pub use Rattle.iox_hub_base.specs.Domain as Domain
 pub use Rattle.iox_hub_base.specs as HubBase
 pub use Rattle.iox_hub_base.specs.HubServices as HubServices
 pub use Rattle.iox_command.specs as Command
 pub use Rattle.iox_negotiate_table.specs.Describe as Describe
 pub use Rattle.iox_negotiate_table.specs.DescribeVerdict as DescribeVerdict
-pub use Rattle.iox_command.specs.NegotiateErrors as NegotiateErrors
-pub use Rattle.iox_negotiate_table.specs.NegotiateRounds as NegotiateRounds
+pub use Rattle.iox_command.specs.NegotiateBase as NegotiateBase
 pub use Rattle.iox_negotiate_table.specs as NegotiateTable

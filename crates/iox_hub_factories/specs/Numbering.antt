@@ -9,7 +9,7 @@ use Rattle.iox_hub_base.specs.DescribeBase.declared.pattern.MessagingPattern.{Me
 use Rattle.iox_hub_base.specs.Opening.{Made}
 use Rattle.iox_hub_factories.specs.Steps.{lists_of}
 use Rattle.iox_hub_factories.specs.NegotiateTable.declared.step.ForeignStep.{ForeignStep}
-use Rattle.iox_numbered.specs.NumberTable.{inserted}
+use Rattle.iox_maps.specs.NumberTable.{inserted}
 use Rattle.iox_hub_factories.specs.Tables.{FactoryTable, SameNumbers, pattern_in, parts_of}
 use Rattle.iox_hub_factories.specs.declared.made.MadeFactory.{MadeFactory}
 

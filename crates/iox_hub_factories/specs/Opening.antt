@@ -19,15 +19,15 @@ use Rattle.iox_hub_factories.specs.DescribeVerdict.Verdict.{first_unmet}
 use Rattle.iox_hub_base.specs.Opening.{Made, OpensInHub}
 use Rattle.iox_hub_base.specs.declared.hub.Hub.{Hub}
 use Rattle.iox_hub_base.specs.Negotiate.Negotiation.{Negotiates}
-use Rattle.iox_hub_factories.specs.NegotiateErrors.EventErrors as event
-use Rattle.iox_hub_factories.specs.NegotiateErrors.PublishSubscribeErrors as publish_subscribe
-use Rattle.iox_hub_factories.specs.NegotiateErrors.RequestResponseErrors as request_response
-use Rattle.iox_hub_factories.specs.NegotiateErrors.declared.event.EventOpenError.TheVariants as event_error
-use Rattle.iox_hub_factories.specs.NegotiateErrors.declared.publish_subscribe.PublishSubscribeOpenError.TheVariants as publish_subscribe_error
-use Rattle.iox_hub_factories.specs.NegotiateErrors.declared.request_response.RequestResponseOpenError.TheVariants as request_response_error
-use Rattle.iox_hub_factories.specs.NegotiateRounds.Opening.{Opens}
-use Rattle.iox_hub_factories.specs.NegotiateRounds.declared.failure.OpenFailure.{OpenFailure}
-use Rattle.iox_hub_factories.specs.NegotiateRounds.declared.failure.OpenFailure.TheVariants.{OutOfMemory}
+use Rattle.iox_hub_factories.specs.NegotiateBase.EventErrors as event
+use Rattle.iox_hub_factories.specs.NegotiateBase.PublishSubscribeErrors as publish_subscribe
+use Rattle.iox_hub_factories.specs.NegotiateBase.RequestResponseErrors as request_response
+use Rattle.iox_hub_factories.specs.NegotiateBase.declared.errors.event.EventOpenError.TheVariants as event_error
+use Rattle.iox_hub_factories.specs.NegotiateBase.declared.errors.publish_subscribe.PublishSubscribeOpenError.TheVariants as publish_subscribe_error
+use Rattle.iox_hub_factories.specs.NegotiateBase.declared.errors.request_response.RequestResponseOpenError.TheVariants as request_response_error
+use Rattle.iox_hub_factories.specs.NegotiateBase.Opening.{Opens}
+use Rattle.iox_hub_factories.specs.NegotiateBase.declared.failure.OpenFailure.{OpenFailure}
+use Rattle.iox_hub_factories.specs.NegotiateBase.declared.failure.OpenFailure.TheVariants.{OutOfMemory}
 use Rattle.iox_hub_factories.specs.NegotiateTable.Stepped.{SteppedSight}
 use Rattle.iox_hub_factories.specs.NegotiateTable.declared.step.ForeignStep.{ForeignStep}
 use Rattle.iox_hub_factories.specs.Asking.{hash_of, required_publish_subscribe, required_event, required_request_response}

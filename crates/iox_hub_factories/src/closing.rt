@@ -1,10 +1,10 @@
 //! Factories are closed.
-ghost use Rattle.iox_numbered.specs.NumberTable.{value_at};
+ghost use Rattle.iox_maps.specs.NumberTable.{value_at};
 ghost use Rattle.iox_hub_factories.specs.Closing.{ClosesNumbered};
 
 use crate::factories::Factories;
 use iox_hub_base::Hub;
-use iox_negotiate_errors::CloseError;
+use iox_negotiate_base::errors::CloseError;
 
 impl Factories {
     /// Closes a factory, whose number is spent, also where something is left behind.

@@ -19,7 +19,7 @@ use iox_describe::pattern::{Event, PublishSubscribe, RequestResponse};
 use iox_describe_base::{AttributeVerifier, MessageTypeDetails, ZeroCopySend};
 use iox_hub_base::{Hub, HubBuilder};
 use iox_negotiate::Builder;
-use iox_negotiate_errors::{
+use iox_negotiate_base::errors::{
     EventOpenError, EventOpenOrCreateError, PublishSubscribeOpenError,
     PublishSubscribeOpenOrCreateError, RequestResponseOpenError, RequestResponseOpenOrCreateError,
 };

@@ -2,7 +2,7 @@
 ghost use Rattle.std.specs.Prelude.{◌≡◌, ◌+◌, ◌<◌, ◌^◌, length, option_map};
 ghost use Rattle.std.specs.Result.{result_map_both};
 ghost use Rattle.iox_hub_factories.specs.Describe.Within.{HasForm};
-ghost use Rattle.iox_numbered.specs.NumberTable.{value_at, inserted};
+ghost use Rattle.iox_maps.specs.NumberTable.{value_at, inserted};
 ghost use Rattle.iox_hub_factories.specs.Numbering.{MakesRoom, Prepares};
 ghost use Rattle.iox_hub_factories.specs.Tables.{no_factories, parts_of, publish_subscribe_in};
 
@@ -12,8 +12,8 @@ use iox_command::StepBefore;
 use iox_describe::pattern::PublishSubscribe;
 use iox_describe_base::{MessageTypeDetails, ServiceName};
 use iox_hub_base::PortFactory;
+use iox_maps::by_number::Numbered;
 use iox_negotiate_table::StepList;
-use iox_numbered::Numbered;
 use std::alloc::{AllocError, Global};
 
 /// The factories that a run of commands opened and didn't close yet, under numbers that are counted from 1. A number is spent when its

@@ -9,7 +9,7 @@ ghost use Rattle.iox_hub_factories.specs.Tables.{parts_of};
 use iox_describe::Description;
 use iox_describe::pattern::{Event, Pattern, PublishSubscribe, RequestResponse};
 use iox_hub_base::{Hub, PortFactory};
-use iox_negotiate_errors::CloseError;
+use iox_negotiate_base::errors::CloseError;
 
 /// A service that is open, by its pattern.
 ///

@@ -19,7 +19,9 @@ use iox_describe::pattern::{Event, PublishSubscribe, RequestResponse};
 use iox_describe_base::{AttributeVerifier, MessageTypeDetails, ZeroCopySend};
 use iox_hub_base::{Hub, HubBuilder};
 use iox_negotiate::Builder;
-use iox_negotiate_errors::{EventOpenError, PublishSubscribeOpenError, RequestResponseOpenError};
+use iox_negotiate_base::errors::{
+    EventOpenError, PublishSubscribeOpenError, RequestResponseOpenError,
+};
 use iox_negotiate_table::StepList;
 use iox_queues_base::Words;
 use std::alloc::Global;

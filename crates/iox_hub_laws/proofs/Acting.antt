@@ -2,30 +2,30 @@
 use Rattle.std.proofs.Common.{◌≡◌, ◌∙◌, ◌<◌, ◌≤◌, ◌+◌, ◌-◌, ◌^◌, ℕ, Bool, true, false, cond, List, [], ◌∷◌, Option, None, Some, option_map, Result, Ok, Err, nat_eq, refl, sym, ap, subst, arith, ◌&&◌, not, map}
 use Rattle.std.specs.Prelude.{is_some}
 use Rattle.std.specs.declared.alloc.AllocError.{AllocError}
-use Rattle.iox_negotiate_laws.specs.Describe.DescribeBase.declared.hash.ServiceHash.{ServiceHash}
-use Rattle.iox_negotiate_laws.specs.Describe.DescribeSettings.Agreement.{Agreement, max_nodes_of}
-use Rattle.iox_negotiate_laws.specs.Describe.Line.{line}
-use Rattle.iox_negotiate_laws.specs.Histories.{Event, Ran}
-use Rattle.iox_negotiate_laws.specs.Histories as history
-use Rattle.iox_negotiate_laws.specs.NegotiateRounds.Access.{Access, Look, Lock, MakeSegment, Publish, Unlock, OpenSegment, Leave, RemoveDescription, RemoveSegment}
-use Rattle.iox_negotiate_laws.specs.NegotiateRounds.Runs.{Went}
-use Rattle.iox_negotiate_laws.specs.NegotiateRounds.declared.answer.LockAnswer.TheVariants as lock
-use Rattle.iox_negotiate_laws.specs.NegotiateRounds.declared.answer.LookAnswer.TheVariants as look
-use Rattle.iox_negotiate_laws.specs.NegotiateTable.Contents.{Contents, entry_at, segment_at, with_lock, with_entry, without_entry, with_new_segment, without_segment}
-use Rattle.iox_negotiate_laws.specs.NegotiateTable.Foreign.{DoneOrLacking, Done, foreign_lock, published_number, with_service, PublishesForeign, RegistersAt, RegistersForeign, left_at, after_leaving, is_left_by, after_removal, Acts}
-use Rattle.iox_negotiate_laws.specs.NegotiateTable.Nodes.{first_foreign}
-use Rattle.iox_negotiate_laws.specs.NegotiateTable.Sights.{Sight}
-use Rattle.iox_negotiate_laws.specs.NegotiateTable.Stepped.{Steps, GoesOn, ActsAll, next_list, Preceded, Alone, SteppedSight}
-use Rattle.iox_negotiate_laws.specs.NegotiateTable.declared.entry.Entry.{Entry}
-use Rattle.iox_negotiate_laws.specs.NegotiateTable.declared.entry.Entry.TheVariants.{Locked, Described}
-use Rattle.iox_negotiate_laws.specs.NegotiateTable.declared.node.Node.TheVariants.{Own, Foreign}
-use Rattle.iox_negotiate_laws.specs.NegotiateTable.declared.segment.Segment.{Segment}
-use Rattle.iox_negotiate_laws.specs.NegotiateTable.declared.segment.Segment.TheVariants.{Open}
-use Rattle.iox_negotiate_laws.specs.NegotiateTable.declared.step.ForeignStep.{ForeignStep}
-use Rattle.iox_negotiate_laws.specs.NegotiateTable.declared.step.ForeignStep.TheVariants as step
-use Rattle.iox_negotiate_laws.proofs.Agreements.{stepped-went-past, went-past}
-use Rattle.iox_negotiate_laws.proofs.Changes.{hash_of, changes, rises}
-use Rattle.iox_negotiate_laws.proofs.Stepping.{Past, acts-ran}
+use Rattle.iox_negotiate.specs.Describe.DescribeBase.declared.hash.ServiceHash.{ServiceHash}
+use Rattle.iox_negotiate.specs.Describe.DescribeSettings.Agreement.{Agreement, max_nodes_of}
+use Rattle.iox_negotiate.specs.Describe.Line.{line}
+use Rattle.iox_negotiate.specs.Histories.{Event, Ran}
+use Rattle.iox_negotiate.specs.Histories as history
+use Rattle.iox_negotiate.specs.NegotiateBase.Access.{Access, Look, Lock, MakeSegment, Publish, Unlock, OpenSegment, Leave, RemoveDescription, RemoveSegment}
+use Rattle.iox_negotiate.specs.NegotiateBase.Runs.{Went}
+use Rattle.iox_negotiate.specs.NegotiateBase.declared.answer.LockAnswer.TheVariants as lock
+use Rattle.iox_negotiate.specs.NegotiateBase.declared.answer.LookAnswer.TheVariants as look
+use Rattle.iox_negotiate.specs.NegotiateTable.Contents.{Contents, entry_at, segment_at, with_lock, with_entry, without_entry, with_new_segment, without_segment}
+use Rattle.iox_negotiate.specs.NegotiateTable.Foreign.{DoneOrLacking, Done, foreign_lock, published_number, with_service, PublishesForeign, RegistersAt, RegistersForeign, left_at, after_leaving, is_left_by, after_removal, Acts}
+use Rattle.iox_negotiate.specs.NegotiateTable.Nodes.{first_foreign}
+use Rattle.iox_negotiate.specs.NegotiateTable.Sights.{Sight}
+use Rattle.iox_negotiate.specs.NegotiateTable.Stepped.{Steps, GoesOn, ActsAll, next_list, Preceded, Alone, SteppedSight}
+use Rattle.iox_negotiate.specs.NegotiateTable.declared.entry.Entry.{Entry}
+use Rattle.iox_negotiate.specs.NegotiateTable.declared.entry.Entry.TheVariants.{Locked, Described}
+use Rattle.iox_negotiate.specs.NegotiateTable.declared.node.Node.TheVariants.{Own, Foreign}
+use Rattle.iox_negotiate.specs.NegotiateTable.declared.segment.Segment.{Segment}
+use Rattle.iox_negotiate.specs.NegotiateTable.declared.segment.Segment.TheVariants.{Open}
+use Rattle.iox_negotiate.specs.NegotiateTable.declared.step.ForeignStep.{ForeignStep}
+use Rattle.iox_negotiate.specs.NegotiateTable.declared.step.ForeignStep.TheVariants as step
+use Rattle.iox_negotiate.proofs.Agreements.{stepped-went-past, went-past}
+use Rattle.iox_negotiate.proofs.Changes.{hash_of, changes, rises}
+use Rattle.iox_negotiate.proofs.Stepping.{Past, acts-ran}
 use Rattle.iox_hub_laws.specs.NegotiateRenamedRenaming.{AreInOrder, GoBy, renamed_entry, renamed_table, renamed_access, renamed_lock, renamed_look, renamed_steps}
 use Rattle.iox_hub_laws.specs.NegotiateRenamedRenamingLaws.{LeadsOn}
 use Rattle.iox_hub_laws.proofs.Tables.{IsLive, live_at, entry_there, segment_there, here_few, there_few, next_is, entry_put, entry_gone, segment_come, segment_put, segment_gone, lock_come, go_put, go_gone, go_segment_come, go_segment_put, go_segment_gone, go_lock, still, moved_test, sight_as}

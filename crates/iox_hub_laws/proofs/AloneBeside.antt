@@ -28,11 +28,11 @@ use Rattle.iox_hub_laws.specs.HubFactories.HubServices.Numbered.{others_beside}
 use Rattle.iox_hub_laws.specs.HubFactories.HubServices.Open.{OpenServices, presence_of}
 use Rattle.iox_hub_laws.specs.HubFactories.HubServices.Opening.{Opens as ServiceOpens}
 use Rattle.iox_hub_laws.specs.HubFactories.HubServices.declared.presence.Presence.TheVariants.{Here}
-use Rattle.iox_hub_laws.specs.HubFactories.Numbered.NumberTable.{Rises, value_at, inserted}
+use Rattle.iox_hub_laws.specs.HubFactories.Maps.NumberTable.{Rises, value_at, inserted}
 use Rattle.iox_hub_laws.specs.HubFactories.Numbering.{Numbers, GetsNumber}
 use Rattle.iox_hub_laws.specs.HubFactories.Tables.{FactoryTable, SameNumbers}
 use Rattle.iox_hub_laws.specs.HubFactories.declared.made.MadeFactory.{MadeFactory}
-use Rattle.iox_hub_laws.proofs.HubFactories.Numbered.Telling.{found_and_gone}
+use Rattle.iox_hub_laws.proofs.HubFactories.Maps.Telling.{found_and_gone}
 use Rattle.iox_hub_laws.specs.HubRun.AgreementLaws.{service_of, carried_by}
 use Rattle.iox_hub_laws.specs.HubRun.Lives.{NumbersRise}
 use Rattle.iox_hub_laws.specs.HubRun.Steps.{Step}
@@ -50,15 +50,15 @@ use Rattle.iox_hub_laws.proofs.Lives.{IsFrom, past_follows}
 use Rattle.iox_hub_laws.proofs.Made.{rises_as}
 use Rattle.iox_hub_laws.proofs.LocalityNegotiated.{IsNegotiation}
 use Rattle.iox_hub_laws.proofs.Opened.{opening_goes}
-use Rattle.iox_hub_laws.specs.NegotiateLaws.Closing.{IsUntouched}
-use Rattle.iox_hub_laws.specs.NegotiateLaws.Negotiate.declared.factory.Membership.{Membership}
-use Rattle.iox_hub_laws.specs.NegotiateLaws.NegotiateTable.Contents.{Contents}
-use Rattle.iox_hub_laws.specs.NegotiateLaws.NegotiateTable.Stepped.{Steps}
-use Rattle.iox_hub_laws.specs.NegotiateLaws.NegotiateTable.declared.entry.Entry.TheVariants.{Described}
-use Rattle.iox_hub_laws.specs.NegotiateLaws.NegotiateTable.declared.step.ForeignStep.{ForeignStep}
-use Rattle.iox_hub_laws.proofs.NegotiateLaws.Agreements.{stepped-went-past}
-use Rattle.iox_hub_laws.proofs.NegotiateLaws.Maps.{no}
-use Rattle.iox_hub_laws.proofs.NegotiateLaws.Tables.{IsTable}
+use Rattle.iox_hub_laws.specs.Negotiate.Closing.{IsUntouched}
+use Rattle.iox_hub_laws.specs.Negotiate.declared.factory.Membership.{Membership}
+use Rattle.iox_hub_laws.specs.Negotiate.NegotiateTable.Contents.{Contents}
+use Rattle.iox_hub_laws.specs.Negotiate.NegotiateTable.Stepped.{Steps}
+use Rattle.iox_hub_laws.specs.Negotiate.NegotiateTable.declared.entry.Entry.TheVariants.{Described}
+use Rattle.iox_hub_laws.specs.Negotiate.NegotiateTable.declared.step.ForeignStep.{ForeignStep}
+use Rattle.iox_hub_laws.proofs.Negotiate.Agreements.{stepped-went-past}
+use Rattle.iox_hub_laws.proofs.Negotiate.Maps.{no}
+use Rattle.iox_hub_laws.proofs.Negotiate.Tables.{IsTable}
 
 -- ---- a command that creates or opens a service
 

@@ -1,15 +1,15 @@
 -- Tables of what goes by numbers: all of one service, and numbers that are passed over.
 use Rattle.std.proofs.Common.{◌≡◌, ◌∙◌, ◌+◌, ◌≤◌, ◌<◌, ℕ, Bool, true, false, List, [], ◌∷◌, Option, None, Some, option_map, refl, sym, ap, nat_eq, arith}
 use Rattle.std.specs.Map.{lookup}
-use Rattle.iox_hub_laws.specs.HubFactories.Numbered.NumberTable.{NumberTable, Rises, value_at}
+use Rattle.iox_hub_laws.specs.HubFactories.Maps.NumberTable.{NumberTable, Rises, value_at}
 use Rattle.iox_hub_laws.specs.Left.{AllLeft}
 use Rattle.iox_hub_laws.proofs.IndependenceTables.{found_as_before}
 use Rattle.iox_hub_laws.specs.Agreeing.{SameOf}
 use Rattle.iox_hub_laws.specs.Locality.{FoundMine}
-use Rattle.iox_hub_laws.specs.NegotiateLaws.Lives.{number_of}
-use Rattle.iox_hub_laws.specs.NegotiateLaws.NegotiateTable.Contents.{Contents}
-use Rattle.iox_hub_laws.proofs.NegotiateLaws.Maps.{weaker}
-use Rattle.iox_hub_laws.proofs.NegotiateLaws.Tables.{IsTable}
+use Rattle.iox_hub_laws.specs.Negotiate.Lives.{number_of}
+use Rattle.iox_hub_laws.specs.Negotiate.NegotiateTable.Contents.{Contents}
+use Rattle.iox_hub_laws.proofs.Negotiate.Maps.{weaker}
+use Rattle.iox_hub_laws.proofs.Negotiate.Tables.{IsTable}
 use Rattle.iox_hub_laws.specs.Alone.{NumberFound}
 use Rattle.iox_hub_laws.specs.Passing.{PassesIn}
 

@@ -16,7 +16,7 @@ use Rattle.iox_hub_laws.specs.HubCommands.DomainValues.declared.degradation.Degr
 use Rattle.iox_hub_laws.specs.HubCommands.DomainValues.declared.degradation.DegradationInfo.{DegradationInfo}
 use Rattle.iox_hub_laws.specs.HubFactories.HubBase.Hubs.{factories_of, one_more}
 use Rattle.iox_hub_laws.specs.HubFactories.HubServices.Open.{presence_of}
-use Rattle.iox_hub_laws.specs.HubFactories.Numbered.NumberTable.{value_at}
+use Rattle.iox_hub_laws.specs.HubFactories.Maps.NumberTable.{value_at}
 use Rattle.iox_hub_laws.specs.HubFactories.HubBase.declared.hub.HubConfig.{HubConfig}
 use Rattle.std.specs.Map.{lookup}
 use Rattle.std.specs.Prelude.{nat_eq}
@@ -34,12 +34,12 @@ use Rattle.iox_hub_laws.specs.Agreeing.{AgreeOn}
 use Rattle.iox_hub_laws.specs.Locality.{HashFound, IsMemoryWanted}
 use Rattle.iox_hub_laws.proofs.Framed.{step_goes_by, step_goes_on}
 use Rattle.iox_hub_laws.proofs.Lives.{IsFrom, past_rises, past_follows, past_id}
-use Rattle.iox_hub_laws.specs.NegotiateLaws.Closing.{IsUntouched}
-use Rattle.iox_hub_laws.specs.NegotiateLaws.Lives.{number_of}
-use Rattle.iox_hub_laws.specs.NegotiateLaws.NegotiateTable.Contents.{Contents, entry_at, segment_at}
-use Rattle.iox_hub_laws.specs.NegotiateLaws.NegotiateTable.declared.entry.Entry.{Entry}
-use Rattle.iox_hub_laws.proofs.NegotiateLaws.Maps.{Rising, on}
-use Rattle.iox_hub_laws.proofs.NegotiateLaws.Tables.{IsTable, new-table, runs}
+use Rattle.iox_hub_laws.specs.Negotiate.Closing.{IsUntouched}
+use Rattle.iox_hub_laws.specs.Negotiate.Lives.{number_of}
+use Rattle.iox_hub_laws.specs.Negotiate.NegotiateTable.Contents.{Contents, entry_at, segment_at}
+use Rattle.iox_hub_laws.specs.Negotiate.NegotiateTable.declared.entry.Entry.{Entry}
+use Rattle.iox_hub_laws.proofs.Negotiate.Maps.{Rising, on}
+use Rattle.iox_hub_laws.proofs.Negotiate.Tables.{IsTable, new-table, runs}
 use Rattle.iox_hub_laws.specs.Alone.{StepWithMemory, NumberFound, LivesBegin, OfService, OfOthers, RunsAmongOthers, RunsAlone, IsAsIfAlone}
 use Rattle.iox_hub_laws.specs.Passing.{PassesOver}
 use Rattle.iox_hub_laws.proofs.AloneBeside.{left, untouched}

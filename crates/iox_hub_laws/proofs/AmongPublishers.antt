@@ -5,7 +5,7 @@ use Rattle.std.specs.Ordering.{nat_cmp}
 use Rattle.std.specs.declared.alloc.AllocError.{AllocError}
 use Rattle.iox_domain_laws.specs.DomainPublisher.Ports.{detached_at}
 use Rattle.iox_domain_laws.specs.DomainPublisher.declared.publisher_port.PublisherPort.{PublisherPort}
-use Rattle.iox_domain_laws.specs.DomainSender.Messages.{Message}
+use Rattle.iox_domain_laws.specs.DomainPublisher.Messages.{Message}
 use Rattle.iox_domain_laws.specs.DomainSlots.Uses.{Connection}
 use Rattle.iox_domain_laws.specs.DomainSubscriber.Following.{lacks_connection}
 use Rattle.iox_domain_laws.specs.DomainSubscriber.Publishers as ports

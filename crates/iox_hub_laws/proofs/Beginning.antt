@@ -45,7 +45,7 @@ use Rattle.iox_hub_laws.specs.HubFactories.HubServices.Open.{OpenServices, prese
 use Rattle.iox_hub_laws.specs.HubFactories.HubServices.Opening.{Opens as ServiceOpens}
 use Rattle.iox_hub_laws.specs.HubFactories.HubServices.declared.presence.Presence.{Presence}
 use Rattle.iox_hub_laws.specs.HubFactories.HubServices.declared.presence.Presence.TheVariants.{Here}
-use Rattle.iox_hub_laws.specs.HubFactories.Numbered.NumberTable.{NumberTable}
+use Rattle.iox_hub_laws.specs.HubFactories.Maps.NumberTable.{NumberTable}
 use Rattle.iox_hub_laws.specs.HubFactories.Numbering.{GetsNumber}
 use Rattle.iox_hub_laws.specs.HubFactories.Tables.{FactoryTable, parts_of}
 use Rattle.iox_hub_laws.specs.HubFactories.declared.made.MadeFactory.{MadeFactory}
@@ -65,17 +65,17 @@ use Rattle.iox_hub_laws.proofs.Keeping.{OfServices, step_keeps}
 use Rattle.iox_hub_laws.proofs.Lives.{IsFrom, past_rises, past_follows}
 use Rattle.iox_hub_laws.proofs.LocalityNames.{insert_at}
 use Rattle.iox_hub_laws.proofs.Opened.{opening_goes}
-use Rattle.iox_hub_laws.specs.NegotiateLaws.Lives.{number_of}
-use Rattle.iox_hub_laws.specs.NegotiateLaws.Negotiate.declared.factory.Membership.{Membership}
-use Rattle.iox_hub_laws.specs.NegotiateLaws.NegotiateErrors.declared.close.CloseError.{CloseError}
-use Rattle.iox_hub_laws.specs.NegotiateLaws.NegotiateTable.Contents.{Contents}
-use Rattle.iox_hub_laws.specs.NegotiateLaws.NegotiateTable.Stepped.{Steps}
-use Rattle.iox_hub_laws.specs.NegotiateLaws.NegotiateTable.declared.entry.Entry.{Entry}
-use Rattle.iox_hub_laws.specs.NegotiateLaws.NegotiateTable.declared.step.ForeignStep.{ForeignStep}
-use Rattle.iox_hub_laws.proofs.NegotiateLaws.Agreements.{past-on, no-past}
-use Rattle.iox_hub_laws.proofs.NegotiateLaws.Maps.{no, none-found, none-passes, set-found, remove-all}
-use Rattle.iox_hub_laws.proofs.NegotiateLaws.Stepping.{Past}
-use Rattle.iox_hub_laws.proofs.NegotiateLaws.Tables.{runs}
+use Rattle.iox_hub_laws.specs.Negotiate.Lives.{number_of}
+use Rattle.iox_hub_laws.specs.Negotiate.declared.factory.Membership.{Membership}
+use Rattle.iox_hub_laws.specs.Negotiate.NegotiateBase.declared.errors.close.CloseError.{CloseError}
+use Rattle.iox_hub_laws.specs.Negotiate.NegotiateTable.Contents.{Contents}
+use Rattle.iox_hub_laws.specs.Negotiate.NegotiateTable.Stepped.{Steps}
+use Rattle.iox_hub_laws.specs.Negotiate.NegotiateTable.declared.entry.Entry.{Entry}
+use Rattle.iox_hub_laws.specs.Negotiate.NegotiateTable.declared.step.ForeignStep.{ForeignStep}
+use Rattle.iox_hub_laws.proofs.Negotiate.Agreements.{past-on, no-past}
+use Rattle.iox_hub_laws.proofs.Negotiate.Maps.{no, none-found, none-passes, set-found, remove-all}
+use Rattle.iox_hub_laws.proofs.Negotiate.Stepping.{Past}
+use Rattle.iox_hub_laws.proofs.Negotiate.Tables.{runs}
 use Rattle.iox_hub_laws.specs.Beginning.{NoneIsOf, NothingMadeOf, HasNothingOf, IsEmptyDomain, IsOldOrNew, NothingAhead, DomainsStartEmpty, LivesBeginAnew}
 use Rattle.iox_hub_laws.proofs.AloneBeside.{left, opening_or_not, hash_of_opening}
 use Rattle.iox_hub_laws.proofs.Concerning.{AllMine}

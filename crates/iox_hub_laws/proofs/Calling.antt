@@ -1,13 +1,13 @@
 -- Whole calls under other numbers of lives.
 use Rattle.std.proofs.Common.{◌≤◌, ℕ}
-use Rattle.iox_negotiate_laws.specs.NegotiateRounds.Runs.{Does}
-use Rattle.iox_negotiate_laws.specs.NegotiateTable.Contents.{Contents}
-use Rattle.iox_negotiate_laws.specs.NegotiateTable.Sights.{Sight}
-use Rattle.iox_negotiate_laws.specs.NegotiateTable.Stepped.{Steps, SteppedSight}
-use Rattle.iox_negotiate_laws.specs.NegotiateRounds.Access.{Access}
+use Rattle.iox_negotiate.specs.NegotiateBase.Runs.{Does}
+use Rattle.iox_negotiate.specs.NegotiateTable.Contents.{Contents}
+use Rattle.iox_negotiate.specs.NegotiateTable.Sights.{Sight}
+use Rattle.iox_negotiate.specs.NegotiateTable.Stepped.{Steps, SteppedSight}
+use Rattle.iox_negotiate.specs.NegotiateBase.Access.{Access}
 use Rattle.std.proofs.Common.{List, map}
-use Rattle.iox_negotiate_laws.proofs.Changes.{hash_of, changes, rises}
-use Rattle.iox_negotiate_laws.specs.Histories as history
+use Rattle.iox_negotiate.proofs.Changes.{hash_of, changes, rises}
+use Rattle.iox_negotiate.specs.Histories as history
 use Rattle.iox_hub_laws.specs.NegotiateRenamedRenaming.{AreInOrder, GoBy, renamed_access, renamed_table, renamed_steps}
 use Rattle.iox_hub_laws.specs.NegotiateRenamedRenamingLaws.{LeadsOn, AccessesAreAlike, StepsAreAlike, CallsAreAlike}
 use Rattle.iox_hub_laws.proofs.Acting.{low_on, acts_all_as, stepped_went_as, went_as}

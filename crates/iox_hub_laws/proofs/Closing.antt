@@ -29,7 +29,7 @@ use Rattle.iox_hub_laws.specs.HubFactories.HubBase.declared.hub.Hub.{Hub}
 use Rattle.iox_hub_laws.specs.HubFactories.HubServices.Numbered.{is_number, not_number, others_beside}
 use Rattle.iox_hub_laws.specs.HubFactories.HubServices.Open.{presence_of}
 use Rattle.iox_hub_laws.specs.HubFactories.HubServices.Opening.{without_service}
-use Rattle.iox_hub_laws.specs.HubFactories.Numbered.NumberTable.{Rises, value_at, removed}
+use Rattle.iox_hub_laws.specs.HubFactories.Maps.NumberTable.{Rises, value_at, removed}
 use Rattle.iox_hub_laws.specs.HubFactories.Tables.{FactoryTable, parts_of}
 use Rattle.iox_hub_laws.specs.HubFactories.declared.made.MadeFactory.{MadeFactory}
 use Rattle.iox_hub_laws.specs.HubRun.AgreementLaws.{service_of, carried_by}
@@ -38,12 +38,12 @@ use Rattle.iox_hub_laws.specs.HubRun.Services.{Closes}
 use Rattle.iox_hub_laws.specs.HubRun.Steps.{Step}
 use Rattle.iox_hub_laws.specs.HubRun.declared.numbered_hub.NumberedHub.{NumberedHub}
 use Rattle.iox_hub_laws.proofs.Names.{closes_under, AllUnder}
-use Rattle.iox_hub_laws.specs.NegotiateLaws.Negotiate.declared.factory.Membership.{Membership}
-use Rattle.iox_hub_laws.specs.NegotiateLaws.NegotiateErrors.declared.close.CloseError.{CloseError}
-use Rattle.iox_hub_laws.specs.NegotiateLaws.NegotiateRounds.Runs.{Went}
-use Rattle.iox_hub_laws.specs.NegotiateLaws.NegotiateTable.Sights.{Sight}
-use Rattle.iox_hub_laws.proofs.NegotiateLaws.Maps.{Distinct, no, remove-apart, remove-same}
-use Rattle.iox_hub_laws.proofs.NegotiateLaws.Tables.{IsTable, reached}
+use Rattle.iox_hub_laws.specs.Negotiate.declared.factory.Membership.{Membership}
+use Rattle.iox_hub_laws.specs.Negotiate.NegotiateBase.declared.errors.close.CloseError.{CloseError}
+use Rattle.iox_hub_laws.specs.Negotiate.NegotiateBase.Runs.{Went}
+use Rattle.iox_hub_laws.specs.Negotiate.NegotiateTable.Sights.{Sight}
+use Rattle.iox_hub_laws.proofs.Negotiate.Maps.{Distinct, no, remove-apart, remove-same}
+use Rattle.iox_hub_laws.proofs.Negotiate.Tables.{IsTable, reached}
 use Rattle.iox_hub_laws.specs.Agreeing.{SameOf, HubsAgree, AgreeOn}
 use Rattle.iox_hub_laws.specs.Locality.{FoundMine, EachOnce, NumbersOnce, HashFound, CloseAnswersAlike}
 use Rattle.iox_hub_laws.proofs.Domains.{agree_still}

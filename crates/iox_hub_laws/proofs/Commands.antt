@@ -24,8 +24,8 @@ use Rattle.iox_hub_laws.specs.HubCommands.Command.declared.port.SubscriberOption
 use Rattle.iox_hub_laws.specs.HubRun.Services.{NodeMakes, PublisherComes, SubscriberComes}
 use Rattle.iox_hub_laws.specs.HubRun.Steps.{IsReplied, Step}
 use Rattle.iox_hub_laws.specs.HubRun.declared.numbered_hub.NumberedHub.{NumberedHub}
-use Rattle.iox_hub_laws.proofs.NegotiateLaws.Tables.{IsTable, reached}
-use Rattle.iox_hub_laws.specs.NegotiateLaws.NegotiateTable.Contents.{Contents}
+use Rattle.iox_hub_laws.proofs.Negotiate.Tables.{IsTable, reached}
+use Rattle.iox_hub_laws.specs.Negotiate.NegotiateTable.Contents.{Contents}
 use Rattle.iox_hub_laws.specs.NegotiateRenamedRenaming.{AreInOrder, GoBy}
 use Rattle.iox_hub_laws.proofs.Keeping.{step_keeps}
 use Rattle.iox_hub_laws.specs.RenamedRenaming.{renamed_numbered}

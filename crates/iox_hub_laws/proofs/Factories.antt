@@ -19,10 +19,10 @@ use Rattle.iox_hub_laws.specs.HubCommands.DomainValues.declared.degradation.Degr
 use Rattle.iox_hub_laws.specs.HubFactories.Closing.{ClosesUnless, ClosesIfOf, ClosesNumbered}
 use Rattle.iox_hub_laws.specs.HubFactories.HubBase.Opening.{Made as Opened}
 use Rattle.iox_hub_laws.specs.HubFactories.HubBase.declared.hub.Hub.{Hub}
-use Rattle.iox_hub_laws.specs.HubFactories.Numbered.NumberTable.{Rises, value_at, removed}
+use Rattle.iox_hub_laws.specs.HubFactories.Maps.NumberTable.{Rises, value_at, removed}
 use Rattle.iox_hub_laws.specs.HubFactories.Tables.{FactoryTable, parts_of}
 use Rattle.iox_hub_laws.specs.HubFactories.declared.made.MadeFactory.{MadeFactory}
-use Rattle.iox_hub_laws.proofs.HubFactories.Numbered.Telling.{found_and_gone}
+use Rattle.iox_hub_laws.proofs.HubFactories.Maps.Telling.{found_and_gone}
 use Rattle.std.proofs.lemmas.Bool.{eqb-true, eq-eqb}
 use Rattle.iox_hub_laws.specs.HubRun.AgreementLaws.{service_of, carried_by}
 use Rattle.iox_hub_laws.specs.HubRun.Lives.{NumbersRise}
@@ -31,10 +31,10 @@ use Rattle.iox_hub_laws.specs.HubRun.Steps.{IsReplied, Step}
 use Rattle.iox_hub_laws.specs.HubRun.declared.numbered_hub.NumberedHub.{NumberedHub}
 use Rattle.iox_hub_laws.specs.Asking.{hash_asked}
 use Rattle.iox_hub_laws.proofs.Steps as beside
-use Rattle.iox_hub_laws.specs.NegotiateLaws.Negotiate.declared.factory.Membership.{Membership}
-use Rattle.iox_hub_laws.specs.NegotiateLaws.NegotiateErrors.declared.close.CloseError.{CloseError}
-use Rattle.iox_hub_laws.proofs.NegotiateLaws.Maps.{no}
-use Rattle.iox_hub_laws.proofs.NegotiateLaws.Tables.{IsTable}
+use Rattle.iox_hub_laws.specs.Negotiate.declared.factory.Membership.{Membership}
+use Rattle.iox_hub_laws.specs.Negotiate.NegotiateBase.declared.errors.close.CloseError.{CloseError}
+use Rattle.iox_hub_laws.proofs.Negotiate.Maps.{no}
+use Rattle.iox_hub_laws.proofs.Negotiate.Tables.{IsTable}
 use Rattle.iox_hub_laws.specs.Locality.{IsOpening}
 use Rattle.iox_hub_laws.proofs.Lives.{IsFrom}
 use Rattle.iox_hub_laws.proofs.AloneBeside.{opening_or_not, hash_of_opening, opened}

@@ -21,8 +21,8 @@ use Rattle.iox_hub_laws.specs.HubFactories.HubBase.declared.hub.Hub.{Hub}
 use Rattle.iox_hub_laws.specs.HubRun.Services.{Acts}
 use Rattle.iox_hub_laws.specs.HubRun.Steps.{Step}
 use Rattle.iox_hub_laws.specs.HubRun.declared.numbered_hub.NumberedHub.{NumberedHub}
-use Rattle.iox_hub_laws.specs.NegotiateLaws.NegotiateTable.Contents.{Contents}
-use Rattle.iox_hub_laws.proofs.NegotiateLaws.Tables.{IsTable, reached}
+use Rattle.iox_hub_laws.specs.Negotiate.NegotiateTable.Contents.{Contents}
+use Rattle.iox_hub_laws.proofs.Negotiate.Tables.{IsTable, reached}
 use Rattle.iox_hub_laws.specs.Agreeing.{HubsAgree, AgreeOn}
 use Rattle.iox_hub_laws.specs.Locality.{ForeignAnswersAlike}
 use Rattle.iox_hub_laws.proofs.LocalityNames.{TablesAgree, acts_all_alike}

@@ -42,14 +42,14 @@ use Rattle.iox_hub_laws.specs.HubFactories.declared.made.MadeFactory.{MadeFactor
 use Rattle.iox_hub_laws.specs.HubRun.Steps.{IsReplied, Step}
 use Rattle.iox_hub_laws.specs.HubRun.declared.numbered_hub.NumberedHub.{NumberedHub}
 use Rattle.iox_hub_laws.specs.Asking.{hash_asked}
-use Rattle.iox_hub_laws.specs.NegotiateLaws.Negotiate.declared.factory.Membership.{Membership}
-use Rattle.iox_hub_laws.specs.NegotiateLaws.NegotiateErrors.declared.close.CloseError.{CloseError}
-use Rattle.iox_hub_laws.specs.NegotiateLaws.NegotiateTable.Contents.{Contents}
-use Rattle.iox_hub_laws.specs.NegotiateLaws.NegotiateTable.Stepped.{Steps}
-use Rattle.iox_hub_laws.specs.NegotiateLaws.NegotiateTable.declared.step.ForeignStep.{ForeignStep}
-use Rattle.iox_hub_laws.proofs.NegotiateLaws.Agreements.{past-on, no-past, went-past, stepped-went-past}
-use Rattle.iox_hub_laws.proofs.NegotiateLaws.Maps.{Rising, insert-rising, remove-rising, set-rising}
-use Rattle.iox_hub_laws.proofs.NegotiateLaws.Stepping.{Past, acts-ran}
+use Rattle.iox_hub_laws.specs.Negotiate.declared.factory.Membership.{Membership}
+use Rattle.iox_hub_laws.specs.Negotiate.NegotiateBase.declared.errors.close.CloseError.{CloseError}
+use Rattle.iox_hub_laws.specs.Negotiate.NegotiateTable.Contents.{Contents}
+use Rattle.iox_hub_laws.specs.Negotiate.NegotiateTable.Stepped.{Steps}
+use Rattle.iox_hub_laws.specs.Negotiate.NegotiateTable.declared.step.ForeignStep.{ForeignStep}
+use Rattle.iox_hub_laws.proofs.Negotiate.Agreements.{past-on, no-past, went-past, stepped-went-past}
+use Rattle.iox_hub_laws.proofs.Negotiate.Maps.{Rising, insert-rising, remove-rising, set-rising}
+use Rattle.iox_hub_laws.proofs.Negotiate.Stepping.{Past, acts-ran}
 use Rattle.iox_hub_laws.specs.HubFactories.Asking.{hash_of}
 use Rattle.iox_hub_laws.specs.Locality.{IsNode, IsOpening}
 use Rattle.iox_hub_laws.proofs.Keeping.{OfServices, step_keeps}

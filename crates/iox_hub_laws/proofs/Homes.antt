@@ -31,7 +31,7 @@ use Rattle.iox_hub_laws.specs.HubRun.Grown.{AnySlots, AnyAction, AnyDecision}
 use Rattle.iox_hub_laws.specs.HubRun.Steps.{publisher_may_degrade, publisher_may_decide, subscriber_may_degrade}
 use Rattle.iox_hub_laws.specs.NegotiateRenamedRenaming.{AreInOrder}
 use Rattle.iox_hub_laws.proofs.Numbers.{at_as, moved_found, moved_set, weaker}
-use Rattle.iox_hub_laws.proofs.NegotiateLaws.Maps.{set-found}
+use Rattle.iox_hub_laws.proofs.Negotiate.Maps.{set-found}
 use Rattle.iox_hub_laws.specs.RenamedRenamingLaws.{HaveNumbers}
 use Rattle.iox_hub_laws.specs.RenamedRenaming.{renamed_id, renamed_domain, renamed_presence, renamed_services, renamed_hub}
 

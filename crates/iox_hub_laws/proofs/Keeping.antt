@@ -41,7 +41,7 @@ use Rattle.iox_hub_laws.specs.HubCommands.Tables.{IsFull, lender, port_under}
 use Rattle.iox_hub_laws.specs.HubCommands.declared.ports.made.Made.{Made}
 use Rattle.iox_hub_laws.specs.HubCommands.declared.ports.made.MadeLoan.{MadeLoan}
 use Rattle.iox_hub_laws.specs.HubCommands.declared.ports.made.MadeSample.{MadeSample}
-use Rattle.iox_hub_laws.specs.HubFactories.Numbered.NumberTable.{value_at}
+use Rattle.iox_hub_laws.specs.HubFactories.Maps.NumberTable.{value_at}
 use Rattle.iox_hub_laws.specs.HubCommands.Command.declared.command.Command.{Command}
 use Rattle.iox_hub_laws.specs.HubCommands.Command.declared.command.Command.TheVariants as command
 use Rattle.iox_hub_laws.specs.HubCommands.Command.declared.port.PublisherOptions.{PublisherOptions}

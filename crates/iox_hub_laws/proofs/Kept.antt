@@ -25,11 +25,11 @@ use Rattle.iox_hub_laws.proofs.Foreign.{foreign_alike}
 use Rattle.iox_hub_laws.proofs.Opening.{opens_tables_alike}
 use Rattle.iox_hub_laws.proofs.Ordered.{from_rising, rising_once}
 use Rattle.iox_hub_laws.proofs.LocalitySteps.{ports_answer_alike}
-use Rattle.iox_hub_laws.specs.NegotiateLaws.Lives.{number_of}
-use Rattle.iox_hub_laws.specs.NegotiateLaws.NegotiateTable.Contents.{entry_at}
-use Rattle.iox_hub_laws.specs.NegotiateLaws.NegotiateTable.declared.entry.Entry.{Entry}
-use Rattle.iox_hub_laws.proofs.NegotiateLaws.Maps.{Rising}
-use Rattle.iox_hub_laws.proofs.NegotiateLaws.Tables.{IsTable}
+use Rattle.iox_hub_laws.specs.Negotiate.Lives.{number_of}
+use Rattle.iox_hub_laws.specs.Negotiate.NegotiateTable.Contents.{entry_at}
+use Rattle.iox_hub_laws.specs.Negotiate.NegotiateTable.declared.entry.Entry.{Entry}
+use Rattle.iox_hub_laws.proofs.Negotiate.Maps.{Rising}
+use Rattle.iox_hub_laws.proofs.Negotiate.Tables.{IsTable}
 use Rattle.iox_hub_laws.specs.Alone.{OfService}
 use Rattle.iox_hub_laws.proofs.Concerning.{AllMine, concerns}
 

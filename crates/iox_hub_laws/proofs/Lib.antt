@@ -53,4 +53,4 @@ pub mod Commands
 pub mod RenamedRuns
 pub use Rattle.iox_hub_factories.proofs as HubFactories
 pub use Rattle.iox_hub_run.proofs as HubRun
-pub use Rattle.iox_negotiate_laws.proofs as NegotiateLaws
+pub use Rattle.iox_negotiate.proofs as Negotiate

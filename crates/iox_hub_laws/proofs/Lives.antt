@@ -1,18 +1,18 @@
 -- Which life lies under a hash, from one table to a later one.
 use Rattle.std.proofs.Common.{◌≡◌, ◌∙◌, ◌+◌, ◌≤◌, ◌<◌, ◌⊎◌, ℕ, List, [], ◌∷◌, None, Some, option_map, refl, sym, ap, subst, inl, inr, arith}
 use Rattle.std.specs.BTreeMap.{is_at}
-use Rattle.iox_hub_laws.specs.NegotiateLaws.Describe.DescribeBase.declared.hash.ServiceHash.{ServiceHash}
-use Rattle.iox_hub_laws.specs.NegotiateLaws.Describe.Line.{line}
-use Rattle.iox_hub_laws.specs.NegotiateLaws.Histories.{Event, Happens, Ran}
-use Rattle.iox_hub_laws.specs.NegotiateLaws.Lives.{number_of}
-use Rattle.iox_hub_laws.specs.NegotiateLaws.NegotiateTable.Contents.{Contents, entry_at, digest_cmp}
-use Rattle.iox_hub_laws.specs.NegotiateLaws.NegotiateTable.declared.entry.Entry.{Entry}
-use Rattle.iox_hub_laws.specs.NegotiateLaws.NegotiateTable.declared.entry.Entry.TheVariants.{Locked, Described}
-use Rattle.iox_hub_laws.specs.NegotiateLaws.NegotiateTable.declared.node.Node.TheVariants.{Own, Foreign}
-use Rattle.iox_hub_laws.proofs.NegotiateLaws.Changes.{Change, Same, LockOf, Without, PublishOf, NewSegment, OfSegment, WithoutSegment, ServiceOf, Removal, hash_of, changes, by_hash, elsewhere, rises}
-use Rattle.iox_hub_laws.proofs.NegotiateLaws.Closing.{entry-gone}
-use Rattle.iox_hub_laws.proofs.NegotiateLaws.Stepping.{Past}
-use Rattle.iox_hub_laws.proofs.NegotiateLaws.Tables.{IsTable, digest-self, happens}
+use Rattle.iox_hub_laws.specs.Negotiate.Describe.DescribeBase.declared.hash.ServiceHash.{ServiceHash}
+use Rattle.iox_hub_laws.specs.Negotiate.Describe.Line.{line}
+use Rattle.iox_hub_laws.specs.Negotiate.Histories.{Event, Happens, Ran}
+use Rattle.iox_hub_laws.specs.Negotiate.Lives.{number_of}
+use Rattle.iox_hub_laws.specs.Negotiate.NegotiateTable.Contents.{Contents, entry_at, digest_cmp}
+use Rattle.iox_hub_laws.specs.Negotiate.NegotiateTable.declared.entry.Entry.{Entry}
+use Rattle.iox_hub_laws.specs.Negotiate.NegotiateTable.declared.entry.Entry.TheVariants.{Locked, Described}
+use Rattle.iox_hub_laws.specs.Negotiate.NegotiateTable.declared.node.Node.TheVariants.{Own, Foreign}
+use Rattle.iox_hub_laws.proofs.Negotiate.Changes.{Change, Same, LockOf, Without, PublishOf, NewSegment, OfSegment, WithoutSegment, ServiceOf, Removal, hash_of, changes, by_hash, elsewhere, rises}
+use Rattle.iox_hub_laws.proofs.Negotiate.Closing.{entry-gone}
+use Rattle.iox_hub_laws.proofs.Negotiate.Stepping.{Past}
+use Rattle.iox_hub_laws.proofs.Negotiate.Tables.{IsTable, digest-self, happens}
 use Rattle.iox_hub_laws.proofs.LocalityNames.{set_at, insert_at}
 
 -- The number is of what lay under the hash, or of a life that began since.

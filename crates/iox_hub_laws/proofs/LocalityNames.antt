@@ -8,37 +8,37 @@ use Rattle.std.specs.Ordering.{match_ordering}
 use Rattle.std.specs.declared.alloc.AllocError.{AllocError}
 use Rattle.std.specs.declared.cmp.Ordering.{Ordering}
 use Rattle.std.specs.declared.cmp.Ordering.TheVariants.{Less, Equal, Greater}
-use Rattle.iox_hub_laws.specs.NegotiateLaws.Describe.DescribeBase.declared.hash.ServiceHash.{ServiceHash}
-use Rattle.iox_hub_laws.specs.NegotiateLaws.Describe.DescribeSettings.Agreement.{Agreement, max_nodes_of}
-use Rattle.iox_hub_laws.specs.NegotiateLaws.Describe.Line.{line}
-use Rattle.iox_hub_laws.specs.NegotiateLaws.Histories.{Accesses}
-use Rattle.iox_hub_laws.specs.NegotiateLaws.NegotiateRounds.Access.{Access, Look, Lock, MakeSegment, Publish, Unlock, OpenSegment, Leave, RemoveDescription, RemoveSegment}
-use Rattle.iox_hub_laws.specs.NegotiateLaws.NegotiateRounds.Runs.{Went}
-use Rattle.iox_hub_laws.specs.NegotiateLaws.NegotiateRounds.declared.answer.LockAnswer.{LockAnswer}
-use Rattle.iox_hub_laws.specs.NegotiateLaws.NegotiateRounds.declared.answer.LockAnswer.TheVariants as lock
-use Rattle.iox_hub_laws.specs.NegotiateLaws.NegotiateRounds.declared.answer.MakeSegmentAnswer.{MakeSegmentAnswer}
-use Rattle.iox_hub_laws.specs.NegotiateLaws.NegotiateRounds.declared.answer.PublishAnswer.{PublishAnswer}
-use Rattle.iox_hub_laws.specs.NegotiateLaws.NegotiateRounds.declared.answer.OpenSegmentAnswer.{OpenSegmentAnswer}
-use Rattle.iox_hub_laws.specs.NegotiateLaws.NegotiateRounds.declared.answer.LeaveAnswer.{LeaveAnswer}
-use Rattle.iox_hub_laws.specs.NegotiateLaws.NegotiateRounds.declared.answer.RemoveAnswer.{RemoveAnswer}
-use Rattle.iox_hub_laws.specs.NegotiateLaws.NegotiateTable.Contents.{Contents, entry_at, segment_at, with_entry, without_entry, with_new_segment, with_segment, without_segment, with_lock, digest_cmp, place_cmp, may_make, may_publish, may_unlock, is_published, is_left, may_remove_description, may_remove_segment, is_own_lock, is_lock_of, is_description_of}
-use Rattle.iox_hub_laws.specs.NegotiateLaws.NegotiateTable.Foreign.{Acts, DoneOrLacking, Done, foreign_lock, published_number, with_service, PublishesForeign, RegistersAt, RegistersForeign, left_at, after_leaving, after_removal, is_left_by}
-use Rattle.iox_hub_laws.specs.NegotiateLaws.NegotiateTable.Nodes.{first_node, first_foreign}
-use Rattle.iox_hub_laws.specs.NegotiateLaws.NegotiateTable.Segments.{after_leave, after_foreign_leave}
-use Rattle.iox_hub_laws.specs.NegotiateLaws.NegotiateTable.Sights.{Sight, Looks, LocksFree, LocksAt, Makes, Publishes, Unlocks, OpensAt, LeavesAt, Removes}
-use Rattle.iox_hub_laws.specs.NegotiateLaws.NegotiateTable.Stepped.{ActsAll, GoesOn}
-use Rattle.iox_hub_laws.specs.NegotiateLaws.NegotiateTable.declared.entry.Entry.{Entry}
-use Rattle.iox_hub_laws.specs.NegotiateLaws.NegotiateTable.declared.entry.Entry.TheVariants.{Locked, Described}
-use Rattle.iox_hub_laws.specs.NegotiateLaws.NegotiateTable.declared.node.Node.{Node}
-use Rattle.iox_hub_laws.specs.NegotiateLaws.NegotiateTable.declared.node.Node.TheVariants.{Own, Foreign}
-use Rattle.iox_hub_laws.specs.NegotiateLaws.NegotiateTable.declared.segment.Segment.{Segment}
-use Rattle.iox_hub_laws.specs.NegotiateLaws.NegotiateTable.declared.segment.Segment.TheVariants.{Open}
-use Rattle.iox_hub_laws.specs.NegotiateLaws.NegotiateTable.declared.step.ForeignStep.{ForeignStep}
-use Rattle.iox_hub_laws.specs.NegotiateLaws.NegotiateTable.declared.step.ForeignStep.TheVariants as step
-use Rattle.iox_hub_laws.proofs.NegotiateLaws.Changes.{hash_of, equal-of, same-place, place-apart, place-away}
-use Rattle.iox_hub_laws.proofs.NegotiateLaws.Maps.{no, set-apart, insert-apart, remove-apart, remove-same, rising-distinct}
+use Rattle.iox_hub_laws.specs.Negotiate.Describe.DescribeBase.declared.hash.ServiceHash.{ServiceHash}
+use Rattle.iox_hub_laws.specs.Negotiate.Describe.DescribeSettings.Agreement.{Agreement, max_nodes_of}
+use Rattle.iox_hub_laws.specs.Negotiate.Describe.Line.{line}
+use Rattle.iox_hub_laws.specs.Negotiate.Histories.{Accesses}
+use Rattle.iox_hub_laws.specs.Negotiate.NegotiateBase.Access.{Access, Look, Lock, MakeSegment, Publish, Unlock, OpenSegment, Leave, RemoveDescription, RemoveSegment}
+use Rattle.iox_hub_laws.specs.Negotiate.NegotiateBase.Runs.{Went}
+use Rattle.iox_hub_laws.specs.Negotiate.NegotiateBase.declared.answer.LockAnswer.{LockAnswer}
+use Rattle.iox_hub_laws.specs.Negotiate.NegotiateBase.declared.answer.LockAnswer.TheVariants as lock
+use Rattle.iox_hub_laws.specs.Negotiate.NegotiateBase.declared.answer.MakeSegmentAnswer.{MakeSegmentAnswer}
+use Rattle.iox_hub_laws.specs.Negotiate.NegotiateBase.declared.answer.PublishAnswer.{PublishAnswer}
+use Rattle.iox_hub_laws.specs.Negotiate.NegotiateBase.declared.answer.OpenSegmentAnswer.{OpenSegmentAnswer}
+use Rattle.iox_hub_laws.specs.Negotiate.NegotiateBase.declared.answer.LeaveAnswer.{LeaveAnswer}
+use Rattle.iox_hub_laws.specs.Negotiate.NegotiateBase.declared.answer.RemoveAnswer.{RemoveAnswer}
+use Rattle.iox_hub_laws.specs.Negotiate.NegotiateTable.Contents.{Contents, entry_at, segment_at, with_entry, without_entry, with_new_segment, with_segment, without_segment, with_lock, digest_cmp, place_cmp, may_make, may_publish, may_unlock, is_published, is_left, may_remove_description, may_remove_segment, is_own_lock, is_lock_of, is_description_of}
+use Rattle.iox_hub_laws.specs.Negotiate.NegotiateTable.Foreign.{Acts, DoneOrLacking, Done, foreign_lock, published_number, with_service, PublishesForeign, RegistersAt, RegistersForeign, left_at, after_leaving, after_removal, is_left_by}
+use Rattle.iox_hub_laws.specs.Negotiate.NegotiateTable.Nodes.{first_node, first_foreign}
+use Rattle.iox_hub_laws.specs.Negotiate.NegotiateTable.Segments.{after_leave, after_foreign_leave}
+use Rattle.iox_hub_laws.specs.Negotiate.NegotiateTable.Sights.{Sight, Looks, LocksFree, LocksAt, Makes, Publishes, Unlocks, OpensAt, LeavesAt, Removes}
+use Rattle.iox_hub_laws.specs.Negotiate.NegotiateTable.Stepped.{ActsAll, GoesOn}
+use Rattle.iox_hub_laws.specs.Negotiate.NegotiateTable.declared.entry.Entry.{Entry}
+use Rattle.iox_hub_laws.specs.Negotiate.NegotiateTable.declared.entry.Entry.TheVariants.{Locked, Described}
+use Rattle.iox_hub_laws.specs.Negotiate.NegotiateTable.declared.node.Node.{Node}
+use Rattle.iox_hub_laws.specs.Negotiate.NegotiateTable.declared.node.Node.TheVariants.{Own, Foreign}
+use Rattle.iox_hub_laws.specs.Negotiate.NegotiateTable.declared.segment.Segment.{Segment}
+use Rattle.iox_hub_laws.specs.Negotiate.NegotiateTable.declared.segment.Segment.TheVariants.{Open}
+use Rattle.iox_hub_laws.specs.Negotiate.NegotiateTable.declared.step.ForeignStep.{ForeignStep}
+use Rattle.iox_hub_laws.specs.Negotiate.NegotiateTable.declared.step.ForeignStep.TheVariants as step
+use Rattle.iox_hub_laws.proofs.Negotiate.Changes.{hash_of, equal-of, same-place, place-apart, place-away}
+use Rattle.iox_hub_laws.proofs.Negotiate.Maps.{no, set-apart, insert-apart, remove-apart, remove-same, rising-distinct}
 use Rattle.iox_hub_laws.proofs.Names.{AllUnder}
-use Rattle.iox_hub_laws.proofs.NegotiateLaws.Tables.{IsTable, digest-exact, place-exact, place-total, digest-self, without-table, sees, acts}
+use Rattle.iox_hub_laws.proofs.Negotiate.Tables.{IsTable, digest-exact, place-exact, place-total, digest-self, without-table, sees, acts}
 
 -- ---- one key of a map
 

@@ -3,26 +3,26 @@ use Rattle.std.proofs.Common.{◌≡◌, ⊎_elim, ℕ, List, [], ◌∷◌, Som
 use Rattle.std.specs.Result.{result_map_both}
 use Rattle.iox_hub_laws.specs.HubCommands.DescribeBase.declared.hash.ServiceHash.{ServiceHash}
 use Rattle.iox_hub_laws.specs.HubCommands.DescribeSettings.Agreement.{Agreement}
-use Rattle.iox_hub_laws.specs.NegotiateLaws.Calls.{factory_of}
-use Rattle.iox_hub_laws.specs.NegotiateLaws.Describe.Line.{line}
-use Rattle.iox_hub_laws.specs.NegotiateLaws.Negotiate.Factory.{membership}
-use Rattle.iox_hub_laws.specs.NegotiateLaws.Negotiate.Negotiation.{Negotiates, Creates, Either}
-use Rattle.iox_hub_laws.specs.NegotiateLaws.Negotiate.declared.factory.Membership.{Membership}
-use Rattle.iox_hub_laws.specs.NegotiateLaws.NegotiateRounds.Access.{Access}
-use Rattle.iox_hub_laws.specs.NegotiateLaws.NegotiateRounds.Creating.{CreatesIf}
-use Rattle.iox_hub_laws.specs.NegotiateLaws.NegotiateRounds.Opening.{Opens, OpensOrCreates}
-use Rattle.iox_hub_laws.specs.NegotiateLaws.NegotiateRounds.Runs.{Went}
-use Rattle.iox_hub_laws.specs.NegotiateLaws.NegotiateRounds.declared.failure.CreateFailure.{CreateFailure}
-use Rattle.iox_hub_laws.specs.NegotiateLaws.NegotiateRounds.declared.failure.OpenFailure.{OpenFailure}
-use Rattle.iox_hub_laws.specs.NegotiateLaws.NegotiateRounds.declared.failure.OpenOrCreateFailure.{OpenOrCreateFailure}
-use Rattle.iox_hub_laws.specs.NegotiateLaws.NegotiateRounds.declared.request.Opened.{Opened}
-use Rattle.iox_hub_laws.specs.NegotiateLaws.NegotiateTable.Contents.{Contents, entry_at}
-use Rattle.iox_hub_laws.specs.NegotiateLaws.NegotiateTable.Stepped.{Steps, SteppedSight}
-use Rattle.iox_hub_laws.specs.NegotiateLaws.NegotiateTable.declared.entry.Entry.TheVariants.{Described}
-use Rattle.iox_hub_laws.proofs.NegotiateLaws.Ending.{World, creates-ends, opens-ends, either-ends}
-use Rattle.iox_hub_laws.proofs.NegotiateLaws.Negotiate.Meeting.{opens-met, either-met}
-use Rattle.iox_hub_laws.proofs.NegotiateLaws.NegotiateRounds.Counting.{creates-service}
-use Rattle.iox_hub_laws.proofs.NegotiateLaws.Tables.{IsTable}
+use Rattle.iox_hub_laws.specs.Negotiate.Calls.{factory_of}
+use Rattle.iox_hub_laws.specs.Negotiate.Describe.Line.{line}
+use Rattle.iox_hub_laws.specs.Negotiate.Factory.{membership}
+use Rattle.iox_hub_laws.specs.Negotiate.Negotiation.{Negotiates, Creates, Either}
+use Rattle.iox_hub_laws.specs.Negotiate.declared.factory.Membership.{Membership}
+use Rattle.iox_hub_laws.specs.Negotiate.NegotiateBase.Access.{Access}
+use Rattle.iox_hub_laws.specs.Negotiate.NegotiateBase.Creating.{CreatesIf}
+use Rattle.iox_hub_laws.specs.Negotiate.NegotiateBase.Opening.{Opens, OpensOrCreates}
+use Rattle.iox_hub_laws.specs.Negotiate.NegotiateBase.Runs.{Went}
+use Rattle.iox_hub_laws.specs.Negotiate.NegotiateBase.declared.failure.CreateFailure.{CreateFailure}
+use Rattle.iox_hub_laws.specs.Negotiate.NegotiateBase.declared.failure.OpenFailure.{OpenFailure}
+use Rattle.iox_hub_laws.specs.Negotiate.NegotiateBase.declared.failure.OpenOrCreateFailure.{OpenOrCreateFailure}
+use Rattle.iox_hub_laws.specs.Negotiate.NegotiateBase.declared.request.Opened.{Opened}
+use Rattle.iox_hub_laws.specs.Negotiate.NegotiateTable.Contents.{Contents, entry_at}
+use Rattle.iox_hub_laws.specs.Negotiate.NegotiateTable.Stepped.{Steps, SteppedSight}
+use Rattle.iox_hub_laws.specs.Negotiate.NegotiateTable.declared.entry.Entry.TheVariants.{Described}
+use Rattle.iox_hub_laws.proofs.Negotiate.Ending.{World, creates-ends, opens-ends, either-ends}
+use Rattle.iox_hub_laws.proofs.Negotiate.Meeting.{opens-met, either-met}
+use Rattle.iox_hub_laws.proofs.Negotiate.NegotiateBase.Counting.{creates-service}
+use Rattle.iox_hub_laws.proofs.Negotiate.Tables.{IsTable}
 use Rattle.iox_hub_laws.proofs.Names.{AllUnder, creates_under, opens_under, either_under}
 use Rattle.iox_hub_laws.proofs.Negotiated.{same-good, not-bad}
 use Rattle.iox_hub_laws.proofs.Stepped.{StepsAgree, stepped_went_alike}

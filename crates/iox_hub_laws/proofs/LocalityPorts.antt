@@ -12,8 +12,8 @@ use Rattle.iox_hub_laws.specs.HubCommands.DomainHome.Steps as steps
 use Rattle.iox_hub_laws.specs.HubCommands.DomainPorts.Lending.{written_in}
 use Rattle.iox_hub_laws.specs.HubCommands.DomainPorts.declared.service_ports.ServicePorts.{ServicePorts}
 use Rattle.iox_hub_laws.specs.HubCommands.DomainPublisher.declared.meeting.Sent.{Sent}
-use Rattle.iox_hub_laws.specs.HubCommands.DomainSender.Messages.{write_all}
-use Rattle.iox_hub_laws.specs.HubCommands.DomainSender.Sending.{has_length}
+use Rattle.iox_hub_laws.specs.HubCommands.DomainPublisher.Messages.{write_all}
+use Rattle.iox_hub_laws.specs.HubCommands.DomainPublisher.MessagesSending.{has_length}
 use Rattle.iox_hub_laws.specs.HubCommands.DomainValues.declared.backpressure.BackpressureDecision.{BackpressureDecision}
 use Rattle.iox_hub_laws.specs.HubCommands.DomainValues.declared.backpressure.BackpressureInfo.{BackpressureInfo}
 use Rattle.iox_hub_laws.specs.HubCommands.DomainValues.declared.degradation.DegradationAction.{DegradationAction}

@@ -45,8 +45,8 @@ use Rattle.iox_hub_laws.specs.HubFactories.HubBase.Hubs.{one_more}
 use Rattle.iox_hub_laws.specs.HubFactories.HubBase.Opening.{Made as Opened}
 use Rattle.iox_hub_laws.specs.HubFactories.HubBase.declared.hub.Hub.{Hub}
 use Rattle.iox_hub_laws.specs.HubFactories.HubServices.AsHome.{publisher_kept, subscriber_kept}
-use Rattle.iox_hub_laws.specs.HubFactories.Numbered.NumberTable.{value_at, inserted}
-use Rattle.iox_hub_laws.proofs.HubFactories.Numbered.Telling.{found_and_gone}
+use Rattle.iox_hub_laws.specs.HubFactories.Maps.NumberTable.{value_at, inserted}
+use Rattle.iox_hub_laws.proofs.HubFactories.Maps.Telling.{found_and_gone}
 use Rattle.iox_hub_laws.specs.HubFactories.Tables.{publish_subscribe_in}
 use Rattle.iox_hub_laws.specs.HubFactories.declared.made.MadeFactory.{MadeFactory}
 use Rattle.iox_hub_laws.specs.HubFactories.declared.made.MadeFactory.TheVariants as made

@@ -12,7 +12,7 @@ use Rattle.iox_hub_laws.specs.HubCommands.declared.ports.made.Made.{Made}
 use Rattle.iox_hub_laws.specs.HubCommands.declared.ports.made.MadeLoan.{MadeLoan}
 use Rattle.iox_hub_laws.specs.HubCommands.declared.ports.made.MadePublisher.{MadePublisher}
 use Rattle.iox_hub_laws.specs.HubCommands.declared.ports.made.MadeSample.{MadeSample}
-use Rattle.iox_hub_laws.specs.HubFactories.Numbered.NumberTable.{NumberTable, Rises}
+use Rattle.iox_hub_laws.specs.HubFactories.Maps.NumberTable.{NumberTable, Rises}
 use Rattle.iox_hub_laws.specs.Asking.{service_at, publisher_service, loan_service, sample_service}
 use Rattle.iox_hub_laws.proofs.IndependenceTables.{same_left}
 use Rattle.iox_hub_laws.specs.Agreeing.{SameOf, MadeAgree}

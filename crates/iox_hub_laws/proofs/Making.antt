@@ -13,7 +13,7 @@ use Rattle.iox_hub_laws.specs.HubCommands.Tables.{SameNumbers, IsRoomier, IsFull
 use Rattle.iox_hub_laws.specs.HubCommands.declared.ports.made.Made.{Made}
 use Rattle.iox_hub_laws.specs.HubCommands.declared.ports.made.MadePublisher.{MadePublisher}
 use Rattle.iox_hub_laws.specs.HubFactories.HubBase.Opening.{Made as Opened}
-use Rattle.iox_hub_laws.specs.HubFactories.Numbered.NumberTable.{NumberTable, value_at, inserted, removed}
+use Rattle.iox_hub_laws.specs.HubFactories.Maps.NumberTable.{NumberTable, value_at, inserted, removed}
 use Rattle.iox_hub_laws.specs.HubFactories.Tables.{publish_subscribe_in}
 use Rattle.iox_hub_laws.specs.HubFactories.declared.made.MadeFactory.{MadeFactory}
 use Rattle.iox_hub_laws.specs.HubFactories.declared.made.MadeFactory.TheVariants as made_factory

@@ -1,33 +1,33 @@
 -- What happens under one hash leaves what lies under each other one.
 use Rattle.std.proofs.Common.{◌≡◌, ◌≢◌, ◌∙◌, ◌++◌, ◌⊎◌, ⊎_elim, ℕ, List, [], ◌∷◌, Option, None, Some, Result, Ok, Err, refl, sym, ap, subst, zero, suc}
 use Rattle.std.specs.declared.alloc.AllocError.{AllocError}
-use Rattle.iox_negotiate_laws.specs.Describe.DescribeBase.declared.hash.ServiceHash.{ServiceHash}
-use Rattle.iox_negotiate_laws.specs.Describe.DescribeSettings.Agreement.{Agreement}
-use Rattle.iox_negotiate_laws.specs.Negotiate.Factory.{Closes, LeaveGoes, Removes, RemovalGoes, RemovesSegment}
-use Rattle.iox_negotiate_laws.specs.NegotiateErrors.declared.close.CloseError.{CloseError}
-use Rattle.iox_negotiate_laws.specs.NegotiateRounds.Access.{Access, Look, Lock, MakeSegment, Publish, Unlock, OpenSegment, Leave, RemoveDescription, RemoveSegment}
-use Rattle.iox_negotiate_laws.specs.NegotiateRounds.Creating.{CreatesIf, CreatesSeen, Locks, LockGoes, Makes, MakeGoes, Publishes, PublishGoes, Undoes, Unlocks}
-use Rattle.iox_negotiate_laws.specs.NegotiateRounds.Failing.{refusal_seen, lock_gives, making_failure, publishing_failure}
-use Rattle.iox_negotiate_laws.specs.NegotiateRounds.Opening.{Registers, OpensJudged, OpensSeen, OpenRound, Opens, EitherCreates, EitherSeen, EitherRound, OpensOrCreates}
-use Rattle.iox_negotiate_laws.specs.NegotiateRounds.Runs.{Went, Led, Rounds}
-use Rattle.iox_negotiate_laws.specs.NegotiateRounds.declared.answer.LeaveAnswer.{LeaveAnswer}
-use Rattle.iox_negotiate_laws.specs.NegotiateRounds.declared.answer.LeaveAnswer.TheVariants as leaving
-use Rattle.iox_negotiate_laws.specs.NegotiateRounds.declared.answer.RemoveAnswer.{RemoveAnswer}
-use Rattle.iox_negotiate_laws.specs.NegotiateRounds.declared.answer.RemoveAnswer.TheVariants as removing
-use Rattle.iox_negotiate_laws.specs.NegotiateRounds.declared.creation.Attempt.{Attempt}
-use Rattle.iox_negotiate_laws.specs.NegotiateRounds.declared.failure.CreateFailure.{CreateFailure}
-use Rattle.iox_negotiate_laws.specs.NegotiateRounds.declared.failure.OpenFailure.{OpenFailure}
-use Rattle.iox_negotiate_laws.specs.NegotiateRounds.declared.failure.OpenOrCreateFailure.{OpenOrCreateFailure}
-use Rattle.iox_negotiate_laws.specs.NegotiateRounds.declared.request.Opened.{Opened}
-use Rattle.iox_negotiate_laws.specs.NegotiateRounds.declared.sight.Sight.{Sight as Shown}
-use Rattle.iox_negotiate_laws.specs.NegotiateRounds.declared.sight.Sight.TheVariants as sight
-use Rattle.iox_negotiate_laws.specs.NegotiateTable.Contents.{Contents, entry_at, segment_at}
-use Rattle.iox_negotiate_laws.specs.NegotiateTable.Sights.{Sight}
-use Rattle.iox_negotiate_laws.specs.NegotiateTable.Stepped.{Steps, SteppedSight, Preceded, ActsAll, GoesOn, next_list}
-use Rattle.iox_negotiate_laws.specs.NegotiateTable.declared.step.ForeignStep.{ForeignStep}
-use Rattle.iox_negotiate_laws.specs.Closing.{IsUntouched}
-use Rattle.iox_negotiate_laws.specs.Histories.{Event, Accesses, Steps as Stepping, Happens}
-use Rattle.iox_negotiate_laws.proofs.Changes.{Change, hash_of, changes, elsewhere, hash-from}
+use Rattle.iox_negotiate.specs.Describe.DescribeBase.declared.hash.ServiceHash.{ServiceHash}
+use Rattle.iox_negotiate.specs.Describe.DescribeSettings.Agreement.{Agreement}
+use Rattle.iox_negotiate.specs.Factory.{Closes, LeaveGoes, Removes, RemovalGoes, RemovesSegment}
+use Rattle.iox_negotiate.specs.NegotiateBase.declared.errors.close.CloseError.{CloseError}
+use Rattle.iox_negotiate.specs.NegotiateBase.Access.{Access, Look, Lock, MakeSegment, Publish, Unlock, OpenSegment, Leave, RemoveDescription, RemoveSegment}
+use Rattle.iox_negotiate.specs.NegotiateBase.Creating.{CreatesIf, CreatesSeen, Locks, LockGoes, Makes, MakeGoes, Publishes, PublishGoes, Undoes, Unlocks}
+use Rattle.iox_negotiate.specs.NegotiateBase.Failing.{refusal_seen, lock_gives, making_failure, publishing_failure}
+use Rattle.iox_negotiate.specs.NegotiateBase.Opening.{Registers, OpensJudged, OpensSeen, OpenRound, Opens, EitherCreates, EitherSeen, EitherRound, OpensOrCreates}
+use Rattle.iox_negotiate.specs.NegotiateBase.Runs.{Went, Led, Rounds}
+use Rattle.iox_negotiate.specs.NegotiateBase.declared.answer.LeaveAnswer.{LeaveAnswer}
+use Rattle.iox_negotiate.specs.NegotiateBase.declared.answer.LeaveAnswer.TheVariants as leaving
+use Rattle.iox_negotiate.specs.NegotiateBase.declared.answer.RemoveAnswer.{RemoveAnswer}
+use Rattle.iox_negotiate.specs.NegotiateBase.declared.answer.RemoveAnswer.TheVariants as removing
+use Rattle.iox_negotiate.specs.NegotiateBase.declared.creation.Attempt.{Attempt}
+use Rattle.iox_negotiate.specs.NegotiateBase.declared.failure.CreateFailure.{CreateFailure}
+use Rattle.iox_negotiate.specs.NegotiateBase.declared.failure.OpenFailure.{OpenFailure}
+use Rattle.iox_negotiate.specs.NegotiateBase.declared.failure.OpenOrCreateFailure.{OpenOrCreateFailure}
+use Rattle.iox_negotiate.specs.NegotiateBase.declared.request.Opened.{Opened}
+use Rattle.iox_negotiate.specs.NegotiateBase.declared.sight.Sight.{Sight as Shown}
+use Rattle.iox_negotiate.specs.NegotiateBase.declared.sight.Sight.TheVariants as sight
+use Rattle.iox_negotiate.specs.NegotiateTable.Contents.{Contents, entry_at, segment_at}
+use Rattle.iox_negotiate.specs.NegotiateTable.Sights.{Sight}
+use Rattle.iox_negotiate.specs.NegotiateTable.Stepped.{Steps, SteppedSight, Preceded, ActsAll, GoesOn, next_list}
+use Rattle.iox_negotiate.specs.NegotiateTable.declared.step.ForeignStep.{ForeignStep}
+use Rattle.iox_negotiate.specs.Closing.{IsUntouched}
+use Rattle.iox_negotiate.specs.Histories.{Event, Accesses, Steps as Stepping, Happens}
+use Rattle.iox_negotiate.proofs.Changes.{Change, hash_of, changes, elsewhere, hash-from}
 
 -- ---- accesses under one hash
 

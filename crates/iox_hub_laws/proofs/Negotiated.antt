@@ -1,32 +1,32 @@
 -- What the calls that open or create come to in the table of services.
 use Rattle.std.proofs.Common.{◌≡◌, ◌≢◌, ◌∙◌, ◌⊎◌, ⊎_elim, ℕ, List, Option, None, Some, Result, Ok, Err, refl, sym, ap, subst}
 use Rattle.std.specs.Result.{result_map_both}
-use Rattle.iox_negotiate_laws.specs.Describe.Within.{HasForm, IsWithinLimits}
+use Rattle.iox_negotiate.specs.Describe.Within.{HasForm, IsWithinLimits}
 use Rattle.iox_hub_commands.specs.DescribeBase.declared.hash.ServiceHash.{ServiceHash}
 use Rattle.iox_hub_commands.specs.DescribeSettings.Agreement.{Agreement, AreWithinLimits}
-use Rattle.iox_negotiate_laws.proofs.Negotiate.Meeting.{opens-met, either-met}
-use Rattle.iox_negotiate_laws.specs.Negotiate.Asked.{IsRefusal}
-use Rattle.iox_negotiate_laws.specs.Negotiate.Factory.{membership}
-use Rattle.iox_negotiate_laws.specs.Negotiate.Negotiation.{Negotiates, Creates, Either}
-use Rattle.iox_negotiate_laws.specs.Negotiate.declared.factory.Membership.{Membership}
-use Rattle.iox_negotiate_laws.specs.Agreements.{WasAgreed}
-use Rattle.iox_negotiate_laws.specs.Calls as call
-use Rattle.iox_negotiate_laws.specs.Histories.{IsReached}
-use Rattle.iox_negotiate_laws.proofs.NegotiateRounds.Counting.{creates-service}
-use Rattle.iox_negotiate_laws.specs.NegotiateRounds.Creating.{CreatesIf}
-use Rattle.iox_negotiate_laws.specs.NegotiateRounds.Opening.{Opens, OpensOrCreates}
-use Rattle.iox_negotiate_laws.specs.NegotiateRounds.Runs.{Does}
-use Rattle.iox_negotiate_laws.specs.NegotiateRounds.declared.failure.CreateFailure.{CreateFailure}
-use Rattle.iox_negotiate_laws.specs.NegotiateRounds.declared.failure.OpenFailure.{OpenFailure}
-use Rattle.iox_negotiate_laws.specs.NegotiateRounds.declared.failure.OpenOrCreateFailure.{OpenOrCreateFailure}
-use Rattle.iox_negotiate_laws.specs.NegotiateRounds.declared.request.Opened.{Opened}
-use Rattle.iox_negotiate_laws.specs.NegotiateTable.Contents.{Contents}
-use Rattle.iox_negotiate_laws.specs.NegotiateTable.Stepped.{Steps, SteppedSight}
-use Rattle.iox_negotiate_laws.specs.NegotiateTable.declared.step.ForeignStep.{ForeignStep}
-use Rattle.iox_negotiate_laws.proofs.Agreements.{agrees, stepped-went-past}
-use Rattle.iox_negotiate_laws.proofs.Stepping.{Past}
-use Rattle.iox_negotiate_laws.specs.Negotiate.Laws.{IsMet}
-use Rattle.iox_negotiate_laws.specs.Closing.{IsUntouched}
+use Rattle.iox_negotiate.proofs.Meeting.{opens-met, either-met}
+use Rattle.iox_negotiate.specs.Asked.{IsRefusal}
+use Rattle.iox_negotiate.specs.Factory.{membership}
+use Rattle.iox_negotiate.specs.Negotiation.{Negotiates, Creates, Either}
+use Rattle.iox_negotiate.specs.declared.factory.Membership.{Membership}
+use Rattle.iox_negotiate.specs.Agreements.{WasAgreed}
+use Rattle.iox_negotiate.specs.Calls as call
+use Rattle.iox_negotiate.specs.Histories.{IsReached}
+use Rattle.iox_negotiate.proofs.NegotiateBase.Counting.{creates-service}
+use Rattle.iox_negotiate.specs.NegotiateBase.Creating.{CreatesIf}
+use Rattle.iox_negotiate.specs.NegotiateBase.Opening.{Opens, OpensOrCreates}
+use Rattle.iox_negotiate.specs.NegotiateBase.Runs.{Does}
+use Rattle.iox_negotiate.specs.NegotiateBase.declared.failure.CreateFailure.{CreateFailure}
+use Rattle.iox_negotiate.specs.NegotiateBase.declared.failure.OpenFailure.{OpenFailure}
+use Rattle.iox_negotiate.specs.NegotiateBase.declared.failure.OpenOrCreateFailure.{OpenOrCreateFailure}
+use Rattle.iox_negotiate.specs.NegotiateBase.declared.request.Opened.{Opened}
+use Rattle.iox_negotiate.specs.NegotiateTable.Contents.{Contents}
+use Rattle.iox_negotiate.specs.NegotiateTable.Stepped.{Steps, SteppedSight}
+use Rattle.iox_negotiate.specs.NegotiateTable.declared.step.ForeignStep.{ForeignStep}
+use Rattle.iox_negotiate.proofs.Agreements.{agrees, stepped-went-past}
+use Rattle.iox_negotiate.proofs.Stepping.{Past}
+use Rattle.iox_negotiate.specs.Laws.{IsMet}
+use Rattle.iox_negotiate.specs.Closing.{IsUntouched}
 use Rattle.iox_hub_laws.proofs.Names.{creates_under, opens_under, either_under, stepped_went_leaves}
 
 -- What a negotiation under a hash comes to: the table went on; what lies under each other hash is as it was; the service that a node came into is of the

@@ -34,9 +34,9 @@ use Rattle.iox_hub_laws.specs.HubFactories.declared.asked.ServiceAsked.{ServiceA
 use Rattle.iox_hub_laws.specs.HubRun.Steps.{IsReplied, Step}
 use Rattle.iox_hub_laws.specs.HubRun.declared.numbered_hub.NumberedHub.{NumberedHub}
 use Rattle.iox_hub_laws.specs.Asking.{hash_asked}
-use Rattle.iox_hub_laws.specs.NegotiateLaws.Negotiate.declared.factory.Membership.{Membership}
-use Rattle.iox_hub_laws.specs.NegotiateLaws.NegotiateTable.Stepped.{Steps}
-use Rattle.iox_hub_laws.specs.NegotiateLaws.NegotiateTable.declared.step.ForeignStep.{ForeignStep}
+use Rattle.iox_hub_laws.specs.Negotiate.declared.factory.Membership.{Membership}
+use Rattle.iox_hub_laws.specs.Negotiate.NegotiateTable.Stepped.{Steps}
+use Rattle.iox_hub_laws.specs.Negotiate.NegotiateTable.declared.step.ForeignStep.{ForeignStep}
 use Rattle.iox_hub_laws.specs.Locality.{IsOpening}
 use Rattle.iox_hub_laws.proofs.Foreign.{hash_named}
 use Rattle.iox_hub_laws.proofs.LocalityNegotiated.{IsNegotiation, of_hash, creating, opening, either}

@@ -38,7 +38,7 @@ use Rattle.iox_hub_laws.specs.HubFactories.HubServices.Open.{OpenServices, prese
 use Rattle.iox_hub_laws.specs.HubFactories.HubServices.Opening.{Opens as ServiceOpens}
 use Rattle.iox_hub_laws.specs.HubFactories.Domain.Domains.{IsNewDomain}
 use Rattle.iox_hub_laws.specs.HubFactories.HubServices.declared.presence.Presence.TheVariants.{Here}
-use Rattle.iox_hub_laws.specs.HubFactories.Numbered.NumberTable.{Rises, inserted}
+use Rattle.iox_hub_laws.specs.HubFactories.Maps.NumberTable.{Rises, inserted}
 use Rattle.iox_hub_laws.specs.HubFactories.Numbering.{Numbers, GetsNumber}
 use Rattle.iox_hub_laws.specs.HubFactories.Opening.{OpensAs, OpensNumbered, open_lacking}
 use Rattle.iox_hub_laws.specs.HubFactories.Tables.{FactoryTable}
@@ -46,16 +46,16 @@ use Rattle.iox_hub_laws.specs.HubFactories.declared.asked.ServiceAsked.{ServiceA
 use Rattle.iox_hub_laws.specs.HubRun.AgreementLaws.{service_of}
 use Rattle.iox_hub_laws.specs.HubRun.Steps.{Step}
 use Rattle.iox_hub_laws.specs.HubRun.declared.numbered_hub.NumberedHub.{NumberedHub}
-use Rattle.iox_hub_laws.specs.NegotiateLaws.Lives.{number_of}
-use Rattle.iox_hub_laws.specs.NegotiateLaws.Negotiate.declared.factory.Membership.{Membership}
-use Rattle.iox_hub_laws.specs.NegotiateLaws.NegotiateTable.Contents.{Contents, entry_at}
-use Rattle.iox_hub_laws.specs.NegotiateLaws.NegotiateTable.Stepped.{Steps}
-use Rattle.iox_hub_laws.specs.NegotiateLaws.NegotiateTable.declared.entry.Entry.{Entry}
-use Rattle.iox_hub_laws.specs.NegotiateLaws.NegotiateTable.declared.entry.Entry.TheVariants.{Described}
-use Rattle.iox_hub_laws.specs.NegotiateLaws.NegotiateTable.declared.step.ForeignStep.{ForeignStep}
-use Rattle.iox_hub_laws.proofs.NegotiateLaws.Agreements.{stepped-went-past, went-past}
-use Rattle.iox_hub_laws.proofs.NegotiateLaws.Maps.{no}
-use Rattle.iox_hub_laws.proofs.NegotiateLaws.Tables.{IsTable, reached}
+use Rattle.iox_hub_laws.specs.Negotiate.Lives.{number_of}
+use Rattle.iox_hub_laws.specs.Negotiate.declared.factory.Membership.{Membership}
+use Rattle.iox_hub_laws.specs.Negotiate.NegotiateTable.Contents.{Contents, entry_at}
+use Rattle.iox_hub_laws.specs.Negotiate.NegotiateTable.Stepped.{Steps}
+use Rattle.iox_hub_laws.specs.Negotiate.NegotiateTable.declared.entry.Entry.{Entry}
+use Rattle.iox_hub_laws.specs.Negotiate.NegotiateTable.declared.entry.Entry.TheVariants.{Described}
+use Rattle.iox_hub_laws.specs.Negotiate.NegotiateTable.declared.step.ForeignStep.{ForeignStep}
+use Rattle.iox_hub_laws.proofs.Negotiate.Agreements.{stepped-went-past, went-past}
+use Rattle.iox_hub_laws.proofs.Negotiate.Maps.{no}
+use Rattle.iox_hub_laws.proofs.Negotiate.Tables.{IsTable, reached}
 use Rattle.iox_hub_laws.proofs.Names.{AllUnder, closes_under}
 use Rattle.iox_hub_laws.specs.Agreeing.{SameOf, HubsAgree, AgreeOn}
 use Rattle.iox_hub_laws.specs.Asking.{hash_asked}

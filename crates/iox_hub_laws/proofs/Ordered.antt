@@ -20,7 +20,7 @@ use Rattle.iox_hub_laws.specs.HubRun.Numbers.{IsNew}
 use Rattle.iox_hub_laws.specs.HubRun.Steps.{Step}
 use Rattle.iox_hub_laws.specs.HubRun.declared.numbered_hub.NumberedHub.{NumberedHub}
 use Rattle.iox_hub_laws.proofs.HubRun.RunLemmas.{run_goes}
-use Rattle.iox_hub_laws.proofs.NegotiateLaws.Maps.{Distinct, Rising, weaker, rising-distinct}
+use Rattle.iox_hub_laws.proofs.Negotiate.Maps.{Distinct, Rising, weaker, rising-distinct}
 use Rattle.iox_hub_laws.specs.Locality.{EachOnce, NumbersOnce}
 use Rattle.iox_hub_laws.specs.Order.{AreRising, InOrder, StaysInOrder, RunsAreInOrder}
 use Rattle.iox_hub_laws.proofs.Framed.{step_goes_on}

@@ -11,8 +11,8 @@ use Rattle.iox_hub_commands.specs.DomainHome.declared.domain_id.DomainId.{Domain
 use Rattle.iox_hub_commands.specs.DomainPorts.Lending.{written_in}
 use Rattle.iox_hub_commands.specs.DomainPorts.declared.service_ports.ServicePorts.{ServicePorts}
 use Rattle.iox_hub_commands.specs.DomainPublisher.declared.meeting.Sent.{Sent}
-use Rattle.iox_hub_commands.specs.DomainSender.Messages.{write_all}
-use Rattle.iox_hub_commands.specs.DomainSender.Sending.{has_length}
+use Rattle.iox_hub_commands.specs.DomainPublisher.Messages.{write_all}
+use Rattle.iox_hub_commands.specs.DomainPublisher.MessagesSending.{has_length}
 use Rattle.iox_hub_commands.specs.DomainSubscriber.declared.attached.Taken.{Taken}
 use Rattle.iox_hub_commands.specs.DomainValues.declared.backpressure.BackpressureDecision.{BackpressureDecision}
 use Rattle.iox_hub_commands.specs.DomainValues.declared.backpressure.BackpressureInfo.{BackpressureInfo}
@@ -32,7 +32,7 @@ use Rattle.iox_hub_commands.specs.Tables.{lender, port_under}
 use Rattle.iox_hub_commands.specs.declared.ports.made.Made.{Made}
 use Rattle.iox_hub_commands.specs.declared.ports.made.MadeLoan.{MadeLoan}
 use Rattle.iox_hub_commands.specs.declared.ports.made.MadeSample.{MadeSample}
-use Rattle.iox_hub_factories.specs.Numbered.NumberTable.{Rises, value_at}
+use Rattle.iox_hub_factories.specs.Maps.NumberTable.{Rises, value_at}
 use Rattle.iox_hub_commands.specs.DomainHome.Homes.{LeavesDomain, MakesAt}
 use Rattle.iox_hub_commands.specs.Delivery.Publishing.{changed_at}
 use Rattle.iox_hub_factories.specs.Domain.Domains.{with_ports}

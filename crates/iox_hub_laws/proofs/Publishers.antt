@@ -19,8 +19,8 @@ use Rattle.iox_domain_laws.specs.DomainPublisher.declared.meeting.Sent.{Sent}
 use Rattle.iox_domain_laws.specs.DomainPublisher.declared.publisher_port.PublisherPort.{PublisherPort}
 use Rattle.iox_domain_laws.specs.DomainPublisher.declared.reader.Reader.{Reader}
 use Rattle.iox_domain_laws.specs.DomainPublisher.declared.subscriber_entry.SubscriberEntry.{SubscriberEntry}
-use Rattle.iox_domain_laws.specs.DomainSender.Messages.{Loan, Message}
-use Rattle.iox_domain_laws.specs.DomainSender.Sending.{opened_for}
+use Rattle.iox_domain_laws.specs.DomainPublisher.Messages.{Loan, Message}
+use Rattle.iox_domain_laws.specs.DomainPublisher.MessagesSending.{opened_for}
 use Rattle.iox_domain_laws.specs.DomainSlots.Uses.{ended}
 use Rattle.iox_domain_laws.specs.DomainSubscriber.Publishers.{ended_if_left}
 use Rattle.iox_domain_laws.specs.DomainSubscriber.Reading.{given_back_at}

@@ -26,8 +26,8 @@ use Rattle.iox_hub_laws.specs.HubCommands.DomainPorts.declared.service_ports.Ser
 use Rattle.iox_hub_laws.specs.HubCommands.DomainPublisher.Writing.{changed_if}
 use Rattle.iox_hub_laws.specs.HubCommands.DomainPublisher.declared.meeting.Sent.{Sent}
 use Rattle.iox_hub_laws.specs.HubCommands.DomainPublisher.declared.publisher_port.PublisherPort.{PublisherPort}
-use Rattle.iox_hub_laws.specs.HubCommands.DomainSender.Messages.{Loan, write_value, write_all}
-use Rattle.iox_hub_laws.specs.HubCommands.DomainSender.Sending.{has_place, has_length}
+use Rattle.iox_hub_laws.specs.HubCommands.DomainPublisher.Messages.{Loan, write_value, write_all}
+use Rattle.iox_hub_laws.specs.HubCommands.DomainPublisher.MessagesSending.{has_place, has_length}
 use Rattle.iox_hub_laws.specs.HubCommands.DomainSubscriber.Publishers as among
 use Rattle.iox_hub_laws.specs.HubCommands.DomainSubscriber.declared.attached.Taken.{Taken}
 use Rattle.iox_hub_laws.specs.HubCommands.DomainSubscriber.declared.subscriber_port.SubscriberPort.{SubscriberPort}

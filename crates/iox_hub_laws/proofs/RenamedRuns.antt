@@ -18,7 +18,7 @@ use Rattle.iox_hub_laws.specs.HubCommands.declared.ports.made.Made.{Made}
 use Rattle.iox_hub_laws.specs.HubFactories.HubBase.Hubs.{one_more}
 use Rattle.iox_hub_laws.specs.HubFactories.HubBase.declared.hub.HubConfig.{HubConfig}
 use Rattle.iox_hub_laws.specs.HubFactories.HubServices.Open.{OpenServices}
-use Rattle.iox_hub_laws.specs.HubFactories.Numbered.NumberTable.{NumberTable}
+use Rattle.iox_hub_laws.specs.HubFactories.Maps.NumberTable.{NumberTable}
 use Rattle.iox_hub_laws.specs.HubFactories.declared.factories.Factories.{Factories}
 use Rattle.iox_hub_laws.specs.HubCommands.DomainValues.Actions.{decision_of}
 use Rattle.iox_hub_laws.specs.HubRun.HubCommands.declared.handlers.FixedDegradation.{FixedDegradation}
@@ -27,11 +27,11 @@ use Rattle.iox_hub_laws.specs.HubRun.Numbers.{IsNew}
 use Rattle.iox_hub_laws.specs.HubRun.Runs.{Runs}
 use Rattle.iox_hub_laws.specs.HubRun.Steps.{Step}
 use Rattle.iox_hub_laws.specs.HubRun.declared.numbered_hub.NumberedHub.{NumberedHub}
-use Rattle.iox_hub_laws.specs.NegotiateLaws.Lives.{number_of}
-use Rattle.iox_hub_laws.specs.NegotiateLaws.NegotiateTable.Contents.{Contents}
-use Rattle.iox_hub_laws.specs.NegotiateLaws.NegotiateTable.declared.entry.Entry.{Entry}
-use Rattle.iox_hub_laws.specs.NegotiateLaws.NegotiateTable.declared.segment.Segment.{Segment}
-use Rattle.iox_hub_laws.proofs.NegotiateLaws.Tables.{IsTable, new-table, runs}
+use Rattle.iox_hub_laws.specs.Negotiate.Lives.{number_of}
+use Rattle.iox_hub_laws.specs.Negotiate.NegotiateTable.Contents.{Contents}
+use Rattle.iox_hub_laws.specs.Negotiate.NegotiateTable.declared.entry.Entry.{Entry}
+use Rattle.iox_hub_laws.specs.Negotiate.NegotiateTable.declared.segment.Segment.{Segment}
+use Rattle.iox_hub_laws.proofs.Negotiate.Tables.{IsTable, new-table, runs}
 use Rattle.iox_hub_laws.specs.NegotiateRenamedRenaming.{AreInOrder, renamed_entry, renamed_place, renamed_table}
 use Rattle.iox_hub_laws.proofs.Acting.{past_rises}
 use Rattle.iox_hub_laws.proofs.Numbers.{weaker}

@@ -40,30 +40,30 @@ use Rattle.iox_hub_laws.specs.HubFactories.HubServices.Open.{OpenServices, prese
 use Rattle.iox_hub_laws.specs.HubFactories.HubServices.Opening.{is_open, Opens as ServiceOpens, without_service}
 use Rattle.iox_hub_laws.specs.HubFactories.HubServices.declared.presence.Presence.{Presence}
 use Rattle.iox_hub_laws.specs.HubFactories.HubServices.declared.presence.Presence.TheVariants.{Here, Out}
-use Rattle.iox_hub_laws.specs.HubFactories.Numbered.NumberTable.{value_at}
+use Rattle.iox_hub_laws.specs.HubFactories.Maps.NumberTable.{value_at}
 use Rattle.iox_hub_laws.specs.HubFactories.Numbering.{Prepares, Numbers, GetsNumber, IsSkipped, IsRefusedWith}
 use Rattle.iox_hub_laws.specs.HubFactories.Opening.{OpensAs, OpensNumbered, open_lacking}
 use Rattle.iox_hub_laws.specs.HubFactories.Tables.{FactoryTable, pattern_in, parts_of}
 use Rattle.iox_hub_laws.specs.HubFactories.declared.asked.ServiceAsked.{ServiceAsked}
 use Rattle.iox_hub_laws.specs.HubFactories.declared.made.MadeFactory.{MadeFactory}
 use Rattle.iox_hub_laws.specs.HubFactories.declared.made.MadeFactory.TheVariants as made_factory
-use Rattle.iox_hub_laws.specs.NegotiateLaws.Negotiate.Factory.{membership}
-use Rattle.iox_hub_laws.specs.NegotiateLaws.Negotiate.Negotiation.{Negotiates, Creates, Either}
-use Rattle.iox_hub_laws.specs.NegotiateLaws.Negotiate.declared.factory.Membership.{Membership}
-use Rattle.iox_hub_laws.specs.NegotiateLaws.NegotiateErrors.declared.close.CloseError.{CloseError}
-use Rattle.iox_hub_laws.specs.NegotiateLaws.NegotiateRounds.Access.{Access}
-use Rattle.iox_hub_laws.specs.NegotiateLaws.NegotiateRounds.Creating.{CreatesIf}
-use Rattle.iox_hub_laws.specs.NegotiateLaws.NegotiateRounds.Opening.{Opens, OpensOrCreates}
-use Rattle.iox_hub_laws.specs.NegotiateLaws.NegotiateRounds.declared.failure.CreateFailure.{CreateFailure}
-use Rattle.iox_hub_laws.specs.NegotiateLaws.NegotiateRounds.declared.failure.OpenFailure.{OpenFailure}
-use Rattle.iox_hub_laws.specs.NegotiateLaws.NegotiateRounds.declared.failure.OpenOrCreateFailure.{OpenOrCreateFailure}
-use Rattle.iox_hub_laws.specs.NegotiateLaws.NegotiateRounds.declared.request.Opened.{Opened}
-use Rattle.iox_hub_laws.specs.NegotiateLaws.NegotiateTable.Stepped.{Steps, SteppedSight}
-use Rattle.iox_hub_laws.specs.NegotiateLaws.NegotiateTable.declared.entry.Entry.TheVariants.{Described}
-use Rattle.iox_hub_laws.specs.NegotiateLaws.NegotiateTable.declared.step.ForeignStep.{ForeignStep}
-use Rattle.iox_hub_laws.proofs.NegotiateLaws.Agreements.{went-past}
-use Rattle.iox_hub_laws.proofs.NegotiateLaws.Maps.{insert-all, remove-all, found-all}
-use Rattle.iox_hub_laws.proofs.NegotiateLaws.Tables.{IsTable}
+use Rattle.iox_hub_laws.specs.Negotiate.Factory.{membership}
+use Rattle.iox_hub_laws.specs.Negotiate.Negotiation.{Negotiates, Creates, Either}
+use Rattle.iox_hub_laws.specs.Negotiate.declared.factory.Membership.{Membership}
+use Rattle.iox_hub_laws.specs.Negotiate.NegotiateBase.declared.errors.close.CloseError.{CloseError}
+use Rattle.iox_hub_laws.specs.Negotiate.NegotiateBase.Access.{Access}
+use Rattle.iox_hub_laws.specs.Negotiate.NegotiateBase.Creating.{CreatesIf}
+use Rattle.iox_hub_laws.specs.Negotiate.NegotiateBase.Opening.{Opens, OpensOrCreates}
+use Rattle.iox_hub_laws.specs.Negotiate.NegotiateBase.declared.failure.CreateFailure.{CreateFailure}
+use Rattle.iox_hub_laws.specs.Negotiate.NegotiateBase.declared.failure.OpenFailure.{OpenFailure}
+use Rattle.iox_hub_laws.specs.Negotiate.NegotiateBase.declared.failure.OpenOrCreateFailure.{OpenOrCreateFailure}
+use Rattle.iox_hub_laws.specs.Negotiate.NegotiateBase.declared.request.Opened.{Opened}
+use Rattle.iox_hub_laws.specs.Negotiate.NegotiateTable.Stepped.{Steps, SteppedSight}
+use Rattle.iox_hub_laws.specs.Negotiate.NegotiateTable.declared.entry.Entry.TheVariants.{Described}
+use Rattle.iox_hub_laws.specs.Negotiate.NegotiateTable.declared.step.ForeignStep.{ForeignStep}
+use Rattle.iox_hub_laws.proofs.Negotiate.Agreements.{went-past}
+use Rattle.iox_hub_laws.proofs.Negotiate.Maps.{insert-all, remove-all, found-all}
+use Rattle.iox_hub_laws.proofs.Negotiate.Tables.{IsTable}
 use Rattle.iox_hub_laws.specs.NegotiateRenamedRenaming.{AreInOrder, GoBy, renamed_access, renamed_answer, renamed_came, renamed_member, renamed_steps}
 use Rattle.iox_hub_laws.specs.NegotiateRenamedRenamingLaws.{LeadsOn}
 use Rattle.iox_hub_laws.proofs.Acting.{acts_all_as, past_rises, low_on}

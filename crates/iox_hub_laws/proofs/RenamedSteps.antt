@@ -46,7 +46,7 @@ use Rattle.iox_hub_laws.specs.HubFactories.HubBase.AsHome.{with_services, hub_po
 use Rattle.iox_hub_laws.specs.HubFactories.HubBase.Opening.{Made as Opened}
 use Rattle.iox_hub_laws.specs.HubFactories.HubBase.declared.hub.Hub.{Hub}
 use Rattle.iox_hub_laws.specs.HubFactories.HubServices.AsHome.{stepped, publisher_kept, subscriber_kept}
-use Rattle.iox_hub_laws.specs.HubFactories.Numbered.NumberTable.{value_at}
+use Rattle.iox_hub_laws.specs.HubFactories.Maps.NumberTable.{value_at}
 use Rattle.iox_hub_laws.specs.HubFactories.Tables.{publish_subscribe_in}
 use Rattle.iox_hub_laws.specs.HubFactories.declared.factories.Factories.{Factories}
 use Rattle.iox_hub_laws.specs.HubRun.Grown.{AnySlots, AnyDecision}

@@ -9,7 +9,7 @@ use Rattle.iox_hub_laws.specs.HubCommands.Making.{with_publisher, with_subscribe
 use Rattle.iox_hub_laws.specs.HubCommands.Numbering.{removed_if, with_loan, with_sample, NumbersLoan, NumbersSample}
 use Rattle.iox_hub_laws.specs.HubCommands.Tables.{IsRoomier, without_publisher, without_subscriber, without_loan, without_sample}
 use Rattle.iox_hub_laws.specs.HubCommands.declared.ports.made.Made.{Made}
-use Rattle.iox_hub_laws.specs.HubFactories.Numbered.NumberTable.{NumberTable}
+use Rattle.iox_hub_laws.specs.HubFactories.Maps.NumberTable.{NumberTable}
 use Rattle.iox_hub_laws.proofs.Made.{MadeRises}
 use Rattle.iox_hub_laws.specs.RenumberedRenaming.{Renaming}
 use Rattle.iox_hub_laws.proofs.RenumberedTables.{RenamedIn, NewBy, NewIf, Alike, roomier_renamed, inserted_renamed, removed_renamed}

@@ -15,7 +15,7 @@ use Rattle.iox_hub_laws.specs.HubCommands.DomainValues.declared.degradation.Degr
 use Rattle.iox_hub_laws.specs.HubCommands.DomainValues.declared.degradation.DegradationCause.{DegradationCause}
 use Rattle.iox_hub_laws.specs.HubCommands.DomainValues.declared.degradation.DegradationInfo.{DegradationInfo}
 use Rattle.iox_hub_laws.specs.HubFactories.HubBase.declared.hub.HubConfig.{HubConfig}
-use Rattle.iox_hub_laws.specs.HubFactories.Numbered.NumberTable.{NumberTable, Rises, value_at}
+use Rattle.iox_hub_laws.specs.HubFactories.Maps.NumberTable.{NumberTable, Rises, value_at}
 use Rattle.iox_hub_laws.proofs.HubRun.Rooms.{new_rises}
 use Rattle.iox_hub_laws.specs.HubRun.Lives.{NumbersRise, NumbersGoOn}
 use Rattle.iox_hub_laws.specs.HubRun.Numbers.{IsNew}

@@ -51,13 +51,13 @@ use Rattle.iox_hub_laws.specs.HubFactories.DescribeVerdict.EventClauses as event
 use Rattle.iox_hub_laws.specs.HubFactories.DescribeVerdict.PublishSubscribeClauses as publish_subscribe_clauses
 use Rattle.iox_hub_laws.specs.HubFactories.DescribeVerdict.RequestResponseClauses as request_response_clauses
 use Rattle.iox_hub_laws.specs.HubFactories.DescribeVerdict.Verdict.{first_unmet}
-use Rattle.iox_hub_laws.specs.HubFactories.NegotiateErrors.EventErrors as event
-use Rattle.iox_hub_laws.specs.HubFactories.NegotiateErrors.PublishSubscribeErrors as publish_subscribe
-use Rattle.iox_hub_laws.specs.HubFactories.NegotiateErrors.RequestResponseErrors as request_response
+use Rattle.iox_hub_laws.specs.HubFactories.NegotiateBase.EventErrors as event
+use Rattle.iox_hub_laws.specs.HubFactories.NegotiateBase.PublishSubscribeErrors as publish_subscribe
+use Rattle.iox_hub_laws.specs.HubFactories.NegotiateBase.RequestResponseErrors as request_response
 use Rattle.iox_hub_laws.specs.HubFactories.HubBase.AsHome.{hub_ports, with_hub_ports, without_hub_publisher, without_hub_subscriber}
 use Rattle.iox_hub_laws.specs.HubFactories.HubBase.Opening.{Made as Opened}
 use Rattle.iox_hub_laws.specs.HubFactories.HubBase.declared.hub.Hub.{Hub}
-use Rattle.iox_hub_laws.specs.HubFactories.Numbered.NumberTable.{Rises, value_at, inserted, removed}
+use Rattle.iox_hub_laws.specs.HubFactories.Maps.NumberTable.{Rises, value_at, inserted, removed}
 use Rattle.iox_hub_laws.specs.HubFactories.Numbering.{Numbers, GetsNumber}
 use Rattle.iox_hub_laws.specs.HubFactories.Opening.{OpensJudged, OpensAs, OpensNumbered, open_lacking}
 use Rattle.iox_hub_laws.specs.HubFactories.Tables.{FactoryTable, parts_of, publish_subscribe_in}
@@ -67,9 +67,9 @@ use Rattle.iox_hub_laws.specs.HubRun.Lives.{NumbersRise}
 use Rattle.iox_hub_laws.specs.HubRun.Services.{PublisherComes, SubscriberComes}
 use Rattle.iox_hub_laws.specs.HubRun.Steps.{Step, publisher_may_degrade, publisher_may_decide, subscriber_may_degrade}
 use Rattle.iox_hub_laws.specs.HubRun.declared.numbered_hub.NumberedHub.{NumberedHub}
-use Rattle.iox_hub_laws.specs.NegotiateLaws.Negotiate.declared.factory.Membership.{Membership}
-use Rattle.iox_hub_laws.specs.NegotiateLaws.NegotiateErrors.declared.close.CloseError.{CloseError}
-use Rattle.iox_hub_laws.specs.NegotiateLaws.NegotiateTable.declared.step.ForeignStep.{ForeignStep}
+use Rattle.iox_hub_laws.specs.Negotiate.declared.factory.Membership.{Membership}
+use Rattle.iox_hub_laws.specs.Negotiate.NegotiateBase.declared.errors.close.CloseError.{CloseError}
+use Rattle.iox_hub_laws.specs.Negotiate.NegotiateTable.declared.step.ForeignStep.{ForeignStep}
 use Rattle.iox_hub_laws.specs.Locality.{IsMemoryWanted}
 use Rattle.iox_hub_laws.proofs.Made.{MadeRises, same_room, roomier_rises, rises_as}
 use Rattle.iox_hub_laws.specs.RenumberedRenaming.{Renaming, renamed, renamed_reply}

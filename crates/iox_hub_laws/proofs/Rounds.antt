@@ -1,34 +1,34 @@
 -- The rounds of a call under other numbers of lives.
 use Rattle.std.proofs.Common.{◌≡◌, ◌∙◌, ◌<◌, ◌⊎◌, ◌++◌, ℕ, zero, suc, List, [], ◌∷◌, Option, None, Some, option_map, Result, Ok, Err, refl, sym, ap, subst, inl, inr, map}
-use Rattle.iox_negotiate_laws.specs.Describe.DescribeBase.declared.hash.ServiceHash.{ServiceHash}
-use Rattle.iox_negotiate_laws.specs.Describe.DescribeSettings.Agreement.{Agreement}
-use Rattle.iox_negotiate_laws.specs.Negotiate.Factory.{RemovesSegment, RemovalGoes, Removes, LeaveGoes, Closes}
-use Rattle.iox_negotiate_laws.specs.NegotiateErrors.declared.close.CloseError.{CloseError}
-use Rattle.iox_negotiate_laws.specs.NegotiateRounds.Access.{Access, Look, Lock, MakeSegment, Publish, Unlock, OpenSegment, Leave, RemoveDescription, RemoveSegment}
-use Rattle.iox_negotiate_laws.specs.NegotiateRounds.Creating as creating
-use Rattle.iox_negotiate_laws.specs.NegotiateRounds.Failing.{created, created_or_again, opened_or_again, entered, lock_gives, making_failure, publishing_failure, refusal_seen}
-use Rattle.iox_negotiate_laws.specs.NegotiateRounds.Opening as opening
-use Rattle.iox_negotiate_laws.specs.NegotiateRounds.Runs.{Led, Rounds}
-use Rattle.iox_negotiate_laws.specs.NegotiateRounds.Sight.{IsRead, IsSight}
-use Rattle.iox_negotiate_laws.specs.NegotiateRounds.declared.answer.LeaveAnswer.{LeaveAnswer}
-use Rattle.iox_negotiate_laws.specs.NegotiateRounds.declared.answer.LeaveAnswer.TheVariants as leaving
-use Rattle.iox_negotiate_laws.specs.NegotiateRounds.declared.answer.LockAnswer.{LockAnswer}
-use Rattle.iox_negotiate_laws.specs.NegotiateRounds.declared.answer.LockAnswer.TheVariants as lock
-use Rattle.iox_negotiate_laws.specs.NegotiateRounds.declared.answer.LookAnswer.{LookAnswer}
-use Rattle.iox_negotiate_laws.specs.NegotiateRounds.declared.answer.LookAnswer.TheVariants as look
-use Rattle.iox_negotiate_laws.specs.NegotiateRounds.declared.answer.OpenSegmentAnswer.{OpenSegmentAnswer}
-use Rattle.iox_negotiate_laws.specs.NegotiateRounds.declared.answer.OpenSegmentAnswer.TheVariants as segment
-use Rattle.iox_negotiate_laws.specs.NegotiateRounds.declared.answer.RemoveAnswer.{RemoveAnswer}
-use Rattle.iox_negotiate_laws.specs.NegotiateRounds.declared.answer.RemoveAnswer.TheVariants as removing
-use Rattle.iox_negotiate_laws.specs.NegotiateRounds.declared.creation.Attempt.{Attempt}
-use Rattle.iox_negotiate_laws.specs.NegotiateRounds.declared.creation.Attempt.TheVariants as attempted
-use Rattle.iox_negotiate_laws.specs.NegotiateRounds.declared.failure.CreateFailure.{CreateFailure}
-use Rattle.iox_negotiate_laws.specs.NegotiateRounds.declared.failure.OpenFailure.{OpenFailure}
-use Rattle.iox_negotiate_laws.specs.NegotiateRounds.declared.failure.OpenOrCreateFailure.{OpenOrCreateFailure}
-use Rattle.iox_negotiate_laws.specs.NegotiateRounds.declared.request.Opened.{Opened}
-use Rattle.iox_negotiate_laws.specs.NegotiateRounds.declared.sight.Sight.{Sight}
-use Rattle.iox_negotiate_laws.specs.NegotiateRounds.declared.sight.Sight.TheVariants as sight
-use Rattle.iox_negotiate_laws.specs.NegotiateRounds.declared.sight.SightFailure.TheVariants.{HangsInCreation, InsufficientPermissions, ServiceInCorruptedState, OutOfMemory}
+use Rattle.iox_negotiate.specs.Describe.DescribeBase.declared.hash.ServiceHash.{ServiceHash}
+use Rattle.iox_negotiate.specs.Describe.DescribeSettings.Agreement.{Agreement}
+use Rattle.iox_negotiate.specs.Factory.{RemovesSegment, RemovalGoes, Removes, LeaveGoes, Closes}
+use Rattle.iox_negotiate.specs.NegotiateBase.declared.errors.close.CloseError.{CloseError}
+use Rattle.iox_negotiate.specs.NegotiateBase.Access.{Access, Look, Lock, MakeSegment, Publish, Unlock, OpenSegment, Leave, RemoveDescription, RemoveSegment}
+use Rattle.iox_negotiate.specs.NegotiateBase.Creating as creating
+use Rattle.iox_negotiate.specs.NegotiateBase.Failing.{created, created_or_again, opened_or_again, entered, lock_gives, making_failure, publishing_failure, refusal_seen}
+use Rattle.iox_negotiate.specs.NegotiateBase.Opening as opening
+use Rattle.iox_negotiate.specs.NegotiateBase.Runs.{Led, Rounds}
+use Rattle.iox_negotiate.specs.NegotiateBase.Sight.{IsRead, IsSight}
+use Rattle.iox_negotiate.specs.NegotiateBase.declared.answer.LeaveAnswer.{LeaveAnswer}
+use Rattle.iox_negotiate.specs.NegotiateBase.declared.answer.LeaveAnswer.TheVariants as leaving
+use Rattle.iox_negotiate.specs.NegotiateBase.declared.answer.LockAnswer.{LockAnswer}
+use Rattle.iox_negotiate.specs.NegotiateBase.declared.answer.LockAnswer.TheVariants as lock
+use Rattle.iox_negotiate.specs.NegotiateBase.declared.answer.LookAnswer.{LookAnswer}
+use Rattle.iox_negotiate.specs.NegotiateBase.declared.answer.LookAnswer.TheVariants as look
+use Rattle.iox_negotiate.specs.NegotiateBase.declared.answer.OpenSegmentAnswer.{OpenSegmentAnswer}
+use Rattle.iox_negotiate.specs.NegotiateBase.declared.answer.OpenSegmentAnswer.TheVariants as segment
+use Rattle.iox_negotiate.specs.NegotiateBase.declared.answer.RemoveAnswer.{RemoveAnswer}
+use Rattle.iox_negotiate.specs.NegotiateBase.declared.answer.RemoveAnswer.TheVariants as removing
+use Rattle.iox_negotiate.specs.NegotiateBase.declared.creation.Attempt.{Attempt}
+use Rattle.iox_negotiate.specs.NegotiateBase.declared.creation.Attempt.TheVariants as attempted
+use Rattle.iox_negotiate.specs.NegotiateBase.declared.failure.CreateFailure.{CreateFailure}
+use Rattle.iox_negotiate.specs.NegotiateBase.declared.failure.OpenFailure.{OpenFailure}
+use Rattle.iox_negotiate.specs.NegotiateBase.declared.failure.OpenOrCreateFailure.{OpenOrCreateFailure}
+use Rattle.iox_negotiate.specs.NegotiateBase.declared.request.Opened.{Opened}
+use Rattle.iox_negotiate.specs.NegotiateBase.declared.sight.Sight.{Sight}
+use Rattle.iox_negotiate.specs.NegotiateBase.declared.sight.Sight.TheVariants as sight
+use Rattle.iox_negotiate.specs.NegotiateBase.declared.sight.SightFailure.TheVariants.{HangsInCreation, InsufficientPermissions, ServiceInCorruptedState, OutOfMemory}
 use Rattle.iox_hub_laws.specs.NegotiateRenamedRenaming.{renamed_look, renamed_lock, renamed_access, renamed_opened, renamed_answer}
 
 module _ (lives : ℕ → ℕ) where

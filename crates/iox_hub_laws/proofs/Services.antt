@@ -10,7 +10,7 @@ use Rattle.iox_hub_commands.specs.Command.declared.service.ServiceOptions.{Servi
 use Rattle.iox_hub_commands.specs.Command.declared.service.ServiceOptions.TheVariants as options
 use Rattle.iox_hub_commands.specs.Command.declared.step.ForeignStep.{ForeignStep as Named}
 use Rattle.iox_hub_commands.specs.Command.declared.step.StepBefore.{StepBefore}
-use Rattle.iox_negotiate_laws.specs.Describe.Within.{HasForm}
+use Rattle.iox_negotiate.specs.Describe.Within.{HasForm}
 use Rattle.iox_hub_commands.specs.DescribeBase.Attributes.{Required}
 use Rattle.iox_hub_commands.specs.DescribeBase.Detail.{Detail}
 use Rattle.iox_hub_commands.specs.DescribeBase.declared.attribute.Attribute.{Attribute}
@@ -33,27 +33,27 @@ use Rattle.iox_hub_factories.specs.Opening.{OpensAs, OpensPrepared, OpensNumbere
 use Rattle.iox_hub_factories.specs.Tables.{FactoryTable, parts_of}
 use Rattle.iox_hub_factories.specs.declared.asked.ServiceAsked.{ServiceAsked}
 use Rattle.iox_hub_factories.specs.declared.made.MadeFactory.{MadeFactory}
-use Rattle.iox_negotiate_laws.specs.Negotiate.declared.factory.Membership.{Membership}
-use Rattle.iox_negotiate_laws.specs.NegotiateErrors.declared.close.CloseError.{CloseError}
-use Rattle.iox_negotiate_laws.specs.Agreements.{WasAgreed}
-use Rattle.iox_negotiate_laws.specs.Histories.{IsReached}
-use Rattle.iox_negotiate_laws.specs.NegotiateRounds.Runs.{Does}
-use Rattle.iox_negotiate_laws.specs.NegotiateTable.Contents.{Contents}
-use Rattle.iox_negotiate_laws.specs.NegotiateTable.Stepped.{Steps}
-use Rattle.iox_negotiate_laws.specs.NegotiateTable.declared.step.ForeignStep.{ForeignStep}
+use Rattle.iox_negotiate.specs.declared.factory.Membership.{Membership}
+use Rattle.iox_negotiate.specs.NegotiateBase.declared.errors.close.CloseError.{CloseError}
+use Rattle.iox_negotiate.specs.Agreements.{WasAgreed}
+use Rattle.iox_negotiate.specs.Histories.{IsReached}
+use Rattle.iox_negotiate.specs.NegotiateBase.Runs.{Does}
+use Rattle.iox_negotiate.specs.NegotiateTable.Contents.{Contents}
+use Rattle.iox_negotiate.specs.NegotiateTable.Stepped.{Steps}
+use Rattle.iox_negotiate.specs.NegotiateTable.declared.step.ForeignStep.{ForeignStep}
 use Rattle.std.specs.Option.{unwrap_or}
-use Rattle.iox_negotiate_laws.specs.Negotiate.Factory.{Closes as ClosesBy}
-use Rattle.iox_negotiate_laws.specs.NegotiateTable.Sights.{Sight}
-use Rattle.iox_negotiate_laws.proofs.Agreements.{past-on, no-past, went-past}
-use Rattle.iox_negotiate_laws.proofs.Stepping.{Past, acts-ran}
-use Rattle.iox_negotiate_laws.specs.Closing.{IsUntouched}
+use Rattle.iox_negotiate.specs.Factory.{Closes as ClosesBy}
+use Rattle.iox_negotiate.specs.NegotiateTable.Sights.{Sight}
+use Rattle.iox_negotiate.proofs.Agreements.{past-on, no-past, went-past}
+use Rattle.iox_negotiate.proofs.Stepping.{Past, acts-ran}
+use Rattle.iox_negotiate.specs.Closing.{IsUntouched}
 use Rattle.iox_hub_commands.specs.DescribeBase.Hash.{service_hash_of}
 use Rattle.iox_hub_factories.specs.Asking.{hash_of}
 use Rattle.iox_hub_factories.specs.Domain.Kept.{kept, forgotten}
 use Rattle.iox_hub_factories.specs.HubBase.Hubs.{factories_of}
 use Rattle.iox_hub_factories.specs.HubBase.Opening.{Made, Enters, Settles, OpensInHub}
 use Rattle.iox_hub_factories.specs.HubServices.Numbered.{is_number, not_number, others_beside}
-use Rattle.iox_hub_factories.specs.Numbered.NumberTable.{Rises, value_at}
+use Rattle.iox_hub_factories.specs.Maps.NumberTable.{Rises, value_at}
 use Rattle.iox_hub_run.specs.AgreementLaws.{service_of, carried_by}
 use Rattle.iox_hub_laws.specs.Left.{AllLeft, HubLeft}
 use Rattle.iox_hub_laws.specs.Laws.{IsService}

@@ -1,16 +1,16 @@
 -- Accesses with foreign steps before them, under one hash, in two tables that have the same under it.
 use Rattle.std.proofs.Common.{◌≡◌, ◌∙◌, List, [], ◌∷◌, Result, Ok, Err, refl, sym, ap, subst, drop}
 use Rattle.std.specs.declared.alloc.AllocError.{AllocError}
-use Rattle.iox_hub_laws.specs.NegotiateLaws.Describe.DescribeBase.declared.hash.ServiceHash.{ServiceHash}
-use Rattle.iox_hub_laws.specs.NegotiateLaws.Histories.{Accesses}
-use Rattle.iox_hub_laws.specs.NegotiateLaws.NegotiateRounds.Access.{Access, Look, Lock, MakeSegment, Publish, Unlock, OpenSegment, Leave, RemoveDescription, RemoveSegment}
-use Rattle.iox_hub_laws.specs.NegotiateLaws.NegotiateRounds.Runs.{Went}
-use Rattle.iox_hub_laws.specs.NegotiateLaws.NegotiateTable.Contents.{Contents}
-use Rattle.iox_hub_laws.specs.NegotiateLaws.NegotiateTable.Sights.{Sight}
-use Rattle.iox_hub_laws.specs.NegotiateLaws.NegotiateTable.Stepped.{Steps, GoesOn, ActsAll, next_list, Preceded, Alone, SteppedSight}
-use Rattle.iox_hub_laws.proofs.NegotiateLaws.Changes.{hash_of}
-use Rattle.iox_hub_laws.proofs.NegotiateLaws.Stepping.{acts-keep, stepped-keeps}
-use Rattle.iox_hub_laws.proofs.NegotiateLaws.Tables.{IsTable, sees, acts}
+use Rattle.iox_hub_laws.specs.Negotiate.Describe.DescribeBase.declared.hash.ServiceHash.{ServiceHash}
+use Rattle.iox_hub_laws.specs.Negotiate.Histories.{Accesses}
+use Rattle.iox_hub_laws.specs.Negotiate.NegotiateBase.Access.{Access, Look, Lock, MakeSegment, Publish, Unlock, OpenSegment, Leave, RemoveDescription, RemoveSegment}
+use Rattle.iox_hub_laws.specs.Negotiate.NegotiateBase.Runs.{Went}
+use Rattle.iox_hub_laws.specs.Negotiate.NegotiateTable.Contents.{Contents}
+use Rattle.iox_hub_laws.specs.Negotiate.NegotiateTable.Sights.{Sight}
+use Rattle.iox_hub_laws.specs.Negotiate.NegotiateTable.Stepped.{Steps, GoesOn, ActsAll, next_list, Preceded, Alone, SteppedSight}
+use Rattle.iox_hub_laws.proofs.Negotiate.Changes.{hash_of}
+use Rattle.iox_hub_laws.proofs.Negotiate.Stepping.{acts-keep, stepped-keeps}
+use Rattle.iox_hub_laws.proofs.Negotiate.Tables.{IsTable, sees, acts}
 use Rattle.iox_hub_laws.proofs.Names.{AllUnder}
 use Rattle.iox_hub_laws.proofs.LocalityNames.{TablesAgree, still, sight_alike, acts_all_alike}
 

@@ -5,7 +5,7 @@ use Rattle.iox_hub_commands.specs.DescribeBase.declared.hash.ServiceHash.{Servic
 use Rattle.iox_hub_factories.specs.HubBase.Opening.{Made as Opened}
 use Rattle.iox_hub_factories.specs.HubBase.Hubs.{factories_of}
 use Rattle.iox_hub_factories.specs.HubServices.Open.{presence_of}
-use Rattle.iox_hub_factories.specs.Numbered.NumberTable.{Rises, value_at}
+use Rattle.iox_hub_factories.specs.Maps.NumberTable.{Rises, value_at}
 use Rattle.iox_hub_factories.specs.Tables.{publish_subscribe_in}
 use Rattle.iox_hub_factories.specs.declared.made.MadeFactory.{MadeFactory}
 use Rattle.iox_hub_factories.specs.declared.made.MadeFactory.TheVariants as made
@@ -43,9 +43,9 @@ use Rattle.iox_hub_factories.specs.HubServices.AsHome.{publisher_kept, subscribe
 use Rattle.iox_hub_commands.specs.Growing.{GrowsFirst}
 use Rattle.iox_hub_commands.specs.Loans.{set_in, filled_in}
 use Rattle.iox_hub_commands.specs.Naming.{publisher_handlers, subscriber_handler}
-use Rattle.iox_negotiate_laws.proofs.Agreements.{no-past}
-use Rattle.iox_negotiate_laws.proofs.Stepping.{Past}
-use Rattle.iox_negotiate_laws.specs.Histories.{IsReached}
+use Rattle.iox_negotiate.proofs.Agreements.{no-past}
+use Rattle.iox_negotiate.proofs.Stepping.{Past}
+use Rattle.iox_negotiate.specs.Histories.{IsReached}
 use Rattle.iox_hub_run.specs.AgreementLaws.{service_of}
 use Rattle.iox_hub_run.specs.Lives.{NumbersRise}
 use Rattle.iox_hub_laws.specs.Asking.{service_at, publisher_service, loan_service, sample_service}

@@ -8,28 +8,28 @@ use Rattle.std.specs.Ordering.{nat_cmp, ordering_then, is_eq}
 use Rattle.std.specs.Prelude.{is_some, nat_lt}
 use Rattle.std.specs.declared.cmp.Ordering.{Ordering}
 use Rattle.std.specs.declared.cmp.Ordering.TheVariants.{Less, Equal, Greater}
-use Rattle.iox_negotiate_laws.specs.Describe.DescribeBase.declared.hash.ServiceHash.{ServiceHash}
-use Rattle.iox_negotiate_laws.specs.Lives.{number_of}
-use Rattle.iox_negotiate_laws.specs.NegotiateRounds.Access.{Access, Look, Lock, MakeSegment, Publish, Unlock, OpenSegment, Leave, RemoveDescription, RemoveSegment}
-use Rattle.iox_negotiate_laws.specs.NegotiateRounds.declared.answer.LeaveAnswer.{LeaveAnswer}
-use Rattle.iox_negotiate_laws.specs.NegotiateRounds.declared.answer.LockAnswer.{LockAnswer}
-use Rattle.iox_negotiate_laws.specs.NegotiateRounds.declared.answer.LockAnswer.TheVariants.{Taken}
-use Rattle.iox_negotiate_laws.specs.NegotiateRounds.declared.answer.LookAnswer.{LookAnswer}
-use Rattle.iox_negotiate_laws.specs.NegotiateRounds.declared.answer.MakeSegmentAnswer.{MakeSegmentAnswer}
-use Rattle.iox_negotiate_laws.specs.NegotiateRounds.declared.answer.OpenSegmentAnswer.{OpenSegmentAnswer}
-use Rattle.iox_negotiate_laws.specs.NegotiateRounds.declared.answer.PublishAnswer.{PublishAnswer}
-use Rattle.iox_negotiate_laws.specs.NegotiateRounds.declared.answer.RemoveAnswer.{RemoveAnswer}
-use Rattle.iox_negotiate_laws.specs.NegotiateTable.Contents.{Contents, entry_at, segment_at, digest_cmp, place_cmp, with_entry, without_entry, with_new_segment, with_segment, without_segment, with_lock, is_own_lock, is_lock_of, is_description_of, is_left, may_make, may_publish, may_unlock, is_published, may_remove_description, may_remove_segment}
-use Rattle.iox_negotiate_laws.specs.NegotiateTable.Nodes.{first_node}
-use Rattle.iox_negotiate_laws.specs.NegotiateTable.Sights.{Sight, Looks, LocksFree, LocksAt, Makes, Publishes, Unlocks, OpensPublished, OpensAt, LeavesPublished, LeavesAt, Removes}
-use Rattle.iox_negotiate_laws.specs.NegotiateTable.declared.entry.Entry.{Entry}
-use Rattle.iox_negotiate_laws.specs.NegotiateTable.declared.entry.Entry.TheVariants.{Locked, Described}
-use Rattle.iox_negotiate_laws.specs.NegotiateTable.declared.node.Node.{Node}
-use Rattle.iox_negotiate_laws.specs.NegotiateTable.declared.node.Node.TheVariants.{Own, Foreign}
-use Rattle.iox_negotiate_laws.specs.NegotiateTable.declared.segment.Segment.{Segment}
-use Rattle.iox_negotiate_laws.specs.NegotiateTable.declared.segment.Segment.TheVariants.{Open}
-use Rattle.iox_negotiate_laws.proofs.Maps.{insert-all, remove-all, set-all, set-found, found-all}
-use Rattle.iox_negotiate_laws.proofs.Tables.{digest-exact, place-exact}
+use Rattle.iox_negotiate.specs.Describe.DescribeBase.declared.hash.ServiceHash.{ServiceHash}
+use Rattle.iox_negotiate.specs.Lives.{number_of}
+use Rattle.iox_negotiate.specs.NegotiateBase.Access.{Access, Look, Lock, MakeSegment, Publish, Unlock, OpenSegment, Leave, RemoveDescription, RemoveSegment}
+use Rattle.iox_negotiate.specs.NegotiateBase.declared.answer.LeaveAnswer.{LeaveAnswer}
+use Rattle.iox_negotiate.specs.NegotiateBase.declared.answer.LockAnswer.{LockAnswer}
+use Rattle.iox_negotiate.specs.NegotiateBase.declared.answer.LockAnswer.TheVariants.{Taken}
+use Rattle.iox_negotiate.specs.NegotiateBase.declared.answer.LookAnswer.{LookAnswer}
+use Rattle.iox_negotiate.specs.NegotiateBase.declared.answer.MakeSegmentAnswer.{MakeSegmentAnswer}
+use Rattle.iox_negotiate.specs.NegotiateBase.declared.answer.OpenSegmentAnswer.{OpenSegmentAnswer}
+use Rattle.iox_negotiate.specs.NegotiateBase.declared.answer.PublishAnswer.{PublishAnswer}
+use Rattle.iox_negotiate.specs.NegotiateBase.declared.answer.RemoveAnswer.{RemoveAnswer}
+use Rattle.iox_negotiate.specs.NegotiateTable.Contents.{Contents, entry_at, segment_at, digest_cmp, place_cmp, with_entry, without_entry, with_new_segment, with_segment, without_segment, with_lock, is_own_lock, is_lock_of, is_description_of, is_left, may_make, may_publish, may_unlock, is_published, may_remove_description, may_remove_segment}
+use Rattle.iox_negotiate.specs.NegotiateTable.Nodes.{first_node}
+use Rattle.iox_negotiate.specs.NegotiateTable.Sights.{Sight, Looks, LocksFree, LocksAt, Makes, Publishes, Unlocks, OpensPublished, OpensAt, LeavesPublished, LeavesAt, Removes}
+use Rattle.iox_negotiate.specs.NegotiateTable.declared.entry.Entry.{Entry}
+use Rattle.iox_negotiate.specs.NegotiateTable.declared.entry.Entry.TheVariants.{Locked, Described}
+use Rattle.iox_negotiate.specs.NegotiateTable.declared.node.Node.{Node}
+use Rattle.iox_negotiate.specs.NegotiateTable.declared.node.Node.TheVariants.{Own, Foreign}
+use Rattle.iox_negotiate.specs.NegotiateTable.declared.segment.Segment.{Segment}
+use Rattle.iox_negotiate.specs.NegotiateTable.declared.segment.Segment.TheVariants.{Open}
+use Rattle.iox_negotiate.proofs.Maps.{insert-all, remove-all, set-all, set-found, found-all}
+use Rattle.iox_negotiate.proofs.Tables.{digest-exact, place-exact}
 use Rattle.iox_hub_laws.specs.NegotiateRenamedRenaming.{AreInOrder, GoBy, renamed_entry, renamed_place, renamed_table, renamed_look, renamed_lock, renamed_access}
 use Rattle.iox_hub_laws.specs.NegotiateRenamedRenamingLaws.{LeadsOn}
 use Rattle.iox_hub_laws.proofs.Numbers.{moved, eq_back, cmp_as, at_as, moved_found, moved_set, moved_gone, moved_come, weaker}

@@ -20,7 +20,7 @@ use Rattle.iox_hub_laws.specs.HubCommands.DomainValues.declared.degradation.Degr
 use Rattle.iox_hub_laws.specs.HubCommands.DomainValues.declared.degradation.DegradationInfo.{DegradationInfo}
 use Rattle.iox_hub_laws.specs.HubFactories.Asking.{hash_of}
 use Rattle.iox_hub_laws.specs.HubFactories.HubBase.declared.hub.HubConfig.{HubConfig}
-use Rattle.iox_hub_laws.specs.HubFactories.Numbered.NumberTable.{NumberTable, value_at}
+use Rattle.iox_hub_laws.specs.HubFactories.Maps.NumberTable.{NumberTable, value_at}
 use Rattle.iox_hub_laws.specs.HubFactories.declared.made.MadeFactory.{MadeFactory}
 use Rattle.iox_hub_laws.specs.HubRun.AgreementLaws.{service_of, carried_by}
 use Rattle.iox_hub_laws.specs.HubRun.Numbers.{IsNew}
@@ -32,12 +32,12 @@ use Rattle.iox_hub_laws.specs.Left.{IsLeft}
 use Rattle.iox_hub_laws.specs.Locality.{HashFound}
 use Rattle.iox_hub_laws.proofs.Framed.{step_goes_on}
 use Rattle.iox_hub_laws.proofs.Lives.{IsFrom, past_rises}
-use Rattle.iox_hub_laws.specs.NegotiateLaws.Lives.{number_of}
-use Rattle.iox_hub_laws.specs.NegotiateLaws.NegotiateTable.Contents.{Contents, entry_at, digest_cmp}
-use Rattle.iox_hub_laws.specs.NegotiateLaws.NegotiateTable.declared.entry.Entry.{Entry}
-use Rattle.iox_hub_laws.proofs.NegotiateLaws.Changes.{by_hash}
-use Rattle.iox_hub_laws.proofs.NegotiateLaws.Maps.{found-all}
-use Rattle.iox_hub_laws.proofs.NegotiateLaws.Tables.{IsTable}
+use Rattle.iox_hub_laws.specs.Negotiate.Lives.{number_of}
+use Rattle.iox_hub_laws.specs.Negotiate.NegotiateTable.Contents.{Contents, entry_at, digest_cmp}
+use Rattle.iox_hub_laws.specs.Negotiate.NegotiateTable.declared.entry.Entry.{Entry}
+use Rattle.iox_hub_laws.proofs.Negotiate.Changes.{by_hash}
+use Rattle.iox_hub_laws.proofs.Negotiate.Maps.{found-all}
+use Rattle.iox_hub_laws.proofs.Negotiate.Tables.{IsTable}
 use Rattle.iox_hub_laws.specs.Alone.{NumberFound, LivesBegin, AsksNoOther, AsksNothingOf, StepWithMemory, OfService, OfOthers, RunsAmongOthers}
 use Rattle.iox_hub_laws.specs.Telling.{commands_told, replies_told, EachRunCanBeTold}
 use Rattle.iox_hub_laws.proofs.AloneBeside.{left}

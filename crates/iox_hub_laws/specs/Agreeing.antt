@@ -5,12 +5,12 @@ use Rattle.iox_hub_laws.specs.HubRun.HubBase.DescribeBase.declared.hash.ServiceH
 use Rattle.iox_hub_laws.specs.HubRun.HubBase.Hubs.{factories_of}
 use Rattle.iox_hub_laws.specs.HubRun.HubBase.HubServices.Open.{presence_of}
 use Rattle.iox_hub_laws.specs.HubRun.HubBase.declared.hub.Hub.{Hub}
-use Rattle.iox_hub_laws.specs.HubRun.HubCommands.Numbered.NumberTable.{NumberTable}
+use Rattle.iox_hub_laws.specs.HubRun.HubCommands.Maps.NumberTable.{NumberTable}
 use Rattle.iox_hub_laws.specs.HubRun.HubCommands.declared.ports.made.Made.{Made}
 use Rattle.iox_hub_laws.specs.HubRun.declared.numbered_hub.NumberedHub.{NumberedHub}
 use Rattle.iox_hub_laws.specs.Asking.{service_at, publisher_service, loan_service, sample_service}
 use Rattle.iox_hub_laws.specs.Left.{AllLeft}
-use Rattle.iox_hub_laws.specs.NegotiateLaws.Closing.{IsUntouched}
+use Rattle.iox_hub_laws.specs.Negotiate.Closing.{IsUntouched}
 
 -- Here and below `mine` tells which numbers are a service's own: each life of a service has a number, and a name may have had several.
 

@@ -10,7 +10,7 @@ use Rattle.iox_hub_laws.specs.HubRun.declared.numbered_hub.NumberedHub.{Numbered
 use Rattle.iox_hub_laws.specs.Asking.{hash_asked, number_asked}
 use Rattle.iox_hub_laws.specs.Agreeing.{AgreeOn}
 use Rattle.iox_hub_laws.specs.Locality.{HashFound, IsNode, IsMemoryWanted}
-use Rattle.iox_hub_laws.specs.NegotiateLaws.NegotiateTable.Contents.{Contents}
+use Rattle.iox_hub_laws.specs.Negotiate.NegotiateTable.Contents.{Contents}
 use Rattle.iox_hub_laws.specs.Passing.{PassesOver}
 
 -- The number that is found, if one is, is of the service.

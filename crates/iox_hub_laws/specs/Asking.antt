@@ -7,7 +7,7 @@ use Rattle.iox_hub_run.specs.Command.declared.port.PortNumber.TheVariants as por
 use Rattle.iox_hub_run.specs.HubBase.DescribeBase.Hash.{service_hash_of}
 use Rattle.iox_hub_run.specs.HubBase.DescribeBase.declared.hash.ServiceHash.{ServiceHash}
 use Rattle.iox_hub_run.specs.HubCommands.Delivery.declared.port_id.PortId.{PortId}
-use Rattle.iox_hub_run.specs.HubCommands.Numbered.NumberTable.{value_at}
+use Rattle.iox_hub_run.specs.HubCommands.Maps.NumberTable.{value_at}
 use Rattle.iox_hub_run.specs.HubCommands.declared.ports.made.MadeLoan.{MadeLoan}
 use Rattle.iox_hub_run.specs.HubCommands.declared.ports.made.MadePublisher.{MadePublisher}
 use Rattle.iox_hub_run.specs.HubCommands.declared.ports.made.MadeSample.{MadeSample}

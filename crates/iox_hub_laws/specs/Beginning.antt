@@ -14,16 +14,16 @@ use Rattle.iox_hub_laws.specs.HubRun.HubBase.declared.hub.Hub.{Hub}
 use Rattle.iox_hub_laws.specs.HubRun.HubBase.declared.hub.HubConfig.{HubConfig}
 use Rattle.iox_hub_laws.specs.HubRun.HubCommands.DomainPorts.Living.{living}
 use Rattle.iox_hub_laws.specs.HubRun.HubCommands.DomainSettings.Sizes.{sizes}
-use Rattle.iox_hub_laws.specs.HubRun.HubCommands.Numbered.NumberTable.{NumberTable, value_at}
+use Rattle.iox_hub_laws.specs.HubRun.HubCommands.Maps.NumberTable.{NumberTable, value_at}
 use Rattle.iox_hub_laws.specs.HubRun.HubCommands.declared.ports.made.Made.{Made}
 use Rattle.iox_hub_laws.specs.HubRun.Numbers.{IsNew}
 use Rattle.iox_hub_laws.specs.HubRun.Runs.{Runs, IsRun}
 use Rattle.iox_hub_laws.specs.HubRun.declared.numbered_hub.NumberedHub.{NumberedHub}
 use Rattle.iox_hub_laws.specs.Asking.{service_at, publisher_service, loan_service, sample_service}
 use Rattle.iox_hub_laws.specs.Locality.{IsOpening}
-use Rattle.iox_hub_laws.specs.NegotiateLaws.Lives.{number_of}
-use Rattle.iox_hub_laws.specs.NegotiateLaws.NegotiateTable.Contents.{entry_at}
-use Rattle.iox_hub_laws.specs.NegotiateLaws.NegotiateTable.declared.entry.Entry.{Entry}
+use Rattle.iox_hub_laws.specs.Negotiate.Lives.{number_of}
+use Rattle.iox_hub_laws.specs.Negotiate.NegotiateTable.Contents.{entry_at}
+use Rattle.iox_hub_laws.specs.Negotiate.NegotiateTable.declared.entry.Entry.{Entry}
 
 -- Nothing that goes by a number is of the life of this number.
 abbrev pub NoneIsOf : {V : Type 0} → (V → ℕ) → ℕ → NumberTable V → Type 0

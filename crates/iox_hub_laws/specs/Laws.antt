@@ -11,10 +11,10 @@ use Rattle.iox_hub_run.specs.Lives.{NumbersRise}
 use Rattle.iox_hub_run.specs.Numbers.{IsNew}
 use Rattle.iox_hub_run.specs.Runs.{Runs, IsRun}
 use Rattle.iox_hub_run.specs.declared.numbered_hub.NumberedHub.{NumberedHub}
-use Rattle.iox_negotiate_laws.specs.Agreements.{WasAgreed}
-use Rattle.iox_negotiate_laws.specs.NegotiateTable.Contents.{Contents}
+use Rattle.iox_negotiate.specs.Agreements.{WasAgreed}
+use Rattle.iox_negotiate.specs.NegotiateTable.Contents.{Contents}
 use Rattle.iox_hub_run.specs.AgreementLaws.{service_of}
-use Rattle.iox_hub_run.specs.HubCommands.Numbered.NumberTable.{NumberTable, value_at}
+use Rattle.iox_hub_run.specs.HubCommands.Maps.NumberTable.{NumberTable, value_at}
 use Rattle.iox_hub_laws.specs.Asking.{hash_asked, number_asked, service_at, publisher_service, loan_service, sample_service}
 use Rattle.iox_hub_laws.specs.Left.{IsLeft}
 

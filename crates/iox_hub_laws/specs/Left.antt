@@ -5,10 +5,10 @@ use Rattle.iox_hub_run.specs.HubBase.DescribeBase.declared.hash.ServiceHash.{Ser
 use Rattle.iox_hub_run.specs.HubBase.Hubs.{factories_of}
 use Rattle.iox_hub_run.specs.HubBase.HubServices.Open.{presence_of}
 use Rattle.iox_hub_run.specs.HubBase.declared.hub.Hub.{Hub}
-use Rattle.iox_hub_run.specs.HubCommands.Numbered.NumberTable.{NumberTable, value_at}
+use Rattle.iox_hub_run.specs.HubCommands.Maps.NumberTable.{NumberTable, value_at}
 use Rattle.iox_hub_run.specs.HubCommands.declared.ports.made.Made.{Made}
 use Rattle.iox_hub_run.specs.declared.numbered_hub.NumberedHub.{NumberedHub}
-use Rattle.iox_negotiate_laws.specs.Closing.{IsUntouched}
+use Rattle.iox_negotiate.specs.Closing.{IsUntouched}
 use Rattle.iox_hub_laws.specs.Asking.{service_at, publisher_service, loan_service, sample_service}
 
 module _ {V : Type 0} where

@@ -21,4 +21,4 @@ pub mod RenamedAnew
 pub use Rattle.iox_hub_commands.specs as HubCommands
 pub use Rattle.iox_hub_factories.specs as HubFactories
 pub use Rattle.iox_hub_run.specs as HubRun
-pub use Rattle.iox_negotiate_laws.specs as NegotiateLaws
+pub use Rattle.iox_negotiate.specs as Negotiate

@@ -15,10 +15,10 @@ use Rattle.iox_hub_laws.specs.HubRun.Lives.{NumbersRise}
 use Rattle.iox_hub_laws.specs.HubRun.Runs.{Runs}
 use Rattle.iox_hub_laws.specs.HubRun.declared.numbered_hub.NumberedHub.{NumberedHub}
 use Rattle.iox_hub_laws.specs.Asking.{hash_asked, number_asked}
-use Rattle.iox_hub_laws.specs.NegotiateLaws.Histories.{IsReached}
-use Rattle.iox_hub_laws.specs.NegotiateLaws.Lives.{number_of}
-use Rattle.iox_hub_laws.specs.NegotiateLaws.NegotiateTable.Contents.{Contents, entry_at}
-use Rattle.iox_hub_laws.specs.NegotiateLaws.NegotiateTable.declared.entry.Entry.{Entry}
+use Rattle.iox_hub_laws.specs.Negotiate.Histories.{IsReached}
+use Rattle.iox_hub_laws.specs.Negotiate.Lives.{number_of}
+use Rattle.iox_hub_laws.specs.Negotiate.NegotiateTable.Contents.{Contents, entry_at}
+use Rattle.iox_hub_laws.specs.Negotiate.NegotiateTable.declared.entry.Entry.{Entry}
 use Rattle.iox_hub_laws.specs.Agreeing.{AgreeOn}
 
 -- A command that makes a node or a port, or asks something of a port, a loan or a sample: any but those that create, open and close

@@ -1,18 +1,18 @@
 -- A table of services whose lives go by other numbers.
 use Rattle.std.specs.Prelude.{ℕ, ◌≡◌, ◌+◌, ◌-◌, ◌^◌, ◌<◌, ◌≤◌, List, map, Result, Ok, Err}
 use Rattle.std.specs.List.{AllByRecursion}
-use Rattle.iox_negotiate_laws.specs.Lives.{number_of}
-use Rattle.iox_negotiate_laws.specs.Negotiate.declared.factory.Membership.{Membership}
-use Rattle.iox_negotiate_laws.specs.NegotiateRounds.Access.{Access, Look, Lock, MakeSegment, Publish, Unlock, OpenSegment, Leave, RemoveDescription, RemoveSegment}
-use Rattle.iox_negotiate_laws.specs.NegotiateRounds.declared.answer.LockAnswer.{LockAnswer}
-use Rattle.iox_negotiate_laws.specs.NegotiateRounds.declared.answer.LockAnswer.TheVariants.{Taken}
-use Rattle.iox_negotiate_laws.specs.NegotiateRounds.declared.answer.LookAnswer.{LookAnswer}
-use Rattle.iox_negotiate_laws.specs.NegotiateRounds.declared.answer.LookAnswer.TheVariants.{Found}
-use Rattle.iox_negotiate_laws.specs.NegotiateRounds.declared.request.Opened.{Opened}
-use Rattle.iox_negotiate_laws.specs.NegotiateTable.Contents.{Contents}
-use Rattle.iox_negotiate_laws.specs.NegotiateTable.Stepped.{Steps}
-use Rattle.iox_negotiate_laws.specs.NegotiateTable.declared.entry.Entry.{Entry}
-use Rattle.iox_negotiate_laws.specs.NegotiateTable.declared.entry.Entry.TheVariants.{Locked, Described}
+use Rattle.iox_negotiate.specs.Lives.{number_of}
+use Rattle.iox_negotiate.specs.declared.factory.Membership.{Membership}
+use Rattle.iox_negotiate.specs.NegotiateBase.Access.{Access, Look, Lock, MakeSegment, Publish, Unlock, OpenSegment, Leave, RemoveDescription, RemoveSegment}
+use Rattle.iox_negotiate.specs.NegotiateBase.declared.answer.LockAnswer.{LockAnswer}
+use Rattle.iox_negotiate.specs.NegotiateBase.declared.answer.LockAnswer.TheVariants.{Taken}
+use Rattle.iox_negotiate.specs.NegotiateBase.declared.answer.LookAnswer.{LookAnswer}
+use Rattle.iox_negotiate.specs.NegotiateBase.declared.answer.LookAnswer.TheVariants.{Found}
+use Rattle.iox_negotiate.specs.NegotiateBase.declared.request.Opened.{Opened}
+use Rattle.iox_negotiate.specs.NegotiateTable.Contents.{Contents}
+use Rattle.iox_negotiate.specs.NegotiateTable.Stepped.{Steps}
+use Rattle.iox_negotiate.specs.NegotiateTable.declared.entry.Entry.{Entry}
+use Rattle.iox_negotiate.specs.NegotiateTable.declared.entry.Entry.TheVariants.{Locked, Described}
 
 -- Here and below `lives` tells by which other number each life goes, and 0 is the number of none.
 

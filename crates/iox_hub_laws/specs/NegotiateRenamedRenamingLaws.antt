@@ -1,22 +1,22 @@
 -- What happens to a table of services doesn't depend on the numbers of lives.
 use Rattle.std.specs.Prelude.{ℕ, ◌≤◌, List, Option, Result}
 use Rattle.std.specs.declared.alloc.AllocError.{AllocError}
-use Rattle.iox_negotiate_laws.specs.Describe.DescribeBase.declared.hash.ServiceHash.{ServiceHash}
-use Rattle.iox_negotiate_laws.specs.Describe.DescribeSettings.Agreement.{Agreement}
-use Rattle.iox_negotiate_laws.specs.Negotiate.Factory.{Closes}
-use Rattle.iox_negotiate_laws.specs.NegotiateErrors.declared.close.CloseError.{CloseError}
-use Rattle.iox_negotiate_laws.specs.NegotiateRounds.Access.{Access}
-use Rattle.iox_negotiate_laws.specs.NegotiateRounds.Creating.{CreatesIf}
-use Rattle.iox_negotiate_laws.specs.NegotiateRounds.Opening.{Opens, OpensOrCreates}
-use Rattle.iox_negotiate_laws.specs.NegotiateRounds.Runs.{Does}
-use Rattle.iox_negotiate_laws.specs.NegotiateRounds.declared.failure.CreateFailure.{CreateFailure}
-use Rattle.iox_negotiate_laws.specs.NegotiateRounds.declared.failure.OpenFailure.{OpenFailure}
-use Rattle.iox_negotiate_laws.specs.NegotiateRounds.declared.failure.OpenOrCreateFailure.{OpenOrCreateFailure}
-use Rattle.iox_negotiate_laws.specs.NegotiateRounds.declared.request.Opened.{Opened}
-use Rattle.iox_negotiate_laws.specs.NegotiateTable.Contents.{Contents}
-use Rattle.iox_negotiate_laws.specs.NegotiateTable.Sights.{Sight}
-use Rattle.iox_negotiate_laws.specs.NegotiateTable.Stepped.{Steps, SteppedSight, ActsAll}
-use Rattle.iox_negotiate_laws.specs.NegotiateTable.declared.step.ForeignStep.{ForeignStep}
+use Rattle.iox_negotiate.specs.Describe.DescribeBase.declared.hash.ServiceHash.{ServiceHash}
+use Rattle.iox_negotiate.specs.Describe.DescribeSettings.Agreement.{Agreement}
+use Rattle.iox_negotiate.specs.Factory.{Closes}
+use Rattle.iox_negotiate.specs.NegotiateBase.declared.errors.close.CloseError.{CloseError}
+use Rattle.iox_negotiate.specs.NegotiateBase.Access.{Access}
+use Rattle.iox_negotiate.specs.NegotiateBase.Creating.{CreatesIf}
+use Rattle.iox_negotiate.specs.NegotiateBase.Opening.{Opens, OpensOrCreates}
+use Rattle.iox_negotiate.specs.NegotiateBase.Runs.{Does}
+use Rattle.iox_negotiate.specs.NegotiateBase.declared.failure.CreateFailure.{CreateFailure}
+use Rattle.iox_negotiate.specs.NegotiateBase.declared.failure.OpenFailure.{OpenFailure}
+use Rattle.iox_negotiate.specs.NegotiateBase.declared.failure.OpenOrCreateFailure.{OpenOrCreateFailure}
+use Rattle.iox_negotiate.specs.NegotiateBase.declared.request.Opened.{Opened}
+use Rattle.iox_negotiate.specs.NegotiateTable.Contents.{Contents}
+use Rattle.iox_negotiate.specs.NegotiateTable.Sights.{Sight}
+use Rattle.iox_negotiate.specs.NegotiateTable.Stepped.{Steps, SteppedSight, ActsAll}
+use Rattle.iox_negotiate.specs.NegotiateTable.declared.step.ForeignStep.{ForeignStep}
 use Rattle.iox_hub_laws.specs.NegotiateRenamedRenaming.{AreInOrder, GoBy, renamed_table, renamed_access, renamed_answer, renamed_steps}
 
 -- From a table whose lives go by other numbers something leads to one whose lives do, too: what is done there, with this number next in the end.

@@ -1,7 +1,7 @@
 -- Numbers are passed over.
 use Rattle.std.specs.Prelude.{◌≡◌, ◌≤◌}
 use Rattle.iox_hub_laws.specs.HubRun.HubBase.declared.hub.Hub.{Hub}
-use Rattle.iox_hub_laws.specs.HubRun.HubCommands.Numbered.NumberTable.{NumberTable}
+use Rattle.iox_hub_laws.specs.HubRun.HubCommands.Maps.NumberTable.{NumberTable}
 use Rattle.iox_hub_laws.specs.HubRun.HubCommands.declared.ports.made.Made.{Made}
 use Rattle.iox_hub_laws.specs.HubRun.declared.numbered_hub.NumberedHub.{NumberedHub}
 

@@ -12,7 +12,7 @@ use Rattle.iox_hub_laws.specs.HubFactories.HubBase.declared.hub.Hub.{Hub}
 use Rattle.iox_hub_laws.specs.HubFactories.HubServices.Open.{OpenServices}
 use Rattle.iox_hub_laws.specs.HubFactories.HubServices.declared.presence.Presence.{Presence}
 use Rattle.iox_hub_laws.specs.HubFactories.HubServices.declared.presence.Presence.TheVariants.{Here, Out}
-use Rattle.iox_hub_laws.specs.HubFactories.Numbered.NumberTable.{NumberTable}
+use Rattle.iox_hub_laws.specs.HubFactories.Maps.NumberTable.{NumberTable}
 use Rattle.iox_hub_laws.specs.HubFactories.declared.made.MadeFactory.{MadeFactory}
 use Rattle.iox_hub_laws.specs.HubFactories.declared.made.MadeFactory.TheVariants as made
 use Rattle.iox_hub_laws.specs.HubRun.declared.numbered_hub.NumberedHub.{NumberedHub}

@@ -17,7 +17,7 @@ use Rattle.iox_hub_laws.specs.HubRun.Command.declared.command.Command.TheVariant
 use Rattle.iox_hub_laws.specs.HubRun.Command.declared.reply.Reply.{Reply}
 use Rattle.iox_hub_laws.specs.HubRun.Runs.{Runs}
 use Rattle.iox_hub_laws.specs.HubRun.declared.numbered_hub.NumberedHub.{NumberedHub}
-use Rattle.iox_hub_laws.specs.NegotiateLaws.Histories.{IsReached}
+use Rattle.iox_hub_laws.specs.Negotiate.Histories.{IsReached}
 use Rattle.iox_hub_laws.specs.NegotiateRenamedRenaming.{AreInOrder, GoBy}
 use Rattle.iox_hub_laws.specs.RenamedRenaming.{renamed_numbered}
 

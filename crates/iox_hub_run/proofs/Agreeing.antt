@@ -12,7 +12,7 @@ use Rattle.iox_hub_factories.specs.HubServices.Numbered.{is_number}
 use Rattle.iox_hub_factories.specs.HubServices.declared.presence.Presence.{Presence}
 use Rattle.iox_hub_factories.specs.Tables.{FactoryTable, parts_of}
 use Rattle.iox_hub_factories.specs.declared.made.MadeFactory.{MadeFactory}
-use Rattle.iox_negotiate_laws.proofs.Maps.{Among, among-all}
+use Rattle.iox_negotiate.proofs.Maps.{Among, among-all}
 use Rattle.iox_hub_run.specs.Agreements.{agreed_in, HoldsOfDomains, HoldsOfFactories}
 
 -- what holds of each one among them

@@ -22,9 +22,9 @@ use Rattle.iox_hub_factories.specs.Opening.{OpensAs, OpensPrepared, OpensNumbere
 use Rattle.iox_hub_factories.specs.Tables.{FactoryTable, parts_of}
 use Rattle.iox_hub_factories.specs.declared.asked.ServiceAsked.{ServiceAsked}
 use Rattle.iox_hub_factories.specs.declared.made.MadeFactory.{MadeFactory}
-use Rattle.iox_negotiate_laws.specs.Negotiate.declared.factory.Membership.{Membership}
-use Rattle.iox_negotiate_laws.specs.NegotiateErrors.declared.close.CloseError.{CloseError}
-use Rattle.iox_negotiate_laws.specs.NegotiateTable.declared.step.ForeignStep.{ForeignStep}
+use Rattle.iox_negotiate.specs.declared.factory.Membership.{Membership}
+use Rattle.iox_negotiate.specs.NegotiateBase.declared.errors.close.CloseError.{CloseError}
+use Rattle.iox_negotiate.specs.NegotiateTable.declared.step.ForeignStep.{ForeignStep}
 use Rattle.iox_hub_run.specs.Lives.{Stays, ChangesOne}
 use Rattle.iox_hub_run.proofs.GoingOn.{same_changes, stays_and_changes}
 

@@ -25,8 +25,8 @@ use Rattle.iox_hub_commands.specs.DomainPorts.Lending.{written_in}
 use Rattle.iox_hub_commands.specs.DomainPorts.declared.service_ports.ServicePorts.{ServicePorts}
 use Rattle.iox_hub_commands.specs.DomainPublisher.Writing.{changed_if}
 use Rattle.iox_hub_commands.specs.DomainPublisher.declared.publisher_port.PublisherPort.{PublisherPort}
-use Rattle.iox_hub_commands.specs.DomainSender.Messages.{Loan, write_value}
-use Rattle.iox_hub_commands.specs.DomainSender.Sending.{has_place}
+use Rattle.iox_hub_commands.specs.DomainPublisher.Messages.{Loan, write_value}
+use Rattle.iox_hub_commands.specs.DomainPublisher.MessagesSending.{has_place}
 use Rattle.iox_hub_commands.specs.DomainSubscriber.Publishers.{port_of, changed, changed_at_port, with_port}
 use Rattle.iox_hub_commands.specs.DomainValues.declared.backpressure.BackpressureDecision.{BackpressureDecision}
 use Rattle.iox_hub_commands.specs.DomainValues.declared.backpressure.BackpressureInfo.{BackpressureInfo}

@@ -8,11 +8,11 @@ use Rattle.iox_hub_commands.specs.DescribeSettings.declared.static_config.Settin
 use Rattle.iox_hub_factories.specs.HubBase.declared.hub.Hub.{Hub}
 use Rattle.iox_hub_factories.specs.HubServices.Open.{presence_of}
 use Rattle.iox_hub_factories.specs.HubServices.declared.presence.Presence.{Presence}
-use Rattle.iox_hub_factories.specs.Numbered.NumberTable.{value_at}
+use Rattle.iox_hub_factories.specs.Maps.NumberTable.{value_at}
 use Rattle.iox_hub_factories.specs.Tables.{FactoryTable}
 use Rattle.iox_hub_factories.specs.declared.made.MadeFactory.{MadeFactory}
-use Rattle.iox_negotiate_laws.proofs.Changes.{equal-of}
-use Rattle.iox_negotiate_laws.proofs.Maps.{Among, among, among-all}
+use Rattle.iox_negotiate.proofs.Changes.{equal-of}
+use Rattle.iox_negotiate.proofs.Maps.{Among, among, among-all}
 use Rattle.iox_hub_run.specs.Agreements.{IsAgreement, AreOfOneAgreement, agreed_in}
 use Rattle.iox_hub_run.specs.AgreementLaws.{service_of, carried_by, FactoriesAgree, DomainsServe, AgreementIsOne}
 

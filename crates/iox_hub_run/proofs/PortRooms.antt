@@ -50,7 +50,7 @@ use Rattle.iox_hub_factories.specs.HubBase.declared.hub.Hub.{Hub}
 use Rattle.iox_hub_factories.specs.HubServices.Room.{counted_at, loans_left_in, samples_left_in, samples_at_most_in}
 use Rattle.iox_hub_factories.specs.HubServices.declared.presence.Presence.{Presence}
 use Rattle.iox_hub_factories.specs.HubServices.declared.presence.Presence.TheVariants.{Here, Out}
-use Rattle.iox_hub_factories.specs.Numbered.NumberTable.{NumberTable, value_at}
+use Rattle.iox_hub_factories.specs.Maps.NumberTable.{NumberTable, value_at}
 use Rattle.iox_hub_run.specs.Grown.{AnySlots, AnyAction, AnyDecision, HasGrown, HaveGrown, GrowsOn}
 use Rattle.iox_hub_run.specs.PortRoom.{OfPorts, FitsBeside, FitsIfSome, most_samples, HasLoanRoom, HasSampleRoom, HasRoom, KeepsRoom, CameUnread, LacksInRoom}
 use Rattle.iox_hub_run.specs.Room.{OnlyRoomier}

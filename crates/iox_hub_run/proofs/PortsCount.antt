@@ -23,8 +23,8 @@ use Rattle.iox_hub_commands.specs.DomainPorts.declared.making.SubscriberConfig.{
 use Rattle.iox_hub_commands.specs.DomainPorts.declared.service_ports.ServicePorts.{ServicePorts}
 use Rattle.iox_hub_commands.specs.DomainPublisher.declared.meeting.Sent.{Sent}
 use Rattle.iox_hub_commands.specs.DomainPublisher.declared.publisher_port.PublisherPort.{PublisherPort}
-use Rattle.iox_hub_commands.specs.DomainSender.Messages.{Loan, write_value, write_all}
-use Rattle.iox_hub_commands.specs.DomainSender.Sending.{has_place, has_length}
+use Rattle.iox_hub_commands.specs.DomainPublisher.Messages.{Loan, write_value, write_all}
+use Rattle.iox_hub_commands.specs.DomainPublisher.MessagesSending.{has_place, has_length}
 use Rattle.iox_hub_commands.specs.DomainSubscriber.declared.attached.Taken.{Taken}
 use Rattle.iox_hub_commands.specs.DomainValues.declared.backpressure.BackpressureDecision.{BackpressureDecision}
 use Rattle.iox_hub_commands.specs.DomainValues.declared.backpressure.BackpressureInfo.{BackpressureInfo}
@@ -54,8 +54,8 @@ use Rattle.iox_hub_commands.specs.Tables.{IsFull, IsRoomier, lender, port_under,
 use Rattle.iox_hub_commands.specs.declared.ports.made.Made.{Made}
 use Rattle.iox_hub_commands.specs.declared.ports.made.MadeLoan.{MadeLoan}
 use Rattle.iox_hub_commands.specs.declared.ports.made.MadeSample.{MadeSample}
-use Rattle.iox_hub_factories.proofs.Numbered.Joined.{length-removed}
-use Rattle.iox_hub_factories.specs.Numbered.NumberTable.{NumberTable, value_at}
+use Rattle.iox_hub_factories.proofs.Maps.Joined.{length-removed}
+use Rattle.iox_hub_factories.specs.Maps.NumberTable.{NumberTable, value_at}
 use Rattle.iox_hub_run.specs.Grown.{AnySlots, AnyAction, AnyDecision}
 use Rattle.iox_hub_run.proofs.Grown.{each_goes}
 use Rattle.iox_hub_run.proofs.Loosening.{loosened}

@@ -19,8 +19,8 @@ use Rattle.iox_hub_commands.specs.DomainPorts.declared.making.PublisherConfig.{P
 use Rattle.iox_hub_commands.specs.DomainPorts.declared.making.SubscriberConfig.{SubscriberConfig}
 use Rattle.iox_hub_commands.specs.DomainPorts.declared.service_ports.ServicePorts.{ServicePorts}
 use Rattle.iox_hub_commands.specs.DomainPublisher.declared.meeting.Sent.{Sent}
-use Rattle.iox_hub_commands.specs.DomainSender.Messages.{write_value, write_all}
-use Rattle.iox_hub_commands.specs.DomainSender.Sending.{has_place, has_length}
+use Rattle.iox_hub_commands.specs.DomainPublisher.Messages.{write_value, write_all}
+use Rattle.iox_hub_commands.specs.DomainPublisher.MessagesSending.{has_place, has_length}
 use Rattle.iox_hub_commands.specs.DomainSubscriber.declared.attached.Taken.{Taken}
 use Rattle.iox_hub_commands.specs.DomainValues.declared.backpressure.BackpressureDecision.{BackpressureDecision}
 use Rattle.iox_hub_commands.specs.DomainValues.declared.backpressure.BackpressureInfo.{BackpressureInfo}
@@ -49,7 +49,7 @@ use Rattle.iox_hub_commands.specs.Tables.{IsFull, lender, port_under}
 use Rattle.iox_hub_commands.specs.declared.ports.made.Made.{Made}
 use Rattle.iox_hub_commands.specs.declared.ports.made.MadeLoan.{MadeLoan}
 use Rattle.iox_hub_commands.specs.declared.ports.made.MadeSample.{MadeSample}
-use Rattle.iox_hub_factories.specs.Numbered.NumberTable.{value_at}
+use Rattle.iox_hub_factories.specs.Maps.NumberTable.{value_at}
 use Rattle.iox_hub_run.specs.Grown.{AnySlots, AnyAction, AnyDecision, LeadsTo}
 use Rattle.iox_hub_run.proofs.Grown.{Moves, MovesOne, by_call, by_handlers, each_leads, is_moves, none_moves, moves_on, keep_moves, at_domain_moves, leaves_moves, makes_moves, changed_moves}
 

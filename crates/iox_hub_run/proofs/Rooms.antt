@@ -37,9 +37,9 @@ use Rattle.iox_hub_commands.specs.Tables.{IsFull, IsRoomier, lender, without_pub
 use Rattle.iox_hub_commands.specs.declared.ports.made.Made.{Made}
 use Rattle.iox_hub_commands.specs.Lending.{LoanStep, LoanUninitStep, lent_reply}
 use Rattle.iox_hub_commands.specs.Receiving.{ReceiveStep}
-use Rattle.iox_hub_factories.proofs.Numbered.Joined.{length-removed}
+use Rattle.iox_hub_factories.proofs.Maps.Joined.{length-removed}
 use Rattle.iox_hub_factories.specs.HubBase.Opening.{Made as Opened}
-use Rattle.iox_hub_factories.specs.Numbered.NumberTable.{NumberTable, Rises, value_at}
+use Rattle.iox_hub_factories.specs.Maps.NumberTable.{NumberTable, Rises, value_at}
 use Rattle.iox_hub_run.proofs.GoingOn.{stays_on}
 use Rattle.iox_hub_factories.specs.HubBase.AsHome.{hub_ports, with_hub_ports}
 use Rattle.iox_hub_factories.specs.HubBase.Hubs.{IsNewHub}

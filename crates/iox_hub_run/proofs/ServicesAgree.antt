@@ -12,7 +12,7 @@ use Rattle.iox_hub_commands.specs.Command.declared.service.ServiceOptions.{Servi
 use Rattle.iox_hub_commands.specs.Command.declared.service.ServiceOptions.TheVariants as options
 use Rattle.iox_hub_commands.specs.Command.declared.step.ForeignStep.{ForeignStep as Named}
 use Rattle.iox_hub_commands.specs.Command.declared.step.StepBefore.{StepBefore}
-use Rattle.iox_negotiate_laws.specs.Describe.Within.{HasForm, IsWithinLimits}
+use Rattle.iox_negotiate.specs.Describe.Within.{HasForm, IsWithinLimits}
 use Rattle.iox_hub_commands.specs.DescribeBase.Attributes.{Required}
 use Rattle.iox_hub_commands.specs.DescribeBase.Detail.{Detail}
 use Rattle.iox_hub_commands.specs.DescribeBase.declared.attribute.Attribute.{Attribute}
@@ -38,29 +38,29 @@ use Rattle.iox_hub_factories.specs.Opening.{OpensAs, OpensPrepared, OpensNumbere
 use Rattle.iox_hub_factories.specs.Tables.{FactoryTable, parts_of}
 use Rattle.iox_hub_factories.specs.declared.asked.ServiceAsked.{ServiceAsked}
 use Rattle.iox_hub_factories.specs.declared.made.MadeFactory.{MadeFactory}
-use Rattle.iox_negotiate_laws.proofs.Negotiate.Meeting.{opens-met, either-met}
-use Rattle.iox_negotiate_laws.specs.Negotiate.Asked.{IsRefusal}
-use Rattle.iox_negotiate_laws.specs.Negotiate.Factory.{membership}
-use Rattle.iox_negotiate_laws.specs.Negotiate.Negotiation.{Negotiates, Creates, Either}
-use Rattle.iox_negotiate_laws.specs.Negotiate.declared.factory.Membership.{Membership}
-use Rattle.iox_negotiate_laws.specs.NegotiateErrors.declared.close.CloseError.{CloseError}
-use Rattle.iox_negotiate_laws.proofs.Agreements.{agrees, past-on, no-past, stepped-went-past, went-past, reached-on, was-agreed-on}
-use Rattle.iox_negotiate_laws.proofs.Maps.{Among, among-all}
-use Rattle.iox_negotiate_laws.proofs.Stepping.{Past, acts-ran}
-use Rattle.iox_negotiate_laws.specs.Agreements.{WasAgreed}
-use Rattle.iox_negotiate_laws.specs.Calls as call
-use Rattle.iox_negotiate_laws.specs.Histories.{IsReached}
-use Rattle.iox_negotiate_laws.proofs.NegotiateRounds.Counting.{creates-service}
-use Rattle.iox_negotiate_laws.specs.NegotiateRounds.Creating.{CreatesIf}
-use Rattle.iox_negotiate_laws.specs.NegotiateRounds.Opening.{Opens, OpensOrCreates}
-use Rattle.iox_negotiate_laws.specs.NegotiateRounds.Runs.{Does}
-use Rattle.iox_negotiate_laws.specs.NegotiateRounds.declared.failure.CreateFailure.{CreateFailure}
-use Rattle.iox_negotiate_laws.specs.NegotiateRounds.declared.failure.OpenFailure.{OpenFailure}
-use Rattle.iox_negotiate_laws.specs.NegotiateRounds.declared.failure.OpenOrCreateFailure.{OpenOrCreateFailure}
-use Rattle.iox_negotiate_laws.specs.NegotiateRounds.declared.request.Opened.{Opened}
-use Rattle.iox_negotiate_laws.specs.NegotiateTable.Contents.{Contents, empty_table}
-use Rattle.iox_negotiate_laws.specs.NegotiateTable.Stepped.{Steps, SteppedSight}
-use Rattle.iox_negotiate_laws.specs.NegotiateTable.declared.step.ForeignStep.{ForeignStep}
+use Rattle.iox_negotiate.proofs.Meeting.{opens-met, either-met}
+use Rattle.iox_negotiate.specs.Asked.{IsRefusal}
+use Rattle.iox_negotiate.specs.Factory.{membership}
+use Rattle.iox_negotiate.specs.Negotiation.{Negotiates, Creates, Either}
+use Rattle.iox_negotiate.specs.declared.factory.Membership.{Membership}
+use Rattle.iox_negotiate.specs.NegotiateBase.declared.errors.close.CloseError.{CloseError}
+use Rattle.iox_negotiate.proofs.Agreements.{agrees, past-on, no-past, stepped-went-past, went-past, reached-on, was-agreed-on}
+use Rattle.iox_negotiate.proofs.Maps.{Among, among-all}
+use Rattle.iox_negotiate.proofs.Stepping.{Past, acts-ran}
+use Rattle.iox_negotiate.specs.Agreements.{WasAgreed}
+use Rattle.iox_negotiate.specs.Calls as call
+use Rattle.iox_negotiate.specs.Histories.{IsReached}
+use Rattle.iox_negotiate.proofs.NegotiateBase.Counting.{creates-service}
+use Rattle.iox_negotiate.specs.NegotiateBase.Creating.{CreatesIf}
+use Rattle.iox_negotiate.specs.NegotiateBase.Opening.{Opens, OpensOrCreates}
+use Rattle.iox_negotiate.specs.NegotiateBase.Runs.{Does}
+use Rattle.iox_negotiate.specs.NegotiateBase.declared.failure.CreateFailure.{CreateFailure}
+use Rattle.iox_negotiate.specs.NegotiateBase.declared.failure.OpenFailure.{OpenFailure}
+use Rattle.iox_negotiate.specs.NegotiateBase.declared.failure.OpenOrCreateFailure.{OpenOrCreateFailure}
+use Rattle.iox_negotiate.specs.NegotiateBase.declared.request.Opened.{Opened}
+use Rattle.iox_negotiate.specs.NegotiateTable.Contents.{Contents, empty_table}
+use Rattle.iox_negotiate.specs.NegotiateTable.Stepped.{Steps, SteppedSight}
+use Rattle.iox_negotiate.specs.NegotiateTable.declared.step.ForeignStep.{ForeignStep}
 use Rattle.iox_hub_run.specs.Agreements.{agreed_in, IsAgreement, AreOfOneAgreement}
 use Rattle.iox_hub_run.proofs.Agreeing.{all_among, among_left, among_more, KeepsFactories, same_factories, factories_on, HadDomain, KeepsAgreed, same_agreed, domains_on, gone_agreed, come_agreed}
 

@@ -30,7 +30,7 @@ use Rattle.iox_hub_factories.specs.Opening.{OpensNumbered}
 use Rattle.iox_hub_factories.specs.Tables.{FactoryTable}
 use Rattle.iox_hub_factories.specs.declared.asked.ServiceAsked.{ServiceAsked}
 use Rattle.iox_hub_factories.specs.declared.made.MadeFactory.{MadeFactory}
-use Rattle.iox_negotiate_laws.specs.NegotiateErrors.declared.close.CloseError.{CloseError}
+use Rattle.iox_negotiate.specs.NegotiateBase.declared.errors.close.CloseError.{CloseError}
 use Rattle.iox_hub_run.specs.Grown.{HaveGrown}
 use Rattle.iox_hub_run.proofs.Grown.{Serves, leads_nowhere, grown_come, grown_gone}
 use Rattle.iox_hub_run.proofs.ServicesGo.{create_go, open_go, either_go, close_go, foreign_go}

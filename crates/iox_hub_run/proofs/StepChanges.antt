@@ -27,7 +27,7 @@ use Rattle.iox_hub_commands.specs.Calls.{ready}
 use Rattle.iox_hub_commands.specs.Numbering.{LendsNumbered, LendsWrittenNumbered, ReceivesNumbered}
 use Rattle.iox_hub_commands.specs.Tables.{IsFull, lender}
 use Rattle.iox_hub_commands.specs.declared.ports.made.Made.{Made}
-use Rattle.iox_hub_factories.specs.Numbered.NumberTable.{value_at}
+use Rattle.iox_hub_factories.specs.Maps.NumberTable.{value_at}
 use Rattle.iox_hub_run.specs.Lives.{ChangesOne, OneChanges, ChangesOneThing, NumbersGoOn}
 use Rattle.iox_hub_run.specs.Numbers.{numbers_used}
 use Rattle.iox_hub_run.specs.Services.{PublisherComes, SubscriberComes, domain_of_factory}

@@ -31,10 +31,10 @@ use Rattle.iox_hub_commands.specs.Tables.{IsFull, IsRoomier, lender, without_pub
 use Rattle.iox_hub_commands.specs.declared.ports.made.Made.{Made}
 use Rattle.iox_hub_commands.specs.Lending.{LoanStep, LoanUninitStep}
 use Rattle.iox_hub_commands.specs.Receiving.{ReceiveStep}
-use Rattle.iox_hub_factories.proofs.Numbered.Joined.{length-removed}
+use Rattle.iox_hub_factories.proofs.Maps.Joined.{length-removed}
 use Rattle.iox_hub_factories.specs.HubServices.Open.{OpenServices}
 use Rattle.iox_hub_factories.specs.HubServices.Opening.{Opens, without_service}
-use Rattle.iox_hub_factories.specs.Numbered.NumberTable.{value_at}
+use Rattle.iox_hub_factories.specs.Maps.NumberTable.{value_at}
 use Rattle.iox_hub_run.specs.PortRoom.{OfPorts}
 use Rattle.iox_hub_run.specs.Steps.{IsReplied, Step, publisher_may_degrade, publisher_may_decide, subscriber_may_degrade}
 use Rattle.iox_hub_run.specs.declared.numbered_hub.NumberedHub.{NumberedHub}

@@ -20,7 +20,7 @@ use Rattle.iox_hub_commands.specs.Naming.{publisher_config, publisher_handlers, 
 use Rattle.iox_hub_run.specs.Services.{PublisherComes, SubscriberComes, domain_of_factory, owner_of_factory}
 use Rattle.iox_hub_run.specs.Steps.{IsReplied, Step, publisher_may_degrade, publisher_may_decide, subscriber_may_degrade}
 use Rattle.iox_hub_run.specs.declared.numbered_hub.NumberedHub.{NumberedHub}
-use Rattle.iox_negotiate_laws.proofs.Agreements.{no-past}
+use Rattle.iox_negotiate.proofs.Agreements.{no-past}
 use Rattle.iox_hub_run.specs.Agreements.{AreOfOneAgreement}
 use Rattle.iox_hub_run.proofs.Agreeing.{same_factories, same_agreed}
 use Rattle.iox_hub_run.proofs.Grown.{MovesOne, Serves, none_moves, no_service_serves}

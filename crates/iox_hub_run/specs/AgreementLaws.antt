@@ -5,7 +5,7 @@ use Rattle.iox_hub_commands.specs.DescribeSettings.declared.static_config.Settin
 use Rattle.iox_hub_factories.specs.HubBase.declared.hub.Hub.{Hub}
 use Rattle.iox_hub_factories.specs.HubServices.Open.{presence_of}
 use Rattle.iox_hub_factories.specs.HubServices.declared.presence.Presence.{Presence}
-use Rattle.iox_hub_factories.specs.Numbered.NumberTable.{value_at}
+use Rattle.iox_hub_factories.specs.Maps.NumberTable.{value_at}
 use Rattle.iox_hub_factories.specs.Tables.{FactoryTable, parts_of}
 use Rattle.iox_hub_factories.specs.declared.made.MadeFactory.{MadeFactory}
 use Rattle.iox_hub_run.specs.Agreements.{AreOfOneAgreement, agreed_in}

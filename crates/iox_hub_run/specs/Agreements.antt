@@ -8,8 +8,8 @@ use Rattle.iox_hub_factories.specs.HubBase.declared.hub.Hub.{Hub}
 use Rattle.iox_hub_factories.specs.HubServices.declared.presence.Presence.{Presence}
 use Rattle.iox_hub_factories.specs.HubServices.declared.presence.Presence.TheVariants.{Here, Out}
 use Rattle.iox_hub_factories.specs.Tables.{FactoryTable, parts_of}
-use Rattle.iox_negotiate_laws.specs.Agreements.{WasAgreed}
-use Rattle.iox_negotiate_laws.specs.Histories.{IsReached}
+use Rattle.iox_negotiate.specs.Agreements.{WasAgreed}
+use Rattle.iox_negotiate.specs.Histories.{IsReached}
 
 -- the settings that a domain is for, be it here or out
 abbrev pub agreed_in : {T U B D : Type 0} → Presence T U B D → StaticConfig

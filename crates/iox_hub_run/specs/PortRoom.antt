@@ -9,7 +9,7 @@ use Rattle.iox_hub_commands.specs.Reading.{values_under}
 use Rattle.iox_hub_commands.specs.Messages.{SomeValues}
 use Rattle.iox_hub_factories.specs.HubBase.AsHome.{hub_ports}
 use Rattle.iox_hub_factories.specs.HubServices.Room.{loans_left_in, samples_left_in}
-use Rattle.iox_hub_factories.specs.Numbered.NumberTable.{NumberTable, value_at}
+use Rattle.iox_hub_factories.specs.Maps.NumberTable.{NumberTable, value_at}
 use Rattle.iox_hub_run.specs.Grown.{HaveGrown}
 use Rattle.iox_hub_run.specs.declared.numbered_hub.NumberedHub.{NumberedHub}
 

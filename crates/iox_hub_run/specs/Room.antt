@@ -6,7 +6,7 @@ use Rattle.iox_hub_commands.specs.Command.declared.command.Command.TheVariants a
 use Rattle.iox_hub_commands.specs.Command.declared.reply.Reply.{Reply}
 use Rattle.iox_hub_commands.specs.Tables.{IsRoomier}
 use Rattle.iox_hub_commands.specs.declared.ports.made.Made.{Made}
-use Rattle.iox_hub_factories.specs.Numbered.NumberTable.{NumberTable}
+use Rattle.iox_hub_factories.specs.Maps.NumberTable.{NumberTable}
 use Rattle.iox_hub_run.specs.Runs.{IsRun, NeverBegins}
 use Rattle.iox_hub_run.specs.declared.numbered_hub.NumberedHub.{NumberedHub}
 

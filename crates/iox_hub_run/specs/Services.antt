@@ -33,8 +33,8 @@ use Rattle.iox_hub_factories.specs.Foreign.{ActsNamed}
 use Rattle.iox_hub_factories.specs.Opening.{OpensNumbered}
 use Rattle.iox_hub_factories.specs.Tables.{publish_subscribe_in}
 use Rattle.iox_hub_factories.specs.declared.asked.ServiceAsked.{ServiceAsked}
-use Rattle.iox_negotiate_laws.specs.NegotiateErrors.declared.close.CloseError.{CloseError}
-use Rattle.iox_hub_factories.specs.Numbered.NumberTable.{value_at}
+use Rattle.iox_negotiate.specs.NegotiateBase.declared.errors.close.CloseError.{CloseError}
+use Rattle.iox_hub_factories.specs.Maps.NumberTable.{value_at}
 use Rattle.iox_hub_run.specs.declared.numbered_hub.NumberedHub.{NumberedHub}
 
 -- the domain of a factory's service

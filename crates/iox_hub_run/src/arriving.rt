@@ -13,6 +13,7 @@ use std::alloc::Global;
 impl<T: Copy, U: Copy + Default, B: Decides + Degrades, D: Degrades> NumberedHub<T, U, B, D> {
     /// A publisher of slices comes to a domain, with what is named, and gets the next number; `handlers` decide for it. Skipped where the domain
     /// isn't here; else refused as `Made::make_publisher` refuses it, also where an allocation fails for the room for its loans.
+    /// Example: `let reply = hub.publisher_with(alloc, domain, owner, &options, handlers);`
     pub fn publisher_with(
         &mut self,
         alloc: Global,
@@ -43,6 +44,7 @@ impl<T: Copy, U: Copy + Default, B: Decides + Degrades, D: Degrades> NumberedHub
 impl<T: Copy, U: Copy, B: Decides + Degrades, D: Degrades> NumberedHub<T, U, B, D> {
     /// A subscriber comes to a domain, with what is named, and gets the next number; `handler` decides for it. Skipped where the domain isn't
     /// here; else refused as `Made::make_subscriber` refuses it, also where an allocation fails for the room for its samples.
+    /// Example: `let reply = hub.subscriber_with(alloc, domain, owner, &options, handler);`
     pub fn subscriber_with(
         &mut self,
         alloc: Global,

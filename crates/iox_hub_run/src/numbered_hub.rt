@@ -26,6 +26,7 @@ pub struct NumberedHub<T, U, B = FixedHandlers, D = FixedDegradation> {
 
 impl<T: Copy, U: Copy, B: Drop, D: Drop> NumberedHub<T, U, B, D> {
     /// A hub in which nothing was made. It takes no memory.
+    /// Example: `let mut hub = NumberedHub::<u64, ()>::new(alloc, config);`
     pub fn new(alloc: Global, config: HubConfig) -> Self
         ensures is_new { IsNew config result }
         ensures numbers { numbers_used result ≡ 5 }

@@ -28,6 +28,7 @@ impl<
     D: SubscriberHandler,
 > NumberedHub<T, U, B, D> {
     /// Carries out one command of a port: the same as `step` for it among all commands, which are larger and cost more to hand on.
+    /// Example: `let reply = hub.step_port(alloc, PortCommand::Receive { subscriber: 1 })?;`
     pub fn step_port(
         &mut self,
         alloc: Global,

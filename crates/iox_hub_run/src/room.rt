@@ -10,10 +10,11 @@ use iox_command::Command;
 use iox_domain_home::{DomainId, Home};
 use iox_domain_room::samples::held_by_one;
 use iox_domain_values::{Decides, Degrades};
-use iox_numbered::Numbered;
+use iox_maps::by_number::Numbered;
 use std::alloc::AllocError;
 
 /// How many loans get a number by a command, at most.
+/// Example: `let loans = loans_of(&command);`
 pub fn loans_of<T>(command: &Command<T>) -> usize
     ensures value { result ≡ loans_of command.now }
     ensures small { result ≤ 1 }
@@ -25,6 +26,7 @@ pub fn loans_of<T>(command: &Command<T>) -> usize
 }
 
 /// How many samples do.
+/// Example: `let samples = samples_of(&command);`
 pub fn samples_of<T>(command: &Command<T>) -> usize
     ensures value { result ≡ samples_of command.now }
     ensures small { result ≤ 1 }
@@ -76,6 +78,7 @@ fn room_for<V>(numbers: &mut Numbered<V>, more: usize) -> Result<(), AllocError>
 impl<T, U, B, D> NumberedHub<T, U, B, D> {
     /// Makes room for the numbers of all loans and samples that some commands may make. Fails only where there isn't as much already, and an
     /// allocation fails; then there may be more room than before.
+    /// Example: `hub.make_room(&commands)?;`
     pub fn make_room(&mut self, commands: &[Command<T>]) -> Result<(), AllocError>
         ensures same { OnlyRoomier self.old self.new }
         ensures room { OnOk result (FitsAll (loans_in commands.now) (samples_in commands.now) self.new.made) }
@@ -87,6 +90,7 @@ impl<T, U, B, D> NumberedHub<T, U, B, D> {
 
     /// Makes room for the numbers of so many loans and samples more. Fails only where there isn't as much already, and an allocation fails;
     /// then there may be more room than before.
+    /// Example: `hub.make_room_for(8, 8)?;`
     pub fn make_room_for(&mut self, loans: usize, samples: usize) -> Result<(), AllocError>
         ensures same { OnlyRoomier self.old self.new }
         ensures room { OnOk result (FitsAll loans samples self.new.made) }
@@ -118,6 +122,7 @@ fn room_beside<V>(numbers: &mut Numbered<V>, left: u64, more: u64) -> Result<(),
 impl<T: Copy, U: Copy, B: Drop, D: Drop> NumberedHub<T, U, B, D> {
     /// Makes room for the numbers of the loans that are out, of all that the publishers may still make, of so many more, and of one beside them.
     /// Fails only where there isn't as much already, and an allocation fails.
+    /// Example: `hub.room_for_loans(2)?;`
     pub fn room_for_loans(&mut self, more: u64) -> Result<(), AllocError>
         ensures same { OnlyRoomier self.old self.new }
         ensures room { OnOk result (FitsBeside (loans_left_in self.old.hub.services.domains + more) self.new.made.loans) }
@@ -129,6 +134,7 @@ impl<T: Copy, U: Copy, B: Drop, D: Drop> NumberedHub<T, U, B, D> {
 
     /// Makes room for the numbers of the samples that are held, of as many as the subscribers that are there may hold at once, of so many more,
     /// and of one beside them: so also for all that may still come. Fails only where there isn't as much already, and an allocation fails.
+    /// Example: `hub.room_for_samples(2)?;`
     pub fn room_for_samples(&mut self, more: u64) -> Result<(), AllocError>
         ensures same { OnlyRoomier self.old self.new }
         ensures room { OnOk result (FitsBeside (samples_left_in self.old.hub.services.domains + more) self.new.made.samples) }
@@ -142,6 +148,7 @@ impl<T: Copy, U: Copy, B: Drop, D: Drop> NumberedHub<T, U, B, D> {
 
 impl<T: Copy, U: Copy, B: Decides + Degrades, D: Degrades> NumberedHub<T, U, B, D> {
     /// How many samples a subscriber of a domain may hold at once; none where it isn't here. Past 2^64 - 1 it is that.
+    /// Example: `let most = hub.most_samples(domain);`
     pub fn most_samples(&self, domain: DomainId) -> u64
         ensures { result ≡ min (most_samples_at domain self.now) (2 ^ 64 - 1) }
     {

@@ -42,6 +42,7 @@ impl<
     ///
     /// It stops before the first command, where an allocation fails for that room, and then nothing has changed; or at a command that receives
     /// or reads, where an allocation fails for the values of its reply, and those before it are replied to.
+    /// Example: `let report = hub.run(alloc, commands);`
     pub fn run(&mut self, alloc: Global, commands: Vec<Command<T>>) -> RunReport<T>
         requires { numbers_used self.old + length commands.items < 2 ^ 64 }
         ensures ran { RunsInRoom (Step (detail FixedSize T.name T.size T.alignment) (detail FixedSize U.name U.size U.alignment) (types_of T.name T.size T.alignment U.name U.size U.alignment) T.is_default U.is_default B.fixed (λ handlers. B.degrades handlers) (λ handlers. B.decides handlers) D.fixed (λ handler. D.degrades handler)) commands.entry.items self.old result.replies.items result.stopped self.new }

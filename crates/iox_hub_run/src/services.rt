@@ -6,7 +6,7 @@ ghost use Rattle.iox_hub_factories.specs.Asked.{types_of};
 ghost use Rattle.iox_hub_run.specs.PortRoom.{KeepsRoom};
 ghost use Rattle.iox_hub_run.specs.Services.{NodeMakes, Creates, Opens, OpensOrCreates, Acts, Closes, MakesPublisher, MakesSubscriber, domain_of_factory, owner_of_factory};
 ghost use Rattle.iox_hub_factories.specs.Tables.{publish_subscribe_in};
-ghost use Rattle.iox_hub_factories.specs.Numbered.NumberTable.{value_at};
+ghost use Rattle.iox_hub_factories.specs.Maps.NumberTable.{value_at};
 
 use crate::numbered_hub::NumberedHub;
 use iox_command::{ForeignStep, PublisherOptions, Refusal, Reply, StepBefore, SubscriberOptions};

@@ -38,6 +38,7 @@ impl<
     ///
     /// Fails only where an allocation fails for the values of the reply; or for one more number of a loan where no publisher is there, or of a
     /// sample where no subscriber is. Then nothing has changed but that a sample that came is held, and that there may be more room.
+    /// Example: `let reply = hub.step(alloc, Command::Node)?;`
     pub fn step(&mut self, alloc: Global, command: Command<T>) -> Result<Reply<T>, AllocError>
         requires { numbers_used self.old + 1 < 2 ^ 64 }
         ensures steps { Step (detail FixedSize T.name T.size T.alignment) (detail FixedSize U.name U.size U.alignment) (types_of T.name T.size T.alignment U.name U.size U.alignment) T.is_default U.is_default B.fixed (λ handlers. B.degrades handlers) (λ handlers. B.decides handlers) D.fixed (λ handler. D.degrades handler) command.entry self.old result self.new }

@@ -1,8 +1,11 @@
 -- What is locked has nothing that is held, also after cells were emptied.
-use Rattle.std.proofs.Common.{ℕ, zero, suc, ◌≡◌, ◌+◌, ◌≤◌, ◌∷◌, [], List, Bool, cond, Option, None, is_some, arith}
+use Rattle.std.proofs.Common.{ℕ, zero, suc, ◌≡◌, ◌+◌, ◌<◌, ◌≤◌, ◌∷◌, [], List, length, get_or, Bool, true, false, not, cond, Option, None, Some, is_some, arith, refl, sym, ◌∙◌}
 use Rattle.std.proofs.Math.ListN.{set}
+use Rattle.std.proofs.lemmas.Bool.{false≢true}
 use Rattle.std.specs.List.{count_by}
 use Rattle.std.proofs.lemmas.List.Sums.{sum_by-cons}
+use Rattle.std.proofs.lemmas.List.Quantifiers.{position-Some}
+use Rattle.iox_index_base.specs.Places.{lowest_empty}
 use Rattle.iox_index_base.specs.Release.{IsUnheldIfLocked}
 use Rattle.iox_index_base.specs.Recovery.{without_each}
 
@@ -16,6 +19,28 @@ count-emptied [] index = omega arith
 count-emptied (cell ∷ cells) zero = omega (arith, count-cons cell cells, count-cons None cells)
 count-emptied (cell ∷ cells) (suc index) =
     omega (arith, count-cons cell cells, count-cons cell (set cells index None), count-emptied cells index)
+
+-- one more, where it was empty
+count-filled : {C : Type 0} (cells : List (Option C)) (index : ℕ) (content : C) → index < length cells → is_some (get_or cells index None) ≡ false
+    → count_by is_some (set cells index (Some content)) ≡ count_by is_some cells + 1
+count-filled [] index content within empty = absurd (omega arith)
+count-filled (None ∷ cells) zero content within empty =
+    let before = count-cons None cells in
+    let after = count-cons (Some content) cells in
+    after ∙ (omega (arith, before))
+count-filled (Some one ∷ cells) zero content within empty = absurd (false≢true (sym empty))
+count-filled (first ∷ cells) (suc index) content within empty =
+    omega (arith, count-cons first cells, count-cons first (set cells index (Some content)), count-filled cells index content (omega arith) empty)
+
+negated : (b : Bool) → not b ≡ true → b ≡ false
+negated true is = sym is
+negated false is = refl
+
+pub count-lowest : {C : Type 0} (cells : List (Option C)) (index : ℕ) (content : C) → lowest_empty cells ≡ Some index
+    → (index < length cells) × (count_by is_some (set cells index (Some content)) ≡ count_by is_some cells + 1)
+count-lowest cells index content lowest =
+    let found = position-Some (λ place. not (is_some place)) cells index None lowest in
+    (found.0, count-filled cells index content found.0 (negated (is_some (get_or cells index None)) found.1))
 
 module _ {C X : Type 0} (asked : ℕ → Option C → Option X) (index_of : X → ℕ) where
   -- nor once several were

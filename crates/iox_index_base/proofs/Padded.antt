@@ -1,8 +1,8 @@
 -- Places with empty ones behind them: what a change of the cells in front comes to, and which is the lowest empty one.
-use Rattle.std.proofs.Common.{ℕ, zero, suc, ◌≡◌, ◌+◌, ◌-◌, ◌<◌, ◌≤◌, ◌∷◌, ◌++◌, [], List, Bool, true, false, not, cond, length, drop, replicate, Option, None, Some, is_some, arith, refl, sym, ap, ◌∙◌, nat_lt}
+use Rattle.std.proofs.Common.{ℕ, zero, suc, ◌≡◌, ◌+◌, ◌-◌, ◌<◌, ◌≤◌, ◌∷◌, ◌++◌, [], List, Bool, true, false, not, cond, length, replicate, Option, None, Some, is_some, arith, refl, sym, ap, ◌∙◌, nat_lt}
 use Rattle.std.proofs.Math.ListN.{set}
 use Rattle.std.specs.List.{prefix_len, cons_option}
-use Rattle.std.proofs.lemmas.List.{length-append, length-replicate, length-set, set-append_left, drop_at}
+use Rattle.std.proofs.lemmas.List.{length-append, length-replicate, length-set, set-append_left}
 use Rattle.std.proofs.lemmas.List.Sums.{prefix_len-le-length}
 use Rattle.std.proofs.lemmas.Bool.Decides.{nat_tests}
 use Rattle.std.proofs.lemmas.Option.{cond_some}
@@ -107,19 +107,6 @@ module _ {C : Type 0} where
       let within = prefix_len-le-length (λ (place : Option C). not (not (is_some place))) cells in
       lowest-padded count cells (omega arith) ∙ found-below (first cells) count (length cells) (omega (arith, past, within)) more
 
--- places that were empty from one on still are
-pub record StaysEmpty {C : Type 0} (old new : List (Option C)) : Type 0 where
-  pub behind : (at : ℕ) → drop at old ≡ replicate (length old - at) None → drop at new ≡ replicate (length old - at) None
-
-none-behind : {C : Type 0} (cells : List (Option C)) (at n index : ℕ) → drop at cells ≡ replicate n None → drop at (set cells index None) ≡ replicate n None
-none-behind {C} cells zero n index empty = ap (λ (cs : List (Option C)). set cs index None) empty ∙ none-emptied n index
-none-behind {C} [] (suc at) n index empty = empty
-none-behind {C} (cell ∷ cells) (suc at) n zero empty = empty
-none-behind {C} (cell ∷ cells) (suc at) n (suc index) empty = none-behind cells at n index empty
-
-pub StaysEmpty-emptied : {C : Type 0} (old new : List (Option C)) (index : ℕ) → StaysEmpty old new → StaysEmpty old (set new index None)
-StaysEmpty-emptied old new index stays = record { behind = λ at empty. none-behind new at (length old - at) index (stays.behind at empty) }
-
 -- what is asked about, where nothing is asked about an empty place
 module _ {C X : Type 0} (asked : ℕ → Option C → Option X) (silent : (index : ℕ) → asked index None ≡ None) where
   none-asked : (from n : ℕ) → asked_from asked from (replicate n None) ≡ []
@@ -134,12 +121,3 @@ module _ {C X : Type 0} (asked : ℕ → Option C → Option X) (silent : (index
   -- the empty ones behind add nothing
   pub asked-padded : (from count : ℕ) (cells : List (Option C)) → asked_from asked from (padded count cells) ≡ asked_from asked from cells
   asked-padded from count cells = asked-append from cells (count - length cells)
-
-  -- nothing is asked about from a place on behind which all were empty before
-  pub asked-behind : (at : ℕ) (cells old now : List (Option C)) → padded (length old) cells ≡ old → StaysEmpty old now → at ≡ length cells
-      → asked_from asked at (drop at now) ≡ []
-  asked-behind at cells old now whole stays same =
-      let n = length old - at in
-      let behind : drop at old ≡ replicate n None =
-      ap (λ (places : List (Option C)). drop at places) (sym whole) ∙ drop_at cells (replicate (length old - length cells) None) at (sym same) ∙ ap (λ (k : ℕ). replicate (length old - k) None) (sym same) in
-      ap (λ (places : List (Option C)). asked_from asked at places) (stays.behind at behind) ∙ none-asked at n

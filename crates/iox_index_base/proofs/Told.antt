@@ -6,7 +6,7 @@ use Rattle.iox_index_base.specs.declared.container.Member.{Member}
 use Rattle.iox_index_base.specs.declared.container.ContainerHandle.{ContainerHandle}
 use Rattle.iox_index_base.specs.Places.{padded}
 use Rattle.iox_index_base.specs.Recovery.{asked_from}
-use Rattle.iox_index_base.specs.Container.{is_of, told, told_of, members_of, member_of, value_of, is_numbered}
+use Rattle.iox_index_base.specs.Container.{is_of, told, told_of, member_of, value_of, is_numbered}
 use Rattle.iox_index_base.proofs.Padded.{asked-padded}
 
 -- the handle that is told is of the index that was asked about
@@ -44,8 +44,3 @@ pub told-used : {T : Type 0} (id : ℕ) (members used : List (Option (Member T))
     → asked_from (told id) 0 used ≡ asked_from (told id) 0 members
 told-used id members used whole =
     sym (asked-padded (told id) (λ index. refl) 0 (length members) used) ∙ ap (λ places. asked_from (told id) 0 places) whole
-
-pub told_of-used : {T : Type 0} (owner id : ℕ) (members used : List (Option (Member T))) → padded (length members) used ≡ members
-    → members_of owner id used ≡ members_of owner id members
-told_of-used owner id members used whole =
-    sym (asked-padded (told_of owner id) (λ index. refl) 0 (length members) used) ∙ ap (λ places. asked_from (told_of owner id) 0 places) whole

@@ -2,6 +2,7 @@
 pub mod Container
 pub mod Head
 pub mod Owner
+pub mod Owners
 pub mod Places
 pub mod Recovery
 pub mod Refusals

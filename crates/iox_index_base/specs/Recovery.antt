@@ -1,7 +1,7 @@
 -- Going over the cells of an owner, and emptying those that a decision names.
 use Rattle.std.specs.Prelude.{ℕ, ◌≡◌, ◌+◌, Bool, List, [], ◌∷◌, Option, slice_set}
 use Rattle.std.specs.List.{cons_option}
-use Rattle.iox_container.specs.String.Retained.{KeepsAsAnswered}
+use Rattle.iox_container.specs.Retained.{KeepsAsAnswered}
 
 module _ {C X : Type 0} (asked : ℕ → C → Option X) where
   -- what is asked about, by rising index, the first cell being that of index `from`

@@ -1,8 +1,9 @@
 //! Members at indices, each with its owner.
-ghost use Rattle.std.specs.Prelude.{◌≡◌, ◌≤◌, ◌<◌, ◌↔◌, ◌+◌, true, false, length, not, is_some, ℕ, List, Option, slice_get, nat_eq, IfOk, OnErr, IsErr, if◌then◌else◌};
+ghost use Rattle.std.specs.Prelude.{◌≡◌, ◌≤◌, ◌<◌, ◌↔◌, ◌+◌, true, false, length, not, is_some, ℕ, List, Option, slice_get, nat_eq, [], IfOk, OnErr, IfSome, IfNone, IsErr, if◌then◌else◌};
 ghost use Rattle.std.specs.Bool.{OnFalse};
 ghost use Rattle.std.specs.List.{FoldsTo, position};
 ghost use Rattle.iox_container.specs.Callback.{CallsUntilStop};
+ghost use Rattle.iox_index_base.specs.Owners.{AreOwned, IsToldNext, rest_from};
 ghost use Rattle.iox_index_base.specs.Recovery.{asked_from};
 ghost use Rattle.iox_index_base.specs.Places.{padded};
 ghost use Rattle.iox_index_base.specs.Release.{locks, state_of};
@@ -10,6 +11,7 @@ ghost use Rattle.iox_index_base.specs.Container.{Contents, Copied, empty_contain
 
 use crate::error::{ContainerAddFailure, ContainerRemoveError};
 use crate::owner::OwnerId;
+use crate::owners::Owners;
 use crate::places::Places;
 use crate::release::{ReleaseMode, ReleaseState};
 use iox_container::CallbackProgression;
@@ -50,11 +52,17 @@ impl ContainerHandle {
 /// had a member, or one behind it, so a container of many places that has few members is small, and quickly made and
 /// searched.
 ///
+/// `first_of`, `find` and `recover` search a list of owners and places: they cost what the owner has or was the last to
+/// have, each by the logarithm of all. `remove` costs the same at any size. `add` goes over the places below the one that
+/// it fills; where that was another owner's last, it also moves what lies between the two in the list.
+///
 /// Ported from `iceoryx2_bb_lock_free::mpmc::container::Container`.
 #[derive(Drop)]
 pub struct Container<T: Copy> {
     id: u64,
     members: Places<Member<T>>,
+    // Whose each place was last, by which the members of one owner are found.
+    owners: Owners,
     changes: u64,
     locked: bool,
 }
@@ -62,13 +70,14 @@ pub struct Container<T: Copy> {
 impl<T: Copy> Model for Container<T> {
     ghost use Rattle.iox_index_base.specs.Release.{IsUnheldIfLocked};
     ghost use Rattle.iox_index_base.specs.Places.{count_filled};
+    ghost use Rattle.iox_index_base.specs.Owners.{AreOwned};
     ghost use Rattle.iox_index_base.specs.Container.{Contents};
 
     ghost Value = { Contents T };
 
     ghost view = { λ c. record { id = c.id; members = c.members; changes = c.changes; locked = c.locked } };
 
-    ghost invariant = { λ c. IsUnheldIfLocked c.locked (count_filled c.members) };
+    ghost invariant = { λ c. IsUnheldIfLocked c.locked (count_filled c.members) × AreOwned (λ member. member.owner) c.members c.owners };
 }
 
 /// What was copied of a container.
@@ -97,6 +106,7 @@ impl<T: Copy> Container<T> {
         Ok(Container {
             id,
             members: Places::new(alloc, capacity)?,
+            owners: Owners::new(alloc, capacity)?,
             changes: 0,
             locked: false,
         })
@@ -144,6 +154,7 @@ impl<T: Copy> Container<T> {
         let Some(index) = self.members.fill(member) else {
             return Err(ContainerAddFailure::OutOfSpace);
         };
+        self.owners.set(index, owner);
         self.changes = number;
         Ok(ContainerHandle {
             container: self.id,
@@ -205,7 +216,10 @@ impl<T: Copy> Container<T> {
     pub fn first_of(&self, owner: OwnerId) -> Option<ContainerHandle>
         ensures { result ≡ first_handle (members_of owner self.now.id self.now.members) }
     {
-        first_told(owner, self.id, self.members.used())
+        match next_told(owner, self.id, &self.owners, &self.members, 0) {
+            None => None,
+            Some(first) => Some(first.0),
+        }
     }
 
     /// The member at this index; `None` where there is none, and past the capacity.
@@ -241,7 +255,7 @@ impl<T: Copy> Container<T> {
         ensures called { FoldsTo (λ p x q. F.step p x.0 x.1 tt q) callback.old (members_of owner self.now.id self.now.members) callback.new }
         ensures callable { F.IsAlwaysCallable callback.new }
     {
-        call_members(callback, owner, self.id, self.members.used());
+        call_members(callback, owner, self.id, &self.owners, &self.members);
     }
 
     /// Asks `decide` about each member of the owner, by rising index, and removes those for which it answers true. With
@@ -261,7 +275,7 @@ impl<T: Copy> Container<T> {
         ensures capacity { length self.new.members ≡ length self.old.members }
         ensures answer { result ≡ state_of self.new.locked }
     {
-        remove_where(decide, owner, self.id, &mut self.members);
+        remove_where(decide, owner, self.id, &self.owners, &mut self.members);
         self.changes += 1;
         self.settle(mode)
     }
@@ -378,22 +392,23 @@ fn told_of<T: Copy>(
     told(id, index, member)
 }
 
-// The handle of the owner's first member.
-fn first_told<T: Copy>(
+// What is told of the owner's first member from one index on.
+fn next_told<T: Copy>(
     owner: OwnerId,
     id: u64,
-    members: &[Option<Member<T>>],
-) -> Option<ContainerHandle>
-    ensures { result ≡ first_handle (members_of owner id members.now) }
+    owners: &Owners,
+    members: &Places<Member<T>>,
+    from: usize,
+) -> Option<(ContainerHandle, T)>
+    requires { AreOwned (λ member. member.owner) members.now owners.now }
+    ensures some { IfSome result (λ found. IsToldNext (told_of owner id) members.now from found.0.index found) }
+    ensures none { IfNone result (rest_from (told_of owner id) members.now from ≡ []) }
 {
-    let mut rest = members;
-    let mut at = 0usize;
-    while let Some(split) = rest.split_first() {
-        let index = at;
-        at += 1;
-        rest = split.1;
-        if let Some(found) = told_of(owner, id, index, *split.0) {
-            return Some(found.0);
+    let mut at = from;
+    while let Some(index) = owners.next(owner, at) {
+        at = index + 1;
+        if let Some(found) = told_of(owner, id, index, members.get(index)) {
+            return Some(found);
         }
     }
     None
@@ -403,21 +418,17 @@ fn call_members<T: Copy, F: FnMut(ContainerHandle, T)>(
     callback: &mut F,
     owner: OwnerId,
     id: u64,
-    members: &[Option<Member<T>>],
+    owners: &Owners,
+    members: &Places<Member<T>>,
 )
-    requires { F.IsAlwaysCallable callback.old }
+    requires may_call { F.IsAlwaysCallable callback.old }
+    requires owned { AreOwned (λ member. member.owner) members.now owners.now }
     ensures called { FoldsTo (λ p x q. F.step p x.0 x.1 tt q) callback.old (members_of owner id members.now) callback.new }
     ensures callable { F.IsAlwaysCallable callback.new }
 {
-    let mut rest = members;
     let mut at = 0usize;
-    while let Some(split) = rest.split_first() {
-        let index = at;
-        at += 1;
-        rest = split.1;
-        let Some(found) = told_of(owner, id, index, *split.0) else {
-            continue;
-        };
+    while let Some(found) = next_told(owner, id, owners, members, at) {
+        at = found.0.index + 1;
         callback(found.0, found.1);
     }
 }
@@ -452,20 +463,21 @@ fn remove_where<T: Copy, F: FnMut(ContainerHandle, T) -> bool>(
     decide: &mut F,
     owner: OwnerId,
     id: u64,
+    owners: &Owners,
     members: &mut Places<Member<T>>,
 )
-    requires { F.IsAlwaysCallable decide.old }
+    requires may_call { F.IsAlwaysCallable decide.old }
+    requires owned { AreOwned (λ member. member.owner) members.old owners.now }
     ensures removed { Recovered (λ p x answer q. F.step p x.0 x.1 answer q) owner id decide.old members.old members.new decide.new }
     ensures callable { F.IsAlwaysCallable decide.new }
     ensures capacity { length members.new ≡ length members.old }
+    ensures owned { AreOwned (λ member. member.owner) members.new owners.now }
 {
-    let used = members.used().len();
-    for index in 0..used {
-        let Some(found) = told_of(owner, id, index, members.get(index)) else {
-            continue;
-        };
+    let mut at = 0usize;
+    while let Some(found) = next_told(owner, id, owners, members, at) {
+        at = found.0.index + 1;
         if decide(found.0, found.1) {
-            members.empty(index);
+            members.empty(found.0.index);
         }
     }
 }

@@ -8,6 +8,7 @@
 //! | `unique` | sets that hand out the last released index first |
 //! | `shared` | the same, shared by threads |
 //! | `owner` | who holds an index |
+//! | `owners` | who had each place last, found by owner |
 //! | `places` | places in a row that take memory as they are first used |
 //! | `robust` | sets that know their holders, so that all of one can be recovered |
 //! | `container` | members at indices, each with its owner |
@@ -31,6 +32,7 @@ pub mod container;
 pub mod error;
 pub mod head;
 pub mod owner;
+mod owners;
 mod places;
 pub mod release;
 pub mod robust;

@@ -11,18 +11,20 @@ use std::marker::Model;
 pub(crate) struct Places<C: Copy> {
     cells: Vec<Option<C>>,
     count: usize,
+    // How many of them are filled.
+    filled: usize,
 }
 
 impl<C: Copy> Model for Places<C> {
-    ghost use Rattle.std.specs.Prelude.{◌≤◌, List, Option, length};
+    ghost use Rattle.std.specs.Prelude.{◌≡◌, ◌≤◌, List, Option, length};
     ghost use Rattle.std.specs.Vec.{vec_capacity};
-    ghost use Rattle.iox_index_base.specs.Places.{padded};
+    ghost use Rattle.iox_index_base.specs.Places.{padded, count_filled};
 
     ghost Value = { List (Option C) };
 
     ghost view = { λ p. padded p.count p.cells.items };
 
-    ghost invariant = { λ p. (length p.cells.items ≤ p.count) × (p.count ≤ vec_capacity p.cells) };
+    ghost invariant = { λ p. (length p.cells.items ≤ p.count) × (p.count ≤ vec_capacity p.cells) × (p.filled ≡ count_filled p.cells.items) };
 }
 
 impl<C: Copy> Places<C> {
@@ -33,6 +35,7 @@ impl<C: Copy> Places<C> {
         Ok(Places {
             cells: Vec::with_capacity(alloc, count)?,
             count,
+            filled: 0,
         })
     }
 
@@ -45,6 +48,7 @@ impl<C: Copy> Places<C> {
         Ok(Places {
             cells,
             count: self.count,
+            filled: self.filled,
         })
     }
 
@@ -56,6 +60,7 @@ impl<C: Copy> Places<C> {
         self.cells.clear();
         // There is room, so it can't fail.
         let _ = self.cells.extend_from_slice(others.cells.as_slice());
+        self.filled = others.filled;
     }
 
     /// How many places there are.
@@ -102,6 +107,7 @@ impl<C: Copy> Places<C> {
     {
         if let Some(index) = lowest_empty(self.cells.as_slice()) {
             self.cells[index] = Some(content);
+            self.filled += 1;
             return Some(index);
         }
         let index = self.cells.len();
@@ -109,6 +115,7 @@ impl<C: Copy> Places<C> {
             return None;
         }
         self.cells.push_reserved(Some(content));
+        self.filled += 1;
         Some(index)
     }
 
@@ -116,16 +123,21 @@ impl<C: Copy> Places<C> {
     pub(crate) fn empty(&mut self, index: usize)
         ensures { self.new ≡ slice_set self.old index None }
     {
-        if index < self.cells.len() {
-            self.cells[index] = None;
+        if index >= self.cells.len() {
+            return;
         }
+        if !self.cells[index].is_some() {
+            return;
+        }
+        self.cells[index] = None;
+        self.filled -= 1;
     }
 
     /// How many places are filled.
     pub(crate) fn filled(&self) -> usize
         ensures { result ≡ count_filled self.now }
     {
-        self.cells.iter().filter(|cell| cell.is_some()).count()
+        self.filled
     }
 }
 

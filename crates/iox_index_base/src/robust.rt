@@ -1,36 +1,45 @@
 //! Sets that know their holders.
-ghost use Rattle.std.specs.Prelude.{◌≡◌, ◌≤◌, ℕ, List, Option, length, replicate, slice_set, is_some, Some, None, IfOk, IfErr, OnOk, OnErr, not, IsTrue, ◌↔◌, true, false};
-ghost use Rattle.std.specs.List.{FoldsTo, count_by, position};
-ghost use Rattle.iox_index_base.specs.Release.{locks, state_of};
-ghost use Rattle.iox_index_base.specs.Robust.{RobustSetState, new_robust_set, is_held, lowest_free, borrowed, answer_of, freed, settled, is_of, held_by, Recovered};
+ghost use Rattle.std.specs.Prelude.{◌≡◌, ℕ, List, [], Option, length, slice_set, Some, IfOk, OnErr, IfSome, IfNone, true, false};
+ghost use Rattle.std.specs.List.{FoldsTo};
+ghost use Rattle.iox_index_base.specs.Release.{state_of};
+ghost use Rattle.iox_index_base.specs.Owners.{AreOwned, IsToldNext, rest_from};
+ghost use Rattle.iox_index_base.specs.Robust.{RobustSetState, new_robust_set, is_held, lowest_free, borrowed, answer_of, freed, settled, is_of, index_of, held_by, Recovered};
 
 use crate::error::UniqueIndexSetAcquireFailure;
 use crate::owner::OwnerId;
+use crate::owners::Owners;
+use crate::places::Places;
 use crate::release::{ReleaseMode, ReleaseState};
 use std::alloc::{AllocError, Global};
 use std::marker::Model;
 
 /// A set of the indices below a capacity, which are handed out lowest first and know their holders.
 ///
+/// `find` and `recover` search a list of owners and places: they cost what the owner holds or was the last to hold, each by
+/// the logarithm of all. `release` costs the same at any size. `acquire` goes over the indices below the one that it hands
+/// out; where another owner held that last, it also moves what lies between the two in the list.
+///
 /// Ported from `iceoryx2_bb_lock_free::mpmc::robust_unique_index_set::RobustUniqueIndexSet`.
 #[derive(Drop)]
 pub struct RobustUniqueIndexSet {
     // Who holds each index.
-    cells: Vec<Option<OwnerId>>,
+    cells: Places<OwnerId>,
+    // Who held each last, by which those of one owner are found.
+    owners: Owners,
     locked: bool,
 }
 
 impl Model for RobustUniqueIndexSet {
-    ghost use Rattle.std.specs.Prelude.{is_some};
-    ghost use Rattle.std.specs.List.{count_by};
     ghost use Rattle.iox_index_base.specs.Release.{IsUnheldIfLocked};
+    ghost use Rattle.iox_index_base.specs.Places.{count_filled};
+    ghost use Rattle.iox_index_base.specs.Owners.{AreOwned};
     ghost use Rattle.iox_index_base.specs.Robust.{RobustSetState};
 
     ghost Value = { RobustSetState };
 
-    ghost view = { λ s. record { holders = s.cells.items; locked = s.locked } };
+    ghost view = { λ s. record { holders = s.cells; locked = s.locked } };
 
-    ghost invariant = { λ s. IsUnheldIfLocked s.locked (count_by is_some s.cells.items) };
+    ghost invariant = { λ s. IsUnheldIfLocked s.locked (count_filled s.cells) × AreOwned (λ owner. owner) s.cells s.owners };
 }
 
 impl RobustUniqueIndexSet {
@@ -39,7 +48,8 @@ impl RobustUniqueIndexSet {
         ensures { IfOk result (λ set. set ≡ new_robust_set capacity) }
     {
         Ok(RobustUniqueIndexSet {
-            cells: vec![in alloc; None; capacity]?,
+            cells: Places::new(alloc, capacity)?,
+            owners: Owners::new(alloc, capacity)?,
             locked: false,
         })
     }
@@ -55,10 +65,10 @@ impl RobustUniqueIndexSet {
         if self.locked {
             return Err(UniqueIndexSetAcquireFailure::IsLocked);
         }
-        let Some(index) = lowest_free(self.cells.as_slice()) else {
+        let Some(index) = self.cells.fill(owner) else {
             return Err(UniqueIndexSetAcquireFailure::OutOfIndices);
         };
-        self.cells[index] = Some(owner);
+        self.owners.set(index, owner);
         Ok(index)
     }
 
@@ -66,7 +76,7 @@ impl RobustUniqueIndexSet {
     pub fn is_held(&self, index: usize) -> bool
         ensures { result ≡ is_held index self.now }
     {
-        self.cells.get(index).is_some_and(|cell| cell.is_some())
+        self.cells.get(index).is_some()
     }
 
     /// Frees an index that is held. With `LockIfLastIndex`, the set is then locked for good if no index is held any longer.
@@ -75,7 +85,7 @@ impl RobustUniqueIndexSet {
         ensures after { self.new ≡ settled mode (freed index self.old) }
         ensures answer { result ≡ state_of self.new.locked }
     {
-        self.cells[index] = None;
+        self.cells.empty(index);
         self.settle(mode)
     }
 
@@ -100,7 +110,7 @@ impl RobustUniqueIndexSet {
         ensures called { FoldsTo (λ p x q. F.step p x tt q) callback.old (held_by owner self.now.holders) callback.new }
         ensures callable { F.IsAlwaysCallable callback.new }
     {
-        call_held(callback, owner, self.cells.as_slice());
+        call_held(callback, owner, &self.owners, &self.cells);
     }
 
     /// Asks `decide` about each index that the owner holds, rising, and frees those for which it answers true. With
@@ -118,7 +128,7 @@ impl RobustUniqueIndexSet {
         ensures capacity { length self.new.holders ≡ length self.old.holders }
         ensures answer { result ≡ state_of self.new.locked }
     {
-        free_where(decide, owner, &mut self.cells);
+        free_where(decide, owner, &self.owners, &mut self.cells);
         self.settle(mode)
     }
 
@@ -126,7 +136,7 @@ impl RobustUniqueIndexSet {
     pub fn borrowed_indices(&self) -> usize
         ensures { result ≡ borrowed self.now }
     {
-        self.cells.iter().filter(|cell| cell.is_some()).count()
+        self.cells.filled()
     }
 
     /// Whether the set is locked for good; then no index is held.
@@ -155,27 +165,38 @@ fn is_of(owner: OwnerId, cell: Option<OwnerId>) -> bool
     }
 }
 
-fn lowest_free(cells: &[Option<OwnerId>]) -> Option<usize>
-    ensures { result ≡ position (λ holder. not (is_some holder)) cells.now }
+// The owner's first index from one on.
+fn next_held(owner: OwnerId, owners: &Owners, cells: &Places<OwnerId>, from: usize) -> Option<usize>
+    requires { AreOwned (λ owner. owner) cells.now owners.now }
+    ensures some { IfSome result (λ index. IsToldNext (index_of owner) cells.now from index index) }
+    ensures none { IfNone result (rest_from (index_of owner) cells.now from ≡ []) }
 {
-    cells.iter().position(|cell| !cell.is_some())
+    let mut at = from;
+    while let Some(index) = owners.next(owner, at) {
+        at = index + 1;
+        if is_of(owner, cells.get(index)) {
+            return Some(index);
+        }
+    }
+    None
 }
 
 // Calls `callback` with each index that the owner holds, rising.
-fn call_held<F: FnMut(usize)>(callback: &mut F, owner: OwnerId, cells: &[Option<OwnerId>])
-    requires { F.IsAlwaysCallable callback.old }
+fn call_held<F: FnMut(usize)>(
+    callback: &mut F,
+    owner: OwnerId,
+    owners: &Owners,
+    cells: &Places<OwnerId>,
+)
+    requires may_call { F.IsAlwaysCallable callback.old }
+    requires owned { AreOwned (λ owner. owner) cells.now owners.now }
     ensures called { FoldsTo (λ p x q. F.step p x tt q) callback.old (held_by owner cells.now) callback.new }
     ensures callable { F.IsAlwaysCallable callback.new }
 {
-    let mut rest = cells;
     let mut at = 0usize;
-    while let Some((cell, tail)) = rest.split_first() {
-        let index = at;
-        at += 1;
-        rest = tail;
-        if is_of(owner, *cell) {
-            callback(index);
-        }
+    while let Some(index) = next_held(owner, owners, cells, at) {
+        at = index + 1;
+        callback(index);
     }
 }
 
@@ -183,16 +204,21 @@ fn call_held<F: FnMut(usize)>(callback: &mut F, owner: OwnerId, cells: &[Option<
 fn free_where<F: FnMut(usize) -> bool>(
     decide: &mut F,
     owner: OwnerId,
-    cells: &mut Vec<Option<OwnerId>>,
+    owners: &Owners,
+    cells: &mut Places<OwnerId>,
 )
-    requires { F.IsAlwaysCallable decide.old }
-    ensures freed { Recovered (λ p index answer q. F.step p index answer q) owner decide.old cells.old.items cells.new.items decide.new }
+    requires may_call { F.IsAlwaysCallable decide.old }
+    requires owned { AreOwned (λ owner. owner) cells.old owners.now }
+    ensures freed { Recovered (λ p index answer q. F.step p index answer q) owner decide.old cells.old cells.new decide.new }
     ensures callable { F.IsAlwaysCallable decide.new }
-    ensures capacity { length cells.new.items ≡ length cells.old.items }
+    ensures capacity { length cells.new ≡ length cells.old }
+    ensures owned { AreOwned (λ owner. owner) cells.new owners.now }
 {
-    for index in 0..cells.len() {
-        if is_of(owner, cells[index]) && decide(index) {
-            cells[index] = None;
+    let mut at = 0usize;
+    while let Some(index) = next_held(owner, owners, cells, at) {
+        at = index + 1;
+        if decide(index) {
+            cells.empty(index);
         }
     }
 }

@@ -1,7 +1,7 @@
 -- A domain whose publishers have no messages any longer.
 use Rattle.std.specs.Prelude.{ℕ, ◌≡◌, ◌==◌, Bool, true, false, List, [], map, Option, option_map}
 use Rattle.std.specs.List.{list_any}
-use Rattle.iox_domain_publisher.specs.DomainSender.Sending.{with_uses}
+use Rattle.iox_domain_publisher.specs.MessagesSending.{with_uses}
 use Rattle.iox_domain_publisher.specs.DomainSlots.Uses.{emptied}
 use Rattle.iox_domain_subscriber.specs.Publishers.{port_of}
 use Rattle.iox_domain_publisher.specs.declared.publisher_port.PublisherPort.{PublisherPort}

@@ -14,8 +14,8 @@ use Rattle.iox_lanes_machine.specs.World.{World}
 use Rattle.iox_lanes_machine.specs.LanesBase.declared.calls.route.Route.{Route}
 use Rattle.iox_lanes_machine.specs.LanesParties.Parties.{PublisherLaneState, SubscriberLaneState}
 use Rattle.iox_lanes_machine.specs.LanesBase.Table.{TableWords}
-use Rattle.iox_queues_rings.specs.declared.ends.RingKind.{RingKind}
-use Rattle.iox_queues_rings.specs.declared.ends.RingKind.TheVariants as kind
+use Rattle.iox_queues_steps.specs.declared.rings.ends.RingKind.{RingKind}
+use Rattle.iox_queues_steps.specs.declared.rings.ends.RingKind.TheVariants as kind
 use Rattle.iox_lanes.specs.Lying.{AreLaid}
 
 -- the numbers of the ports that are listed, in the order of their places

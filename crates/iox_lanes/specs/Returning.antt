@@ -1,6 +1,6 @@
 -- The domain that lanes leave.
 use Rattle.std.specs.Prelude.{ℕ, ◌≡◌, ◌+◌, ◌*◌, ◌<◌, ◌≤◌, List, length, slice_get, Option, None, Some}
-use Rattle.iox_domain.specs.DomainPorts.DomainSender.Sending.{with_uses}
+use Rattle.iox_domain.specs.DomainPorts.DomainPublisher.MessagesSending.{with_uses}
 use Rattle.iox_domain.specs.DomainPorts.DomainSubscriber.Publishers.{port_of}
 use Rattle.iox_domain.specs.DomainPublisher.Ports.{connection_of}
 use Rattle.iox_domain.specs.DomainPublisher.declared.publisher_port.PublisherPort.{PublisherPort}

@@ -14,7 +14,7 @@ use iox_domain_subscriber::reading::waiting_at;
 use iox_lanes_base::words::SlotWord;
 use iox_lanes_machine::{Found, LaneSizes, Lanes};
 use iox_queues_base::Words;
-use iox_queues_rings::RingKind;
+use iox_queues_steps::rings::RingKind;
 use std::alloc::{AllocError, Global};
 
 /// Lanes at which all that the domain has was found.

@@ -16,7 +16,7 @@ use iox_lanes_base::words::WordTable;
 use iox_lanes_machine::Link;
 use iox_lanes_parties::PublisherLane;
 use iox_queues_base::Words;
-use iox_queues_rings::RingKind;
+use iox_queues_steps::rings::RingKind;
 
 /// The subscriber whose number stands at a place, if there is one.
 pub(crate) fn subscriber_at<'a, T: Words, U: Words>(

@@ -1,7 +1,7 @@
 //! The domain that lanes leave.
 ghost use Rattle.std.specs.Prelude.{◌≡◌, ◌+◌, ◌*◌, ◌^◌, ◌<◌, ◌≤◌, ℕ, IfErr, IfOk, OnOk, length, slice_get, option_copied, vec_capacity, IfSome, None, Some, false};
 ghost use Rattle.std.specs.Bool.{OnTrue};
-ghost use Rattle.iox_domain.specs.DomainPorts.DomainSender.Sending.{with_uses};
+ghost use Rattle.iox_domain.specs.DomainPorts.DomainPublisher.MessagesSending.{with_uses};
 ghost use Rattle.iox_domain.specs.DomainPorts.DomainSubscriber.Publishers.{port_of};
 ghost use Rattle.iox_lanes_opening.specs.Restored.{IsRested, IsRestored, place_of};
 ghost use Rattle.iox_lanes_opening.specs.Restoring.{IsWhole};

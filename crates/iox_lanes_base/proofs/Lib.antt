@@ -2,4 +2,3 @@
 pub mod Rounds
 pub mod Numbering
 pub use Rattle.iox_queues_steps.proofs as QueuesSteps
-pub use Rattle.iox_queues_rings.proofs as QueuesRings

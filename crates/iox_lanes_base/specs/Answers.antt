@@ -3,16 +3,16 @@ use Rattle.std.specs.Prelude.{Option, Some, None}
 use Rattle.iox_lanes_base.specs.QueuesSteps.declared.order.PushAnswer.{PushAnswer}
 use Rattle.iox_lanes_base.specs.QueuesSteps.declared.order.PopAnswer.{PopAnswer}
 use Rattle.iox_lanes_base.specs.QueuesSteps.declared.order.PopAnswer.TheVariants.{Got, Saw}
-use Rattle.iox_queues_rings.specs.declared.overflowing.push.Push.TheVariants as overflowing_push
-use Rattle.iox_queues_rings.specs.declared.overflowing.pop.Pop.TheVariants as overflowing_pop
-use Rattle.iox_queues_rings.specs.declared.refusing.push.Push as refusing_push_type
-use Rattle.iox_queues_rings.specs.declared.refusing.push.Push.TheVariants as refusing_push
-use Rattle.iox_queues_rings.specs.declared.refusing.pop.Pop as refusing_pop_type
-use Rattle.iox_queues_rings.specs.declared.refusing.pop.Pop.TheVariants as refusing_pop
-use Rattle.iox_queues_rings.specs.declared.ends.Push.{Push}
-use Rattle.iox_queues_rings.specs.declared.ends.Push.TheVariants as push
-use Rattle.iox_queues_rings.specs.declared.ends.Pop.{Pop}
-use Rattle.iox_queues_rings.specs.declared.ends.Pop.TheVariants as pop
+use Rattle.iox_queues_steps.specs.declared.rings.overflowing.push.Push.TheVariants as overflowing_push
+use Rattle.iox_queues_steps.specs.declared.rings.overflowing.pop.Pop.TheVariants as overflowing_pop
+use Rattle.iox_queues_steps.specs.declared.rings.refusing.push.Push as refusing_push_type
+use Rattle.iox_queues_steps.specs.declared.rings.refusing.push.Push.TheVariants as refusing_push
+use Rattle.iox_queues_steps.specs.declared.rings.refusing.pop.Pop as refusing_pop_type
+use Rattle.iox_queues_steps.specs.declared.rings.refusing.pop.Pop.TheVariants as refusing_pop
+use Rattle.iox_queues_steps.specs.declared.rings.ends.Push.{Push}
+use Rattle.iox_queues_steps.specs.declared.rings.ends.Push.TheVariants as push
+use Rattle.iox_queues_steps.specs.declared.rings.ends.Pop.{Pop}
+use Rattle.iox_queues_steps.specs.declared.rings.ends.Pop.TheVariants as pop
 
 -- a push on a ring that refuses
 abbrev pub refusing_push_answer : refusing_push_type.Push → Option PushAnswer

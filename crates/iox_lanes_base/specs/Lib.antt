@@ -7,4 +7,3 @@ pub mod Publishing
 pub mod Routes
 pub mod Subscribing
 pub use Rattle.iox_queues_steps.specs as QueuesSteps
-pub use Rattle.iox_queues_rings.specs as QueuesRings

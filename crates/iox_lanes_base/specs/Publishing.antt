@@ -5,16 +5,16 @@ use Rattle.iox_lanes_base.specs.QueuesSteps.declared.order.PushAnswer.{PushAnswe
 use Rattle.iox_lanes_base.specs.QueuesSteps.declared.order.PushAnswer.TheVariants.{Kept, LeftOut, Refused}
 use Rattle.iox_lanes_base.specs.QueuesSteps.declared.order.PopAnswer.{PopAnswer}
 use Rattle.iox_lanes_base.specs.QueuesSteps.declared.order.PopAnswer.TheVariants.{Got, Saw}
-use Rattle.iox_queues_rings.specs.declared.overflowing.push.Push as overflowing_type
-use Rattle.iox_queues_rings.specs.declared.overflowing.push.Push.TheVariants as overflowing
-use Rattle.iox_queues_rings.specs.Refusing.{pop_next, pop_take}
-use Rattle.iox_queues_rings.specs.declared.refusing.push.Push as refusing_type
-use Rattle.iox_queues_rings.specs.declared.refusing.push.Push.TheVariants as refusing
-use Rattle.iox_queues_rings.specs.declared.refusing.pop.Pop.{Pop}
-use Rattle.iox_queues_rings.specs.declared.refusing.pop.Pop.TheVariants.{Begun}
-use Rattle.iox_queues_rings.specs.Ends.{push_begun, push_next, push_take}
-use Rattle.iox_queues_rings.specs.declared.ends.Push.{Push}
-use Rattle.iox_queues_rings.specs.declared.ends.Push.TheVariants as ring
+use Rattle.iox_queues_steps.specs.declared.rings.overflowing.push.Push as overflowing_type
+use Rattle.iox_queues_steps.specs.declared.rings.overflowing.push.Push.TheVariants as overflowing
+use Rattle.iox_queues_steps.specs.Refusing.{pop_next, pop_take}
+use Rattle.iox_queues_steps.specs.declared.rings.refusing.push.Push as refusing_type
+use Rattle.iox_queues_steps.specs.declared.rings.refusing.push.Push.TheVariants as refusing
+use Rattle.iox_queues_steps.specs.declared.rings.refusing.pop.Pop.{Pop}
+use Rattle.iox_queues_steps.specs.declared.rings.refusing.pop.Pop.TheVariants.{Begun}
+use Rattle.iox_queues_steps.specs.Ends.{push_begun, push_next, push_take}
+use Rattle.iox_queues_steps.specs.declared.rings.ends.Push.{Push}
+use Rattle.iox_queues_steps.specs.declared.rings.ends.Push.TheVariants as ring
 use Rattle.iox_lanes_base.specs.Words.{on_ring}
 use Rattle.iox_lanes_base.specs.declared.words.word.ConnectionRing.TheVariants.{Submission, Completion}
 use Rattle.iox_lanes_base.specs.declared.words.word.SlotWord.{SlotWord}

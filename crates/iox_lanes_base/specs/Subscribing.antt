@@ -5,11 +5,11 @@ use Rattle.iox_lanes_base.specs.QueuesSteps.declared.order.PushAnswer.{PushAnswe
 use Rattle.iox_lanes_base.specs.QueuesSteps.declared.order.PushAnswer.TheVariants.{Kept, LeftOut, Refused}
 use Rattle.iox_lanes_base.specs.QueuesSteps.declared.order.PopAnswer.{PopAnswer}
 use Rattle.iox_lanes_base.specs.QueuesSteps.declared.order.PopAnswer.TheVariants.{Got, Saw}
-use Rattle.iox_queues_rings.specs.Refusing as refusing
-use Rattle.iox_queues_rings.specs.declared.refusing.push.Push.{Push}
-use Rattle.iox_queues_rings.specs.declared.refusing.push.Push.TheVariants as push
-use Rattle.iox_queues_rings.specs.Ends.{pop_first, pop_next, pop_take}
-use Rattle.iox_queues_rings.specs.declared.ends.Pop.{Pop}
+use Rattle.iox_queues_steps.specs.Refusing as refusing
+use Rattle.iox_queues_steps.specs.declared.rings.refusing.push.Push.{Push}
+use Rattle.iox_queues_steps.specs.declared.rings.refusing.push.Push.TheVariants as push
+use Rattle.iox_queues_steps.specs.Ends.{pop_first, pop_next, pop_take}
+use Rattle.iox_queues_steps.specs.declared.rings.ends.Pop.{Pop}
 use Rattle.iox_lanes_base.specs.Words.{on_ring}
 use Rattle.iox_lanes_base.specs.declared.words.word.ConnectionRing.TheVariants.{Submission, Completion}
 use Rattle.iox_lanes_base.specs.declared.words.word.SlotWord.{SlotWord}

@@ -2,8 +2,8 @@
 use Rattle.std.proofs.Common.{ℕ, suc, ◌≡◌, ◌+◌, ◌-◌, ◌<◌, ◌^◌, ◌%◌, ◌==◌, Bool, true, false, if◌then◌else◌, List, [], ◌∷◌, length, slice_get, Option, refl, ◌∙◌, ap, arith}
 use Rattle.iox_queues_steps.specs.Access.{successor}
 use Rattle.iox_queues_steps.specs.declared.access.Word.TheVariants.{Write, Read, Cell}
-use Rattle.iox_queues_rings.specs.Refusing.{pop_emptied}
-use Rattle.iox_queues_rings.specs.declared.refusing.pop.Pop.TheVariants.{Begun}
+use Rattle.iox_queues_steps.specs.Refusing.{pop_emptied}
+use Rattle.iox_queues_steps.specs.declared.rings.refusing.pop.Pop.TheVariants.{Begun}
 use Rattle.iox_lanes_base.specs.declared.words.word.SlotWord.TheVariants.{Payload}
 use Rattle.iox_lanes_base.specs.declared.words.word.SharedWord.TheVariants.{Slot}
 use Rattle.iox_lanes_base.specs.declared.words.access.SharedAccess.{SharedAccess}

@@ -12,13 +12,13 @@ use Rattle.iox_lanes_machine.specs.QueuesSteps.declared.order.PushAnswer.{PushAn
 use Rattle.iox_lanes_machine.specs.QueuesSteps.declared.order.PushAnswer.TheVariants.{Kept, LeftOut}
 use Rattle.iox_lanes_machine.specs.QueuesSteps.declared.order.PushCall.{PushCall}
 use Rattle.iox_lanes_machine.proofs.QueuesSteps.Orders.{acts_more, after_acts-append}
-use Rattle.iox_lanes_machine.proofs.QueuesRings.RefusingSteps as refusing_steps
-use Rattle.iox_lanes_machine.specs.QueuesRings.OverflowingRing as overflowing_ring
-use Rattle.iox_lanes_machine.specs.QueuesRings.declared.overflowing.push.Push as overflowing_push_type
-use Rattle.iox_lanes_machine.specs.QueuesRings.declared.overflowing.push.Push.TheVariants as overflowing_push
-use Rattle.iox_lanes_machine.specs.QueuesRings.Ends.{overflows, placed_by_push}
-use Rattle.iox_lanes_machine.specs.QueuesRings.declared.ends.Push.{Push}
-use Rattle.iox_lanes_machine.specs.QueuesRings.declared.ends.Push.TheVariants as push
+use Rattle.iox_lanes_machine.proofs.QueuesSteps.RefusingSteps as refusing_steps
+use Rattle.iox_lanes_machine.specs.QueuesSteps.OverflowingRing as overflowing_ring
+use Rattle.iox_lanes_machine.specs.QueuesSteps.declared.rings.overflowing.push.Push as overflowing_push_type
+use Rattle.iox_lanes_machine.specs.QueuesSteps.declared.rings.overflowing.push.Push.TheVariants as overflowing_push
+use Rattle.iox_lanes_machine.specs.QueuesSteps.Ends.{overflows, placed_by_push}
+use Rattle.iox_lanes_machine.specs.QueuesSteps.declared.rings.ends.Push.{Push}
+use Rattle.iox_lanes_machine.specs.QueuesSteps.declared.rings.ends.Push.TheVariants as push
 use Rattle.iox_lanes_machine.specs.LanesBase.Table.{TableWords, held_by}
 use Rattle.iox_lanes_machine.specs.LanesBase.declared.calls.publisher.PublisherCall.{PublisherCall}
 use Rattle.iox_lanes_machine.specs.LanesBase.declared.calls.publisher.PublisherCall.TheVariants as publishing

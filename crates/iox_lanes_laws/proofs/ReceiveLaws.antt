@@ -4,15 +4,15 @@ use Rattle.std.proofs.lemmas.Bool.{lt-ltb, le-ltb}
 use Rattle.iox_queues_steps.specs.Access.{successor}
 use Rattle.iox_queues_steps.specs.declared.access.Word.TheVariants.{Write, Read, Cell}
 use Rattle.iox_queues_steps.specs.declared.order.PushAnswer.TheVariants.{Refused}
-use Rattle.iox_queues_rings.specs.Overflowing as overflowing
-use Rattle.iox_queues_rings.specs.declared.overflowing.pop.Pop.TheVariants as overflowing_pop
-use Rattle.iox_queues_rings.specs.Refusing as refusing
-use Rattle.iox_queues_rings.specs.declared.refusing.push.Push.TheVariants as refusing_push
-use Rattle.iox_queues_rings.specs.declared.refusing.pop.Pop.TheVariants as refusing_pop
-use Rattle.iox_queues_rings.specs.Ends.{pop_first}
-use Rattle.iox_queues_rings.specs.declared.ends.RingKind.{RingKind}
-use Rattle.iox_queues_rings.specs.declared.ends.RingKind.TheVariants.{Overflowing, Refusing}
-use Rattle.iox_queues_rings.specs.declared.ends.Pop.TheVariants as pop
+use Rattle.iox_queues_steps.specs.Overflowing as overflowing
+use Rattle.iox_queues_steps.specs.declared.rings.overflowing.pop.Pop.TheVariants as overflowing_pop
+use Rattle.iox_queues_steps.specs.Refusing as refusing
+use Rattle.iox_queues_steps.specs.declared.rings.refusing.push.Push.TheVariants as refusing_push
+use Rattle.iox_queues_steps.specs.declared.rings.refusing.pop.Pop.TheVariants as refusing_pop
+use Rattle.iox_queues_steps.specs.Ends.{pop_first}
+use Rattle.iox_queues_steps.specs.declared.rings.ends.RingKind.{RingKind}
+use Rattle.iox_queues_steps.specs.declared.rings.ends.RingKind.TheVariants.{Overflowing, Refusing}
+use Rattle.iox_queues_steps.specs.declared.rings.ends.Pop.TheVariants as pop
 use Rattle.iox_lanes_base.specs.declared.words.word.SlotWord.TheVariants.{UserHeader, Payload}
 use Rattle.iox_lanes_base.specs.declared.words.word.SharedWord.TheVariants.{Slot}
 use Rattle.iox_lanes_base.specs.declared.words.access.SharedAccess.{SharedAccess}

@@ -10,9 +10,9 @@ use Rattle.iox_lanes_machine.specs.QueuesSteps.declared.order.Placed.{Placed}
 use Rattle.iox_lanes_machine.specs.QueuesSteps.declared.order.PopAnswer.{PopAnswer}
 use Rattle.iox_lanes_machine.specs.QueuesSteps.declared.order.PopAnswer.TheVariants.{Got, Saw}
 use Rattle.iox_lanes_machine.proofs.QueuesSteps.Orders.{acts_more}
-use Rattle.iox_lanes_machine.specs.QueuesRings.Ends.{overflows, push_idle, pop_take, pop_looks}
-use Rattle.iox_lanes_machine.specs.QueuesRings.declared.ends.RingKind.{RingKind}
-use Rattle.iox_lanes_machine.specs.QueuesRings.declared.ends.Pop.{Pop}
+use Rattle.iox_lanes_machine.specs.QueuesSteps.Ends.{overflows, push_idle, pop_take, pop_looks}
+use Rattle.iox_lanes_machine.specs.QueuesSteps.declared.rings.ends.RingKind.{RingKind}
+use Rattle.iox_lanes_machine.specs.QueuesSteps.declared.rings.ends.Pop.{Pop}
 use Rattle.iox_lanes_machine.specs.LanesBase.Table.{shared_answer}
 use Rattle.iox_lanes_machine.specs.LanesBase.Answers.{pop_answer}
 use Rattle.iox_lanes_machine.specs.LanesBase.Publishing.{publisher_is_idle}

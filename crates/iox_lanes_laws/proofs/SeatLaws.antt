@@ -1,17 +1,17 @@
 -- Each step of a call is of a kind that its port makes.
 use Rattle.std.proofs.Common.{ℕ}
-use Rattle.iox_queues_rings.specs.declared.overflowing.push.Push.TheVariants as overflowing_push
-use Rattle.iox_queues_rings.specs.declared.overflowing.pop.Pop.TheVariants as overflowing_pop
-use Rattle.iox_queues_rings.specs.Refusing as refusing
-use Rattle.iox_queues_rings.specs.declared.refusing.push.Push as refusing_push_type
-use Rattle.iox_queues_rings.specs.declared.refusing.push.Push.TheVariants as refusing_push
-use Rattle.iox_queues_rings.specs.declared.refusing.pop.Pop as refusing_pop_type
-use Rattle.iox_queues_rings.specs.declared.refusing.pop.Pop.TheVariants as refusing_pop
-use Rattle.iox_queues_rings.specs.Ends.{push_next, pop_next}
-use Rattle.iox_queues_rings.specs.declared.ends.Push.{Push}
-use Rattle.iox_queues_rings.specs.declared.ends.Push.TheVariants as push
-use Rattle.iox_queues_rings.specs.declared.ends.Pop.{Pop}
-use Rattle.iox_queues_rings.specs.declared.ends.Pop.TheVariants as pop
+use Rattle.iox_queues_steps.specs.declared.rings.overflowing.push.Push.TheVariants as overflowing_push
+use Rattle.iox_queues_steps.specs.declared.rings.overflowing.pop.Pop.TheVariants as overflowing_pop
+use Rattle.iox_queues_steps.specs.Refusing as refusing
+use Rattle.iox_queues_steps.specs.declared.rings.refusing.push.Push as refusing_push_type
+use Rattle.iox_queues_steps.specs.declared.rings.refusing.push.Push.TheVariants as refusing_push
+use Rattle.iox_queues_steps.specs.declared.rings.refusing.pop.Pop as refusing_pop_type
+use Rattle.iox_queues_steps.specs.declared.rings.refusing.pop.Pop.TheVariants as refusing_pop
+use Rattle.iox_queues_steps.specs.Ends.{push_next, pop_next}
+use Rattle.iox_queues_steps.specs.declared.rings.ends.Push.{Push}
+use Rattle.iox_queues_steps.specs.declared.rings.ends.Push.TheVariants as push
+use Rattle.iox_queues_steps.specs.declared.rings.ends.Pop.{Pop}
+use Rattle.iox_queues_steps.specs.declared.rings.ends.Pop.TheVariants as pop
 use Rattle.iox_lanes_base.specs.Words.{on_ring}
 use Rattle.iox_lanes_base.specs.declared.words.word.ConnectionRing.TheVariants.{Submission, Completion}
 use Rattle.iox_lanes_base.specs.declared.calls.publisher.PublisherCall.TheVariants as publisher

@@ -3,14 +3,14 @@ use Rattle.std.proofs.Common.{ℕ, suc, ◌≡◌, ◌+◌, ◌-◌, ◌<◌, �
 use Rattle.iox_queues_steps.specs.Access.{successor}
 use Rattle.iox_queues_steps.specs.declared.access.Word.TheVariants.{Write, Read, Cell}
 use Rattle.iox_queues_steps.specs.declared.order.PushAnswer.TheVariants.{Kept, LeftOut, Refused}
-use Rattle.iox_queues_rings.specs.declared.overflowing.push.Push.TheVariants as overflowing
-use Rattle.iox_queues_rings.specs.Refusing.{pop_emptied}
-use Rattle.iox_queues_rings.specs.declared.refusing.push.Push.TheVariants as refusing
-use Rattle.iox_queues_rings.specs.declared.refusing.pop.Pop.TheVariants.{Begun}
-use Rattle.iox_queues_rings.specs.Ends.{push_begun}
-use Rattle.iox_queues_rings.specs.declared.ends.RingKind.{RingKind}
-use Rattle.iox_queues_rings.specs.declared.ends.RingKind.TheVariants.{Overflowing, Refusing}
-use Rattle.iox_queues_rings.specs.declared.ends.Push.TheVariants as push
+use Rattle.iox_queues_steps.specs.declared.rings.overflowing.push.Push.TheVariants as overflowing
+use Rattle.iox_queues_steps.specs.Refusing.{pop_emptied}
+use Rattle.iox_queues_steps.specs.declared.rings.refusing.push.Push.TheVariants as refusing
+use Rattle.iox_queues_steps.specs.declared.rings.refusing.pop.Pop.TheVariants.{Begun}
+use Rattle.iox_queues_steps.specs.Ends.{push_begun}
+use Rattle.iox_queues_steps.specs.declared.rings.ends.RingKind.{RingKind}
+use Rattle.iox_queues_steps.specs.declared.rings.ends.RingKind.TheVariants.{Overflowing, Refusing}
+use Rattle.iox_queues_steps.specs.declared.rings.ends.Push.TheVariants as push
 use Rattle.iox_lanes_base.specs.declared.words.word.SharedWord.TheVariants.{Slot}
 use Rattle.iox_lanes_base.specs.declared.words.access.SharedAccess.{SharedAccess}
 use Rattle.iox_lanes_base.specs.declared.words.access.SharedAccess.TheVariants.{Load, Store, Exchange, Local}

@@ -1,7 +1,7 @@
 -- What a call of a publisher leaves that no other call overlaps.
 use Rattle.std.specs.Prelude.{ℕ, ◌≡◌, ◌+◌, ◌-◌, ◌<◌, ◌^◌, ◌↔◌, ◌||◌, not, Bool, true, false, nat_lt, List, [], ◌∷◌, ◌++◌, length, drop, count_by, slice_get, Option, Some, None}
 use Rattle.iox_lanes_machine.specs.QueuesSteps.Order.{after_put}
-use Rattle.iox_lanes_machine.specs.QueuesRings.Ends.{overflows}
+use Rattle.iox_lanes_machine.specs.QueuesSteps.Ends.{overflows}
 use Rattle.iox_lanes_machine.specs.LanesBase.declared.calls.publisher.Delivery.{Delivery}
 use Rattle.iox_lanes_machine.specs.LanesBase.declared.calls.route.Route.{Route}
 use Rattle.iox_lanes_machine.specs.LanesParties.PublisherKeeping.{loan_of}

@@ -2,9 +2,9 @@
 use Rattle.std.specs.Prelude.{ℕ, suc, zero, ◌≡◌, ◌+◌, ◌-◌, ◌<◌, ◌^◌, ◌%◌, ◌==◌, if◌then◌else◌, Bool, List, [], ◌∷◌, length}
 use Rattle.iox_queues_steps.specs.Access.{successor}
 use Rattle.iox_queues_steps.specs.declared.access.Word.TheVariants.{Write, Read, Cell}
-use Rattle.iox_queues_rings.specs.declared.refusing.push.Push.TheVariants.{Begun}
-use Rattle.iox_queues_rings.specs.declared.ends.RingKind.{RingKind}
-use Rattle.iox_queues_rings.specs.declared.ends.RingKind.TheVariants.{Overflowing, Refusing}
+use Rattle.iox_queues_steps.specs.declared.rings.refusing.push.Push.TheVariants.{Begun}
+use Rattle.iox_queues_steps.specs.declared.rings.ends.RingKind.{RingKind}
+use Rattle.iox_queues_steps.specs.declared.rings.ends.RingKind.TheVariants.{Overflowing, Refusing}
 use Rattle.iox_lanes_base.specs.declared.words.word.SlotWord.TheVariants.{Header, UserHeader, Payload}
 use Rattle.iox_lanes_base.specs.declared.words.word.SharedWord.TheVariants.{Slot}
 use Rattle.iox_lanes_base.specs.declared.words.access.SharedAccess.{SharedAccess}

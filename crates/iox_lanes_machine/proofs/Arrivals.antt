@@ -6,7 +6,7 @@ use Rattle.iox_lanes_machine.specs.QueuesSteps.declared.order.Act.TheVariants.{P
 use Rattle.iox_lanes_machine.specs.QueuesSteps.declared.order.Placed.{Placed}
 use Rattle.iox_lanes_machine.specs.QueuesSteps.declared.order.PopAnswer.TheVariants.{Got, Saw}
 use Rattle.iox_lanes_machine.specs.QueuesSteps.declared.order.PushCall.{PushCall}
-use Rattle.iox_lanes_machine.specs.QueuesRings.Ends.{overflows}
+use Rattle.iox_lanes_machine.specs.QueuesSteps.Ends.{overflows}
 use Rattle.iox_lanes_machine.specs.Arrivals.{IsPartOf, slots_put, OrderArrives}
 use Rattle.iox_lanes_machine.specs.Mailboxes.{OrderFollows}
 use Rattle.iox_lanes_machine.specs.Receipts.{slots_of, slots_taken}

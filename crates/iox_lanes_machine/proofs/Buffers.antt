@@ -6,10 +6,10 @@ use Rattle.std.proofs.lemmas.Bool.Decides.{eqb_tells}
 use Rattle.std.proofs.lemmas.List.{length-map, length-set, take-take, take-replicate}
 use Rattle.std.proofs.lemmas.List.Elements.{All-map, All-set, All-weaker}
 use Rattle.iox_lanes_machine.specs.QueuesSteps.Access.{RingWords}
-use Rattle.iox_lanes_machine.specs.QueuesRings.Ends.{cells_of}
-use Rattle.iox_lanes_machine.specs.QueuesRings.RingMachine.{first_words}
-use Rattle.iox_lanes_machine.specs.QueuesRings.declared.ends.RingKind.{RingKind}
-use Rattle.iox_lanes_machine.specs.QueuesRings.declared.ends.RingKind.TheVariants as kind
+use Rattle.iox_lanes_machine.specs.QueuesSteps.Ends.{cells_of}
+use Rattle.iox_lanes_machine.specs.QueuesSteps.RingMachine.{first_words}
+use Rattle.iox_lanes_machine.specs.QueuesSteps.declared.rings.ends.RingKind.{RingKind}
+use Rattle.iox_lanes_machine.specs.QueuesSteps.declared.rings.ends.RingKind.TheVariants as kind
 use Rattle.iox_lanes_machine.specs.LanesBase.Table.{TableWords}
 use Rattle.iox_lanes_machine.specs.LanesBase.declared.words.sizes.TableSizes.{TableSizes}
 use Rattle.iox_lanes_machine.specs.LanesBase.Routes.{known_as, rerouted}

@@ -2,19 +2,19 @@
 use Rattle.std.proofs.Common.{ℕ, ◌≡◌, ◌+◌, ◌-◌, ◌*◌, ◌<◌, ◌≤◌, ◌==◌, ◌⊎◌, Bool, true, false, if◌then◌else◌, nat_lt, List, [], ◌∷◌, ◌++◌, length, get_or, remove, Option, Some, None, refl, sym, ◌∙◌, ap, subst, inl, inr, arith}
 use Rattle.std.proofs.lemmas.Bool.Decides.{eqb_tells}
 use Rattle.iox_lanes_parties.specs.QueuesSteps.Access.{RingWords, successor, answer_of}
-use Rattle.iox_lanes_parties.specs.QueuesRings.declared.overflowing.push.Push.TheVariants as overflowing_push
-use Rattle.iox_lanes_parties.specs.QueuesRings.declared.overflowing.pop.Pop.TheVariants as overflowing_pop
-use Rattle.iox_lanes_parties.specs.QueuesRings.Overflowing as overflowing
-use Rattle.iox_lanes_parties.specs.QueuesRings.Refusing as refusing
-use Rattle.iox_lanes_parties.specs.QueuesRings.declared.refusing.push.Push as refusing_push_type
-use Rattle.iox_lanes_parties.specs.QueuesRings.declared.refusing.push.Push.TheVariants as refusing_push
-use Rattle.iox_lanes_parties.specs.QueuesRings.declared.refusing.pop.Pop as refusing_pop_type
-use Rattle.iox_lanes_parties.specs.QueuesRings.declared.refusing.pop.Pop.TheVariants as refusing_pop
-use Rattle.iox_lanes_parties.specs.QueuesRings.Ends.{push_next, pop_next, pop_take}
-use Rattle.iox_lanes_parties.specs.QueuesRings.declared.ends.Push.{Push}
-use Rattle.iox_lanes_parties.specs.QueuesRings.declared.ends.Push.TheVariants as push
-use Rattle.iox_lanes_parties.specs.QueuesRings.declared.ends.Pop.{Pop}
-use Rattle.iox_lanes_parties.specs.QueuesRings.declared.ends.Pop.TheVariants as pop
+use Rattle.iox_lanes_parties.specs.QueuesSteps.declared.rings.overflowing.push.Push.TheVariants as overflowing_push
+use Rattle.iox_lanes_parties.specs.QueuesSteps.declared.rings.overflowing.pop.Pop.TheVariants as overflowing_pop
+use Rattle.iox_lanes_parties.specs.QueuesSteps.Overflowing as overflowing
+use Rattle.iox_lanes_parties.specs.QueuesSteps.Refusing as refusing
+use Rattle.iox_lanes_parties.specs.QueuesSteps.declared.rings.refusing.push.Push as refusing_push_type
+use Rattle.iox_lanes_parties.specs.QueuesSteps.declared.rings.refusing.push.Push.TheVariants as refusing_push
+use Rattle.iox_lanes_parties.specs.QueuesSteps.declared.rings.refusing.pop.Pop as refusing_pop_type
+use Rattle.iox_lanes_parties.specs.QueuesSteps.declared.rings.refusing.pop.Pop.TheVariants as refusing_pop
+use Rattle.iox_lanes_parties.specs.QueuesSteps.Ends.{push_next, pop_next, pop_take}
+use Rattle.iox_lanes_parties.specs.QueuesSteps.declared.rings.ends.Push.{Push}
+use Rattle.iox_lanes_parties.specs.QueuesSteps.declared.rings.ends.Push.TheVariants as push
+use Rattle.iox_lanes_parties.specs.QueuesSteps.declared.rings.ends.Pop.{Pop}
+use Rattle.iox_lanes_parties.specs.QueuesSteps.declared.rings.ends.Pop.TheVariants as pop
 use Rattle.iox_lanes_parties.specs.LanesBase.Answers.{pop_answer, refusing_pop_answer}
 use Rattle.iox_lanes_parties.specs.LanesBase.Publishing.{taken_back, push_change}
 use Rattle.iox_lanes_parties.specs.LanesBase.Subscribing.{borrowed_by, given_back_by}

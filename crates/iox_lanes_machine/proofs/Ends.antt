@@ -8,24 +8,24 @@ use Rattle.iox_lanes_machine.specs.QueuesSteps.declared.order.PushAnswer.{PushAn
 use Rattle.iox_lanes_machine.specs.QueuesSteps.declared.order.PushAnswer.TheVariants.{Kept, LeftOut, Refused}
 use Rattle.iox_lanes_machine.specs.QueuesSteps.declared.order.PopAnswer.{PopAnswer}
 use Rattle.iox_lanes_machine.specs.QueuesSteps.declared.order.PopAnswer.TheVariants.{Got, Saw}
-use Rattle.iox_lanes_machine.specs.QueuesRings.declared.overflowing.push.Push.TheVariants as overflowing_push
-use Rattle.iox_lanes_machine.specs.QueuesRings.declared.overflowing.pop.Pop.TheVariants as overflowing_pop
-use Rattle.iox_lanes_machine.proofs.QueuesRings.OverflowingPush as overflowing_pushes
-use Rattle.iox_lanes_machine.proofs.QueuesRings.OverflowingPop as overflowing_pops
-use Rattle.iox_lanes_machine.specs.QueuesRings.Refusing as refusing
-use Rattle.iox_lanes_machine.specs.QueuesRings.declared.refusing.push.Push as refusing_push_type
-use Rattle.iox_lanes_machine.specs.QueuesRings.declared.refusing.push.Push.TheVariants as refusing_push
-use Rattle.iox_lanes_machine.specs.QueuesRings.declared.refusing.pop.Pop as refusing_pop_type
-use Rattle.iox_lanes_machine.specs.QueuesRings.declared.refusing.pop.Pop.TheVariants as refusing_pop
-use Rattle.iox_lanes_machine.proofs.QueuesRings.RefusingSteps as refusing_steps
-use Rattle.iox_lanes_machine.specs.QueuesRings.Ends.{Shape, push_idle, push_begun, push_is_idle, push_take, pop_idle, pop_first, pop_is_idle, pop_take}
-use Rattle.iox_lanes_machine.specs.QueuesRings.declared.ends.RingKind.{RingKind}
-use Rattle.iox_lanes_machine.specs.QueuesRings.declared.ends.RingKind.TheVariants as kind
-use Rattle.iox_lanes_machine.specs.QueuesRings.declared.ends.Push.{Push}
-use Rattle.iox_lanes_machine.specs.QueuesRings.declared.ends.Push.TheVariants as push
-use Rattle.iox_lanes_machine.specs.QueuesRings.declared.ends.Pop.{Pop}
-use Rattle.iox_lanes_machine.specs.QueuesRings.declared.ends.Pop.TheVariants as pop
-use Rattle.iox_lanes_machine.proofs.QueuesRings.EitherRing.{push_begins_shape, pop_begins_shape}
+use Rattle.iox_lanes_machine.specs.QueuesSteps.declared.rings.overflowing.push.Push.TheVariants as overflowing_push
+use Rattle.iox_lanes_machine.specs.QueuesSteps.declared.rings.overflowing.pop.Pop.TheVariants as overflowing_pop
+use Rattle.iox_lanes_machine.proofs.QueuesSteps.OverflowingPush as overflowing_pushes
+use Rattle.iox_lanes_machine.proofs.QueuesSteps.OverflowingPop as overflowing_pops
+use Rattle.iox_lanes_machine.specs.QueuesSteps.Refusing as refusing
+use Rattle.iox_lanes_machine.specs.QueuesSteps.declared.rings.refusing.push.Push as refusing_push_type
+use Rattle.iox_lanes_machine.specs.QueuesSteps.declared.rings.refusing.push.Push.TheVariants as refusing_push
+use Rattle.iox_lanes_machine.specs.QueuesSteps.declared.rings.refusing.pop.Pop as refusing_pop_type
+use Rattle.iox_lanes_machine.specs.QueuesSteps.declared.rings.refusing.pop.Pop.TheVariants as refusing_pop
+use Rattle.iox_lanes_machine.proofs.QueuesSteps.RefusingSteps as refusing_steps
+use Rattle.iox_lanes_machine.specs.QueuesSteps.Ends.{Shape, push_idle, push_begun, push_is_idle, push_take, pop_idle, pop_first, pop_is_idle, pop_take}
+use Rattle.iox_lanes_machine.specs.QueuesSteps.declared.rings.ends.RingKind.{RingKind}
+use Rattle.iox_lanes_machine.specs.QueuesSteps.declared.rings.ends.RingKind.TheVariants as kind
+use Rattle.iox_lanes_machine.specs.QueuesSteps.declared.rings.ends.Push.{Push}
+use Rattle.iox_lanes_machine.specs.QueuesSteps.declared.rings.ends.Push.TheVariants as push
+use Rattle.iox_lanes_machine.specs.QueuesSteps.declared.rings.ends.Pop.{Pop}
+use Rattle.iox_lanes_machine.specs.QueuesSteps.declared.rings.ends.Pop.TheVariants as pop
+use Rattle.iox_lanes_machine.proofs.QueuesSteps.EitherRing.{push_begins_shape, pop_begins_shape}
 use Rattle.iox_lanes_machine.specs.LanesBase.Answers.{push_answer, pop_answer, refusing_pop_answer, refusing_push_answer}
 use Rattle.iox_lanes_machine.specs.LanesBase.Publishing.{publisher_is_idle, publisher_take, loan_from, loan_reclaimed, write_from, head_from, push_from, push_at, sweep_from, send_reclaimed, pushed, counted, nothing_sent}
 use Rattle.iox_lanes_machine.specs.LanesBase.Subscribing.{subscriber_is_idle, subscriber_take, receive_from, received, is_full_at, released}

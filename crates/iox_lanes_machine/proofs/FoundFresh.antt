@@ -7,10 +7,10 @@ use Rattle.std.proofs.Math.Seq.{set-append_seam}
 use Rattle.iox_lanes_machine.specs.QueuesSteps.Access.{RingWords, successor, after_store}
 use Rattle.iox_lanes_machine.specs.QueuesSteps.declared.access.Word.TheVariants.{Write, Cell}
 use Rattle.iox_lanes_machine.specs.QueuesSteps.declared.access.Access.TheVariants as own
-use Rattle.iox_lanes_machine.specs.QueuesRings.Ends.{cells_of}
-use Rattle.iox_lanes_machine.specs.QueuesRings.RingMachine.{first_words}
-use Rattle.iox_lanes_machine.specs.QueuesRings.declared.ends.RingKind.{RingKind}
-use Rattle.iox_lanes_machine.specs.QueuesRings.declared.ends.RingKind.TheVariants as kind
+use Rattle.iox_lanes_machine.specs.QueuesSteps.Ends.{cells_of}
+use Rattle.iox_lanes_machine.specs.QueuesSteps.RingMachine.{first_words}
+use Rattle.iox_lanes_machine.specs.QueuesSteps.declared.rings.ends.RingKind.{RingKind}
+use Rattle.iox_lanes_machine.specs.QueuesSteps.declared.rings.ends.RingKind.TheVariants as kind
 use Rattle.iox_lanes_machine.specs.LanesBase.Numbers.{number_of}
 use Rattle.iox_lanes_machine.specs.LanesBase.Table.{TableWords, stored_in}
 use Rattle.iox_lanes_machine.specs.LanesBase.declared.words.word.ConnectionRing.TheVariants.{Submission, Completion}

@@ -7,12 +7,12 @@ use Rattle.std.proofs.lemmas.Option.{slice_get_within}
 use Rattle.iox_lanes_machine.specs.QueuesSteps.Access.{RingWords, successor}
 use Rattle.iox_lanes_machine.specs.QueuesSteps.declared.access.Word.{Word}
 use Rattle.iox_lanes_machine.specs.QueuesSteps.declared.access.Word.TheVariants.{Write, Cell}
-use Rattle.iox_lanes_machine.specs.QueuesRings.Ends.{cells_of}
-use Rattle.iox_lanes_machine.specs.QueuesRings.RingMachine.{first_words}
-use Rattle.iox_lanes_machine.specs.QueuesRings.declared.ends.RingKind.TheVariants as kind
-use Rattle.iox_lanes_machine.proofs.QueuesRings.EitherRing.{start_refusing}
-use Rattle.iox_lanes_machine.specs.QueuesRings.declared.refusing.pop.Pop.TheVariants as refusing_pop
-use Rattle.iox_lanes_machine.specs.QueuesRings.declared.refusing.push.Push.TheVariants as refusing_push
+use Rattle.iox_lanes_machine.specs.QueuesSteps.Ends.{cells_of}
+use Rattle.iox_lanes_machine.specs.QueuesSteps.RingMachine.{first_words}
+use Rattle.iox_lanes_machine.specs.QueuesSteps.declared.rings.ends.RingKind.TheVariants as kind
+use Rattle.iox_lanes_machine.proofs.QueuesSteps.EitherRing.{start_refusing}
+use Rattle.iox_lanes_machine.specs.QueuesSteps.declared.rings.refusing.pop.Pop.TheVariants as refusing_pop
+use Rattle.iox_lanes_machine.specs.QueuesSteps.declared.rings.refusing.push.Push.TheVariants as refusing_push
 use Rattle.iox_lanes_machine.specs.LanesBase.Numbers.{IsWord, words_of, number_of}
 use Rattle.iox_lanes_machine.specs.LanesBase.Table.{TableWords, stored_in}
 use Rattle.iox_lanes_machine.specs.LanesBase.declared.words.access.SharedAccess.TheVariants.{Store}

@@ -8,12 +8,12 @@ use Rattle.iox_lanes_machine.specs.QueuesSteps.declared.access.Word.TheVariants.
 use Rattle.iox_lanes_machine.specs.QueuesSteps.declared.order.Act.{Act}
 use Rattle.iox_lanes_machine.specs.QueuesSteps.declared.order.Placed.{Placed}
 use Rattle.iox_lanes_machine.proofs.QueuesSteps.Orders.{acts_more, Acts-append, after_acts-append, rises_more}
-use Rattle.iox_lanes_machine.specs.QueuesRings.Ends.{Shape, overflows, cells_of, push_next, push_take, placed_by_push, pop_next, pop_take, placed_by_pop}
-use Rattle.iox_lanes_machine.specs.QueuesRings.declared.ends.RingKind.{RingKind}
-use Rattle.iox_lanes_machine.specs.QueuesRings.declared.ends.RingKind.TheVariants as kind
-use Rattle.iox_lanes_machine.specs.QueuesRings.declared.ends.Push.{Push}
-use Rattle.iox_lanes_machine.specs.QueuesRings.declared.ends.Pop.{Pop}
-use Rattle.iox_lanes_machine.proofs.QueuesRings.EitherRing.{push_goes, pop_goes, push_grows, pop_grows}
+use Rattle.iox_lanes_machine.specs.QueuesSteps.Ends.{Shape, overflows, cells_of, push_next, push_take, placed_by_push, pop_next, pop_take, placed_by_pop}
+use Rattle.iox_lanes_machine.specs.QueuesSteps.declared.rings.ends.RingKind.{RingKind}
+use Rattle.iox_lanes_machine.specs.QueuesSteps.declared.rings.ends.RingKind.TheVariants as kind
+use Rattle.iox_lanes_machine.specs.QueuesSteps.declared.rings.ends.Push.{Push}
+use Rattle.iox_lanes_machine.specs.QueuesSteps.declared.rings.ends.Pop.{Pop}
+use Rattle.iox_lanes_machine.proofs.QueuesSteps.EitherRing.{push_goes, pop_goes, push_grows, pop_grows}
 use Rattle.iox_lanes_machine.specs.LanesBase.Table.{TableWords, held_by, shared_answer, after_shared}
 use Rattle.iox_lanes_machine.specs.LanesBase.Words.{on_ring}
 use Rattle.iox_lanes_machine.specs.LanesBase.declared.words.word.ConnectionRing.TheVariants.{Submission}

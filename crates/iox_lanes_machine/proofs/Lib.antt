@@ -72,5 +72,4 @@ pub mod Queue
 pub mod LedgerFindings
 pub use Rattle.iox_lanes_parties.proofs as LanesParties
 pub use Rattle.iox_lanes_parties.proofs.LanesBase as LanesBase
-pub use Rattle.iox_lanes_parties.proofs.QueuesRings as QueuesRings
 pub use Rattle.iox_lanes_parties.proofs.QueuesSteps as QueuesSteps

@@ -9,23 +9,23 @@ use Rattle.iox_lanes_machine.specs.QueuesSteps.declared.order.PushAnswer.{PushAn
 use Rattle.iox_lanes_machine.specs.QueuesSteps.declared.order.PushAnswer.TheVariants.{Kept, LeftOut, Refused}
 use Rattle.iox_lanes_machine.specs.QueuesSteps.declared.order.PopAnswer.{PopAnswer}
 use Rattle.iox_lanes_machine.specs.QueuesSteps.declared.order.PopAnswer.TheVariants.{Got, Saw}
-use Rattle.iox_lanes_machine.specs.QueuesRings.Overflowing as overflowing
-use Rattle.iox_lanes_machine.specs.QueuesRings.declared.overflowing.push.Push as overflowing_push_type
-use Rattle.iox_lanes_machine.specs.QueuesRings.declared.overflowing.push.Push.TheVariants as overflowing_push
-use Rattle.iox_lanes_machine.specs.QueuesRings.declared.overflowing.pop.Pop as overflowing_pop_type
-use Rattle.iox_lanes_machine.specs.QueuesRings.declared.overflowing.pop.Pop.TheVariants as overflowing_pop
-use Rattle.iox_lanes_machine.specs.QueuesRings.Refusing as refusing
-use Rattle.iox_lanes_machine.specs.QueuesRings.declared.refusing.push.Push as refusing_push_type
-use Rattle.iox_lanes_machine.specs.QueuesRings.declared.refusing.push.Push.TheVariants as refusing_push
-use Rattle.iox_lanes_machine.specs.QueuesRings.declared.refusing.pop.Pop as refusing_pop_type
-use Rattle.iox_lanes_machine.specs.QueuesRings.declared.refusing.pop.Pop.TheVariants as refusing_pop
-use Rattle.iox_lanes_machine.specs.QueuesRings.Ends.{push_begun, push_next, push_take, pop_next}
-use Rattle.iox_lanes_machine.specs.QueuesRings.declared.ends.RingKind.{RingKind}
-use Rattle.iox_lanes_machine.specs.QueuesRings.declared.ends.RingKind.TheVariants as kind
-use Rattle.iox_lanes_machine.specs.QueuesRings.declared.ends.Push.{Push}
-use Rattle.iox_lanes_machine.specs.QueuesRings.declared.ends.Push.TheVariants as push
-use Rattle.iox_lanes_machine.specs.QueuesRings.declared.ends.Pop.{Pop}
-use Rattle.iox_lanes_machine.specs.QueuesRings.declared.ends.Pop.TheVariants as pop
+use Rattle.iox_lanes_machine.specs.QueuesSteps.Overflowing as overflowing
+use Rattle.iox_lanes_machine.specs.QueuesSteps.declared.rings.overflowing.push.Push as overflowing_push_type
+use Rattle.iox_lanes_machine.specs.QueuesSteps.declared.rings.overflowing.push.Push.TheVariants as overflowing_push
+use Rattle.iox_lanes_machine.specs.QueuesSteps.declared.rings.overflowing.pop.Pop as overflowing_pop_type
+use Rattle.iox_lanes_machine.specs.QueuesSteps.declared.rings.overflowing.pop.Pop.TheVariants as overflowing_pop
+use Rattle.iox_lanes_machine.specs.QueuesSteps.Refusing as refusing
+use Rattle.iox_lanes_machine.specs.QueuesSteps.declared.rings.refusing.push.Push as refusing_push_type
+use Rattle.iox_lanes_machine.specs.QueuesSteps.declared.rings.refusing.push.Push.TheVariants as refusing_push
+use Rattle.iox_lanes_machine.specs.QueuesSteps.declared.rings.refusing.pop.Pop as refusing_pop_type
+use Rattle.iox_lanes_machine.specs.QueuesSteps.declared.rings.refusing.pop.Pop.TheVariants as refusing_pop
+use Rattle.iox_lanes_machine.specs.QueuesSteps.Ends.{push_begun, push_next, push_take, pop_next}
+use Rattle.iox_lanes_machine.specs.QueuesSteps.declared.rings.ends.RingKind.{RingKind}
+use Rattle.iox_lanes_machine.specs.QueuesSteps.declared.rings.ends.RingKind.TheVariants as kind
+use Rattle.iox_lanes_machine.specs.QueuesSteps.declared.rings.ends.Push.{Push}
+use Rattle.iox_lanes_machine.specs.QueuesSteps.declared.rings.ends.Push.TheVariants as push
+use Rattle.iox_lanes_machine.specs.QueuesSteps.declared.rings.ends.Pop.{Pop}
+use Rattle.iox_lanes_machine.specs.QueuesSteps.declared.rings.ends.Pop.TheVariants as pop
 use Rattle.iox_lanes_machine.specs.LanesBase.Numbers.{number_of, words_of, IsWord}
 use Rattle.iox_lanes_machine.specs.LanesBase.Table.{TableWords, held_by, stored_in, after_shared, IsOfTable}
 use Rattle.iox_lanes_machine.specs.LanesBase.Words.{on_ring}

@@ -4,11 +4,11 @@ use Rattle.iox_lanes_parties.specs.QueuesSteps.Order.{Acts, after_acts}
 use Rattle.iox_lanes_parties.specs.QueuesSteps.declared.order.Act.TheVariants.{Put, Take}
 use Rattle.iox_lanes_parties.specs.QueuesSteps.declared.order.PushAnswer.TheVariants.{Kept, Refused}
 use Rattle.iox_lanes_parties.specs.QueuesSteps.declared.order.PopAnswer.TheVariants.{Got}
-use Rattle.iox_lanes_parties.specs.QueuesRings.Refusing as refusing
-use Rattle.iox_lanes_parties.specs.QueuesRings.declared.refusing.push.Push.{Push}
-use Rattle.iox_lanes_parties.specs.QueuesRings.declared.refusing.push.Push.TheVariants as push
-use Rattle.iox_lanes_parties.specs.QueuesRings.declared.refusing.pop.Pop.{Pop}
-use Rattle.iox_lanes_parties.specs.QueuesRings.declared.refusing.pop.Pop.TheVariants as pop
+use Rattle.iox_lanes_parties.specs.QueuesSteps.Refusing as refusing
+use Rattle.iox_lanes_parties.specs.QueuesSteps.declared.rings.refusing.push.Push.{Push}
+use Rattle.iox_lanes_parties.specs.QueuesSteps.declared.rings.refusing.push.Push.TheVariants as push
+use Rattle.iox_lanes_parties.specs.QueuesSteps.declared.rings.refusing.pop.Pop.{Pop}
+use Rattle.iox_lanes_parties.specs.QueuesSteps.declared.rings.refusing.pop.Pop.TheVariants as pop
 use Rattle.iox_lanes_machine.proofs.Rings.{taking_refusing, storing_refusing}
 
 nothing_more : (q : List ℕ) → q ≡ q ++ []

@@ -5,12 +5,12 @@ use Rattle.std.proofs.lemmas.List.{append-nil}
 use Rattle.iox_lanes_machine.specs.QueuesSteps.Access.{RingWords, answer_of, after_access}
 use Rattle.iox_lanes_machine.specs.QueuesSteps.declared.schedule.Stepped.{Stepped}
 use Rattle.iox_lanes_machine.specs.QueuesSteps.declared.schedule.Stepped.TheVariants as stepped
-use Rattle.iox_lanes_machine.specs.QueuesRings.Refusing as refusing
-use Rattle.iox_lanes_machine.specs.QueuesRings.declared.refusing.pop.Pop.{Pop}
-use Rattle.iox_lanes_machine.specs.QueuesRings.declared.refusing.pop.Pop.TheVariants as pop
-use Rattle.iox_lanes_machine.specs.QueuesRings.declared.refusing.push.Push.{Push}
-use Rattle.iox_lanes_machine.specs.QueuesRings.declared.refusing.push.Push.TheVariants as push
-use Rattle.iox_lanes_machine.proofs.QueuesRings.RefusingSteps as refusing_steps
+use Rattle.iox_lanes_machine.specs.QueuesSteps.Refusing as refusing
+use Rattle.iox_lanes_machine.specs.QueuesSteps.declared.rings.refusing.pop.Pop.{Pop}
+use Rattle.iox_lanes_machine.specs.QueuesSteps.declared.rings.refusing.pop.Pop.TheVariants as pop
+use Rattle.iox_lanes_machine.specs.QueuesSteps.declared.rings.refusing.push.Push.{Push}
+use Rattle.iox_lanes_machine.specs.QueuesSteps.declared.rings.refusing.push.Push.TheVariants as push
+use Rattle.iox_lanes_machine.proofs.QueuesSteps.RefusingSteps as refusing_steps
 use Rattle.iox_lanes_machine.specs.LanesBase.Table.{TableWords, after_shared}
 use Rattle.iox_lanes_machine.specs.LanesBase.Words.{on_ring}
 use Rattle.iox_lanes_machine.specs.LanesBase.declared.words.word.ConnectionRing.TheVariants.{Completion}

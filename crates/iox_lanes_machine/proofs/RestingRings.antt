@@ -4,9 +4,9 @@ use Rattle.std.proofs.lemmas.Nat.{mod_below}
 use Rattle.std.proofs.lemmas.Option.{slice_get-get_or}
 use Rattle.iox_lanes_machine.specs.QueuesSteps.Access.{RingWords}
 use Rattle.iox_lanes_machine.specs.QueuesSteps.declared.access.Word.TheVariants.{Cell}
-use Rattle.iox_lanes_machine.specs.QueuesRings.Ends.{Shape, cells_of, push_idle, pop_idle}
-use Rattle.iox_lanes_machine.specs.QueuesRings.declared.ends.RingKind.{RingKind}
-use Rattle.iox_lanes_machine.specs.QueuesRings.declared.ends.RingKind.TheVariants as kind
+use Rattle.iox_lanes_machine.specs.QueuesSteps.Ends.{Shape, cells_of, push_idle, pop_idle}
+use Rattle.iox_lanes_machine.specs.QueuesSteps.declared.rings.ends.RingKind.{RingKind}
+use Rattle.iox_lanes_machine.specs.QueuesSteps.declared.rings.ends.RingKind.TheVariants as kind
 use Rattle.iox_lanes_machine.specs.LanesBase.Table.{held_by}
 use Rattle.iox_lanes_machine.specs.LanesBase.Publishing.{publisher_is_idle}
 use Rattle.iox_lanes_machine.specs.LanesBase.Subscribing.{subscriber_is_idle}

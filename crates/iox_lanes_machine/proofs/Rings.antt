@@ -10,24 +10,24 @@ use Rattle.iox_lanes_parties.specs.QueuesSteps.declared.order.Act.TheVariants.{P
 use Rattle.iox_lanes_parties.specs.QueuesSteps.declared.order.PopAnswer.TheVariants.{Got, Saw}
 use Rattle.iox_lanes_parties.specs.QueuesSteps.declared.order.PushAnswer.{PushAnswer}
 use Rattle.iox_lanes_parties.specs.QueuesSteps.declared.order.PushAnswer.TheVariants.{Kept, LeftOut, Refused}
-use Rattle.iox_lanes_parties.specs.QueuesRings.Overflowing as overflowing
-use Rattle.iox_lanes_parties.specs.QueuesRings.OverflowingRing as overflowing_ring
-use Rattle.iox_lanes_parties.specs.QueuesRings.declared.overflowing.push.Push as overflowing_push_type
-use Rattle.iox_lanes_parties.specs.QueuesRings.declared.overflowing.push.Push.TheVariants as overflowing_push
-use Rattle.iox_lanes_parties.specs.QueuesRings.declared.overflowing.pop.Pop as overflowing_pop_type
-use Rattle.iox_lanes_parties.specs.QueuesRings.declared.overflowing.pop.Pop.TheVariants as overflowing_pop
-use Rattle.iox_lanes_parties.specs.QueuesRings.Refusing as refusing
-use Rattle.iox_lanes_parties.specs.QueuesRings.declared.refusing.push.Push as refusing_push_type
-use Rattle.iox_lanes_parties.specs.QueuesRings.declared.refusing.push.Push.TheVariants as refusing_push
-use Rattle.iox_lanes_parties.specs.QueuesRings.declared.refusing.pop.Pop as refusing_pop_type
-use Rattle.iox_lanes_parties.specs.QueuesRings.declared.refusing.pop.Pop.TheVariants as refusing_pop
-use Rattle.iox_lanes_parties.specs.QueuesRings.Ends.{overflows, placed_by_push, placed_by_pop, push_next, push_take, push_idle, push_begun, pop_next, Shape}
-use Rattle.iox_lanes_parties.specs.QueuesRings.declared.ends.RingKind.{RingKind}
-use Rattle.iox_lanes_parties.specs.QueuesRings.declared.ends.RingKind.TheVariants as kind
-use Rattle.iox_lanes_parties.specs.QueuesRings.declared.ends.Push.{Push}
-use Rattle.iox_lanes_parties.specs.QueuesRings.declared.ends.Push.TheVariants as push
-use Rattle.iox_lanes_parties.specs.QueuesRings.declared.ends.Pop.{Pop}
-use Rattle.iox_lanes_parties.specs.QueuesRings.declared.ends.Pop.TheVariants as pop
+use Rattle.iox_lanes_parties.specs.QueuesSteps.Overflowing as overflowing
+use Rattle.iox_lanes_parties.specs.QueuesSteps.OverflowingRing as overflowing_ring
+use Rattle.iox_lanes_parties.specs.QueuesSteps.declared.rings.overflowing.push.Push as overflowing_push_type
+use Rattle.iox_lanes_parties.specs.QueuesSteps.declared.rings.overflowing.push.Push.TheVariants as overflowing_push
+use Rattle.iox_lanes_parties.specs.QueuesSteps.declared.rings.overflowing.pop.Pop as overflowing_pop_type
+use Rattle.iox_lanes_parties.specs.QueuesSteps.declared.rings.overflowing.pop.Pop.TheVariants as overflowing_pop
+use Rattle.iox_lanes_parties.specs.QueuesSteps.Refusing as refusing
+use Rattle.iox_lanes_parties.specs.QueuesSteps.declared.rings.refusing.push.Push as refusing_push_type
+use Rattle.iox_lanes_parties.specs.QueuesSteps.declared.rings.refusing.push.Push.TheVariants as refusing_push
+use Rattle.iox_lanes_parties.specs.QueuesSteps.declared.rings.refusing.pop.Pop as refusing_pop_type
+use Rattle.iox_lanes_parties.specs.QueuesSteps.declared.rings.refusing.pop.Pop.TheVariants as refusing_pop
+use Rattle.iox_lanes_parties.specs.QueuesSteps.Ends.{overflows, placed_by_push, placed_by_pop, push_next, push_take, push_idle, push_begun, pop_next, Shape}
+use Rattle.iox_lanes_parties.specs.QueuesSteps.declared.rings.ends.RingKind.{RingKind}
+use Rattle.iox_lanes_parties.specs.QueuesSteps.declared.rings.ends.RingKind.TheVariants as kind
+use Rattle.iox_lanes_parties.specs.QueuesSteps.declared.rings.ends.Push.{Push}
+use Rattle.iox_lanes_parties.specs.QueuesSteps.declared.rings.ends.Push.TheVariants as push
+use Rattle.iox_lanes_parties.specs.QueuesSteps.declared.rings.ends.Pop.{Pop}
+use Rattle.iox_lanes_parties.specs.QueuesSteps.declared.rings.ends.Pop.TheVariants as pop
 use Rattle.iox_lanes_parties.specs.LanesBase.Answers.{push_answer}
 use Rattle.iox_lanes_machine.specs.LedgerUses.{one_if, count}
 use Rattle.iox_lanes_machine.specs.Stored.{taken_in, put_in, aside, cells_from, between}

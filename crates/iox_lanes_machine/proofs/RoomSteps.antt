@@ -5,16 +5,16 @@ use Rattle.std.proofs.lemmas.Bool.Decides.{eqb_tells}
 use Rattle.std.proofs.lemmas.Option.{slice_get_within, slice_get-get_or}
 use Rattle.iox_lanes_parties.specs.QueuesSteps.Access.{successor}
 use Rattle.iox_lanes_parties.specs.QueuesSteps.declared.order.PushAnswer.TheVariants.{Kept, LeftOut, Refused}
-use Rattle.iox_lanes_parties.specs.QueuesRings.Refusing as refusing
-use Rattle.iox_lanes_parties.specs.QueuesRings.declared.refusing.pop.Pop.{Pop}
-use Rattle.iox_lanes_parties.specs.QueuesRings.declared.refusing.pop.Pop.TheVariants as pop
-use Rattle.iox_lanes_parties.specs.QueuesRings.declared.ends.RingKind.{RingKind}
-use Rattle.iox_lanes_parties.specs.QueuesRings.declared.ends.RingKind.TheVariants as kind
-use Rattle.iox_lanes_parties.specs.QueuesRings.declared.overflowing.push.Push.TheVariants as overflowing_push
-use Rattle.iox_lanes_parties.specs.QueuesRings.declared.refusing.push.Push.TheVariants as refusing_push
-use Rattle.iox_lanes_parties.specs.QueuesRings.Ends.{push_begun}
-use Rattle.iox_lanes_parties.specs.QueuesRings.declared.ends.Push.{Push}
-use Rattle.iox_lanes_parties.specs.QueuesRings.declared.ends.Push.TheVariants as ring
+use Rattle.iox_lanes_parties.specs.QueuesSteps.Refusing as refusing
+use Rattle.iox_lanes_parties.specs.QueuesSteps.declared.rings.refusing.pop.Pop.{Pop}
+use Rattle.iox_lanes_parties.specs.QueuesSteps.declared.rings.refusing.pop.Pop.TheVariants as pop
+use Rattle.iox_lanes_parties.specs.QueuesSteps.declared.rings.ends.RingKind.{RingKind}
+use Rattle.iox_lanes_parties.specs.QueuesSteps.declared.rings.ends.RingKind.TheVariants as kind
+use Rattle.iox_lanes_parties.specs.QueuesSteps.declared.rings.overflowing.push.Push.TheVariants as overflowing_push
+use Rattle.iox_lanes_parties.specs.QueuesSteps.declared.rings.refusing.push.Push.TheVariants as refusing_push
+use Rattle.iox_lanes_parties.specs.QueuesSteps.Ends.{push_begun}
+use Rattle.iox_lanes_parties.specs.QueuesSteps.declared.rings.ends.Push.{Push}
+use Rattle.iox_lanes_parties.specs.QueuesSteps.declared.rings.ends.Push.TheVariants as ring
 use Rattle.iox_lanes_parties.specs.LanesBase.Answers.{push_answer, refusing_pop_answer}
 use Rattle.iox_lanes_parties.specs.LanesBase.Publishing.{loan_from, push_from, sweep_from, nothing_sent, counted, pushed, taken_back, loan_reclaimed, send_reclaimed, publisher_take, publisher_change, push_change, write_from, head_from}
 use Rattle.iox_lanes_parties.specs.LanesBase.declared.calls.publisher.Delivery.{Delivery}

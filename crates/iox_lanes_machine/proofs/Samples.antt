@@ -8,11 +8,11 @@ use Rattle.iox_lanes_parties.specs.QueuesSteps.declared.order.PushAnswer.{PushAn
 use Rattle.iox_lanes_parties.specs.QueuesSteps.declared.order.PushAnswer.TheVariants.{Kept, LeftOut, Refused}
 use Rattle.iox_lanes_parties.specs.QueuesSteps.declared.order.PopAnswer.{PopAnswer}
 use Rattle.iox_lanes_parties.specs.QueuesSteps.declared.order.PopAnswer.TheVariants.{Got, Saw}
-use Rattle.iox_lanes_parties.specs.QueuesRings.Refusing as refusing
-use Rattle.iox_lanes_parties.specs.QueuesRings.declared.refusing.push.Push as refusing_push_type
-use Rattle.iox_lanes_parties.specs.QueuesRings.declared.refusing.push.Push.TheVariants as refusing_push
-use Rattle.iox_lanes_parties.specs.QueuesRings.Ends.{pop_take}
-use Rattle.iox_lanes_parties.specs.QueuesRings.declared.ends.Pop.{Pop}
+use Rattle.iox_lanes_parties.specs.QueuesSteps.Refusing as refusing
+use Rattle.iox_lanes_parties.specs.QueuesSteps.declared.rings.refusing.push.Push as refusing_push_type
+use Rattle.iox_lanes_parties.specs.QueuesSteps.declared.rings.refusing.push.Push.TheVariants as refusing_push
+use Rattle.iox_lanes_parties.specs.QueuesSteps.Ends.{pop_take}
+use Rattle.iox_lanes_parties.specs.QueuesSteps.declared.rings.ends.Pop.{Pop}
 use Rattle.iox_lanes_parties.specs.LanesBase.Answers.{pop_answer, refusing_push_answer}
 use Rattle.iox_lanes_parties.specs.LanesBase.Subscribing.{subscriber_is_idle, subscriber_take, subscriber_change, receive_from, received, is_full_at, released, given_back_by, borrowed_by}
 use Rattle.iox_lanes_parties.specs.LanesBase.declared.calls.route.Route.{Route}

@@ -6,15 +6,15 @@ use Rattle.iox_lanes_parties.specs.QueuesSteps.declared.order.PushAnswer.{PushAn
 use Rattle.iox_lanes_parties.specs.QueuesSteps.declared.order.PushAnswer.TheVariants.{Kept, Refused}
 use Rattle.iox_lanes_parties.specs.QueuesSteps.declared.order.PopAnswer.{PopAnswer}
 use Rattle.iox_lanes_parties.specs.QueuesSteps.declared.order.PopAnswer.TheVariants.{Got, Saw}
-use Rattle.iox_lanes_parties.specs.QueuesRings.declared.overflowing.push.Push.TheVariants as overflowing_push
-use Rattle.iox_lanes_parties.specs.QueuesRings.Refusing as refusing
-use Rattle.iox_lanes_parties.specs.QueuesRings.declared.refusing.push.Push.TheVariants as refusing_push
-use Rattle.iox_lanes_parties.specs.QueuesRings.declared.refusing.pop.Pop as refusing_pop_type
-use Rattle.iox_lanes_parties.specs.QueuesRings.Ends.{push_begun, push_take}
-use Rattle.iox_lanes_parties.specs.QueuesRings.declared.ends.RingKind.{RingKind}
-use Rattle.iox_lanes_parties.specs.QueuesRings.declared.ends.RingKind.TheVariants as kind
-use Rattle.iox_lanes_parties.specs.QueuesRings.declared.ends.Push.{Push}
-use Rattle.iox_lanes_parties.specs.QueuesRings.declared.ends.Push.TheVariants as push
+use Rattle.iox_lanes_parties.specs.QueuesSteps.declared.rings.overflowing.push.Push.TheVariants as overflowing_push
+use Rattle.iox_lanes_parties.specs.QueuesSteps.Refusing as refusing
+use Rattle.iox_lanes_parties.specs.QueuesSteps.declared.rings.refusing.push.Push.TheVariants as refusing_push
+use Rattle.iox_lanes_parties.specs.QueuesSteps.declared.rings.refusing.pop.Pop as refusing_pop_type
+use Rattle.iox_lanes_parties.specs.QueuesSteps.Ends.{push_begun, push_take}
+use Rattle.iox_lanes_parties.specs.QueuesSteps.declared.rings.ends.RingKind.{RingKind}
+use Rattle.iox_lanes_parties.specs.QueuesSteps.declared.rings.ends.RingKind.TheVariants as kind
+use Rattle.iox_lanes_parties.specs.QueuesSteps.declared.rings.ends.Push.{Push}
+use Rattle.iox_lanes_parties.specs.QueuesSteps.declared.rings.ends.Push.TheVariants as push
 use Rattle.iox_lanes_parties.specs.LanesBase.Answers.{push_answer, refusing_pop_answer}
 use Rattle.iox_lanes_parties.specs.LanesBase.Publishing.{publisher_take, publisher_change, loan_from, loan_reclaimed, write_from, head_from, push_from, sweep_from, send_reclaimed, pushed, counted, nothing_sent, push_change, taken_back}
 use Rattle.iox_lanes_parties.specs.LanesBase.declared.calls.publisher.Delivery.{Delivery}

@@ -10,9 +10,9 @@ use Rattle.iox_lanes_machine.specs.QueuesSteps.Order.{push_call, PutNow, PutInsi
 use Rattle.iox_lanes_machine.specs.QueuesSteps.declared.order.Placed.{Placed}
 use Rattle.iox_lanes_machine.specs.QueuesSteps.declared.order.PushAnswer.{PushAnswer}
 use Rattle.iox_lanes_machine.specs.QueuesSteps.declared.order.PushCall.{PushCall}
-use Rattle.iox_lanes_machine.specs.QueuesRings.Ends.{push_begun, push_idle, push_value, put_in_hand}
-use Rattle.iox_lanes_machine.specs.QueuesRings.declared.ends.RingKind.{RingKind}
-use Rattle.iox_lanes_machine.specs.QueuesRings.declared.ends.Push.{Push}
+use Rattle.iox_lanes_machine.specs.QueuesSteps.Ends.{push_begun, push_idle, push_value, put_in_hand}
+use Rattle.iox_lanes_machine.specs.QueuesSteps.declared.rings.ends.RingKind.{RingKind}
+use Rattle.iox_lanes_machine.specs.QueuesSteps.declared.rings.ends.Push.{Push}
 use Rattle.iox_lanes_machine.specs.LanesBase.Answers.{push_answer}
 use Rattle.iox_lanes_machine.specs.LanesBase.Publishing.{push_from, push_at, counted, nothing_sent}
 use Rattle.iox_lanes_machine.specs.LanesBase.declared.calls.publisher.Delivery.{Delivery}

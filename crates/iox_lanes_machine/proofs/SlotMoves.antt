@@ -5,9 +5,9 @@ use Rattle.std.proofs.lemmas.Bool.Decides.{eqb_tells}
 use Rattle.iox_lanes_machine.specs.QueuesSteps.Order.{at}
 use Rattle.iox_lanes_machine.specs.QueuesSteps.declared.access.Word.TheVariants.{Read}
 use Rattle.iox_lanes_machine.specs.QueuesSteps.declared.order.Placed.{Placed}
-use Rattle.iox_lanes_machine.specs.QueuesRings.declared.refusing.pop.Pop as refusing_pop_type
-use Rattle.iox_lanes_machine.specs.QueuesRings.Ends.{cells_of}
-use Rattle.iox_lanes_machine.specs.QueuesRings.declared.ends.Push.{Push}
+use Rattle.iox_lanes_machine.specs.QueuesSteps.declared.rings.refusing.pop.Pop as refusing_pop_type
+use Rattle.iox_lanes_machine.specs.QueuesSteps.Ends.{cells_of}
+use Rattle.iox_lanes_machine.specs.QueuesSteps.declared.rings.ends.Push.{Push}
 use Rattle.iox_lanes_machine.specs.LanesBase.Table.{held_by, shared_answer, after_shared, IsOfTable}
 use Rattle.iox_lanes_machine.specs.LanesBase.Publishing.{publisher_next, publisher_take, publisher_change}
 use Rattle.iox_lanes_machine.specs.LanesBase.declared.calls.publisher.Delivery.{Delivery}

@@ -7,9 +7,9 @@ use Rattle.iox_lanes_machine.specs.QueuesSteps.declared.access.Access.{Access}
 use Rattle.iox_lanes_machine.specs.QueuesSteps.declared.access.Access.TheVariants as own
 use Rattle.iox_lanes_machine.specs.QueuesSteps.declared.order.Act.{Act}
 use Rattle.iox_lanes_machine.specs.QueuesSteps.declared.order.Placed.{Placed}
-use Rattle.iox_lanes_machine.specs.QueuesRings.Ends.{Shape, cells_of, push_idle, pop_idle}
-use Rattle.iox_lanes_machine.specs.QueuesRings.declared.ends.Push.{Push}
-use Rattle.iox_lanes_machine.specs.QueuesRings.declared.ends.Pop.{Pop}
+use Rattle.iox_lanes_machine.specs.QueuesSteps.Ends.{Shape, cells_of, push_idle, pop_idle}
+use Rattle.iox_lanes_machine.specs.QueuesSteps.declared.rings.ends.Push.{Push}
+use Rattle.iox_lanes_machine.specs.QueuesSteps.declared.rings.ends.Pop.{Pop}
 use Rattle.iox_lanes_machine.specs.LanesBase.Table.{TableWords, after_shared, IsOfTable}
 use Rattle.iox_lanes_machine.specs.LanesBase.Words.{on_ring}
 use Rattle.iox_lanes_machine.specs.LanesBase.declared.words.word.ConnectionRing.TheVariants.{Submission, Completion}

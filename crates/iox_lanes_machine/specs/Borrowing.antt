@@ -1,7 +1,7 @@
 -- Which slots a subscriber borrows, and of which connection.
 use Rattle.std.specs.Prelude.{ℕ, ◌≡◌, ◌<◌, ◌==◌, Bool, true, false, List, get_or, Option, Some, None}
-use Rattle.iox_lanes_parties.specs.QueuesRings.declared.refusing.push.Push as refusing_type
-use Rattle.iox_lanes_parties.specs.QueuesRings.declared.refusing.push.Push.TheVariants as refusing
+use Rattle.iox_lanes_parties.specs.QueuesSteps.declared.rings.refusing.push.Push as refusing_type
+use Rattle.iox_lanes_parties.specs.QueuesSteps.declared.rings.refusing.push.Push.TheVariants as refusing
 use Rattle.iox_lanes_parties.specs.LanesBase.declared.calls.route.Route.{Route}
 use Rattle.iox_lanes_parties.specs.LanesBase.declared.calls.subscriber.SubscriberCall.{SubscriberCall}
 use Rattle.iox_lanes_parties.specs.LanesBase.declared.calls.subscriber.SubscriberCall.TheVariants as subscribing

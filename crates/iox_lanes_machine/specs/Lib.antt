@@ -41,5 +41,4 @@ pub mod LedgerRooms
 pub mod Pace
 pub use Rattle.iox_lanes_parties.specs.LanesBase as LanesBase
 pub use Rattle.iox_lanes_parties.specs as LanesParties
-pub use Rattle.iox_lanes_parties.specs.QueuesRings as QueuesRings
 pub use Rattle.iox_lanes_parties.specs.QueuesSteps as QueuesSteps

@@ -1,11 +1,11 @@
 -- How many steps a publisher's call may still make.
 use Rattle.std.specs.Prelude.{ℕ, ◌+◌, ◌-◌, ◌*◌}
-use Rattle.iox_lanes_parties.specs.QueuesRings.declared.overflowing.push.Push.TheVariants as overflowing
-use Rattle.iox_lanes_parties.specs.QueuesRings.declared.refusing.push.Push.TheVariants as refusing
-use Rattle.iox_lanes_parties.specs.QueuesRings.declared.refusing.pop.Pop.{Pop}
-use Rattle.iox_lanes_parties.specs.QueuesRings.declared.refusing.pop.Pop.TheVariants as pop
-use Rattle.iox_lanes_parties.specs.QueuesRings.declared.ends.Push.{Push}
-use Rattle.iox_lanes_parties.specs.QueuesRings.declared.ends.Push.TheVariants as ring
+use Rattle.iox_lanes_parties.specs.QueuesSteps.declared.rings.overflowing.push.Push.TheVariants as overflowing
+use Rattle.iox_lanes_parties.specs.QueuesSteps.declared.rings.refusing.push.Push.TheVariants as refusing
+use Rattle.iox_lanes_parties.specs.QueuesSteps.declared.rings.refusing.pop.Pop.{Pop}
+use Rattle.iox_lanes_parties.specs.QueuesSteps.declared.rings.refusing.pop.Pop.TheVariants as pop
+use Rattle.iox_lanes_parties.specs.QueuesSteps.declared.rings.ends.Push.{Push}
+use Rattle.iox_lanes_parties.specs.QueuesSteps.declared.rings.ends.Push.TheVariants as ring
 use Rattle.iox_lanes_parties.specs.LanesBase.declared.calls.publisher.PublisherCall.{PublisherCall}
 use Rattle.iox_lanes_parties.specs.LanesBase.declared.calls.publisher.PublisherCall.TheVariants as publishing
 use Rattle.iox_lanes_parties.specs.PublisherKeeping.{BookState}

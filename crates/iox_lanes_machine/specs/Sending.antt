@@ -1,11 +1,11 @@
 -- What a send that is under way knows of its slot: the connections that it has not come to lack it.
 use Rattle.std.specs.Prelude.{ℕ, ◌≡◌, ◌+◌, ◌<◌, ◌≤◌, false}
-use Rattle.iox_lanes_parties.specs.QueuesRings.declared.overflowing.push.Push as overflowing_type
-use Rattle.iox_lanes_parties.specs.QueuesRings.declared.overflowing.push.Push.TheVariants as overflowing
-use Rattle.iox_lanes_parties.specs.QueuesRings.declared.refusing.push.Push as refusing_type
-use Rattle.iox_lanes_parties.specs.QueuesRings.declared.refusing.push.Push.TheVariants as refusing
-use Rattle.iox_lanes_parties.specs.QueuesRings.declared.ends.Push.{Push}
-use Rattle.iox_lanes_parties.specs.QueuesRings.declared.ends.Push.TheVariants as ring
+use Rattle.iox_lanes_parties.specs.QueuesSteps.declared.rings.overflowing.push.Push as overflowing_type
+use Rattle.iox_lanes_parties.specs.QueuesSteps.declared.rings.overflowing.push.Push.TheVariants as overflowing
+use Rattle.iox_lanes_parties.specs.QueuesSteps.declared.rings.refusing.push.Push as refusing_type
+use Rattle.iox_lanes_parties.specs.QueuesSteps.declared.rings.refusing.push.Push.TheVariants as refusing
+use Rattle.iox_lanes_parties.specs.QueuesSteps.declared.rings.ends.Push.{Push}
+use Rattle.iox_lanes_parties.specs.QueuesSteps.declared.rings.ends.Push.TheVariants as ring
 use Rattle.iox_lanes_parties.specs.LanesBase.declared.calls.publisher.PublisherCall.{PublisherCall}
 use Rattle.iox_lanes_parties.specs.LanesBase.declared.calls.publisher.PublisherCall.TheVariants as publishing
 use Rattle.iox_lanes_parties.specs.PublisherKeeping.{BookState, loan_of}

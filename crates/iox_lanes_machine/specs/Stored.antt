@@ -5,8 +5,8 @@ use Rattle.iox_lanes_parties.specs.QueuesSteps.declared.order.Act.{Act}
 use Rattle.iox_lanes_parties.specs.QueuesSteps.declared.order.Act.TheVariants.{Put, Take}
 use Rattle.iox_lanes_parties.specs.QueuesSteps.declared.order.PushAnswer.{PushAnswer}
 use Rattle.iox_lanes_parties.specs.QueuesSteps.declared.order.PushAnswer.TheVariants.{Kept, LeftOut, Refused}
-use Rattle.iox_lanes_parties.specs.QueuesRings.Ends.{late_put}
-use Rattle.iox_lanes_parties.specs.QueuesRings.declared.ends.Push.{Push}
+use Rattle.iox_lanes_parties.specs.QueuesSteps.Ends.{late_put}
+use Rattle.iox_lanes_parties.specs.QueuesSteps.declared.rings.ends.Push.{Push}
 
 -- a value that was put, unless it was refused
 abbrev pub taken_in : ℕ → PushAnswer → List ℕ

@@ -2,7 +2,7 @@
 -- of a connection, the slots or the headers of a publisher, or the places of a subscriber's connections.
 use Rattle.std.specs.Prelude.{ℕ, ◌≡◌, ◌+◌, ◌<◌, ◌≤◌, ◌==◌, ◌&&◌, if◌then◌else◌, Bool, true, false, List, [], ◌∷◌, ◌++◌, length, get_or, slice_get, Option, Some, None}
 use Rattle.iox_lanes_machine.specs.QueuesSteps.Access.{RingWords}
-use Rattle.iox_lanes_machine.specs.QueuesRings.Ends.{cells_of}
+use Rattle.iox_lanes_machine.specs.QueuesSteps.Ends.{cells_of}
 use Rattle.iox_lanes_machine.specs.LanesBase.Numbers.{IsWord}
 use Rattle.iox_lanes_machine.specs.LanesBase.Table.{held_by}
 use Rattle.iox_lanes_machine.specs.LanesBase.declared.words.word.SlotWord.{SlotWord}

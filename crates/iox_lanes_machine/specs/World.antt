@@ -7,9 +7,9 @@ use Rattle.iox_lanes_machine.specs.QueuesSteps.declared.order.Act.{Act}
 use Rattle.iox_lanes_machine.specs.QueuesSteps.declared.order.Placed.{Placed}
 use Rattle.iox_lanes_machine.specs.QueuesSteps.declared.schedule.Stepped.{Stepped}
 use Rattle.iox_lanes_machine.specs.QueuesSteps.declared.schedule.Stepped.TheVariants as stepped
-use Rattle.iox_lanes_machine.specs.QueuesRings.Ends.{placed_by_push, placed_by_pop}
-use Rattle.iox_lanes_machine.specs.QueuesRings.declared.ends.RingKind.{RingKind}
-use Rattle.iox_lanes_machine.specs.QueuesRings.declared.ends.Push.{Push}
+use Rattle.iox_lanes_machine.specs.QueuesSteps.Ends.{placed_by_push, placed_by_pop}
+use Rattle.iox_lanes_machine.specs.QueuesSteps.declared.rings.ends.RingKind.{RingKind}
+use Rattle.iox_lanes_machine.specs.QueuesSteps.declared.rings.ends.Push.{Push}
 use Rattle.iox_lanes_machine.specs.LanesBase.Table.{TableWords, held_by, shared_answer, after_shared}
 use Rattle.iox_lanes_machine.specs.LanesBase.Publishing.{publisher_next, publisher_is_over}
 use Rattle.iox_lanes_machine.specs.LanesBase.Subscribing.{subscriber_next, subscriber_is_over}

@@ -1,7 +1,7 @@
 //! What lanes find before their first step.
 ghost use Rattle.std.specs.Prelude.{◌≡◌, ◌+◌, ◌-◌, ◌<◌, ◌≤◌, ◌^◌, ◌&&◌, true, nat_lt, length, slice_get, option_copied, Some, OnOk, OnErr};
 ghost use Rattle.iox_lanes_machine.specs.QueuesSteps.declared.access.Word.{Word};
-ghost use Rattle.iox_lanes_machine.specs.QueuesRings.Ends.{cells_of};
+ghost use Rattle.iox_lanes_machine.specs.QueuesSteps.Ends.{cells_of};
 ghost use Rattle.iox_lanes_machine.specs.LanesBase.Numbers.{IsWord};
 ghost use Rattle.iox_lanes_machine.specs.LanesBase.Table.{stored_in};
 ghost use Rattle.iox_lanes_machine.specs.Findings.{back_at, back_found, back_of, buffered_at, buffered_in, buffered_of, buffers_at, buffers_of, finds, finds_now, given_at, given_of, has_word, laid, may_be_back, may_buffer, may_wait, is_there, named_of, newest_of, remembered_of, resized_of, resizes_of, subscribers_meet, swapped_of, swaps_of, takes_buffer, takes_more, waiting_at, waiting_in, waiting_of, waits_at, waits_of, with_buffer, with_found};
@@ -15,8 +15,8 @@ use iox_lanes_base::calls::Route;
 use iox_lanes_base::words::{
     ConnectionRing, SharedAccess, SharedWord, SlotWord, TableSizes, WordTable,
 };
-use iox_queues_rings::RingKind;
 use iox_queues_steps::Word;
+use iox_queues_steps::rings::RingKind;
 use std::alloc::AllocError;
 
 /// What lanes find before their first step. A connection goes by its publisher and its place there, a slot by its number in the service.

@@ -1,14 +1,14 @@
 //! What stands in the order of a connection at a step.
 ghost use Rattle.std.specs.Prelude.{◌≡◌, if◌then◌else◌, [], None};
 ghost use Rattle.std.specs.Option.{option_to_list};
-ghost use Rattle.iox_lanes_machine.specs.QueuesRings.Ends.{late_put};
+ghost use Rattle.iox_lanes_machine.specs.QueuesSteps.Ends.{late_put};
 ghost use Rattle.iox_lanes_machine.specs.LanesBase.Numbers.{IsWord};
 ghost use Rattle.iox_lanes_machine.specs.LanesBase.Table.{held_by};
 ghost use Rattle.iox_lanes_machine.specs.Rings.{push_on, sent_word};
 
 use iox_lanes_base::calls::PublisherCall;
 use iox_lanes_base::words::{ConnectionRing, SharedWord, WordTable};
-use iox_queues_rings::{Push, RingKind};
+use iox_queues_steps::rings::{Push, RingKind};
 use iox_queues_steps::{Act, Word};
 
 /// The acts that stand at a step, and the connection of them.

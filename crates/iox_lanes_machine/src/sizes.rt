@@ -1,12 +1,12 @@
 //! How many ports lanes have, and their sizes.
 ghost use Rattle.std.specs.Prelude.{◌≡◌, IfSome};
-ghost use Rattle.iox_lanes_machine.specs.QueuesRings.Ends.{cells_of};
+ghost use Rattle.iox_lanes_machine.specs.QueuesSteps.Ends.{cells_of};
 ghost use Rattle.iox_lanes_machine.specs.Made.{table_sizes, link_at};
 
 use crate::link::Link;
 use iox_lanes_base::calls::Route;
 use iox_lanes_base::words::TableSizes;
-use iox_queues_rings::RingKind;
+use iox_queues_steps::rings::RingKind;
 use std::alloc::Global;
 
 /// How many ports lanes have, and their sizes. Each publisher has a connection to each subscriber.

@@ -18,7 +18,7 @@ use iox_lanes_base::words::{ConnectionRing, SharedWord, TableSizes, WordTable};
 use iox_lanes_parties::{
     Answer, Call, CallName, FinishedCall, Move, Party, PublisherLane, SubscriberLane,
 };
-use iox_queues_rings::{Push, RingKind};
+use iox_queues_steps::rings::{Push, RingKind};
 use iox_queues_steps::{Placed, Stepped, Word};
 use std::alloc::{AllocError, Global};
 

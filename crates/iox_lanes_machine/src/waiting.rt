@@ -1,6 +1,6 @@
 //! What waits at a connection, read out of its ring.
 ghost use Rattle.std.specs.Prelude.{◌≡◌, ◌+◌, ◌-◌, ◌<◌, ◌≤◌, ◌%◌, length, slice_get, Some};
-ghost use Rattle.iox_lanes_machine.specs.QueuesRings.Ends.{cells_of};
+ghost use Rattle.iox_lanes_machine.specs.QueuesSteps.Ends.{cells_of};
 ghost use Rattle.iox_lanes_machine.specs.QueuesSteps.declared.access.Word.TheVariants.{Cell};
 ghost use Rattle.iox_lanes_machine.specs.LanesBase.Table.{held_by};
 ghost use Rattle.iox_lanes_machine.specs.Kept.{IsWithin};

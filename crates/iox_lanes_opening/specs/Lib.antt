@@ -10,4 +10,4 @@ pub mod Leaving
 pub mod Clearing
 pub mod Restoring
 pub mod Restored
-pub use Rattle.iox_domain_sender.specs as DomainSender
+pub use Rattle.iox_domain_publisher.specs as DomainPublisher

@@ -1,10 +1,10 @@
 -- A publisher that gets the messages that lanes leave.
 use Rattle.std.specs.Prelude.{ℕ, ◌≡◌, ◌+◌, ◌-◌, ◌<◌, ◌≤◌, List, [], length, map, slice_get, None, Some}
 use Rattle.std.specs.List.{All}
-use Rattle.iox_domain_sender.specs.DomainSlots.Uses.{Uses, connection_at, with_connection}
-use Rattle.iox_domain_sender.specs.DomainSlots.declared.stage.Stage.TheVariants as stage
-use Rattle.iox_domain_sender.specs.Messages.{Message, Loan}
-use Rattle.iox_domain_sender.specs.Sending.{SenderState, with_uses}
+use Rattle.iox_domain_publisher.specs.DomainSlots.Uses.{Uses, connection_at, with_connection}
+use Rattle.iox_domain_publisher.specs.DomainSlots.declared.stage.Stage.TheVariants as stage
+use Rattle.iox_domain_publisher.specs.Messages.{Message, Loan}
+use Rattle.iox_domain_publisher.specs.MessagesSending.{SenderState, with_uses}
 use Rattle.iox_lanes_machine.specs.LanesBase.Numbers.{words_of}
 use Rattle.iox_lanes_machine.specs.LanesBase.Table.{TableWords}
 use Rattle.iox_lanes_machine.specs.Resting.{Rests, mail_at}

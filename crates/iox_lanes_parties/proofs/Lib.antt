@@ -3,5 +3,4 @@ pub mod Rings
 pub mod PublishersWithin
 pub mod SubscribersWithin
 pub use Rattle.iox_lanes_base.proofs as LanesBase
-pub use Rattle.iox_lanes_base.proofs.QueuesRings as QueuesRings
 pub use Rattle.iox_lanes_base.proofs.QueuesSteps as QueuesSteps

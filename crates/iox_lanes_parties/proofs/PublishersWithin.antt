@@ -9,10 +9,10 @@ use Rattle.iox_lanes_parties.specs.QueuesSteps.Access.{successor}
 use Rattle.iox_lanes_parties.specs.QueuesSteps.declared.order.PushAnswer.{PushAnswer}
 use Rattle.iox_lanes_parties.specs.QueuesSteps.declared.order.PopAnswer.{PopAnswer}
 use Rattle.iox_lanes_parties.specs.QueuesSteps.declared.order.PopAnswer.TheVariants.{Got, Saw}
-use Rattle.iox_lanes_parties.specs.QueuesRings.Refusing.{pop_next, pop_take}
-use Rattle.iox_lanes_parties.specs.QueuesRings.declared.refusing.pop.Pop.{Pop}
-use Rattle.iox_lanes_parties.specs.QueuesRings.Ends.{push_next, push_take}
-use Rattle.iox_lanes_parties.specs.QueuesRings.declared.ends.Push.{Push}
+use Rattle.iox_lanes_parties.specs.QueuesSteps.Refusing.{pop_next, pop_take}
+use Rattle.iox_lanes_parties.specs.QueuesSteps.declared.rings.refusing.pop.Pop.{Pop}
+use Rattle.iox_lanes_parties.specs.QueuesSteps.Ends.{push_next, push_take}
+use Rattle.iox_lanes_parties.specs.QueuesSteps.declared.rings.ends.Push.{Push}
 use Rattle.iox_lanes_parties.specs.LanesBase.Table.{IsOfTable}
 use Rattle.iox_lanes_parties.specs.LanesBase.Numbers.{IsSlotWord}
 use Rattle.iox_lanes_parties.specs.LanesBase.declared.words.sizes.TableSizes.{TableSizes}

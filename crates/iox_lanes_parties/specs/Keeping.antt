@@ -2,7 +2,7 @@
 use Rattle.std.specs.Prelude.{ℕ, ◌-◌, List, length, set, get_or, replicate, Option, None, Some, if◌then◌else◌, nat_lt, false}
 use Rattle.std.specs.List.{swap}
 use Rattle.iox_lanes_base.specs.QueuesSteps.Access.{successor}
-use Rattle.iox_lanes_base.specs.QueuesRings.declared.refusing.push.Push.TheVariants.{Begun}
+use Rattle.iox_lanes_base.specs.QueuesSteps.declared.rings.refusing.push.Push.TheVariants.{Begun}
 use Rattle.iox_lanes_base.specs.Subscribing.{subscriber_take, subscriber_change, receive_at, read_at}
 use Rattle.iox_lanes_base.specs.Routes.{rerouted}
 use Rattle.iox_lanes_base.specs.declared.calls.route.Route.{Route}

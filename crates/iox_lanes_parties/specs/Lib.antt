@@ -5,5 +5,4 @@ pub mod Keeping
 pub mod PublisherKeeping
 pub mod Publishers
 pub use Rattle.iox_lanes_base.specs as LanesBase
-pub use Rattle.iox_lanes_base.specs.QueuesRings as QueuesRings
 pub use Rattle.iox_lanes_base.specs.QueuesSteps as QueuesSteps

@@ -11,8 +11,8 @@ use iox_lanes_base::calls::Receipt;
 use iox_lanes_machine::{LaneSizes, Lanes};
 use iox_lanes_parties::publisher::LoanAnswer;
 use iox_lanes_parties::{Answer, Call, Move, Party};
-use iox_queues_rings::RingKind;
 use iox_queues_steps::Stepped;
+use iox_queues_steps::rings::RingKind;
 use std::alloc::{AllocError, Global};
 use std::test::Fail;
 

@@ -5,7 +5,7 @@ use iox_lanes_base::calls::Receipt;
 use iox_lanes_machine::{LaneSizes, Lanes, Link};
 use iox_lanes_parties::publisher::LoanAnswer;
 use iox_lanes_parties::{Answer, Call, CallName, FinishedCall, Move, Party};
-use iox_queues_rings::RingKind;
+use iox_queues_steps::rings::RingKind;
 use iox_queues_steps::{Act, Placed, PopAnswer, PushAnswer};
 use std::alloc::{AllocError, Global};
 

@@ -2,8 +2,8 @@
 use iox_lanes_laws::messages::RecordedLanes;
 use iox_lanes_machine::{LaneSizes, Lanes};
 use iox_lanes_parties::{Call, Move, Party};
-use iox_queues_rings::RingKind;
 use iox_queues_steps::Stepped;
+use iox_queues_steps::rings::RingKind;
 use std::alloc::{AllocError, Global};
 use std::test::Fail;
 

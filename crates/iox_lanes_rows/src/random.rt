@@ -7,8 +7,8 @@ use crate::known::{
 };
 use iox_lanes_machine::{Found, LaneSizes, Lanes};
 use iox_lanes_parties::{Call, Move, Party};
-use iox_queues_rings::RingKind;
 use iox_queues_steps::Stepped;
+use iox_queues_steps::rings::RingKind;
 use std::alloc::{AllocError, Global};
 use std::test::Fail;
 

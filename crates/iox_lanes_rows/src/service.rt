@@ -5,7 +5,7 @@ use iox_lanes_base::calls::Delivery;
 use iox_lanes_machine::{LaneSizes, Lanes};
 use iox_lanes_parties::publisher::LoanAnswer;
 use iox_lanes_threads::{LanePublisher, LaneSubscriber};
-use iox_queues_rings::RingKind;
+use iox_queues_steps::rings::RingKind;
 use std::alloc::{AllocError, Global};
 
 fn sizes(kind: RingKind) -> LaneSizes

@@ -4,7 +4,7 @@ use crate::start::Start;
 use iox_lanes_base::calls::{Delivery, Receipt};
 use iox_lanes_parties::publisher::LoanAnswer;
 use iox_lanes_threads::{LanePublisher, LaneSubscriber, LaneThreads, end, open_threads};
-use iox_queues_rings::RingKind;
+use iox_queues_steps::rings::RingKind;
 use std::alloc::{AllocError, Global};
 use std::sync::Wait;
 use std::sync::atomic::{AtomicU64, Ordering};

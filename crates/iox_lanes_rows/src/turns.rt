@@ -3,7 +3,7 @@ use crate::service::{narrow_lanes, read_back, sent};
 use crate::start::Start;
 use iox_lanes_base::calls::Receipt;
 use iox_lanes_threads::{LanePublisher, LaneSubscriber, LaneThreads, end, open_threads};
-use iox_queues_rings::RingKind;
+use iox_queues_steps::rings::RingKind;
 use std::alloc::{AllocError, Global};
 use std::sync::Wait;
 use std::test::Fail;

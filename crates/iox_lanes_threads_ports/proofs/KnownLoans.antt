@@ -3,8 +3,8 @@ use Rattle.std.proofs.Common.{ℕ, ◌≡◌, true, List, slice_get, Option, Som
 use Rattle.iox_lanes_machine.specs.QueuesSteps.Access.{successor}
 use Rattle.iox_lanes_machine.specs.QueuesSteps.declared.order.PopAnswer.{PopAnswer}
 use Rattle.iox_lanes_machine.specs.QueuesSteps.declared.order.PopAnswer.TheVariants.{Got, Saw}
-use Rattle.iox_lanes_machine.specs.QueuesRings.Refusing as refusing
-use Rattle.iox_lanes_machine.specs.QueuesRings.declared.refusing.pop.Pop.{Pop}
+use Rattle.iox_lanes_machine.specs.QueuesSteps.Refusing as refusing
+use Rattle.iox_lanes_machine.specs.QueuesSteps.declared.rings.refusing.pop.Pop.{Pop}
 use Rattle.iox_lanes_machine.specs.LanesBase.Answers.{refusing_pop_answer}
 use Rattle.iox_lanes_machine.specs.LanesBase.Publishing.{publisher_take, publisher_is_over, loan_from, loan_reclaimed}
 use Rattle.iox_lanes_machine.specs.LanesBase.declared.calls.publisher.PublisherCall.{PublisherCall}

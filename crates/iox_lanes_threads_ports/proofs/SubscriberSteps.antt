@@ -8,13 +8,13 @@ use Rattle.iox_lanes_machine.specs.QueuesSteps.declared.order.PushAnswer.{PushAn
 use Rattle.iox_lanes_machine.specs.QueuesSteps.declared.order.PushAnswer.TheVariants.{Kept, LeftOut, Refused}
 use Rattle.iox_lanes_machine.specs.QueuesSteps.declared.order.PopAnswer.{PopAnswer}
 use Rattle.iox_lanes_machine.specs.QueuesSteps.declared.order.PopAnswer.TheVariants.{Got, Saw}
-use Rattle.iox_lanes_machine.specs.QueuesRings.Refusing as refusing
-use Rattle.iox_lanes_machine.specs.QueuesRings.declared.refusing.push.Push as refusing_push_type
-use Rattle.iox_lanes_machine.specs.QueuesRings.Ends.{pop_first, pop_next, pop_take}
-use Rattle.iox_lanes_machine.specs.QueuesRings.declared.ends.RingKind.{RingKind}
-use Rattle.iox_lanes_machine.specs.QueuesRings.declared.ends.RingKind.TheVariants as kind
-use Rattle.iox_lanes_machine.specs.QueuesRings.declared.ends.Pop.{Pop}
-use Rattle.iox_lanes_machine.specs.QueuesRings.declared.ends.Pop.TheVariants as ring_pop
+use Rattle.iox_lanes_machine.specs.QueuesSteps.Refusing as refusing
+use Rattle.iox_lanes_machine.specs.QueuesSteps.declared.rings.refusing.push.Push as refusing_push_type
+use Rattle.iox_lanes_machine.specs.QueuesSteps.Ends.{pop_first, pop_next, pop_take}
+use Rattle.iox_lanes_machine.specs.QueuesSteps.declared.rings.ends.RingKind.{RingKind}
+use Rattle.iox_lanes_machine.specs.QueuesSteps.declared.rings.ends.RingKind.TheVariants as kind
+use Rattle.iox_lanes_machine.specs.QueuesSteps.declared.rings.ends.Pop.{Pop}
+use Rattle.iox_lanes_machine.specs.QueuesSteps.declared.rings.ends.Pop.TheVariants as ring_pop
 use Rattle.iox_lanes_machine.specs.LanesBase.Numbers.{slot_words, words_of}
 use Rattle.iox_lanes_machine.specs.LanesBase.Table.{IsOfTable}
 use Rattle.iox_lanes_machine.specs.LanesBase.Words.{on_ring}

@@ -4,7 +4,7 @@ use Rattle.atomic_table.specs.Seated.{TableId}
 use Rattle.atomic_table.specs.Table.{Me}
 use Rattle.iox_lanes_machine.specs.LanesBase.Numbers.{words_of, IsSmall}
 use Rattle.iox_lanes_machine.specs.LanesBase.declared.words.sizes.TableSizes.{TableSizes}
-use Rattle.iox_lanes_machine.specs.QueuesRings.declared.refusing.push.Push.TheVariants as push
+use Rattle.iox_lanes_machine.specs.QueuesSteps.declared.rings.refusing.push.Push.TheVariants as push
 use Rattle.iox_lanes_machine.specs.LanesBase.Publishing.{publisher_is_idle}
 use Rattle.iox_lanes_machine.specs.LanesBase.Subscribing.{subscriber_is_idle, subscriber_is_over}
 use Rattle.iox_lanes_machine.specs.LanesBase.declared.calls.subscriber.SubscriberCall.{SubscriberCall}

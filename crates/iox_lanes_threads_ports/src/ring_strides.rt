@@ -1,9 +1,9 @@
 //! A publisher's pops and pushes on its rings, each at once: its lane makes up for one behind its last access.
 ghost use Rattle.std.specs.Prelude.{◌≡◌, ◌<◌, ◌≤◌};
-ghost use Rattle.iox_lanes_machine.specs.QueuesRings.declared.refusing.pop.Pop.TheVariants as refusing_pop;
-ghost use Rattle.iox_lanes_machine.specs.QueuesRings.declared.refusing.push.Push.TheVariants as refusing_push;
-ghost use Rattle.iox_lanes_machine.specs.QueuesRings.declared.overflowing.push.Push.TheVariants as overflowing_push;
-ghost use Rattle.iox_lanes_machine.specs.QueuesRings.declared.ends.Push.TheVariants as ring_push;
+ghost use Rattle.iox_lanes_machine.specs.QueuesSteps.declared.rings.refusing.pop.Pop.TheVariants as refusing_pop;
+ghost use Rattle.iox_lanes_machine.specs.QueuesSteps.declared.rings.refusing.push.Push.TheVariants as refusing_push;
+ghost use Rattle.iox_lanes_machine.specs.QueuesSteps.declared.rings.overflowing.push.Push.TheVariants as overflowing_push;
+ghost use Rattle.iox_lanes_machine.specs.QueuesSteps.declared.rings.ends.Push.TheVariants as ring_push;
 ghost use Rattle.iox_lanes_machine.specs.LanesBase.Numbers.{words_of, IsSmall};
 ghost use Rattle.iox_lanes_machine.specs.LanesBase.declared.calls.publisher.PublisherCall.TheVariants as call;
 ghost use Rattle.iox_lanes_threads_rule.specs.Acts.{single, port_of};
@@ -15,10 +15,10 @@ use iox_lanes_base::calls::{Delivery, PublisherCall, Route};
 use iox_lanes_base::words::{ConnectionRing, SharedWord, TableSizes};
 use iox_lanes_parties::PublisherLane;
 use iox_lanes_threads_rule::{Opening, WordSeat, Words};
-use iox_queues_rings::Push;
-use iox_queues_rings::overflowing::Push as OverflowingPush;
-use iox_queues_rings::refusing::{Pop as RefusingPop, Push as RefusingPush};
 use iox_queues_steps::Word;
+use iox_queues_steps::rings::Push;
+use iox_queues_steps::rings::overflowing::Push as OverflowingPush;
+use iox_queues_steps::rings::refusing::{Pop as RefusingPop, Push as RefusingPush};
 
 /// Takes one sample back at a connection for a loan, or finds none.
 pub(crate) fn take_back<K: Opening>(

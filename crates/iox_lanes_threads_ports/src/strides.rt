@@ -15,9 +15,9 @@ use iox_lanes_base::calls::PublisherCall;
 use iox_lanes_base::words::{SharedWord, SlotWord, TableSizes};
 use iox_lanes_parties::PublisherLane;
 use iox_lanes_threads_rule::{Opening, WordSeat, Words};
-use iox_queues_rings::Push;
-use iox_queues_rings::overflowing::Push as OverflowingPush;
-use iox_queues_rings::refusing::{Pop as RefusingPop, Push as RefusingPush};
+use iox_queues_steps::rings::Push;
+use iox_queues_steps::rings::overflowing::Push as OverflowingPush;
+use iox_queues_steps::rings::refusing::{Pop as RefusingPop, Push as RefusingPush};
 
 // Whether a list begins with a number.
 fn begins_with(list: &[u64], number: u64) -> bool

@@ -1,9 +1,9 @@
 //! A subscriber's pops and pushes on its rings, each at once: its lane makes up for one behind its last access.
 ghost use Rattle.std.specs.Prelude.{◌≡◌, Bool};
-ghost use Rattle.iox_lanes_machine.specs.QueuesRings.declared.refusing.pop.Pop.TheVariants as refusing_pop;
-ghost use Rattle.iox_lanes_machine.specs.QueuesRings.declared.refusing.push.Push.TheVariants as refusing_push;
-ghost use Rattle.iox_lanes_machine.specs.QueuesRings.declared.overflowing.pop.Pop.TheVariants as overflowing_pop;
-ghost use Rattle.iox_lanes_machine.specs.QueuesRings.declared.ends.Pop.TheVariants as ring_pop;
+ghost use Rattle.iox_lanes_machine.specs.QueuesSteps.declared.rings.refusing.pop.Pop.TheVariants as refusing_pop;
+ghost use Rattle.iox_lanes_machine.specs.QueuesSteps.declared.rings.refusing.push.Push.TheVariants as refusing_push;
+ghost use Rattle.iox_lanes_machine.specs.QueuesSteps.declared.rings.overflowing.pop.Pop.TheVariants as overflowing_pop;
+ghost use Rattle.iox_lanes_machine.specs.QueuesSteps.declared.rings.ends.Pop.TheVariants as ring_pop;
 ghost use Rattle.iox_lanes_machine.specs.LanesBase.Numbers.{words_of, IsSmall};
 ghost use Rattle.iox_lanes_machine.specs.LanesBase.declared.calls.subscriber.SubscriberCall.TheVariants as call;
 ghost use Rattle.iox_lanes_threads_rule.specs.Acts.{single, port_of};
@@ -15,10 +15,10 @@ use iox_lanes_base::calls::{Route, SubscriberCall};
 use iox_lanes_base::words::{ConnectionRing, SharedWord, TableSizes};
 use iox_lanes_parties::SubscriberLane;
 use iox_lanes_threads_rule::{Opening, WordSeat, Words};
-use iox_queues_rings::Pop;
-use iox_queues_rings::overflowing::Pop as OverflowingPop;
-use iox_queues_rings::refusing::{Pop as RefusingPop, Push as RefusingPush};
 use iox_queues_steps::Word;
+use iox_queues_steps::rings::Pop;
+use iox_queues_steps::rings::overflowing::Pop as OverflowingPop;
+use iox_queues_steps::rings::refusing::{Pop as RefusingPop, Push as RefusingPush};
 
 /// Takes a message out of the ring of a connection that refuses, or finds none.
 pub(crate) fn pop<K: Opening>(

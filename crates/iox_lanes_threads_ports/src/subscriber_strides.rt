@@ -16,9 +16,9 @@ use iox_lanes_base::calls::subscriber::SlotExtent;
 use iox_lanes_base::words::{SharedWord, SlotWord, TableSizes};
 use iox_lanes_parties::SubscriberLane;
 use iox_lanes_threads_rule::{Opening, WordSeat, Words};
-use iox_queues_rings::Pop;
-use iox_queues_rings::overflowing::Pop as OverflowingPop;
-use iox_queues_rings::refusing::{Pop as RefusingPop, Push as RefusingPush};
+use iox_queues_steps::rings::Pop;
+use iox_queues_steps::rings::overflowing::Pop as OverflowingPop;
+use iox_queues_steps::rings::refusing::{Pop as RefusingPop, Push as RefusingPush};
 
 // A word of header, user header and payload, which lie one behind the other.
 fn word_at(extent: SlotExtent, word: u64) -> SlotWord

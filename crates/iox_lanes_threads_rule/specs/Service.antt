@@ -1,8 +1,8 @@
 -- Which port of a service stores which of its words.
 use Rattle.std.specs.Prelude.{ℕ, ◌≡◌, ◌+◌, ◌<◌, ◌≤◌, length, slice_get, Option, None, Some}
 use Rattle.iox_lanes_parties.specs.QueuesSteps.declared.access.Word.TheVariants.{Write, Read, Cell}
-use Rattle.iox_lanes_parties.specs.QueuesRings.declared.ends.RingKind.{RingKind}
-use Rattle.iox_lanes_parties.specs.QueuesRings.declared.ends.RingKind.TheVariants as kind
+use Rattle.iox_lanes_parties.specs.QueuesSteps.declared.rings.ends.RingKind.{RingKind}
+use Rattle.iox_lanes_parties.specs.QueuesSteps.declared.rings.ends.RingKind.TheVariants as kind
 use Rattle.iox_lanes_parties.specs.LanesBase.declared.words.word.ConnectionRing.TheVariants.{Submission, Completion}
 use Rattle.iox_lanes_parties.specs.LanesBase.declared.words.word.SharedWord.{SharedWord}
 use Rattle.iox_lanes_parties.specs.LanesBase.declared.words.word.SharedWord.TheVariants.{Ring, Slot}

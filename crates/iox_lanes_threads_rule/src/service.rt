@@ -1,6 +1,6 @@
 //! Which ports and connections a service has.
 use iox_lanes_base::words::TableSizes;
-use iox_queues_rings::RingKind;
+use iox_queues_steps::rings::RingKind;
 use std::collections::LinkedList;
 
 /// A connection: which publisher sends to which subscriber, by their numbers, and what its ring of messages does. No value is ever made.

@@ -14,18 +14,18 @@ use Rattle.iox_machine.specs.State.{State, Factory, AtOne, replaced, counted, wi
 use Rattle.iox_machine.specs.Table.{at, removed}
 use Rattle.iox_machine.proofs.Cases.{by-bool, by-option, same-some, never-some}
 use Rattle.iox_machine.proofs.Lists.{all-weaker, all-joined, all-filtered}
-use Rattle.iox_command.specs.NegotiateErrors.DescribeBase.Attributes.{Required}
-use Rattle.iox_command.specs.NegotiateErrors.DescribeBase.declared.attribute.Attribute.{Attribute}
-use Rattle.iox_command.specs.NegotiateErrors.DescribeBase.declared.message_type.MessageTypeDetails.{MessageTypeDetails}
-use Rattle.iox_command.specs.NegotiateErrors.DescribeSettings.declared.static_config.Settings.{Settings}
-use Rattle.iox_command.specs.NegotiateErrors.DescribeSettings.declared.static_config.Settings.TheVariants as settings
-use Rattle.iox_command.specs.NegotiateErrors.DescribeSettings.declared.static_config.publish_subscribe.StaticConfig.{StaticConfig}
-use Rattle.iox_command.specs.NegotiateErrors.EventErrors as event
-use Rattle.iox_command.specs.NegotiateErrors.PublishSubscribeErrors as publish_subscribe
-use Rattle.iox_command.specs.NegotiateErrors.RequestResponseErrors as request_response
-use Rattle.iox_command.specs.NegotiateErrors.NegotiateRounds.declared.failure.CreateFailure.TheVariants as uncreated
-use Rattle.iox_command.specs.NegotiateErrors.NegotiateRounds.declared.failure.OpenFailure.TheVariants as unopened
-use Rattle.iox_command.specs.NegotiateErrors.declared.close.CloseError.TheVariants.{StillInUse}
+use Rattle.iox_command.specs.NegotiateBase.DescribeBase.Attributes.{Required}
+use Rattle.iox_command.specs.NegotiateBase.DescribeBase.declared.attribute.Attribute.{Attribute}
+use Rattle.iox_command.specs.NegotiateBase.DescribeBase.declared.message_type.MessageTypeDetails.{MessageTypeDetails}
+use Rattle.iox_command.specs.NegotiateBase.DescribeSettings.declared.static_config.Settings.{Settings}
+use Rattle.iox_command.specs.NegotiateBase.DescribeSettings.declared.static_config.Settings.TheVariants as settings
+use Rattle.iox_command.specs.NegotiateBase.DescribeSettings.declared.static_config.publish_subscribe.StaticConfig.{StaticConfig}
+use Rattle.iox_command.specs.NegotiateBase.EventErrors as event
+use Rattle.iox_command.specs.NegotiateBase.PublishSubscribeErrors as publish_subscribe
+use Rattle.iox_command.specs.NegotiateBase.RequestResponseErrors as request_response
+use Rattle.iox_command.specs.NegotiateBase.declared.failure.CreateFailure.TheVariants as uncreated
+use Rattle.iox_command.specs.NegotiateBase.declared.failure.OpenFailure.TheVariants as unopened
+use Rattle.iox_command.specs.NegotiateBase.declared.errors.close.CloseError.TheVariants.{StillInUse}
 use Rattle.iox_command.specs.declared.refusal.Refusal.{Refusal}
 use Rattle.iox_command.specs.declared.refusal.Refusal.TheVariants as refusal
 use Rattle.iox_command.specs.declared.reply.Reply.{Reply}

@@ -8,7 +8,7 @@ use Rattle.iox_machine.specs.Message.{Message, Sample}
 use Rattle.iox_machine.specs.Ports.{subscriber_in}
 use Rattle.iox_machine.specs.Receiving.{Receives, has_samples}
 use Rattle.iox_machine.specs.Run.{Step, Runs}
-use Rattle.iox_machine.specs.RunLaws.{AllMessages, BeginsToSend, Began, IsWithinSizes, SizesAreAgreed, MessagesWereSent, ReceivedWasSent, SamplesReadTheSame}
+use Rattle.iox_machine.specs.RunLaws.{AllMessages, BeginsToSend, Began, IsWithinSizes, SizesAreAgreed, MessagesWereSent, SamplesReadTheSame}
 use Rattle.iox_machine.specs.Service.{Service, Publisher, Subscriber, Send, mailbox}
 use Rattle.iox_machine.specs.State.{State, Made, new_state, counted}
 use Rattle.iox_machine.specs.SubscriberUpdate as subscribing
@@ -19,7 +19,7 @@ use Rattle.iox_machine.proofs.Moving.{at-one}
 use Rattle.iox_machine.proofs.Sound.{BoxFits, PublisherFits, SampleFits, Sound, box-fits, subscriber-fits, subscriber-updates}
 use Rattle.iox_machine.proofs.Steps.{step-sound}
 use Rattle.iox_command.specs.DomainValues.declared.port_error.ReceiveError.TheVariants as receive_error
-use Rattle.iox_command.specs.NegotiateErrors.DescribeBase.declared.message_type.MessageTypeDetails.{MessageTypeDetails}
+use Rattle.iox_command.specs.NegotiateBase.DescribeBase.declared.message_type.MessageTypeDetails.{MessageTypeDetails}
 use Rattle.iox_command.specs.declared.command.Command.{Command}
 use Rattle.iox_command.specs.declared.command.Command.TheVariants as command
 use Rattle.iox_command.specs.declared.refusal.Refusal.{Refusal}
@@ -53,7 +53,7 @@ samples-rise reply.Skipped made = omega arith
 samples-rise (reply.Refused why) made = omega arith
 
 module _ {T : Type 0} where
-  abbrev values_in : Reply T → Vec T → Vec T
+  abbrev pub values_in : Reply T → Vec T → Vec T
   values_in (reply.Received number values) other = values
   values_in (reply.Values values) other = values
   values_in reply other = other
@@ -68,13 +68,13 @@ module _ {T : Type 0} where
   tells_values reply = false
 
   -- a reply that tells values is no other
-  never-told : {A : Type 0} (one other : Reply T) → one ≡ other → tells_values one ≡ true → tells_values other ≡ false → A
+  pub never-told : {A : Type 0} (one other : Reply T) → one ≡ other → tells_values one ≡ true → tells_values other ≡ false → A
   never-told one other same told silent = absurd (differ (sym told ∙ (ap tells_values same ∙ silent)))
     where
       differ : true ≡ false → ⊥
       differ e = cc
 
-  never-received : {A : Type 0} (sample : ℕ) (values : Vec T) (b : Bool) (why : Refusal)
+  pub never-received : {A : Type 0} (sample : ℕ) (values : Vec T) (b : Bool) (why : Refusal)
       → reply.Received sample values ≡ cond b (reply.Refused why) reply.NothingWaits → A
   never-received sample values true why e = never-told (reply.Received sample values) (reply.Refused why) e refl refl
   never-received sample values false why e = never-told (reply.Received sample values) reply.NothingWaits e refl refl
@@ -113,7 +113,7 @@ module _ {T : Type 0} where
         (λ entry fits. (next entry.0 entry.1 fits.0, on entry.1.publisher entry.1.message fits.1)) service.samples sound.3,
   )
 
-  abbrev AreSound : (ℕ → Message T → Type 0) → (ℕ → Sample T → Type 0) → State T → Type 0
+  abbrev pub AreSound : (ℕ → Message T → Type 0) → (ℕ → Sample T → Type 0) → State T → Type 0
   AreSound Good Fine state = AllByRecursion (Sound Good Fine) state.services
 
   all-weaker-sound : (Good Other : ℕ → Message T → Type 0) (Fine Next : ℕ → Sample T → Type 0)
@@ -123,7 +123,7 @@ module _ {T : Type 0} where
   all-weaker-sound Good Other Fine Next on next state all =
       all-weaker (Sound Good Fine) (Sound Other Next) (weaker-sound Good Other Fine Next on next) state.services all
 
-  abbrev AnyMessage : ℕ → Message T → Type 0
+  abbrev pub AnyMessage : ℕ → Message T → Type 0
   AnyMessage publisher message = ⊤
 
   abbrev AnySample : ℕ → Sample T → Type 0
@@ -257,10 +257,10 @@ module _ {T : Type 0} where
         subst (λ (made : Made). old.made.samples ≤ made.samples) (sym (made-so asked old answer new h all)) (samples-rise answer old.made)
 
     -- the samples are numbered up to those that were made
-    abbrev Numbered : State T → ℕ → Sample T → Type 0
+    abbrev pub Numbered : State T → ℕ → Sample T → Type 0
     Numbered state number sample = number ≤ state.made.samples
 
-    runs-numbered : (asked : List (Command T)) (old : State T) (answers : List (Reply T)) (new : State T) → Ran asked old answers new
+    pub runs-numbered : (asked : List (Command T)) (old : State T) (answers : List (Reply T)) (new : State T) → Ran asked old answers new
         → AreSound AnyMessage (Numbered old) old → AreSound AnyMessage (Numbered new) new
     runs-numbered [] old answers new run all = subst (λ (state : State T). AreSound AnyMessage (Numbered state) state) (sym run.1) all
     runs-numbered (one ∷ more) old answers new run all =
@@ -304,6 +304,15 @@ module _ {T : Type 0} where
         past : old.made.samples + 1 ≡ sample → ⊥
         past is = omega (arith, made, is)
 
+-- what is received is numbered next
+pub received-number : {T : Type 0} (types : MessageTypeDetails) (IsDefault : T → Type 0) (buffer : ℕ) (asked : List (Command T))
+    (answers : List (Reply T)) (old : State T) → Runs types IsDefault buffer asked new_state answers old
+    → (subscriber sample : ℕ) (values : Vec T) (new : State T)
+    → Step types IsDefault buffer (command.Receive subscriber) old (reply.Received sample values) new → sample ≡ old.made.samples + 1
+received-number types IsDefault buffer asked answers old run subscriber sample values new h =
+    (received-good types IsDefault buffer AnyMessage AnySample subscriber old sample values new
+    (runs-sized types IsDefault buffer asked new_state answers old run tt) h).4
+
 pub sizes-agreed : {T : Type 0} (IsDefault : T → Type 0) → SizesAreAgreed IsDefault
 sizes-agreed {T} IsDefault types buffer asked answers new run =
     all-weaker (Sound AnyMessage AnySample) IsWithinSizes
@@ -331,13 +340,6 @@ messages-sent {T} IsDefault types buffer asked answers new run =
           (λ (entry : ℕ × Sample T). Good entry.1.publisher entry.1.message) (λ entry fits. fits.1) service.samples sound.3,
     ))
     new.services (sent-sound types IsDefault buffer asked answers new run)
-
-pub received-sent : {T : Type 0} (IsDefault : T → Type 0) → ReceivedWasSent IsDefault
-received-sent {T} IsDefault types buffer asked answers old run subscriber sample values new h =
-    let taken : IsTaken types IsDefault buffer (Sent types IsDefault buffer asked answers old run) (old.made.samples + 1) sample values =
-    received-good types IsDefault buffer (Sent types IsDefault buffer asked answers old run) AnySample subscriber old sample values new
-    (sent-sound types IsDefault buffer asked answers old run) h in
-    (taken.0, subst (λ (items : List T). Began types IsDefault buffer taken.0 items asked new_state answers old run) (sym taken.3) taken.2)
 
 pub samples-read : {T : Type 0} (IsDefault : T → Type 0) → SamplesReadTheSame IsDefault
 samples-read {T} IsDefault types buffer asked answers old run subscriber sample values mid received meanwhile told later ran read new h =

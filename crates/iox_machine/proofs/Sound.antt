@@ -29,13 +29,13 @@ use Rattle.iox_command.specs.DomainValues.declared.port_error.LoanError.{LoanErr
 use Rattle.iox_command.specs.DomainValues.declared.port_error.SendError.TheVariants as error
 use Rattle.iox_command.specs.DomainValues.declared.create_error.PublisherCreateError.TheVariants as publisher_error
 use Rattle.iox_command.specs.DomainValues.declared.create_error.SubscriberCreateError.TheVariants as subscriber_error
-use Rattle.iox_command.specs.NegotiateErrors.DescribeSettings.declared.static_config.publish_subscribe.StaticConfig.{StaticConfig}
+use Rattle.iox_command.specs.NegotiateBase.DescribeSettings.declared.static_config.publish_subscribe.StaticConfig.{StaticConfig}
 use Rattle.iox_command.specs.declared.refusal.Refusal.{Refusal}
 use Rattle.iox_command.specs.declared.refusal.Refusal.TheVariants as refusal
 use Rattle.iox_command.specs.declared.reply.Reply.{Reply}
 use Rattle.iox_command.specs.declared.reply.Reply.TheVariants as reply
 
-find-passes : {X : Type 0} (test : X → Bool) (xs : List X) (x : X) → find test xs ≡ Some x → test x ≡ true
+pub find-passes : {X : Type 0} (test : X → Bool) (xs : List X) (x : X) → find test xs ≡ Some x → test x ≡ true
 find-passes test [] x e = never-some x e
 find-passes test (y ∷ xs) x e = elim (chosen (test y) (Some y) (find test xs) (Some x) e) [
   | inl it ↦ subst (λ z. test z ≡ true) (same-some y x it.1) it.0

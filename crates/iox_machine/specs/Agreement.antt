@@ -1,20 +1,20 @@
 -- What the nodes of a service agree on, and whether that can be and is as it was asked for.
 use Rattle.std.specs.Prelude.{◌^◌, Bool, not, ◌&&◌, nat_lt, List, Option, None, Some, Result, if◌then◌else◌}
 use Rattle.iox_machine.specs.Asked.{asked_event, asked_publish_subscribe, asked_request_response}
-use Rattle.iox_command.specs.NegotiateErrors.DescribeBase.Attributes.{Required}
-use Rattle.iox_command.specs.NegotiateErrors.DescribeBase.declared.attribute.Attribute.{Attribute}
-use Rattle.iox_command.specs.NegotiateErrors.DescribeBase.declared.message_type.MessageTypeDetails.{MessageTypeDetails}
-use Rattle.iox_command.specs.NegotiateErrors.DescribeSettings.declared.static_config.Settings.{Settings}
-use Rattle.iox_command.specs.NegotiateErrors.DescribeSettings.declared.static_config.Settings.TheVariants as settings
-use Rattle.iox_command.specs.NegotiateErrors.DescribeVerdict.EventClauses as event_clauses
-use Rattle.iox_command.specs.NegotiateErrors.DescribeVerdict.PublishSubscribeClauses as publish_subscribe_clauses
-use Rattle.iox_command.specs.NegotiateErrors.DescribeVerdict.RequestResponseClauses as request_response_clauses
-use Rattle.iox_command.specs.NegotiateErrors.DescribeVerdict.Verdict.{first_unmet}
-use Rattle.iox_command.specs.NegotiateErrors.DescribeVerdict.declared.requirement.event.ClauseError.{ClauseError as EventClause}
-use Rattle.iox_command.specs.NegotiateErrors.DescribeVerdict.declared.requirement.publish_subscribe.ClauseError.{ClauseError as PublishSubscribeClause}
-use Rattle.iox_command.specs.NegotiateErrors.DescribeVerdict.declared.requirement.request_response.ClauseError.{ClauseError as RequestResponseClause}
-use Rattle.iox_command.specs.NegotiateErrors.NegotiateRounds.declared.failure.CreateFailure.{CreateFailure}
-use Rattle.iox_command.specs.NegotiateErrors.NegotiateRounds.declared.failure.CreateFailure.TheVariants.{InternalFailure, SubscriberBufferMustBeLargerThanHistorySize}
+use Rattle.iox_command.specs.NegotiateBase.DescribeBase.Attributes.{Required}
+use Rattle.iox_command.specs.NegotiateBase.DescribeBase.declared.attribute.Attribute.{Attribute}
+use Rattle.iox_command.specs.NegotiateBase.DescribeBase.declared.message_type.MessageTypeDetails.{MessageTypeDetails}
+use Rattle.iox_command.specs.NegotiateBase.DescribeSettings.declared.static_config.Settings.{Settings}
+use Rattle.iox_command.specs.NegotiateBase.DescribeSettings.declared.static_config.Settings.TheVariants as settings
+use Rattle.iox_command.specs.NegotiateBase.DescribeVerdict.EventClauses as event_clauses
+use Rattle.iox_command.specs.NegotiateBase.DescribeVerdict.PublishSubscribeClauses as publish_subscribe_clauses
+use Rattle.iox_command.specs.NegotiateBase.DescribeVerdict.RequestResponseClauses as request_response_clauses
+use Rattle.iox_command.specs.NegotiateBase.DescribeVerdict.Verdict.{first_unmet}
+use Rattle.iox_command.specs.NegotiateBase.DescribeVerdict.declared.requirement.event.ClauseError.{ClauseError as EventClause}
+use Rattle.iox_command.specs.NegotiateBase.DescribeVerdict.declared.requirement.publish_subscribe.ClauseError.{ClauseError as PublishSubscribeClause}
+use Rattle.iox_command.specs.NegotiateBase.DescribeVerdict.declared.requirement.request_response.ClauseError.{ClauseError as RequestResponseClause}
+use Rattle.iox_command.specs.NegotiateBase.declared.failure.CreateFailure.{CreateFailure}
+use Rattle.iox_command.specs.NegotiateBase.declared.failure.CreateFailure.TheVariants.{InternalFailure, SubscriberBufferMustBeLargerThanHistorySize}
 use Rattle.iox_command.specs.declared.service.EventOptions.{EventOptions}
 use Rattle.iox_command.specs.declared.service.PublishSubscribeOptions.{PublishSubscribeOptions}
 use Rattle.iox_command.specs.declared.service.RequestResponseOptions.{RequestResponseOptions}

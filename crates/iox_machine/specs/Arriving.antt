@@ -11,7 +11,7 @@ use Rattle.iox_command.specs.DomainValues.declared.create_error.PublisherCreateE
 use Rattle.iox_command.specs.DomainValues.declared.create_error.SubscriberCreateError.TheVariants as subscriber_error
 use Rattle.iox_command.specs.DomainValues.declared.data_segment.AllocationStrategy.TheVariants.{Static}
 use Rattle.iox_command.specs.DomainValues.declared.degradation.DegradationAction.TheVariants.{Warn}
-use Rattle.iox_command.specs.NegotiateErrors.DescribeSettings.declared.static_config.publish_subscribe.StaticConfig.{StaticConfig}
+use Rattle.iox_command.specs.NegotiateBase.DescribeSettings.declared.static_config.publish_subscribe.StaticConfig.{StaticConfig}
 use Rattle.iox_command.specs.declared.port.PublisherOptions.{PublisherOptions}
 use Rattle.iox_command.specs.declared.port.SubscriberOptions.{SubscriberOptions}
 use Rattle.iox_command.specs.declared.refusal.Refusal.TheVariants as refusal

@@ -22,3 +22,7 @@ pub mod Ports
 pub mod Run
 pub mod Laws
 pub mod RunLaws
+pub mod MessageLaws
+pub mod AgreementLaws
+pub mod UpdateLaws
+pub mod IndependenceLaws

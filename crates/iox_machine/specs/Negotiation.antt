@@ -2,15 +2,15 @@
 use Rattle.std.specs.Prelude.{ℕ, zero, suc, ◌+◌, ◌≡◌, ◌⊎◌, Bool, true, false, ◌||◌, ◌==◌, nat_lt, List, [], ◌∷◌, length, take, map, filter, fold, Option, None, Some, Result, Ok, Err, MatchOption, MatchResult, if◌then◌else◌}
 use Rattle.iox_machine.specs.Agreement.{Agreement, unfit}
 use Rattle.iox_machine.specs.Phase.{Node, Phase, Absent, BeingMade, Published, Emptied, is_in, entered, acted}
-use Rattle.iox_command.specs.NegotiateErrors.DescribeBase.declared.message_type.MessageTypeDetails.{MessageTypeDetails}
-use Rattle.iox_command.specs.NegotiateErrors.DescribeBase.declared.pattern.MessagingPattern.{MessagingPattern}
-use Rattle.iox_command.specs.NegotiateErrors.DescribeSettings.Agreement.{max_nodes_of}
-use Rattle.iox_command.specs.NegotiateErrors.NegotiateRounds.declared.failure.CreateFailure.{CreateFailure}
-use Rattle.iox_command.specs.NegotiateErrors.NegotiateRounds.declared.failure.CreateFailure.TheVariants as uncreated
-use Rattle.iox_command.specs.NegotiateErrors.NegotiateRounds.declared.failure.OpenFailure.{OpenFailure}
-use Rattle.iox_command.specs.NegotiateErrors.NegotiateRounds.declared.failure.OpenFailure.TheVariants as unopened
-use Rattle.iox_command.specs.NegotiateErrors.NegotiateRounds.declared.failure.OpenOrCreateFailure.{OpenOrCreateFailure}
-use Rattle.iox_command.specs.NegotiateErrors.NegotiateRounds.declared.failure.OpenOrCreateFailure.TheVariants as neither
+use Rattle.iox_command.specs.NegotiateBase.DescribeBase.declared.message_type.MessageTypeDetails.{MessageTypeDetails}
+use Rattle.iox_command.specs.NegotiateBase.DescribeBase.declared.pattern.MessagingPattern.{MessagingPattern}
+use Rattle.iox_command.specs.NegotiateBase.DescribeSettings.Agreement.{max_nodes_of}
+use Rattle.iox_command.specs.NegotiateBase.declared.failure.CreateFailure.{CreateFailure}
+use Rattle.iox_command.specs.NegotiateBase.declared.failure.CreateFailure.TheVariants as uncreated
+use Rattle.iox_command.specs.NegotiateBase.declared.failure.OpenFailure.{OpenFailure}
+use Rattle.iox_command.specs.NegotiateBase.declared.failure.OpenFailure.TheVariants as unopened
+use Rattle.iox_command.specs.NegotiateBase.declared.failure.OpenOrCreateFailure.{OpenOrCreateFailure}
+use Rattle.iox_command.specs.NegotiateBase.declared.failure.OpenOrCreateFailure.TheVariants as neither
 use Rattle.iox_command.specs.declared.step.StepBefore.{StepBefore}
 
 -- A call under way: the phase of its pattern and name, and how many accesses it made.

@@ -10,7 +10,7 @@ use Rattle.iox_machine.specs.Service.{Service}
 use Rattle.iox_machine.specs.State.{State, new_state}
 use Rattle.iox_machine.specs.Table.{at}
 use Rattle.iox_command.specs.DomainValues.declared.port_error.SendError.TheVariants as error
-use Rattle.iox_command.specs.NegotiateErrors.DescribeBase.declared.message_type.MessageTypeDetails.{MessageTypeDetails}
+use Rattle.iox_command.specs.NegotiateBase.DescribeBase.declared.message_type.MessageTypeDetails.{MessageTypeDetails}
 use Rattle.iox_command.specs.declared.command.Command.{Command}
 use Rattle.iox_command.specs.declared.command.Command.TheVariants as command
 use Rattle.iox_command.specs.declared.refusal.Refusal.{Refusal}
@@ -93,14 +93,6 @@ module _ {T : Type 0} (IsDefault : T → Type 0) where
       → AllByRecursion
       (AllMessages (λ publisher message. Began types IsDefault buffer publisher message.values asked new_state answers new run))
       new.services
-
-  -- What a subscriber receives after a run of a new machine are the values of a message of which a send began in the run.
-  abbrev pub ReceivedWasSent : Type 0
-  ReceivedWasSent = (types : MessageTypeDetails) (buffer : ℕ) (asked : List (Command T)) (answers : List (Reply T)) (old : State T)
-      (run : Runs types IsDefault buffer asked new_state answers old)
-      (subscriber sample : ℕ) (values : Vec T) (new : State T)
-      → Step types IsDefault buffer (command.Receive subscriber) old (reply.Received sample values) new
-      → (publisher : ℕ) × Began types IsDefault buffer publisher (vec_items values) asked new_state answers old run
 
   -- A sample reads as it was received, whatever was asked meanwhile.
   abbrev pub SamplesReadTheSame : Type 0

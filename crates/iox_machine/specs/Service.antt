@@ -8,7 +8,7 @@ use Rattle.iox_command.specs.DomainValues.declared.backpressure.BackpressureActi
 use Rattle.iox_command.specs.DomainValues.declared.backpressure_strategy.BackpressureStrategy.{BackpressureStrategy}
 use Rattle.iox_command.specs.DomainValues.declared.data_segment.AllocationStrategy.{AllocationStrategy}
 use Rattle.iox_command.specs.DomainValues.declared.degradation.DegradationAction.{DegradationAction}
-use Rattle.iox_command.specs.NegotiateErrors.DescribeSettings.declared.static_config.publish_subscribe.StaticConfig.{StaticConfig}
+use Rattle.iox_command.specs.NegotiateBase.DescribeSettings.declared.static_config.publish_subscribe.StaticConfig.{StaticConfig}
 
 -- A send under way: its message; the subscribers that are left, in place order; how often the first of them was tried again, and for how
 -- long; how many mailboxes took the message; and whether the send is to fail at its end.

@@ -4,8 +4,8 @@ use Rattle.std.specs.Cmp.Lexicographic.{pointwise}
 use Rattle.iox_machine.specs.Phase.{Phase, Absent, same_pattern}
 use Rattle.iox_machine.specs.Service.{Service}
 use Rattle.iox_machine.specs.Replies.{IsSkipped}
-use Rattle.iox_command.specs.NegotiateErrors.DescribeBase.declared.pattern.MessagingPattern.{MessagingPattern}
-use Rattle.iox_command.specs.NegotiateErrors.DescribeBase.declared.pattern.MessagingPattern.TheVariants as pattern
+use Rattle.iox_command.specs.NegotiateBase.DescribeBase.declared.pattern.MessagingPattern.{MessagingPattern}
+use Rattle.iox_command.specs.NegotiateBase.DescribeBase.declared.pattern.MessagingPattern.TheVariants as pattern
 use Rattle.iox_command.specs.declared.reply.Reply.{Reply}
 use Rattle.iox_command.specs.declared.reply.Reply.TheVariants as reply
 

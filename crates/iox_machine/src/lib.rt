@@ -9,9 +9,14 @@
 //! ```
 #![tactic(auto)]
 
+ghost use Rattle.iox_machine.specs.AgreementLaws.{AgreementIsDescribed, AgreementStays, CreatesAsDescribed, LivesStartAnew};
+ghost use Rattle.iox_machine.specs.AgreementLaws.{OneAgreement, ServicesStartEmpty};
+ghost use Rattle.iox_machine.specs.IndependenceLaws.{OthersAreLeft, ServicesAreAsIfAlone};
 ghost use Rattle.iox_machine.specs.Laws.{PutAtUnknownIsSkipped, OverflowDropsTheOldest};
-ghost use Rattle.iox_machine.specs.RunLaws.{MessagesWereSent, ReceivedWasSent, RefusedChangesNothing};
+ghost use Rattle.iox_machine.specs.MessageLaws.{HeldIsRead, OrderIsOfSends, ReceivedInOrder, ReceivedWasSent};
+ghost use Rattle.iox_machine.specs.RunLaws.{MessagesWereSent, RefusedChangesNothing};
 ghost use Rattle.iox_machine.specs.RunLaws.{SamplesReadTheSame, SizesAreAgreed, SkippedChangesNothing};
+ghost use Rattle.iox_machine.specs.UpdateLaws.{PublisherIsUpdated, SubscriberIsUpdated};
 
 /// A new machine answers a put at any publisher by skipping it.
 pub fn put_at_unknown_is_skipped()
@@ -35,11 +40,6 @@ pub fn messages_were_sent<T: Default>()
     ensures { MessagesWereSent T.is_default }
 {}
 
-/// What a subscriber receives are the values of a message of which a send began earlier in the run.
-pub fn received_was_sent<T: Default>()
-    ensures { ReceivedWasSent T.is_default }
-{}
-
 /// A sample reads as it was received, whatever ports and factories go meanwhile.
 pub fn samples_read_the_same<T: Default>()
     ensures { SamplesReadTheSame T.is_default }
@@ -53,4 +53,89 @@ pub fn skipped_changes_nothing<T: Default>()
 /// A command that is refused as a whole changes nothing: one that makes a node or a port, lends, or closes a factory.
 pub fn refused_changes_nothing<T: Default>()
     ensures { RefusedChangesNothing T.is_default }
+{}
+
+// ---- from whom a subscriber has its messages, in which order, and for how long
+
+/// What a subscriber receives are the values of a message of which the send began earlier in the run, by a publisher of the subscriber's
+/// own service, that has been of it ever since: of that name and those settings, and never gone between.
+pub fn received_was_sent<T: Default>()
+    ensures { ReceivedWasSent T.is_default }
+{}
+
+/// What a subscriber received of a publisher, in a whole run, is part of what that sent, in the order of sending, each message once at
+/// most.
+pub fn received_in_order<T: Default>()
+    ensures { ReceivedInOrder T.is_default }
+{}
+
+/// A sample that was received is read, and gives what was received, until its own release, whatever ports and factories go meanwhile.
+pub fn held_is_read<T: Default>()
+    ensures { HeldIsRead T.is_default }
+{}
+
+/// Of two messages that one is received first which was sent first, though it was lent last.
+pub fn order_is_of_sends()
+    ensures { OrderIsOfSends }
+{}
+
+/// In every run of a new machine there is at most one service of a pattern and name. It has the settings that are published there, and a
+/// factory of it is in the hub. Each factory is of a published service in which its node is, and so all factories of a name have one
+/// agreement; the ports of one of publish-subscribe stand in the hub.
+pub fn services_agree<T: Default>()
+    ensures { OneAgreement T.is_default }
+{}
+
+/// Through any run what is agreed on in a life of a pattern and name stays as it is, and lives go on one after the other.
+pub fn an_agreement_stays<T: Default>()
+    ensures { AgreementStays T.is_default }
+{}
+
+/// What is agreed on under a pattern and name after a command was so before, or is described by the command: it is to create such a
+/// service, or has a node outside the hub publish it.
+pub fn an_agreement_is_described<T: Default>()
+    ensures { AgreementIsDescribed T.is_default }
+{}
+
+/// A node that creates a service has just what it described, in a new life, with it alone.
+pub fn a_service_is_created_as_described<T: Default>()
+    ensures { CreatesAsDescribed T.is_default }
+{}
+
+/// A service that stands after a command, and none of its name before, has no port, no mailbox, no history and no message.
+pub fn a_service_starts_empty<T: Default>()
+    ensures { ServicesStartEmpty T.is_default }
+{}
+
+/// Once a new machine has no factory of a service it has no such service, and what is later of that name goes by numbers that weren't given
+/// yet: its ports, loans and samples.
+pub fn a_life_starts_anew<T: Default>()
+    ensures { LivesStartAnew T.is_default }
+{}
+
+/// After an update of a publisher that went well it has seen all changes of the list of subscribers. If there were new ones, each
+/// subscriber that is listed is connected at its place, or no connection was made, for want of memory; none failed so where the
+/// publisher is to fail then. If there were none, nothing changes.
+pub fn an_update_connects_a_publisher<T: Default>()
+    ensures { PublisherIsUpdated T.is_default }
+{}
+
+/// After an update of a subscriber that went well it has seen all changes of the list of publishers. If there were new ones, or it was to
+/// update again, each publisher that is listed is connected at its place; or no connection was made, for want of memory; or one that left
+/// is connected there still, of which something is borrowed. Nothing failed so where the subscriber is to fail then. Else nothing changes.
+pub fn an_update_connects_a_subscriber<T: Default>()
+    ensures { SubscriberIsUpdated T.is_default }
+{}
+
+/// As long as nothing is asked of a service in a run of a new machine all of it stays as it was, whatever is asked of others and answered:
+/// its phase, its factories, its ports, and all that is lent, waits, is kept or is borrowed there.
+pub fn services_are_beside_one_another<T: Default>()
+    ensures { OthersAreLeft T.is_default }
+{}
+
+/// In every run of a new machine, leave out the commands that ask nothing of a service, but for those that make nodes: the others are
+/// answered just so by a new machine that was asked nothing else, if only the numbers that were given in the run are passed over. So
+/// what is answered about a service depends on other services by nothing but the numbers that they take.
+pub fn a_service_is_as_if_alone<T: Default>()
+    ensures { ServicesAreAsIfAlone T.is_default }
 {}

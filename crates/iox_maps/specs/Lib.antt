@@ -11,4 +11,12 @@ pub mod Places
 pub mod PlacesLends
 pub mod SlotMapLends
 pub mod SlotTable
+pub mod Accepted
+pub mod Refusals
+pub mod ByteSteps
+pub mod Wide
+pub mod NumberLaws
+pub mod NumberTable
+pub mod NumberedLends
+pub mod ByNumberPlaces
 pub use Rattle.iox_container.specs as Container

@@ -1,11 +1,12 @@
-//! Tables of fixed capacity, and the names of the two crates beside them.
+//! Tables of fixed capacity, semantic strings, byte cells, and values under numbers that are given once.
 //!
 //! | Module | What it has |
 //! |---|---|
 //! | `slot_map` | slot maps, which give out the keys of their values: `SlotMap` and `FixedSizeSlotMap` |
 //! | `flat_map` | flat maps, whose keys the caller brings: `FlatMap` and `FixedSizeFlatMap` |
-//! | (`iox_semantic`) | semantic strings: `Semantic` over `Rules` |
-//! | (`iox_byte_cells`) | values that are copied byte by byte: `FixedSizeByteAtomic`, `MaybeTorn`, `ByteMachine` |
+//! | `semantic_strings` | texts that always obey the rules of their kind: `Semantic` over `Rules` |
+//! | `byte_cells` | values that are copied byte by byte: `FixedSizeByteAtomic`, `MaybeTorn`, `ByteMachine` |
+//! | `by_number` | values under numbers that are given once: `Numbered` |
 //!
 //! A map takes all its memory when it is made, and touches it as it is used. A refused call changes nothing.
 //!
@@ -23,15 +24,17 @@
 //! ```
 #![tactic(auto)]
 
+pub mod by_number;
+pub mod byte_cells;
 pub mod flat_map;
 mod free_keys;
 mod linked_keys;
 mod places;
+pub mod semantic_strings;
 pub mod slot_map;
 
+pub use by_number::Numbered;
+pub use byte_cells::{ByteAnswer, ByteMachine, ByteStep, Coded, FixedSizeByteAtomic, MaybeTorn};
 pub use flat_map::{FixedSizeFlatMap, FlatMap, FlatMapError};
-pub use iox_byte_cells::{
-    ByteAnswer, ByteMachine, ByteStep, Coded, FixedSizeByteAtomic, MaybeTorn,
-};
-pub use iox_semantic::{Rules, Semantic, SemanticStringError};
+pub use semantic_strings::{Rules, Semantic, SemanticStringError};
 pub use slot_map::{FixedSizeSlotMap, SlotMap, SlotMapKey};

@@ -1,25 +1,25 @@
 -- What is opened was read, and meets what is asked.
 use Rattle.std.proofs.Common.{rules, IsSome, ◌≡◌, ℕ, List, ◌∷◌, ◌⊎◌, ⊎_elim, inl, inr, Option, None, Some, Result, Ok, Err, refl, sym, ap, subst, ◌∙◌}
-use Rattle.iox_negotiate_errors.specs.DescribeBase.declared.hash.ServiceHash.{ServiceHash}
-use Rattle.iox_negotiate_errors.specs.DescribeSettings.Agreement.{Agreement}
-use Rattle.iox_negotiate_errors.specs.Describe.Within.{IsWithinLimits}
-use Rattle.iox_negotiate_errors.specs.NegotiateRounds.Access.{Access, Look, OpenSegment}
-use Rattle.iox_negotiate_errors.specs.NegotiateRounds.Failing.{opened, entered, created, created_or_again, opened_or_again}
-use Rattle.iox_negotiate_errors.specs.NegotiateRounds.Opening.{Registers, OpensJudged, OpensSeen, OpenRound, EitherCreates, EitherSeen, EitherRound}
-use Rattle.iox_negotiate_errors.specs.NegotiateRounds.Sight.{IsSight}
-use Rattle.iox_negotiate_errors.specs.NegotiateRounds.declared.answer.LookAnswer.{LookAnswer}
-use Rattle.iox_negotiate_errors.specs.NegotiateRounds.declared.answer.LookAnswer.TheVariants as look
-use Rattle.iox_negotiate_errors.specs.NegotiateRounds.declared.answer.OpenSegmentAnswer.{OpenSegmentAnswer}
-use Rattle.iox_negotiate_errors.specs.NegotiateRounds.declared.answer.OpenSegmentAnswer.TheVariants as opening
-use Rattle.iox_negotiate_errors.specs.NegotiateRounds.declared.sight.Sight.{Sight}
-use Rattle.iox_negotiate_errors.specs.NegotiateRounds.declared.sight.Sight.TheVariants as sight
-use Rattle.iox_negotiate_errors.specs.NegotiateRounds.declared.sight.SightFailure.{SightFailure}
-use Rattle.iox_negotiate_errors.specs.NegotiateRounds.declared.creation.Attempt.{Attempt}
-use Rattle.iox_negotiate_errors.specs.NegotiateRounds.declared.creation.Attempt.TheVariants as attempt
-use Rattle.iox_negotiate_errors.specs.NegotiateRounds.declared.failure.CreateFailure.{CreateFailure}
-use Rattle.iox_negotiate_errors.specs.NegotiateRounds.declared.failure.OpenFailure.{OpenFailure}
-use Rattle.iox_negotiate_errors.specs.NegotiateRounds.declared.request.Opened.{Opened}
-use Rattle.iox_negotiate_errors.proofs.NegotiateRounds.Counting.{creates-service}
+use Rattle.iox_negotiate_base.specs.DescribeBase.declared.hash.ServiceHash.{ServiceHash}
+use Rattle.iox_negotiate_base.specs.DescribeSettings.Agreement.{Agreement}
+use Rattle.iox_negotiate_base.specs.Describe.Within.{IsWithinLimits}
+use Rattle.iox_negotiate_base.specs.Access.{Access, Look, OpenSegment}
+use Rattle.iox_negotiate_base.specs.Failing.{opened, entered, created, created_or_again, opened_or_again}
+use Rattle.iox_negotiate_base.specs.Opening.{Registers, OpensJudged, OpensSeen, OpenRound, EitherCreates, EitherSeen, EitherRound}
+use Rattle.iox_negotiate_base.specs.Sight.{IsSight}
+use Rattle.iox_negotiate_base.specs.declared.answer.LookAnswer.{LookAnswer}
+use Rattle.iox_negotiate_base.specs.declared.answer.LookAnswer.TheVariants as look
+use Rattle.iox_negotiate_base.specs.declared.answer.OpenSegmentAnswer.{OpenSegmentAnswer}
+use Rattle.iox_negotiate_base.specs.declared.answer.OpenSegmentAnswer.TheVariants as opening
+use Rattle.iox_negotiate_base.specs.declared.sight.Sight.{Sight}
+use Rattle.iox_negotiate_base.specs.declared.sight.Sight.TheVariants as sight
+use Rattle.iox_negotiate_base.specs.declared.sight.SightFailure.{SightFailure}
+use Rattle.iox_negotiate_base.specs.declared.creation.Attempt.{Attempt}
+use Rattle.iox_negotiate_base.specs.declared.creation.Attempt.TheVariants as attempt
+use Rattle.iox_negotiate_base.specs.declared.failure.CreateFailure.{CreateFailure}
+use Rattle.iox_negotiate_base.specs.declared.failure.OpenFailure.{OpenFailure}
+use Rattle.iox_negotiate_base.specs.declared.request.Opened.{Opened}
+use Rattle.iox_negotiate_base.proofs.Counting.{creates-service}
 use Rattle.iox_negotiate.specs.Laws.{IsMet, OpenedIsMet, EitherIsMet}
 
 -- of what is Some or Ok nothing else is

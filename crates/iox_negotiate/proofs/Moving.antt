@@ -1,12 +1,12 @@
 -- The same negotiation of equal things.
 use Rattle.std.proofs.Common.{◌≡◌, ℕ, Option, Result, subst}
-use Rattle.iox_negotiate_errors.specs.DescribeBase.declared.hash.ServiceHash.{ServiceHash}
-use Rattle.iox_negotiate_errors.specs.DescribeSettings.Agreement.{Agreement}
-use Rattle.iox_negotiate_errors.specs.NegotiateRounds.Access.{Access}
-use Rattle.iox_negotiate_errors.specs.NegotiateRounds.Opening.{Opens, OpensOrCreates}
-use Rattle.iox_negotiate_errors.specs.NegotiateRounds.declared.failure.CreateFailure.{CreateFailure}
-use Rattle.iox_negotiate_errors.specs.NegotiateRounds.declared.failure.OpenFailure.{OpenFailure}
-use Rattle.iox_negotiate_errors.specs.NegotiateRounds.declared.failure.OpenOrCreateFailure.{OpenOrCreateFailure}
+use Rattle.iox_negotiate_base.specs.DescribeBase.declared.hash.ServiceHash.{ServiceHash}
+use Rattle.iox_negotiate_base.specs.DescribeSettings.Agreement.{Agreement}
+use Rattle.iox_negotiate_base.specs.Access.{Access}
+use Rattle.iox_negotiate_base.specs.Opening.{Opens, OpensOrCreates}
+use Rattle.iox_negotiate_base.specs.declared.failure.CreateFailure.{CreateFailure}
+use Rattle.iox_negotiate_base.specs.declared.failure.OpenFailure.{OpenFailure}
+use Rattle.iox_negotiate_base.specs.declared.failure.OpenOrCreateFailure.{OpenOrCreateFailure}
 use Rattle.iox_negotiate.specs.Negotiation.{Negotiates, Either}
 use Rattle.iox_negotiate.specs.declared.factory.Membership.{Membership}
 

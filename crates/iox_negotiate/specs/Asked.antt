@@ -1,7 +1,7 @@
 -- What is asked of a service, whatever its pattern.
 use Rattle.std.specs.Prelude.{Option, None, Some}
-use Rattle.iox_negotiate_errors.specs.NegotiateRounds.declared.failure.CreateFailure.{CreateFailure}
-use Rattle.iox_negotiate_errors.specs.NegotiateRounds.declared.failure.CreateFailure.TheVariants as failure
+use Rattle.iox_negotiate_base.specs.declared.failure.CreateFailure.{CreateFailure}
+use Rattle.iox_negotiate_base.specs.declared.failure.CreateFailure.TheVariants as failure
 
 -- Whether a service may be created with its settings: they must be within the limits, or it is an internal failure, and then
 -- a full buffer that holds the publisher up must have room for the history.

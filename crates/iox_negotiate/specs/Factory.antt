@@ -1,14 +1,14 @@
 -- What a factory stands for, and how it is closed.
 use Rattle.std.specs.Prelude.{◌≡◌, ℕ, List, [], ◌∷◌, Result, Ok, Err}
-use Rattle.iox_negotiate_errors.specs.DescribeBase.declared.hash.ServiceHash.{ServiceHash}
-use Rattle.iox_negotiate_errors.specs.NegotiateRounds.Access.{Access, Leave, RemoveDescription, RemoveSegment}
-use Rattle.iox_negotiate_errors.specs.NegotiateRounds.declared.answer.LeaveAnswer.{LeaveAnswer}
-use Rattle.iox_negotiate_errors.specs.NegotiateRounds.declared.answer.LeaveAnswer.TheVariants as leaving
-use Rattle.iox_negotiate_errors.specs.NegotiateRounds.declared.answer.RemoveAnswer.{RemoveAnswer}
-use Rattle.iox_negotiate_errors.specs.NegotiateRounds.declared.answer.RemoveAnswer.TheVariants as removing
-use Rattle.iox_negotiate_errors.specs.NegotiateRounds.declared.request.Opened.{Opened}
-use Rattle.iox_negotiate_errors.specs.declared.close.CloseError.{CloseError}
-use Rattle.iox_negotiate_errors.specs.declared.close.CloseError.TheVariants.{UnableToRemoveDescription, UnableToRemoveSegment}
+use Rattle.iox_negotiate_base.specs.DescribeBase.declared.hash.ServiceHash.{ServiceHash}
+use Rattle.iox_negotiate_base.specs.Access.{Access, Leave, RemoveDescription, RemoveSegment}
+use Rattle.iox_negotiate_base.specs.declared.answer.LeaveAnswer.{LeaveAnswer}
+use Rattle.iox_negotiate_base.specs.declared.answer.LeaveAnswer.TheVariants as leaving
+use Rattle.iox_negotiate_base.specs.declared.answer.RemoveAnswer.{RemoveAnswer}
+use Rattle.iox_negotiate_base.specs.declared.answer.RemoveAnswer.TheVariants as removing
+use Rattle.iox_negotiate_base.specs.declared.request.Opened.{Opened}
+use Rattle.iox_negotiate_base.specs.declared.errors.close.CloseError.{CloseError}
+use Rattle.iox_negotiate_base.specs.declared.errors.close.CloseError.TheVariants.{UnableToRemoveDescription, UnableToRemoveSegment}
 use Rattle.iox_negotiate.specs.declared.factory.Membership.{Membership}
 
 -- the membership of a node in a service of a storage

@@ -1,12 +1,12 @@
 -- What holds of every service that was opened, said in other words than the accesses that led to it.
 use Rattle.std.specs.Prelude.{◌≡◌, ℕ, List, ◌⊎◌, Option, None, Result, Ok}
-use Rattle.iox_negotiate_errors.specs.DescribeBase.declared.hash.ServiceHash.{ServiceHash}
-use Rattle.iox_negotiate_errors.specs.DescribeSettings.Agreement.{Agreement}
-use Rattle.iox_negotiate_errors.specs.Describe.Within.{IsWithinLimits}
-use Rattle.iox_negotiate_errors.specs.NegotiateRounds.Access.{Access}
-use Rattle.iox_negotiate_errors.specs.NegotiateRounds.Opening.{Opens, OpensOrCreates}
-use Rattle.iox_negotiate_errors.specs.NegotiateRounds.declared.request.Opened.{Opened}
-use Rattle.iox_negotiate_errors.specs.NegotiateRounds.declared.failure.CreateFailure.{CreateFailure}
+use Rattle.iox_negotiate_base.specs.DescribeBase.declared.hash.ServiceHash.{ServiceHash}
+use Rattle.iox_negotiate_base.specs.DescribeSettings.Agreement.{Agreement}
+use Rattle.iox_negotiate_base.specs.Describe.Within.{IsWithinLimits}
+use Rattle.iox_negotiate_base.specs.Access.{Access}
+use Rattle.iox_negotiate_base.specs.Opening.{Opens, OpensOrCreates}
+use Rattle.iox_negotiate_base.specs.declared.request.Opened.{Opened}
+use Rattle.iox_negotiate_base.specs.declared.failure.CreateFailure.{CreateFailure}
 
 -- what was read under the hash meets what is asked, and is within the limits of a description
 abbrev pub IsMet : {V : Type 0} → ServiceHash → (Agreement → Result (Unit {0}) V) → Opened → Type 0

@@ -1,15 +1,15 @@
 -- What creating and opening come to, as a builder answers it: the rounds, and their answer in the words of the pattern.
 use Rattle.std.specs.Prelude.{◌≡◌, ℕ, List, Option, Result}
 use Rattle.std.specs.Result.{result_map_both}
-use Rattle.iox_negotiate_errors.specs.DescribeBase.declared.hash.ServiceHash.{ServiceHash}
-use Rattle.iox_negotiate_errors.specs.DescribeSettings.Agreement.{Agreement}
-use Rattle.iox_negotiate_errors.specs.NegotiateRounds.Access.{Access}
-use Rattle.iox_negotiate_errors.specs.NegotiateRounds.Creating.{CreatesIf}
-use Rattle.iox_negotiate_errors.specs.NegotiateRounds.Opening.{OpensOrCreates}
-use Rattle.iox_negotiate_errors.specs.NegotiateRounds.Runs.{Does}
-use Rattle.iox_negotiate_errors.specs.NegotiateRounds.declared.failure.CreateFailure.{CreateFailure}
-use Rattle.iox_negotiate_errors.specs.NegotiateRounds.declared.failure.OpenOrCreateFailure.{OpenOrCreateFailure}
-use Rattle.iox_negotiate_errors.specs.NegotiateRounds.declared.request.Opened.{Opened}
+use Rattle.iox_negotiate_base.specs.DescribeBase.declared.hash.ServiceHash.{ServiceHash}
+use Rattle.iox_negotiate_base.specs.DescribeSettings.Agreement.{Agreement}
+use Rattle.iox_negotiate_base.specs.Access.{Access}
+use Rattle.iox_negotiate_base.specs.Creating.{CreatesIf}
+use Rattle.iox_negotiate_base.specs.Opening.{OpensOrCreates}
+use Rattle.iox_negotiate_base.specs.Runs.{Does}
+use Rattle.iox_negotiate_base.specs.declared.failure.CreateFailure.{CreateFailure}
+use Rattle.iox_negotiate_base.specs.declared.failure.OpenOrCreateFailure.{OpenOrCreateFailure}
+use Rattle.iox_negotiate_base.specs.declared.request.Opened.{Opened}
 use Rattle.iox_negotiate.specs.Asked.{IsRefusal}
 use Rattle.iox_negotiate.specs.Factory.{membership}
 use Rattle.iox_negotiate.specs.declared.factory.Membership.{Membership}

@@ -1,8 +1,8 @@
 -- The types of the messages that a builder asks for.
 use Rattle.std.specs.Prelude.{ℕ, codes, max}
-use Rattle.iox_negotiate_errors.specs.DescribeBase.Detail.{Detail, detail}
-use Rattle.iox_negotiate_errors.specs.DescribeBase.declared.message_type.MessageTypeDetails.{MessageTypeDetails}
-use Rattle.iox_negotiate_errors.specs.DescribeBase.declared.type_detail.TypeVariant.TheVariants.{FixedSize}
+use Rattle.iox_negotiate_base.specs.DescribeBase.Detail.{Detail, detail}
+use Rattle.iox_negotiate_base.specs.DescribeBase.declared.message_type.MessageTypeDetails.{MessageTypeDetails}
+use Rattle.iox_negotiate_base.specs.DescribeBase.declared.type_detail.TypeVariant.TheVariants.{FixedSize}
 
 -- the header of all services: a node, a publisher and a number of elements
 abbrev pub header : Detail

@@ -1,12 +1,12 @@
 //! What a builder asks of a service, as a request of the rounds.
 ghost use Rattle.std.specs.Prelude.{◌≡◌};
-ghost use Rattle.iox_negotiate_errors.specs.DescribeBase.Hash.{service_hash_of};
-ghost use Rattle.iox_negotiate_errors.specs.DescribeSettings.Agreement.{agreement};
+ghost use Rattle.iox_negotiate_base.specs.DescribeBase.Hash.{service_hash_of};
+ghost use Rattle.iox_negotiate_base.specs.DescribeSettings.Agreement.{agreement};
 ghost use Rattle.iox_negotiate.specs.Asked.{IsRefusal};
 
 use iox_describe::pattern::{Pattern, describe};
 use iox_describe::{AttributeSpecifier, Description, ServiceHash, ServiceName, service_hash};
-use iox_negotiate_rounds::{CreateFailure, Request};
+use iox_negotiate_base::{CreateFailure, Request};
 use std::alloc::{AllocError, Global};
 
 /// What a node asks of a service: what it must be to be opened, and the settings and attributes that it is created with.
@@ -26,6 +26,7 @@ pub struct Asked<'a, P: Pattern> {
 impl<'a, P: Pattern> Asked<'a, P> {
     /// What this node asks of the service of this name. It is created with the settings of the requirement, adjusted, and
     /// with these attributes.
+    /// Example: `Asked::<PublishSubscribe>::new(name, 1, &requirement, &attributes)`
     pub fn new(
         name: ServiceName,
         node: u64,

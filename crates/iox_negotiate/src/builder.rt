@@ -1,13 +1,13 @@
 //! Builders: what is asked of a service is said setting by setting, and the service then created or opened.
 ghost use Rattle.std.specs.Prelude.{◌≡◌, [], IsOk, IfOk};
 ghost use Rattle.std.specs.Result.{result_map_both};
-ghost use Rattle.iox_negotiate_errors.specs.DescribeBase.Attributes.{required};
-ghost use Rattle.iox_negotiate_errors.specs.DescribeBase.Hash.{service_hash_of};
-ghost use Rattle.iox_negotiate_errors.specs.DescribeSettings.Agreement.{agreement};
-ghost use Rattle.iox_negotiate_errors.specs.DescribeVerdict.PublishSubscribeClauses as publish_subscribe_of;
-ghost use Rattle.iox_negotiate_errors.specs.DescribeVerdict.EventClauses as event_of;
-ghost use Rattle.iox_negotiate_errors.specs.DescribeVerdict.RequestResponseClauses as request_response_of;
-ghost use Rattle.iox_negotiate_errors.specs.NegotiateRounds.Opening.{Opens};
+ghost use Rattle.iox_negotiate_base.specs.DescribeBase.Attributes.{required};
+ghost use Rattle.iox_negotiate_base.specs.DescribeBase.Hash.{service_hash_of};
+ghost use Rattle.iox_negotiate_base.specs.DescribeSettings.Agreement.{agreement};
+ghost use Rattle.iox_negotiate_base.specs.DescribeVerdict.PublishSubscribeClauses as publish_subscribe_of;
+ghost use Rattle.iox_negotiate_base.specs.DescribeVerdict.EventClauses as event_of;
+ghost use Rattle.iox_negotiate_base.specs.DescribeVerdict.RequestResponseClauses as request_response_of;
+ghost use Rattle.iox_negotiate_base.specs.Opening.{Opens};
 ghost use Rattle.iox_negotiate.specs.Negotiation.{Negotiates, Creates, Either};
 ghost use Rattle.iox_negotiate.specs.Types.{types_of};
 
@@ -18,7 +18,7 @@ use crate::patterns::Negotiated;
 use crate::payload::{Payload, types_of};
 use iox_describe::pattern::{Event, PublishSubscribe, RequestResponse};
 use iox_describe::{AttributeSpecifier, AttributeVerifier, ServiceName, requirement};
-use iox_negotiate_rounds::Storage;
+use iox_negotiate_base::Storage;
 use std::alloc::{AllocError, Global};
 
 pub mod event;
@@ -37,6 +37,7 @@ pub struct Builder {
 
 impl Builder {
     /// A builder of the service of this name, for this node, which is of no hub.
+    /// Example: `Builder::new(1, name)`
     pub fn new(node: u64, name: ServiceName) -> Self
         ensures { result ≡ record { hub = 0; node = node; name = name } }
     {
@@ -46,6 +47,7 @@ impl Builder {
     /// A builder of the service of this name, for this node of the hub of this id.
     ///
     /// This port's own.
+    /// Example: `Builder::of_hub(hub.id(), node.number(), name)`
     pub fn of_hub(hub: u64, node: u64, name: ServiceName) -> Self
         ensures { result ≡ record { hub = hub; node = node; name = name } }
     {
@@ -53,6 +55,7 @@ impl Builder {
     }
 
     /// A builder of an event service, of which no setting is named. It takes no memory.
+    /// Example: `Builder::new(1, name).event()`
     pub fn event(self) -> ServiceBuilder<Event>
         ensures { result ≡ record { hub = self.hub; node = self.node; name = self.name; requirement = event_of.unnamed (required [] []) } }
     {
@@ -66,6 +69,7 @@ impl Builder {
 
     /// A builder of a publish-subscribe service with this payload and no user header, of which no setting is named. It
     /// takes no memory.
+    /// Example: `Builder::new(1, name).publish_subscribe::<u64>()`
     pub fn publish_subscribe<M: Payload>(self) -> ServiceBuilder<PublishSubscribe>
         ensures { result ≡ record { hub = self.hub; node = self.node; name = self.name; requirement = publish_subscribe_of.unnamed (types_of M.detail) (required [] []) } }
     {
@@ -82,6 +86,7 @@ impl Builder {
 
     /// A builder of a request-response service with these payloads and no user headers, of which no setting is named. It
     /// takes no memory.
+    /// Example: `Builder::new(1, name).request_response::<u64, Slice<u8>>()`
     pub fn request_response<M: Payload, N: Payload>(self) -> ServiceBuilder<RequestResponse>
         ensures { result ≡ record { hub = self.hub; node = self.node; name = self.name; requirement = request_response_of.unnamed (types_of M.detail) (types_of N.detail) (required [] []) } }
     {
@@ -102,6 +107,7 @@ impl Builder {
     /// A builder of a service of this pattern, of which all this is asked. It takes no memory.
     ///
     /// This port's own.
+    /// Example: `Builder::new(1, name).with_requirement::<Event>(requirement)`
     pub fn with_requirement<P: Negotiated>(self, requirement: P::Requirement) -> ServiceBuilder<P>
         ensures { result ≡ record { hub = self.hub; node = self.node; name = self.name; requirement = requirement } }
     {
@@ -130,6 +136,7 @@ impl<P: Negotiated> ServiceBuilder<P> {
     /// The id of the hub that it is of; 0 where it is of none.
     ///
     /// This port's own.
+    /// Example: `builder.hub()`
     pub fn hub(&self) -> u64
         ensures { result ≡ self.now.hub }
     {
@@ -138,6 +145,7 @@ impl<P: Negotiated> ServiceBuilder<P> {
 
     /// The same builder, in memory of its own. Refused only where an allocation fails, which one that asks for no attributes takes
     /// none of.
+    /// Example: `let second = builder.try_clone(alloc)?;`
     pub fn try_clone(&self, alloc: Global) -> Result<Self, AllocError>
         ensures same { IfOk result (λ builder. builder ≡ self.now) }
         ensures empty { P.attributes self.now.requirement ≡ required [] [] → IsOk result }
@@ -151,6 +159,7 @@ impl<P: Negotiated> ServiceBuilder<P> {
     }
 
     /// Creates the service, with no attributes but those that were asked for. See `create_with_attributes`.
+    /// Example: `let factory = builder.create(alloc, &mut table)?;`
     pub fn create<S: Storage>(
         self,
         alloc: Global,
@@ -167,8 +176,9 @@ impl<P: Negotiated> ServiceBuilder<P> {
 
     /// Creates the service with these attributes, in six accesses at most.
     ///
-    /// Refused as `iox_negotiate_rounds::create` refuses it, told as the error of the pattern of the same name. A number
+    /// Refused as `iox_negotiate_base::create` refuses it, told as the error of the pattern of the same name. A number
     /// past the limits is `InternalFailure`, with no access.
+    /// Example: `let factory = builder.create_with_attributes(alloc, &attributes, &mut table)?;`
     pub fn create_with_attributes<S: Storage>(
         self,
         alloc: Global,
@@ -181,6 +191,7 @@ impl<P: Negotiated> ServiceBuilder<P> {
     }
 
     /// Opens the service, whatever its attributes. See `open_with_attributes`.
+    /// Example: `let factory = builder.open(alloc, &mut table)?;`
     pub fn open<S: Storage>(
         self,
         alloc: Global,
@@ -193,7 +204,8 @@ impl<P: Negotiated> ServiceBuilder<P> {
 
     /// Opens the service if it has these attributes too, in ten accesses at most.
     ///
-    /// Refused as `iox_negotiate_rounds::open` refuses it, told as the error of the pattern of the same name.
+    /// Refused as `iox_negotiate_base::open` refuses it, told as the error of the pattern of the same name.
+    /// Example: `let factory = builder.open_with_attributes(alloc, attributes, &mut table)?;`
     pub fn open_with_attributes<S: Storage>(
         self,
         alloc: Global,
@@ -212,6 +224,7 @@ impl<P: Negotiated> ServiceBuilder<P> {
     }
 
     /// Opens the service, whatever its attributes, or creates it with none. See `open_or_create_with_attributes`.
+    /// Example: `let factory = builder.open_or_create(alloc, &mut table)?;`
     pub fn open_or_create<S: Storage>(
         self,
         alloc: Global,
@@ -225,7 +238,8 @@ impl<P: Negotiated> ServiceBuilder<P> {
     /// Opens the service if it has these attributes too, or creates it with the required pairs where none stands, in fourteen
     /// accesses at most.
     ///
-    /// Refused as `iox_negotiate_rounds::open_or_create` refuses it, told as the error of the pattern of the same name.
+    /// Refused as `iox_negotiate_base::open_or_create` refuses it, told as the error of the pattern of the same name.
+    /// Example: `let factory = builder.open_or_create_with_attributes(alloc, attributes, &mut table)?;`
     pub fn open_or_create_with_attributes<S: Storage>(
         self,
         alloc: Global,

@@ -1,15 +1,15 @@
 //! What an open service is to a node: a factory of ports.
 ghost use Rattle.std.specs.Prelude.{◌≡◌, ◌≢◌, Some, None, Ok, Err, IsSome, MatchResult};
 ghost use Rattle.std.specs.Result.{result_map_both};
-ghost use Rattle.iox_negotiate_errors.specs.Describe.Within.{HasForm};
-ghost use Rattle.iox_negotiate_errors.specs.NegotiateRounds.Runs.{Does};
-ghost use Rattle.iox_negotiate_errors.specs.declared.close.CloseError.TheVariants.{NotThisStorage};
+ghost use Rattle.iox_negotiate_base.specs.Describe.Within.{HasForm};
+ghost use Rattle.iox_negotiate_base.specs.Runs.{Does};
+ghost use Rattle.iox_negotiate_base.specs.declared.errors.close.CloseError.TheVariants.{NotThisStorage};
 ghost use Rattle.iox_negotiate.specs.Factory.{membership, segment_removed, RemovesSegment, RemovalGoes, Removes, Closes};
 
 use iox_describe::pattern::Pattern;
 use iox_describe::{AttributeSpecifier, Description, ServiceName, has_form};
-use iox_negotiate_errors::CloseError;
-use iox_negotiate_rounds::{LeaveAnswer, Opened, RemoveAnswer, Storage};
+use iox_negotiate_base::errors::CloseError;
+use iox_negotiate_base::{LeaveAnswer, Opened, RemoveAnswer, Storage};
 
 /// That a node is in a service of a storage.
 #[derive(Drop)]
@@ -100,6 +100,7 @@ impl<P: Pattern> PortFactory<P> {
     }
 
     /// The name of the service.
+    /// Example: `factory.name().as_bytes()`
     pub fn name(&self) -> &ServiceName
         ensures { result.now ≡ self.now.membership.service.description.name }
     {
@@ -107,6 +108,7 @@ impl<P: Pattern> PortFactory<P> {
     }
 
     /// The settings that are agreed.
+    /// Example: `let nodes = factory.static_config().max_nodes;`
     pub fn static_config(&self) -> &P::StaticConfig
         ensures { P.static_config self.now.membership.service.description.settings ≡ Some result.now }
     {
@@ -114,6 +116,7 @@ impl<P: Pattern> PortFactory<P> {
     }
 
     /// The attributes of the service.
+    /// Example: `let pairs = factory.attributes().as_slice();`
     pub fn attributes(&self) -> &AttributeSpecifier
         ensures { result.now ≡ self.now.membership.service.description.attributes }
     {
@@ -121,6 +124,7 @@ impl<P: Pattern> PortFactory<P> {
     }
 
     /// The number of the service.
+    /// Example: `factory.number()`
     pub fn number(&self) -> u64
         ensures { result ≡ self.now.membership.service.number }
     {
@@ -130,6 +134,7 @@ impl<P: Pattern> PortFactory<P> {
     /// What the nodes of the service agree on.
     ///
     /// This port's own.
+    /// Example: `let fits = Domain::<u64, ()>::fits(factory.description());`
     pub fn description(&self) -> &Description
         ensures value { result.now ≡ self.now.membership.service.description }
         ensures form { HasForm self.now.membership.service.description }
@@ -141,6 +146,7 @@ impl<P: Pattern> PortFactory<P> {
     /// Whether the call that made the factory created the service, and didn't open one that stood.
     ///
     /// This port's own.
+    /// Example: `factory.is_new()`
     pub fn is_new(&self) -> bool
         ensures { result ≡ self.now.membership.service.is_new }
     {
@@ -150,6 +156,7 @@ impl<P: Pattern> PortFactory<P> {
     /// The id of the storage that it was opened in.
     ///
     /// This port's own.
+    /// Example: `factory.storage()`
     pub fn storage(&self) -> u64
         ensures { result ≡ self.now.membership.storage }
     {
@@ -157,6 +164,7 @@ impl<P: Pattern> PortFactory<P> {
     }
 
     /// The node that the factory is of.
+    /// Example: `factory.node()`
     pub fn node(&self) -> u64
         ensures { result ≡ self.now.membership.node }
     {
@@ -169,6 +177,7 @@ impl<P: Pattern> PortFactory<P> {
     /// Refused with `NotThisStorage` where the storage has another id than the one it was opened in; nothing is accessed
     /// then, and the factory is handed back. `UnableToRemoveDescription` and `UnableToRemoveSegment` as the storage
     /// answers; the factory is spent then.
+    /// Example: `let closed = factory.close(&mut table);`
     pub fn close<S: Storage>(self, storage: &mut S) -> Result<(), NotClosed<P>>
         ensures other_storage { S.id storage.old ≢ self.membership.storage → (storage.new ≡ storage.old) × (result ≡ Err (record { error = NotThisStorage; factory = Some self })) }
         ensures this_storage { S.id storage.old ≡ self.membership.storage → Does S.gives storage.old (λ made. Closes self.membership.service.description.service_hash self.membership.service.number self.membership.node made (result_map_both (λ done. done) (λ refused. refused.error) result)) storage.new }

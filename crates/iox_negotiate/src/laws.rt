@@ -2,7 +2,7 @@
 //! nothing: its contract is the law.
 ghost use Rattle.iox_negotiate.specs.Laws.{OpenedIsMet, EitherIsMet};
 
-use iox_negotiate_rounds::Request;
+use iox_negotiate_base::Request;
 
 /// A service that is opened is the one of the hash, meets what is asked, and is within the limits of a description.
 pub fn opened_is_met<R: Request>()

@@ -9,6 +9,7 @@
 //! | `payload` | what messages carry: a type, or a slice of one |
 //! | `builder` | builders of the three patterns |
 //! | `laws` | what holds of every open service |
+//! | `whole_calls` | what holds of every table of services, whatever is done to it |
 //!
 //! First calls:
 //!
@@ -26,6 +27,7 @@ pub mod laws;
 mod negotiation;
 pub mod patterns;
 pub mod payload;
+pub mod whole_calls;
 
 pub use asked::Asked;
 pub use builder::{Builder, ServiceBuilder};

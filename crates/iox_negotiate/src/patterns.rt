@@ -1,18 +1,18 @@
 //! The patterns with their errors, so that one builder serves all of them.
 ghost use Rattle.std.specs.Prelude.{◌≡◌};
-ghost use Rattle.iox_negotiate_errors.specs.DescribeBase.Attributes.{Required};
-ghost use Rattle.iox_negotiate_errors.specs.NegotiateRounds.declared.failure.CreateFailure.{CreateFailure};
-ghost use Rattle.iox_negotiate_errors.specs.NegotiateRounds.declared.failure.OpenFailure.{OpenFailure};
-ghost use Rattle.iox_negotiate_errors.specs.NegotiateRounds.declared.failure.OpenOrCreateFailure.{OpenOrCreateFailure};
+ghost use Rattle.iox_negotiate_base.specs.DescribeBase.Attributes.{Required};
+ghost use Rattle.iox_negotiate_base.specs.declared.failure.CreateFailure.{CreateFailure};
+ghost use Rattle.iox_negotiate_base.specs.declared.failure.OpenFailure.{OpenFailure};
+ghost use Rattle.iox_negotiate_base.specs.declared.failure.OpenOrCreateFailure.{OpenOrCreateFailure};
 
 use iox_describe::AttributeVerifier;
 use iox_describe::pattern::{Event, Pattern, PublishSubscribe, RequestResponse};
-use iox_negotiate_errors::{
+use iox_negotiate_base::errors::{
     EventCreateError, EventOpenError, EventOpenOrCreateError, PublishSubscribeCreateError,
     PublishSubscribeOpenError, PublishSubscribeOpenOrCreateError, RequestResponseCreateError,
     RequestResponseOpenError, RequestResponseOpenOrCreateError,
 };
-use iox_negotiate_rounds::{CreateFailure, OpenFailure, OpenOrCreateFailure};
+use iox_negotiate_base::{CreateFailure, OpenFailure, OpenOrCreateFailure};
 
 /// A pattern whose services are negotiated: with errors of its own for what the rounds answer.
 pub trait Negotiated: Pattern {
@@ -38,20 +38,24 @@ pub trait Negotiated: Pattern {
     ghost with_attributes: { Self.Requirement → Required → Self.Requirement };
 
     /// The error of a failure to open.
+    /// Example: `PublishSubscribe::open_error(OpenFailure::DoesNotExist)`
     fn open_error(failure: OpenFailure<Self::ClauseError>) -> Self::OpenError
         ensures { result ≡ open_error failure };
 
     /// The error of a failure to create.
+    /// Example: `PublishSubscribe::create_error(CreateFailure::AlreadyExists)`
     fn create_error(failure: CreateFailure) -> Self::CreateError
         ensures { result ≡ create_error failure };
 
     /// The error of a failure to do either.
+    /// Example: `Event::open_or_create_error(OpenOrCreateFailure::SystemInFlux)`
     fn open_or_create_error(
         failure: OpenOrCreateFailure<Self::ClauseError>,
     ) -> Self::OpenOrCreateError
         ensures { result ≡ open_or_create_error failure };
 
     /// The requirement with these attributes, and all else as it is.
+    /// Example: `PublishSubscribe::with_attributes(requirement, attributes)`
     fn with_attributes(
         requirement: Self::Requirement,
         attributes: AttributeVerifier,
@@ -60,7 +64,7 @@ pub trait Negotiated: Pattern {
 }
 
 impl Negotiated for PublishSubscribe {
-    ghost use Rattle.iox_negotiate_errors.specs.PublishSubscribeErrors as error_of;
+    ghost use Rattle.iox_negotiate_base.specs.PublishSubscribeErrors as error_of;
 
     type OpenError = PublishSubscribeOpenError;
 
@@ -108,7 +112,7 @@ impl Negotiated for PublishSubscribe {
 }
 
 impl Negotiated for Event {
-    ghost use Rattle.iox_negotiate_errors.specs.EventErrors as error_of;
+    ghost use Rattle.iox_negotiate_base.specs.EventErrors as error_of;
 
     type OpenError = EventOpenError;
 
@@ -156,7 +160,7 @@ impl Negotiated for Event {
 }
 
 impl Negotiated for RequestResponse {
-    ghost use Rattle.iox_negotiate_errors.specs.RequestResponseErrors as error_of;
+    ghost use Rattle.iox_negotiate_base.specs.RequestResponseErrors as error_of;
 
     type OpenError = RequestResponseOpenError;
 

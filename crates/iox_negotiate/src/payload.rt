@@ -1,7 +1,7 @@
 //! What messages carry: a type, or a slice of one.
 ghost use Rattle.std.specs.Prelude.{◌≡◌, codes};
-ghost use Rattle.iox_negotiate_errors.specs.DescribeBase.Detail.{Detail, detail};
-ghost use Rattle.iox_negotiate_errors.specs.DescribeBase.declared.type_detail.TypeVariant.TheVariants.{FixedSize, Dynamic};
+ghost use Rattle.iox_negotiate_base.specs.DescribeBase.Detail.{Detail, detail};
+ghost use Rattle.iox_negotiate_base.specs.DescribeBase.declared.type_detail.TypeVariant.TheVariants.{FixedSize, Dynamic};
 ghost use Rattle.iox_negotiate.specs.Types.{types_of, no_header, aligned};
 
 use iox_describe::{Header, MessageTypeDetails, TypeDetail, TypeVariant, ZeroCopySend};
@@ -13,6 +13,7 @@ pub trait Payload {
     ghost detail: { Detail };
 
     /// How it lies in memory.
+    /// Example: `let detail = Slice::<u64>::type_detail();`
     fn type_detail() -> TypeDetail
         ensures { result ≡ detail };
 }
@@ -133,6 +134,30 @@ impl Payload for bool {
 
     fn type_detail() -> TypeDetail {
         <bool as ZeroCopySend>::type_detail(TypeVariant::FixedSize)
+    }
+}
+
+impl Payload for f32 {
+    ghost detail = { detail FixedSize (codes "f32") 4 4 };
+
+    fn type_detail() -> TypeDetail {
+        <f32 as ZeroCopySend>::type_detail(TypeVariant::FixedSize)
+    }
+}
+
+impl Payload for f64 {
+    ghost detail = { detail FixedSize (codes "f64") 8 8 };
+
+    fn type_detail() -> TypeDetail {
+        <f64 as ZeroCopySend>::type_detail(TypeVariant::FixedSize)
+    }
+}
+
+impl Payload for char {
+    ghost detail = { detail FixedSize (codes "char") 4 4 };
+
+    fn type_detail() -> TypeDetail {
+        <char as ZeroCopySend>::type_detail(TypeVariant::FixedSize)
     }
 }
 

@@ -2,5 +2,5 @@ pub mod Entries
 pub mod Found
 pub mod Opening
 pub mod Staying
-pub use Rattle.iox_negotiate_rounds.proofs.Describe as Describe
-pub use Rattle.iox_negotiate_rounds.proofs as NegotiateRounds
+pub use Rattle.iox_negotiate_base.proofs.Describe as Describe
+pub use Rattle.iox_negotiate_base.proofs as NegotiateBase

@@ -3,7 +3,7 @@ use Rattle.std.proofs.Common.{◌≡◌, ℕ, ◌+◌, ◌≤◌, Bool, true, fa
 use Rattle.std.specs.declared.alloc.AllocError.{AllocError}
 use Rattle.std.specs.Ordering.{nat_cmp}
 use Rattle.std.specs.BTreeMap.{is_at}
-use Rattle.iox_negotiate_rounds.specs.DescribeBase.declared.hash.ServiceHash.{ServiceHash}
+use Rattle.iox_negotiate_base.specs.DescribeBase.declared.hash.ServiceHash.{ServiceHash}
 use Rattle.iox_negotiate_table.specs.declared.node.Node.TheVariants.{Foreign}
 use Rattle.iox_negotiate_table.specs.declared.entry.Entry.TheVariants.{Described}
 use Rattle.iox_negotiate_table.specs.declared.segment.Segment.{Segment}

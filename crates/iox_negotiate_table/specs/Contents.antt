@@ -5,7 +5,7 @@ use Rattle.std.specs.Ordering.{nat_cmp, ordering_then}
 use Rattle.std.specs.Cmp.Lexicographic.{slice_cmp}
 use Rattle.std.specs.BTreeMap.{insert_entry, is_at}
 use Rattle.std.specs.Map.{lookup, set_value, remove_entry}
-use Rattle.iox_negotiate_rounds.specs.DescribeBase.declared.hash.ServiceHash.{ServiceHash}
+use Rattle.iox_negotiate_base.specs.DescribeBase.declared.hash.ServiceHash.{ServiceHash}
 use Rattle.iox_negotiate_table.specs.declared.node.Node.{Node}
 use Rattle.iox_negotiate_table.specs.declared.node.Node.TheVariants.{Own}
 use Rattle.iox_negotiate_table.specs.declared.entry.Entry.{Entry}

@@ -1,10 +1,10 @@
 -- What the steps of foreign nodes find in a table, and what they leave.
 use Rattle.std.specs.Prelude.{ℕ, ◌≡◌, ◌-◌, ◌^◌, ◌↔◌, Bool, true, false, not, ◌&&◌, Option, None, Some, is_some, Result, Ok, Err, nat_eq, IsTrue, if◌then◌else◌}
 use Rattle.std.specs.declared.alloc.AllocError.{AllocError}
-use Rattle.iox_negotiate_rounds.specs.DescribeBase.declared.hash.ServiceHash.{ServiceHash}
-use Rattle.iox_negotiate_rounds.specs.DescribeSettings.Agreement.{Agreement, max_nodes_of}
-use Rattle.iox_negotiate_rounds.specs.Describe.Line.{line}
-use Rattle.iox_negotiate_rounds.specs.Describe.Within.{IsWithinLimits}
+use Rattle.iox_negotiate_base.specs.DescribeBase.declared.hash.ServiceHash.{ServiceHash}
+use Rattle.iox_negotiate_base.specs.DescribeSettings.Agreement.{Agreement, max_nodes_of}
+use Rattle.iox_negotiate_base.specs.Describe.Line.{line}
+use Rattle.iox_negotiate_base.specs.Describe.Within.{IsWithinLimits}
 use Rattle.iox_negotiate_table.specs.declared.node.Node.TheVariants.{Foreign}
 use Rattle.iox_negotiate_table.specs.declared.entry.Entry.{Entry}
 use Rattle.iox_negotiate_table.specs.declared.entry.Entry.TheVariants.{Locked, Described}

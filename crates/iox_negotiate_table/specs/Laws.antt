@@ -1,11 +1,11 @@
 -- What holds of every table, said in other words than its accesses one by one.
 use Rattle.std.specs.Prelude.{ℕ, ◌≡◌, ◌≤◌, List, Some, IsSome, Result}
 use Rattle.std.specs.declared.alloc.AllocError.{AllocError}
-use Rattle.iox_negotiate_rounds.specs.DescribeBase.declared.hash.ServiceHash.{ServiceHash}
-use Rattle.iox_negotiate_rounds.specs.Access.{MakeSegment, Publish, OpenSegment}
-use Rattle.iox_negotiate_rounds.specs.declared.answer.MakeSegmentAnswer.TheVariants.{Made}
-use Rattle.iox_negotiate_rounds.specs.declared.answer.PublishAnswer.TheVariants.{Published}
-use Rattle.iox_negotiate_rounds.specs.declared.answer.OpenSegmentAnswer.TheVariants.{Registered}
+use Rattle.iox_negotiate_base.specs.DescribeBase.declared.hash.ServiceHash.{ServiceHash}
+use Rattle.iox_negotiate_base.specs.Access.{MakeSegment, Publish, OpenSegment}
+use Rattle.iox_negotiate_base.specs.declared.answer.MakeSegmentAnswer.TheVariants.{Made}
+use Rattle.iox_negotiate_base.specs.declared.answer.PublishAnswer.TheVariants.{Published}
+use Rattle.iox_negotiate_base.specs.declared.answer.OpenSegmentAnswer.TheVariants.{Registered}
 use Rattle.iox_negotiate_table.specs.declared.entry.Entry.TheVariants.{Described}
 use Rattle.iox_negotiate_table.specs.declared.segment.Segment.TheVariants.{Open}
 use Rattle.iox_negotiate_table.specs.declared.step.ForeignStep.{ForeignStep}

@@ -1,10 +1,10 @@
 -- The segment of a service: the nodes that are in it, until the last one left.
 use Rattle.std.specs.Prelude.{ℕ, ◌≡◌, Bool, true, false, Result, Ok, nat_eq}
 use Rattle.std.specs.declared.alloc.AllocError.{AllocError}
-use Rattle.iox_negotiate_rounds.specs.declared.answer.OpenSegmentAnswer.{OpenSegmentAnswer}
-use Rattle.iox_negotiate_rounds.specs.declared.answer.OpenSegmentAnswer.TheVariants.{Marked}
-use Rattle.iox_negotiate_rounds.specs.declared.answer.LeaveAnswer.{LeaveAnswer}
-use Rattle.iox_negotiate_rounds.specs.declared.answer.LeaveAnswer.TheVariants as leaving
+use Rattle.iox_negotiate_base.specs.declared.answer.OpenSegmentAnswer.{OpenSegmentAnswer}
+use Rattle.iox_negotiate_base.specs.declared.answer.OpenSegmentAnswer.TheVariants.{Marked}
+use Rattle.iox_negotiate_base.specs.declared.answer.LeaveAnswer.{LeaveAnswer}
+use Rattle.iox_negotiate_base.specs.declared.answer.LeaveAnswer.TheVariants as leaving
 use Rattle.iox_negotiate_table.specs.declared.node.Node.{Node}
 use Rattle.iox_negotiate_table.specs.declared.node.Node.TheVariants.{Own, Foreign}
 use Rattle.iox_negotiate_table.specs.declared.segment.Segment.{Segment}

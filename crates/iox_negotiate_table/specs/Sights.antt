@@ -1,21 +1,21 @@
 -- What each access finds in a table, and what it leaves.
 use Rattle.std.specs.Prelude.{ℕ, ◌≡◌, ◌-◌, ◌^◌, Bool, true, false, List, Option, None, Some, nat_eq, ◌⊎◌}
-use Rattle.iox_negotiate_rounds.specs.DescribeBase.declared.hash.ServiceHash.{ServiceHash}
-use Rattle.iox_negotiate_rounds.specs.Access.{Access, Look, Lock, MakeSegment, Publish, Unlock, OpenSegment, Leave, RemoveDescription, RemoveSegment}
-use Rattle.iox_negotiate_rounds.specs.declared.answer.LookAnswer.{LookAnswer}
-use Rattle.iox_negotiate_rounds.specs.declared.answer.LookAnswer.TheVariants as look
-use Rattle.iox_negotiate_rounds.specs.declared.answer.LockAnswer.{LockAnswer}
-use Rattle.iox_negotiate_rounds.specs.declared.answer.LockAnswer.TheVariants as lock
-use Rattle.iox_negotiate_rounds.specs.declared.answer.MakeSegmentAnswer.{MakeSegmentAnswer}
-use Rattle.iox_negotiate_rounds.specs.declared.answer.MakeSegmentAnswer.TheVariants as making
-use Rattle.iox_negotiate_rounds.specs.declared.answer.PublishAnswer.{PublishAnswer}
-use Rattle.iox_negotiate_rounds.specs.declared.answer.PublishAnswer.TheVariants as publishing
-use Rattle.iox_negotiate_rounds.specs.declared.answer.OpenSegmentAnswer.{OpenSegmentAnswer}
-use Rattle.iox_negotiate_rounds.specs.declared.answer.OpenSegmentAnswer.TheVariants as opening
-use Rattle.iox_negotiate_rounds.specs.declared.answer.LeaveAnswer.{LeaveAnswer}
-use Rattle.iox_negotiate_rounds.specs.declared.answer.LeaveAnswer.TheVariants as leaving
-use Rattle.iox_negotiate_rounds.specs.declared.answer.RemoveAnswer.{RemoveAnswer}
-use Rattle.iox_negotiate_rounds.specs.declared.answer.RemoveAnswer.TheVariants as removing
+use Rattle.iox_negotiate_base.specs.DescribeBase.declared.hash.ServiceHash.{ServiceHash}
+use Rattle.iox_negotiate_base.specs.Access.{Access, Look, Lock, MakeSegment, Publish, Unlock, OpenSegment, Leave, RemoveDescription, RemoveSegment}
+use Rattle.iox_negotiate_base.specs.declared.answer.LookAnswer.{LookAnswer}
+use Rattle.iox_negotiate_base.specs.declared.answer.LookAnswer.TheVariants as look
+use Rattle.iox_negotiate_base.specs.declared.answer.LockAnswer.{LockAnswer}
+use Rattle.iox_negotiate_base.specs.declared.answer.LockAnswer.TheVariants as lock
+use Rattle.iox_negotiate_base.specs.declared.answer.MakeSegmentAnswer.{MakeSegmentAnswer}
+use Rattle.iox_negotiate_base.specs.declared.answer.MakeSegmentAnswer.TheVariants as making
+use Rattle.iox_negotiate_base.specs.declared.answer.PublishAnswer.{PublishAnswer}
+use Rattle.iox_negotiate_base.specs.declared.answer.PublishAnswer.TheVariants as publishing
+use Rattle.iox_negotiate_base.specs.declared.answer.OpenSegmentAnswer.{OpenSegmentAnswer}
+use Rattle.iox_negotiate_base.specs.declared.answer.OpenSegmentAnswer.TheVariants as opening
+use Rattle.iox_negotiate_base.specs.declared.answer.LeaveAnswer.{LeaveAnswer}
+use Rattle.iox_negotiate_base.specs.declared.answer.LeaveAnswer.TheVariants as leaving
+use Rattle.iox_negotiate_base.specs.declared.answer.RemoveAnswer.{RemoveAnswer}
+use Rattle.iox_negotiate_base.specs.declared.answer.RemoveAnswer.TheVariants as removing
 use Rattle.iox_negotiate_table.specs.declared.node.Node.{Node}
 use Rattle.iox_negotiate_table.specs.declared.node.Node.TheVariants.{Own}
 use Rattle.iox_negotiate_table.specs.declared.entry.Entry.{Entry}

@@ -1,13 +1,13 @@
 -- A table on which nodes of others act before an access.
 use Rattle.std.specs.Prelude.{◌≡◌, List, [], ◌∷◌, Result, Ok, Err, drop}
 use Rattle.std.specs.declared.alloc.AllocError.{AllocError}
-use Rattle.iox_negotiate_rounds.specs.DescribeBase.declared.hash.ServiceHash.{ServiceHash}
-use Rattle.iox_negotiate_rounds.specs.Access.{Access, Look, Lock, MakeSegment, Publish, Unlock, OpenSegment, Leave, RemoveDescription, RemoveSegment}
-use Rattle.iox_negotiate_rounds.specs.declared.answer.LookAnswer.TheVariants as look
-use Rattle.iox_negotiate_rounds.specs.declared.answer.LockAnswer.TheVariants as lock
-use Rattle.iox_negotiate_rounds.specs.declared.answer.MakeSegmentAnswer.TheVariants as making
-use Rattle.iox_negotiate_rounds.specs.declared.answer.PublishAnswer.TheVariants as publishing
-use Rattle.iox_negotiate_rounds.specs.declared.answer.OpenSegmentAnswer.TheVariants as opening
+use Rattle.iox_negotiate_base.specs.DescribeBase.declared.hash.ServiceHash.{ServiceHash}
+use Rattle.iox_negotiate_base.specs.Access.{Access, Look, Lock, MakeSegment, Publish, Unlock, OpenSegment, Leave, RemoveDescription, RemoveSegment}
+use Rattle.iox_negotiate_base.specs.declared.answer.LookAnswer.TheVariants as look
+use Rattle.iox_negotiate_base.specs.declared.answer.LockAnswer.TheVariants as lock
+use Rattle.iox_negotiate_base.specs.declared.answer.MakeSegmentAnswer.TheVariants as making
+use Rattle.iox_negotiate_base.specs.declared.answer.PublishAnswer.TheVariants as publishing
+use Rattle.iox_negotiate_base.specs.declared.answer.OpenSegmentAnswer.TheVariants as opening
 use Rattle.iox_negotiate_table.specs.declared.step.ForeignStep.{ForeignStep}
 use Rattle.iox_negotiate_table.specs.Contents.{Contents}
 use Rattle.iox_negotiate_table.specs.Foreign.{Acts}

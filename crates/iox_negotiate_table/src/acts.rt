@@ -11,7 +11,7 @@ use crate::segment::Segment;
 use crate::step::ForeignStep;
 use crate::table::Table;
 use iox_describe::{Description, ServiceHash, encode, is_within_limits};
-use iox_negotiate_rounds::{LockAnswer, StoredDescription};
+use iox_negotiate_base::{LockAnswer, StoredDescription};
 use std::alloc::AllocError;
 
 impl Table {

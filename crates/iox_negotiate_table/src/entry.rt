@@ -1,7 +1,7 @@
 //! What lies under a hash.
 
 use crate::node::Node;
-use iox_negotiate_rounds::StoredDescription;
+use iox_negotiate_base::StoredDescription;
 
 /// What lies under a hash: a lock, or a description.
 #[derive(Drop)]

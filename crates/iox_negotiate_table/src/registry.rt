@@ -2,7 +2,7 @@
 ghost use Rattle.std.specs.Prelude.{◌≡◌, ◌+◌, ◌≤◌, ◌<◌, ◌^◌, length, IsSome, IfOk, OnOk, OnErr, nat_eq, nat_lt, []};
 ghost use Rattle.iox_negotiate_table.specs.Nodes.{none_in, first_node, first_foreign, count_in, factories_of, with_node, with_factories, without_foreign, has_foreign, left, Enters, Registers};
 
-use iox_negotiate_rounds::OpenSegmentAnswer;
+use iox_negotiate_base::OpenSegmentAnswer;
 use std::alloc::{AllocError, Global};
 use std::collections::{BTreeMap, BTreeSet};
 use std::marker::Model;

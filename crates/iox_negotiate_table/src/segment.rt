@@ -2,7 +2,7 @@
 
 use crate::node::Node;
 use crate::registry::Registry;
-use iox_negotiate_rounds::{LeaveAnswer, OpenSegmentAnswer};
+use iox_negotiate_base::{LeaveAnswer, OpenSegmentAnswer};
 use std::alloc::AllocError;
 
 /// The segment of a service.

@@ -5,7 +5,7 @@ ghost use Rattle.iox_negotiate_table.specs.Stepped.{ActsAll, next_list};
 use crate::step::ForeignStep;
 use crate::table::Table;
 use iox_describe::ServiceHash;
-use iox_negotiate_rounds::{
+use iox_negotiate_base::{
     LeaveAnswer, LockAnswer, LookAnswer, MakeSegmentAnswer, OpenSegmentAnswer, PublishAnswer,
     RemoveAnswer, Storage,
 };

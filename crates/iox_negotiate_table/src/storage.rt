@@ -6,7 +6,7 @@ use crate::registry::Registry;
 use crate::segment::Segment;
 use crate::table::Table;
 use iox_describe::ServiceHash;
-use iox_negotiate_rounds::{
+use iox_negotiate_base::{
     LeaveAnswer, LockAnswer, LookAnswer, MakeSegmentAnswer, OpenSegmentAnswer, PublishAnswer,
     RemoveAnswer, Storage, StoredDescription,
 };

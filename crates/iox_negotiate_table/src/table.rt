@@ -8,7 +8,7 @@ use crate::entry::Entry;
 use crate::node::Node;
 use crate::segment::Segment;
 use iox_describe::ServiceHash;
-use iox_negotiate_rounds::{LeaveAnswer, LockAnswer, OpenSegmentAnswer, StoredDescription};
+use iox_negotiate_base::{LeaveAnswer, LockAnswer, OpenSegmentAnswer, StoredDescription};
 use std::alloc::{AllocError, Global};
 use std::collections::BTreeMap;
 use std::marker::Model;

@@ -1,1 +1,4 @@
 pub mod Single
+pub mod Knowing
+pub mod Balance
+pub mod Runs

@@ -1,8 +1,8 @@
 -- Where a store and a load of a single value end.
 use Rattle.std.proofs.Common.{true, false, Bool, ℕ, ◌≡◌, ◌==◌, List, [], ◌∷◌, length, arith, refl, ap}
 use Rattle.std.proofs.lemmas.Grind.{common_steps}
-use Rattle.iox_queues_bits.specs.QueuesSteps.Runs.{Runs}
-use Rattle.iox_queues_bits.specs.QueuesSteps.declared.access.Access.{Access}
+use Rattle.iox_queues.specs.QueuesSteps.Runs.{Runs}
+use Rattle.iox_queues.specs.QueuesSteps.declared.access.Access.{Access}
 use Rattle.iox_queues.specs.Single.{EndsUnmoved, load_is_over, load_next, load_seen, load_take, store_is_over, store_next, store_take}
 use Rattle.iox_queues.specs.declared.shared.single.Storing.{Storing}
 use Rattle.iox_queues.specs.declared.shared.single.Storing.TheVariants as storing

@@ -1,14 +1,14 @@
 -- What a shared call answers, from the stage where its run ended.
 use Rattle.std.specs.Prelude.{ℕ, Bool, true, false, Option, Some, None}
-use Rattle.iox_queues_bits.specs.QueuesSteps.declared.order.PushAnswer.TheVariants.{Kept, LeftOut, Refused}
-use Rattle.iox_queues_rings.specs.declared.overflowing.push.Push.{Push as OverflowingPush}
-use Rattle.iox_queues_rings.specs.declared.overflowing.push.Push.TheVariants as overflowing_push
-use Rattle.iox_queues_rings.specs.declared.overflowing.pop.Pop.{Pop as OverflowingPop}
-use Rattle.iox_queues_rings.specs.declared.overflowing.pop.Pop.TheVariants as overflowing_pop
-use Rattle.iox_queues_rings.specs.declared.refusing.push.Push.{Push as RefusingPush}
-use Rattle.iox_queues_rings.specs.declared.refusing.push.Push.TheVariants as refusing_push
-use Rattle.iox_queues_rings.specs.declared.refusing.pop.Pop.{Pop as RefusingPop}
-use Rattle.iox_queues_rings.specs.declared.refusing.pop.Pop.TheVariants as refusing_pop
+use Rattle.iox_queues.specs.QueuesSteps.declared.order.PushAnswer.TheVariants.{Kept, LeftOut, Refused}
+use Rattle.iox_queues_steps.specs.declared.rings.overflowing.push.Push.{Push as OverflowingPush}
+use Rattle.iox_queues_steps.specs.declared.rings.overflowing.push.Push.TheVariants as overflowing_push
+use Rattle.iox_queues_steps.specs.declared.rings.overflowing.pop.Pop.{Pop as OverflowingPop}
+use Rattle.iox_queues_steps.specs.declared.rings.overflowing.pop.Pop.TheVariants as overflowing_pop
+use Rattle.iox_queues_steps.specs.declared.rings.refusing.push.Push.{Push as RefusingPush}
+use Rattle.iox_queues_steps.specs.declared.rings.refusing.push.Push.TheVariants as refusing_push
+use Rattle.iox_queues_steps.specs.declared.rings.refusing.pop.Pop.{Pop as RefusingPop}
+use Rattle.iox_queues_steps.specs.declared.rings.refusing.pop.Pop.TheVariants as refusing_pop
 
 -- the push ended with its value kept
 abbrev pub is_kept : RefusingPush → Bool

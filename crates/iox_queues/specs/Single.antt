@@ -1,9 +1,9 @@
 -- The steps of a store and of a load of a single value that lies in two cells in turn, by the stage where each stands.
 use Rattle.std.specs.Prelude.{ℕ, ◌-◌, ◌≡◌, ◌==◌, Bool, true, false, List, [], ◌∷◌, ◌++◌}
-use Rattle.iox_queues_bits.specs.QueuesSteps.Access.{successor}
-use Rattle.iox_queues_bits.specs.QueuesSteps.declared.access.Word.TheVariants.{Write, Cell}
-use Rattle.iox_queues_bits.specs.QueuesSteps.declared.access.Access.{Access}
-use Rattle.iox_queues_bits.specs.QueuesSteps.declared.access.Access.TheVariants.{Load, Store, Local}
+use Rattle.iox_queues.specs.QueuesSteps.Access.{successor}
+use Rattle.iox_queues.specs.QueuesSteps.declared.access.Word.TheVariants.{Write, Cell}
+use Rattle.iox_queues.specs.QueuesSteps.declared.access.Access.{Access}
+use Rattle.iox_queues.specs.QueuesSteps.declared.access.Access.TheVariants.{Load, Store, Local}
 use Rattle.iox_queues.specs.declared.shared.single.Storing.{Storing}
 use Rattle.iox_queues.specs.declared.shared.single.Storing.TheVariants as storing
 use Rattle.iox_queues.specs.declared.shared.single.Loading.{Loading}

@@ -1,9 +1,9 @@
 //! Queues and bit sets: plain, shared among threads, and one word at a time.
 //!
 //! - [`shared`]: queues and single values that threads share, over atomics.
-//! - The plain forms come from `iox_queues_base`, the vocabulary of steps from `iox_queues_steps`, rings
-//!   and their machine from `iox_queues_rings` (here [`rings`], with the ends of each kind in
-//!   [`overflowing`] and [`refusing`]), and steps of bit sets from `iox_queues_bits` (here [`sets`]).
+//! - [`bits`]: bit sets one word at a time (also [`sets`]).
+//! - The plain forms come from `iox_queues_base`, the vocabulary of steps and rings by steps from `iox_queues_steps` (here
+//!   [`rings`], with the ends of each kind in [`overflowing`] and [`refusing`]).
 //!
 //! A first call:
 //!
@@ -27,6 +27,7 @@
 //! ```
 #![tactic(auto)]
 
+pub mod bits;
 pub mod overflowing;
 pub mod refusing;
 pub mod rings;
@@ -38,7 +39,7 @@ pub use iox_queues_base::{
     FixedSizeIndexQueue, FixedSizeSafelyOverflowingIndexQueue, IndexQueue, Queue,
     SafelyOverflowingIndexQueue, UnrestrictedAtomic, Words,
 };
-pub use iox_queues_rings::{RingKind, RingMachine};
+pub use iox_queues_steps::rings::{RingKind, RingMachine};
 pub use iox_queues_steps::{
     Access, Act, Call, Event, Move, Party, Placed, PopAnswer, PopCall, PushAnswer, PushCall, Ring,
     Stepped, Word,

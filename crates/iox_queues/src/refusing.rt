@@ -1,2 +1,2 @@
 //! The ends of the ring that refuses a push when it is full, one word at a time.
-pub use iox_queues_rings::refusing::{Pop, Push};
+pub use iox_queues_steps::rings::refusing::{Pop, Push};

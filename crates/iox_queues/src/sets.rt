@@ -1,2 +1,2 @@
 //! Bit sets and counting bit sets, one word at a time.
-pub use iox_queues_bits::{Answer, Call, Event, Finished, Move, SetCall, SetMachine};
+pub use crate::bits::{Answer, Call, Event, Finished, Move, SetCall, SetMachine};

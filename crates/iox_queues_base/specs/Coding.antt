@@ -1,6 +1,7 @@
 -- How integers and truth values lie in 64-bit words.
 use Rattle.std.specs.Prelude.{ℕ, ◌+◌, ◌*◌, ◌/◌, ◌%◌, ◌^◌, ◌<◌, ◌≡◌, Bool, true, false, if◌then◌else◌, nat_lt}
 use Rattle.std.proofs.Common.{arith}
+use lib.Utf8.{scalar}
 
 -- the word itself if it is below 2 ^ bits, else 0
 abbrev pub narrowed : ℕ → ℕ → ℕ
@@ -16,3 +17,7 @@ narrowed-same bits x h = grind arith
 
 pub wide-back : (x : ℕ) → (x % 2 ^ 64) + 2 ^ 64 * (x / 2 ^ 64) ≡ x
 wide-back x = omega arith
+
+-- the code itself if it is a character's, else 0
+abbrev pub char_of : ℕ → ℕ
+char_of code = if scalar code then code else 0

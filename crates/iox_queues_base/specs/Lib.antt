@@ -2,3 +2,5 @@
 pub mod Waiting
 pub mod Bits
 pub mod Coding
+pub mod Each
+pub mod Scalars

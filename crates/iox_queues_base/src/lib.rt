@@ -35,4 +35,4 @@ pub use bits::{BitSet, BitState, CountingBitSet, FixedSizeBitSet, FixedSizeCount
 pub use index_queue::{FixedSizeIndexQueue, IndexQueue};
 pub use overflowing::{FixedSizeSafelyOverflowingIndexQueue, SafelyOverflowingIndexQueue};
 pub use value_queue::Queue;
-pub use words::Words;
+pub use words::{OneWord, Words};

@@ -5,6 +5,12 @@ ghost use Rattle.std.specs.Prelude.{◌≡◌, ℕ, ◌+◌, ◌*◌, ◌/◌, �
 ghost use Rattle.std.proofs.Common.{arith, rules};
 ghost use Rattle.iox_queues_base.specs.Coding.{narrowed, narrowed-same, word_of_bool, wide-back};
 
+mod arrays;
+mod floats;
+mod signed;
+
+pub use arrays::OneWord;
+
 /// A value that is copied as a fixed number of 64-bit words, which may be none.
 ///
 /// The words of a value give it back: so a type whose values have no words has one value.
@@ -24,8 +30,7 @@ pub trait Words: Copy {
 
     /// Word `i` of the value; 0 where it has no such word.
     fn word(&self, i: usize) -> u64
-        ensures part { result ≡ slice_index (parts self.now) i }
-        ensures value { is_value self.now };
+        ensures { result ≡ slice_index (parts self.now) i };
 
     /// The value that has these words, or any value where none has.
     fn of_words(words: &[u64]) -> Self
@@ -33,11 +38,18 @@ pub trait Words: Copy {
         ensures same { result ≡ of_parts words.now }
         ensures value { is_value result };
 
-    /// Does nothing: it says of each value, however few its words are, that they give it back. The
-    /// body of an integer reads it, which shows its range.
-    fn gives_back(&self)
+    /// Does nothing: it shows what holds of every value, as an integer's range. The body of an integer
+    /// reads it, and that of a struct calls this for each field.
+    fn shows(&self)
+        ensures { is_value self.now };
+
+    /// Does nothing: it says of each value, however few its words are, that they give it back.
+    final fn gives_back(&self)
         ensures value { is_value self.now }
-        ensures same { of_parts (parts self.now) ≡ self.now };
+        ensures same { of_parts (parts self.now) ≡ self.now }
+    {
+        self.shows();
+    }
 
     ghost as_many: { (x : Self) → length (parts x) ≡ WORDS };
 
@@ -69,7 +81,7 @@ impl Words for u8 {
         }
     }
 
-    fn gives_back(&self) {
+    fn shows(&self) {
         let _value = *self;
     }
 
@@ -103,7 +115,7 @@ impl Words for u16 {
         }
     }
 
-    fn gives_back(&self) {
+    fn shows(&self) {
         let _value = *self;
     }
 
@@ -137,7 +149,7 @@ impl Words for u32 {
         }
     }
 
-    fn gives_back(&self) {
+    fn shows(&self) {
         let _value = *self;
     }
 
@@ -166,7 +178,7 @@ impl Words for u64 {
         words[0]
     }
 
-    fn gives_back(&self) {
+    fn shows(&self) {
         let _value = *self;
     }
 
@@ -195,7 +207,7 @@ impl Words for usize {
         words[0] as usize
     }
 
-    fn gives_back(&self) {
+    fn shows(&self) {
         let _value = *self;
     }
 
@@ -229,7 +241,7 @@ impl Words for u128 {
         u128::from(words[0]) + 0x1_0000_0000_0000_0000 * u128::from(words[1])
     }
 
-    fn gives_back(&self) {
+    fn shows(&self) {
         let _value = *self;
     }
 
@@ -257,7 +269,7 @@ impl Words for bool {
         words[0] == 1
     }
 
-    fn gives_back(&self) {}
+    fn shows(&self) {}
 
     ghost as_many = { λ x. refl };
 
@@ -282,7 +294,7 @@ impl Words for () {
 
     fn of_words(_words: &[u64]) {}
 
-    fn gives_back(&self) {}
+    fn shows(&self) {}
 
     ghost as_many = { λ x. refl };
 

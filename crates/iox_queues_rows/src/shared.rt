@@ -208,7 +208,7 @@ impl Words for Third {
         Third { number: words[2] }
     }
 
-    fn gives_back(&self) {
+    fn shows(&self) {
         let _number = self.number;
     }
 
@@ -257,6 +257,37 @@ fn is_too_wide(alloc: Global) -> Result<bool, AllocError> {
     }
 }
 
+/// Whether a value has just these words, and they give it back.
+fn are_words_of<T: Words + PartialEq>(words: &[u64], value: &T) -> bool {
+    if words.len() != T::WORDS {
+        return false;
+    }
+    for (i, word) in words.iter().enumerate() {
+        if value.word(i) != *word {
+            return false;
+        }
+    }
+    T::of_words(words) == *value
+}
+
+/// Whether numbers, characters and arrays have the words that they have.
+fn have_their_words() -> bool {
+    let all = u64::MAX;
+    [
+        are_words_of(&[254], &-2i8),
+        are_words_of(&[65_534], &-2i16),
+        are_words_of(&[0xffff_ffff], &-1i32),
+        are_words_of(&[all], &-1i64),
+        are_words_of(&[all - 2], &-3isize),
+        are_words_of(&[all - 1, all], &-2i128),
+        are_words_of(&[0x3f80_0000], &1.0f32),
+        are_words_of(&[0xc004_0000_0000_0000], &-2.5f64),
+        are_words_of(&[0x20ac], &'€'),
+        are_words_of(&[0x3ff0_0000_0000_0000, 1 << 63], &[1.0f64, -0.0]),
+        are_words_of(&[1, 0, 1], &[true, false, true]),
+    ] == [true; 11]
+}
+
 #[test]
 fn a_shared_value_is_the_last_one_stored(rt: HostRuntime) -> Result<(), Fail> {
     let alloc: Global = rt.alloc();
@@ -266,6 +297,7 @@ fn a_shared_value_is_the_last_one_stored(rt: HostRuntime) -> Result<(), Fail> {
         loads_all_words(alloc),
         is_too_wide(alloc),
         counts(alloc),
+        Ok(have_their_words()),
     ];
     Ok(hold(&rt, &answers)?)
 }

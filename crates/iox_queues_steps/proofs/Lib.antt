@@ -2,3 +2,12 @@ pub mod Held
 pub mod Orders
 pub mod Told
 pub mod Running
+pub mod EitherRing
+pub mod Calls
+pub mod Runs
+pub mod OverflowingPush
+pub mod OverflowingPop
+pub mod RefusingSteps
+pub mod PushSteps
+pub mod PopSteps
+pub mod EitherStep

@@ -1,9 +1,9 @@
 -- What a script is answered, line by line.
-use Rattle.std.specs.Prelude.{◌≡◌, ◌++◌, ℕ, List, [], Option, Result, Ok, Err, codes}
+use Rattle.std.specs.Prelude.{◌≡◌, ◌++◌, ℕ, Bool, List, [], Option, Result, Ok, Err, codes}
 use Rattle.std.specs.declared.alloc.AllocError.{AllocError}
 use Rattle.iox_hub_run.specs.Command.declared.command.Command.{Command}
 use Rattle.iox_hub_run.specs.Command.declared.reply.Reply.{Reply}
-use Rattle.iox_conversation.specs.Conversation.{BreaksOff}
+use Rattle.iox_conversation.specs.Conversation.{BreaksOff, WritesABeginning}
 use Rattle.iox_conversation.specs.declared.error.ServeError.{ServeError}
 use Rattle.iox_line.specs.DescribeBase.Detail.{Detail, detail}
 use Rattle.iox_line.specs.DescribeBase.declared.type_detail.TypeVariant.TheVariants.{FixedSize}
@@ -50,7 +50,12 @@ abbrev pub IsNewScript : HubConfig → Script → Type 0
 IsNewScript config script = IsNew config script.hub
 
 -- a conversation on a new hub broke off
-abbrev pub BreaksOffAnew : HubConfig → ServeError → Option (List ℕ) → Option (List ℕ) → Option (List ℕ) → Option (List ℕ) → Type 0
-BreaksOffAnew config error left leaves held holds =
+abbrev pub BreaksOffAnew : HubConfig → ServeError → Bool → Option (List ℕ) → Option (List ℕ) → Option (List ℕ) → Option (List ℕ) → Type 0
+BreaksOffAnew config error ended left leaves held holds =
     (script : Script) × IsNewScript config script
-    × BreaksOff AnswersLine (λ script. numbers_used script.hub) error (record { machine = script; line = [] }) left leaves held holds
+    × BreaksOff AnswersLine (λ script. numbers_used script.hub) error ended (record { machine = script; line = [] }) left leaves held holds
+
+-- what was written is a beginning of the reply lines, in order, of a new hub to the lines that were read whole
+abbrev pub WritesABeginningAnew : HubConfig → Bool → Option (List ℕ) → Option (List ℕ) → Option (List ℕ) → Option (List ℕ) → Type 0
+WritesABeginningAnew config ended left leaves held holds =
+    (script : Script) × IsNewScript config script × WritesABeginning AnswersLine ended script left leaves held holds

@@ -1,11 +1,12 @@
 //! A hub that a script drives, one line at a time.
-ghost use Rattle.std.specs.Prelude.{◌≡◌, ◌⊎◌, ◌+◌, ◌<◌, ◌≤◌, ◌^◌, ℕ, List, true, OnOk, IfErr, IfSome, Err, ◌++◌, codes};
+ghost use Rattle.std.specs.Prelude.{◌≡◌, ◌⊎◌, ◌+◌, ◌<◌, ◌≤◌, ◌^◌, ℕ, List, true, OnOk, OnErr, IfErr, IfSome, Err, ◌++◌, codes};
+ghost use Rattle.std.specs.Io.{StartsWith};
 ghost use Rattle.std.specs.Io.KnownBytes.{Appends};
 ghost use Rattle.iox_conversation.specs.Conversation.{IsConversation};
 ghost use Rattle.iox_conversation.specs.declared.error.ServeError.TheVariants as failed;
 ghost use Rattle.iox_hub_run.specs.Numbers.{numbers_used};
 ghost use Rattle.iox_line.specs.LineFault.{fault_text};
-ghost use Rattle.iox_script.specs.Conversation.{AnswersLine, IsNewScript, BreaksOffAnew};
+ghost use Rattle.iox_script.specs.Conversation.{AnswersLine, IsNewScript, BreaksOffAnew, WritesABeginningAnew};
 ghost use Rattle.iox_script.specs.declared.script.Script.{Script};
 
 use iox_conversation::{AnswersLines, Input, Output, ServeError};
@@ -53,6 +54,7 @@ impl Script {
     ) -> Result<(), AllocError>
         requires { numbers_used self.old.hub + 1 < 2 ^ 64 }
         ensures answers { OnOk result ((text : List ℕ) × (out.new.items ≡ out.old.items ++ text) × AnswersLine self.old line.now text self.new) }
+        ensures kept { OnErr result (StartsWith out.new.items out.old.items) }
         ensures counts { numbers_used self.new.hub ≤ numbers_used self.old.hub + 1 }
     {
         match read_command(alloc, line, &mut self.scratch)? {
@@ -65,9 +67,10 @@ impl Script {
     }
 }
 
-// Appends why a line is no command, or changes nothing that was there for want of memory.
+// Appends why a line is no command. What stood there before stays, also where memory is wanting.
 fn print_fault(fault: LineError, out: &mut Vec<u8>) -> Result<(), AllocError>
-    ensures { OnOk result (out.new.items ≡ out.old.items ++ (codes "err " ++ fault_text fault)) }
+    ensures ok { OnOk result (out.new.items ≡ out.old.items ++ (codes "err " ++ fault_text fault)) }
+    ensures kept { OnErr result (StartsWith out.new.items out.old.items) }
 {
     out.extend_from_slice(b"err ")?;
     out.extend_from_slice(fault.text().as_bytes())
@@ -79,8 +82,12 @@ fn print_fault(fault: LineError, out: &mut Vec<u8>) -> Result<(), AllocError>
 /// than 1,024 bytes by `err line too long`. A last line without a newline counts if it isn't empty. The lines of one
 /// read are answered before the next read, and their replies are written together.
 ///
-/// After an error the replies to all that was read before the last read are written. After `ReadFault` so are those to all
-/// that was read, after `WriteFault` a beginning of those to the last read, and after `OutOfMemory` none of those.
+/// After an error, what is written is a beginning of the replies, in order, to the lines that were read whole. After `ReadFault`
+/// those are all of them; after `WriteFault` all to what was read before the last read, and a beginning of the others; after
+/// `OutOfMemory` those to all lines before the one for which no memory was found.
+///
+/// A read or write that a signal interrupts is made again. Each such read counts as a read call, and a write that is interrupted
+/// 2^20 times one after the other has failed.
 pub fn serve<R: Read, W: Write>(
     alloc: Global,
     config: HubConfig,
@@ -92,7 +99,8 @@ pub fn serve<R: Read, W: Write>(
     ensures conversation { OnOk result (IfSome (R.remaining input.old.reader) (λ bytes.
         (text : List ℕ) × (script : Script) × IsNewScript config script × Appends (W.contents output.old.writer) (W.contents output.new.writer) text
         × IsConversation AnswersLine script bytes text)) }
-    ensures broken { IfErr result (λ error. BreaksOffAnew config error (R.remaining input.old.reader) (R.remaining input.new.reader) (W.contents output.old.writer) (W.contents output.new.writer)) }
+    ensures broken { IfErr result (λ error. BreaksOffAnew config error input.new.ended (R.remaining input.old.reader) (R.remaining input.new.reader) (W.contents output.old.writer) (W.contents output.new.writer)) }
+    ensures beginning { OnErr result (WritesABeginningAnew config input.new.ended (R.remaining input.old.reader) (R.remaining input.new.reader) (W.contents output.old.writer) (W.contents output.new.writer)) }
     ensures ended { OnOk result (input.new.ended ≡ true) }
     ensures read_fault { result ≡ Err failed.ReadFault → (input.new.failed ≡ true) ⊎ (input.new.calls ≡ input.old.calls + 2 ^ 20) }
     ensures write_fault { result ≡ Err failed.WriteFault → output.new.failed ≡ true }

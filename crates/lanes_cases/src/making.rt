@@ -1,7 +1,7 @@
 //! Lanes as a line asks for them.
 use crate::words::{setting, word};
 use iox_lanes_machine::{LaneSizes, Lanes};
-use iox_queues_rings::RingKind;
+use iox_queues_steps::rings::RingKind;
 use std::alloc::{AllocError, Global};
 use std::str::SplitWhitespace;
 

@@ -6,9 +6,15 @@
 //! `N times LINES` stands for these lines N times, with `; ` between each two; a `#` in them is the number of the time, from
 //! 1. It is told the replies of the first time, and those of the last where any differ.
 //!
+//! A last line `faults` has the lines before it said again, once for each read that may fail, and once for each write: a line is
+//! read at a time, and its reply is written. It is told how many of both ended so and left just the replies before them.
+//!
 //! Standard output is typed by hand from the formats, and standard input is its lines without their replies.
 #![tactic(auto)]
 
+mod faults;
+
+use faults::left_by_faults;
 use iox_script::{HubConfig, Input, Output, serve};
 use std::alloc::{AllocError, Global};
 use std::io;
@@ -39,9 +45,30 @@ fn expired(title: &str) -> u32 {
 
 // Prints each line of a block with what a new hub replies.
 fn answer(rt: &HostRuntime, expired: u32, lines: &str) -> io::Result<()> {
-    let script = spelled(rt.alloc(), lines)?;
+    let (said, faults) = match lines.strip_suffix("\nfaults") {
+        Some(said) => (said, true),
+        None => (lines, false),
+    };
+    let script = spelled(rt.alloc(), said)?;
     let replies = replied(rt.alloc(), expired, script.as_bytes())?;
-    tell(rt, lines, &mut replies.lines())
+    tell(rt, said, &mut replies.lines())?;
+    if faults {
+        let (reads, writes) = left_by_faults(
+            rt.alloc(),
+            config(expired),
+            script.as_str(),
+            replies.as_str(),
+        );
+        println!(rt; "faults -> {reads} reads, {writes} writes")?;
+    }
+    Ok(())
+}
+
+fn config(expired: u32) -> HubConfig {
+    HubConfig {
+        expired_connection_buffer: expired,
+        id: 0,
+    }
 }
 
 // How often lines are said, and the lines.
@@ -80,13 +107,9 @@ fn say(alloc: Global, script: &mut String, once: &str, time: usize) -> Result<()
 
 // What a new hub replies to a script.
 fn replied(alloc: Global, expired: u32, script: &[u8]) -> io::Result<String> {
-    let config = HubConfig {
-        expired_connection_buffer: expired,
-        id: 0,
-    };
     let mut input = Input::new(script);
     let mut output = Output::new(Vec::new(alloc));
-    let _ = serve(alloc, config, &mut input, &mut output);
+    let _ = serve(alloc, config(expired), &mut input, &mut output);
     let replies = output.into_writer();
     Ok(String::from_utf8(replies).unwrap_or(String::new(alloc)))
 }

@@ -15,6 +15,9 @@ pub enum VectorModificationError {
 
     /// There would be more items than fit. This is tested first.
     InsertWouldExceedCapacity,
+
+    /// The clone of an item was refused its memory. New in this port.
+    OutOfMemory,
 }
 
 impl VectorModificationError {
@@ -27,6 +30,7 @@ impl VectorModificationError {
             VectorModificationError::InsertWouldExceedCapacity => {
                 "VectorModificationError::InsertWouldExceedCapacity"
             }
+            VectorModificationError::OutOfMemory => "VectorModificationError::OutOfMemory",
         }
     }
 }

@@ -11,7 +11,8 @@ use std::alloc::{AllocError, Global};
 use std::marker::Model;
 use std::{fmt, slice};
 
-/// A vector of at most `CAPACITY` items. `new` takes all its memory, and no other call takes any.
+/// A vector of at most `CAPACITY` items. `new` takes all its memory. Of the other calls only `clone`, `try_clone` and the
+/// reading of its list take memory: that of the vector that they make, and what its items take.
 ///
 /// Contracts see it as the list of its items.
 ///

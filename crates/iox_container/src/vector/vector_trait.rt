@@ -3,13 +3,13 @@ ghost use Rattle.std.specs.Prelude.{◌≡◌, ℕ, ◌+◌, ◌-◌, ◌<◌, �
 ghost use Rattle.std.specs.Option.{option_to_list};
 ghost use Rattle.std.specs.Borrow.{Array, Lends, sem};
 ghost use Rattle.std.specs.List.{AppendsResults};
-ghost use Rattle.iox_container.specs.Vectors.{AnswersGrowth, AnswersInsertionAt, AppendsMade};
+ghost use Rattle.iox_container.specs.Vectors.{AnswersClones, AnswersGrowth, AnswersInsertionAt, AppendsMade};
 
 use crate::vector::VectorModificationError;
 
 /// At most `capacity` items in an order. Items that a call drops go one by one, the last first.
 ///
-/// Contracts see it as its `items` and its capacity, `room`, which no call changes. No call takes memory of its own.
+/// Contracts see it as its `items` and its capacity, `room`, which no call changes. No call takes memory of its own; clones of items take theirs.
 ///
 /// Ported from `iceoryx2_bb_container::vector::Vector`.
 pub trait Vector<T: Drop> {
@@ -143,23 +143,32 @@ pub trait Vector<T: Drop> {
     }
 
     /// Cuts the vector to `new_len` items, or fills it up to that number with clones of `value`. Refused with
-    /// `InsertWouldExceedCapacity` if they would not fit.
+    /// `InsertWouldExceedCapacity` if they would not fit, else with `OutOfMemory` if a clone is refused its memory; the
+    /// items are then as they were.
     final fn resize(&mut self, new_len: usize, value: T) -> Result<(), VectorModificationError>
     where
         T: Clone,
-        requires clones { T.is_infallible value }
         requires clones_equal { (x : T) → T.is_clone value x → x ≡ value }
-        ensures answer { AnswersGrowth (room self.old) new_len result }
+        ensures answer { AnswersClones (room self.old) new_len result }
+        ensures cloned { (length (items self.old) < new_len → T.is_infallible value) → AnswersGrowth (room self.old) new_len result }
         ensures ok { OnOk result (items self.new ≡ take new_len (items self.old) ++ replicate (new_len - length (items self.old)) value) }
-        ensures err { OnErr result (self.new ≡ self.old) }
+        ensures err { OnErr result (items self.new ≡ items self.old) }
+        ensures too_long { room self.old < new_len → self.new ≡ self.old }
         ensures capacity { room self.new ≡ room self.old }
     {
         if self.capacity() < new_len {
             return Err(VectorModificationError::InsertWouldExceedCapacity);
         }
         self.truncate(new_len);
+        let kept = self.len();
         while self.len() < new_len {
-            self.push_reserved(value.clone().unwrap());
+            match value.clone() {
+                Ok(item) => self.push_reserved(item),
+                Err(_) => {
+                    self.truncate(kept);
+                    return Err(VectorModificationError::OutOfMemory);
+                }
+            }
         }
         Ok(())
     }
@@ -193,22 +202,30 @@ pub trait Vector<T: Drop> {
     }
 
     /// Appends clones of the items of `other`, in their order. Refused with `InsertWouldExceedCapacity` if they would
-    /// not all fit.
+    /// not all fit, else with `OutOfMemory` if a clone is refused its memory; the items are then as they were.
     final fn extend_from_slice(&mut self, other: &[T]) -> Result<(), VectorModificationError>
     where
         T: Clone,
-        requires clones { All T.is_infallible other.now }
         requires clones_equal { All (λ x. (y : T) → T.is_clone x y → y ≡ x) other.now }
-        ensures answer { AnswersGrowth (room self.old) (length (items self.old) + length other.now) result }
+        ensures answer { AnswersClones (room self.old) (length (items self.old) + length other.now) result }
+        ensures cloned { All T.is_infallible other.now → AnswersGrowth (room self.old) (length (items self.old) + length other.now) result }
         ensures ok { OnOk result (items self.new ≡ items self.old ++ other.now) }
-        ensures err { OnErr result (self.new ≡ self.old) }
+        ensures err { OnErr result (items self.new ≡ items self.old) }
+        ensures too_long { room self.old < length (items self.old) + length other.now → self.new ≡ self.old }
         ensures capacity { room self.new ≡ room self.old }
     {
-        if other.len() > self.capacity() - self.len() {
+        let kept = self.len();
+        if other.len() > self.capacity() - kept {
             return Err(VectorModificationError::InsertWouldExceedCapacity);
         }
         for item in other {
-            self.push_reserved(item.clone().unwrap());
+            match item.clone() {
+                Ok(item) => self.push_reserved(item),
+                Err(_) => {
+                    self.truncate(kept);
+                    return Err(VectorModificationError::OutOfMemory);
+                }
+            }
         }
         Ok(())
     }

@@ -1,6 +1,6 @@
 //! Loans and samples that come where there may be no room for one more.
 ghost use Rattle.std.specs.Prelude.{◌≡◌, ◌<◌, ◌+◌, ◌^◌, length, OnOk, OnErr};
-ghost use Rattle.iox_numbered.specs.NumberTable.{value_at};
+ghost use Rattle.iox_maps.specs.NumberTable.{value_at};
 ghost use Rattle.iox_hub_commands.specs.Calls.{ready};
 ghost use Rattle.iox_hub_commands.specs.Growing.{GrowsFirst};
 ghost use Rattle.iox_hub_commands.specs.Numbering.{LendsNumbered, LendsWrittenNumbered, ReceivesNumbered};
@@ -9,7 +9,7 @@ ghost use Rattle.iox_hub_commands.specs.Tables.{SameNumbers, IsFull, lender};
 use crate::ports::made::Made;
 use iox_domain_home::Home;
 use iox_domain_values::{LoanError, ReceiveError};
-use iox_numbered::Numbered;
+use iox_maps::by_number::Numbered;
 use std::alloc::{AllocError, Global};
 
 impl Made {

@@ -1,7 +1,7 @@
 //! What is written into a loan; it is given up, or sent.
 ghost use Rattle.std.specs.Prelude.{◌≡◌, is_some, if◌then◌else◌};
 ghost use Rattle.iox_delivery_slices.specs.DomainPorts.Lending.{gave_up_in};
-ghost use Rattle.iox_numbered.specs.NumberTable.{value_at};
+ghost use Rattle.iox_maps.specs.NumberTable.{value_at};
 ghost use Rattle.iox_hub_commands.specs.Loans.{loan_under, changed_under, is_set, set_in, is_filled, filled_in, SendsUnder};
 ghost use Rattle.iox_hub_commands.specs.Numbering.{removed_if};
 ghost use Rattle.iox_hub_commands.specs.Tables.{without_loan};

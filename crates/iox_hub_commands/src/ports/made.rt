@@ -1,14 +1,14 @@
 //! The tables: which port, loan or sample goes by a number.
 ghost use Rattle.std.specs.Prelude.{◌≡◌, true, false, IfSome};
 ghost use Rattle.iox_delivery_slices.specs.Delivery.Holding.{publisher_stands, publisher_blocked};
-ghost use Rattle.iox_numbered.specs.NumberTable.{value_at};
+ghost use Rattle.iox_maps.specs.NumberTable.{value_at};
 ghost use Rattle.iox_hub_commands.specs.Calls.{ready};
 ghost use Rattle.iox_hub_commands.specs.Tables.{IsEmpty, port_under, lender};
 
 use iox_delivery::{PortId, publishing};
 use iox_domain_home::Home;
 use iox_domain_subscriber::Taken;
-use iox_numbered::Numbered;
+use iox_maps::by_number::Numbered;
 use std::alloc::Global;
 
 /// A publisher, and whether its messages are slices.

@@ -1,6 +1,6 @@
 //! Publishers lend, put, wait, and leave.
 ghost use Rattle.std.specs.Prelude.{◌≡◌, ◌<◌, ◌+◌, ◌^◌, length};
-ghost use Rattle.iox_numbered.specs.NumberTable.{value_at};
+ghost use Rattle.iox_maps.specs.NumberTable.{value_at};
 ghost use Rattle.iox_hub_commands.specs.Calls.{AtPort, AtPortIf, ready, Lends, Puts, Follows, Retries, GivesUp, PublisherGoes};
 ghost use Rattle.iox_hub_commands.specs.Numbering.{LendsNumbered, LendsWrittenNumbered, removed_if};
 ghost use Rattle.iox_hub_commands.specs.Tables.{port_under, lender, without_publisher};

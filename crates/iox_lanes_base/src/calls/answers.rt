@@ -2,9 +2,9 @@
 ghost use Rattle.std.specs.Prelude.{◌≡◌};
 ghost use Rattle.iox_lanes_base.specs.Answers.{refusing_push_answer, refusing_pop_answer, push_answer, pop_answer};
 
-use iox_queues_rings::overflowing::{Pop as OverflowingPop, Push as OverflowingPush};
-use iox_queues_rings::refusing::{Pop as RefusingPop, Push as RefusingPush};
-use iox_queues_rings::{Pop, Push};
+use iox_queues_steps::rings::overflowing::{Pop as OverflowingPop, Push as OverflowingPush};
+use iox_queues_steps::rings::refusing::{Pop as RefusingPop, Push as RefusingPush};
+use iox_queues_steps::rings::{Pop, Push};
 use iox_queues_steps::{PopAnswer, PushAnswer};
 
 /// The answer of a push that was answered on a ring that refuses; None of one under way.

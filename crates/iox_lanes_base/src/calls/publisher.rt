@@ -6,9 +6,9 @@ ghost use Rattle.iox_lanes_base.specs.Publishing.{publisher_next, publisher_take
 use crate::calls::answers::{push_answer, refusing_pop_answer};
 use crate::calls::route::Route;
 use crate::words::{ConnectionRing, SharedAccess, SharedWord, SlotWord};
-use iox_queues_rings::Push;
-use iox_queues_rings::overflowing::Push as OverflowingPush;
-use iox_queues_rings::refusing::{Pop as RefusingPop, Push as RefusingPush};
+use iox_queues_steps::rings::Push;
+use iox_queues_steps::rings::overflowing::Push as OverflowingPush;
+use iox_queues_steps::rings::refusing::{Pop as RefusingPop, Push as RefusingPush};
 use iox_queues_steps::{PopAnswer, PushAnswer};
 
 /// To how many connections a message went so far.

@@ -2,7 +2,7 @@
 ghost use Rattle.std.specs.Prelude.{◌≡◌};
 ghost use Rattle.iox_lanes_base.specs.Routes.{known_as, rerouted};
 
-use iox_queues_rings::RingKind;
+use iox_queues_steps::rings::RingKind;
 
 /// A connection: its number, and the sizes of its two rings.
 #[derive(Clone, Copy, Debug, PartialEq, Eq)]

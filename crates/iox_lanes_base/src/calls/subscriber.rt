@@ -6,8 +6,8 @@ ghost use Rattle.iox_lanes_base.specs.Subscribing.{subscriber_next, subscriber_t
 use crate::calls::answers::{pop_answer, refusing_push_answer};
 use crate::calls::route::Route;
 use crate::words::{ConnectionRing, SharedAccess, SharedWord, SlotWord};
-use iox_queues_rings::Pop;
-use iox_queues_rings::refusing::Push as RefusingPush;
+use iox_queues_steps::rings::Pop;
+use iox_queues_steps::rings::refusing::Push as RefusingPush;
 use iox_queues_steps::{PopAnswer, PushAnswer};
 
 /// What a receive answers.

@@ -1,15 +1,15 @@
 //! A publisher of a domain gets the messages that lanes leave.
 ghost use Rattle.std.specs.Prelude.{◌≡◌, ◌+◌, ◌-◌, ◌<◌, ◌≤◌, ◌++◌, ◌∷◌, [], length, map, None, Some, vec_capacity, IfSome};
-ghost use Rattle.iox_domain_sender.specs.Sending.{with_uses};
-ghost use Rattle.iox_domain_sender.specs.DomainSlots.declared.stage.Stage.TheVariants as stage;
-ghost use Rattle.iox_domain_sender.specs.DomainSlots.Uses.{connection_at, with_connection, offered, newest};
+ghost use Rattle.iox_domain_publisher.specs.MessagesSending.{with_uses};
+ghost use Rattle.iox_domain_publisher.specs.DomainSlots.declared.stage.Stage.TheVariants as stage;
+ghost use Rattle.iox_domain_publisher.specs.DomainSlots.Uses.{connection_at, with_connection, offered, newest};
 ghost use Rattle.iox_lanes_machine.specs.LanesBase.Numbers.{words_of};
 ghost use Rattle.iox_lanes_opening.specs.Leaving.{message_in};
 ghost use Rattle.iox_lanes_opening.specs.Restoring.{IsWhole, IsQuiet, IsOwn, AreLeft, MayStand, OnlyWaits, OnlyRemembers, MayWaitAll, MayRememberAll, messages_in};
 ghost use Rattle.iox_lanes_machine.specs.Resting.{mail_at};
 
 use crate::leaving::words::{elements, payload, user_header};
-use iox_domain_sender::Sender;
+use iox_domain_publisher::messages::Sender;
 use iox_domain_slots::Stage;
 use iox_lanes_base::words::WordTable;
 use iox_lanes_machine::Lanes;

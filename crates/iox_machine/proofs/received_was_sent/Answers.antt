@@ -1,5 +1,5 @@
-use Rattle.iox_machine.proofs.Runs.{received-sent}
+use Rattle.iox_machine.proofs.OrderLaws.{received-was-sent}
 use Rattle.iox_machine.proofs.received_was_sent.Goals as goal
 
 pub returns : goal.returns
-returns g c = received-sent (λ value. g.T.Default.is_default value)
+returns g c = received-was-sent (λ value. g.T.Default.is_default value)

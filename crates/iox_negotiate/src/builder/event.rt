@@ -6,6 +6,7 @@ use iox_describe::pattern::Event;
 
 impl ServiceBuilder<Event> {
     /// Names the time in nanoseconds within which a notification is to come.
+    /// Example: `builder.deadline(1_000)`
     pub fn deadline(mut self, value: u64) -> Self
         ensures { result ≡ record self { requirement = record self.requirement { deadline = Some (Some value) } } }
     {
@@ -14,6 +15,7 @@ impl ServiceBuilder<Event> {
     }
 
     /// Names that there is no such number: time in nanoseconds within which a notification is to come.
+    /// Example: `builder.disable_deadline()`
     pub fn disable_deadline(mut self) -> Self
         ensures { result ≡ record self { requirement = record self.requirement { deadline = Some None } } }
     {
@@ -23,6 +25,7 @@ impl ServiceBuilder<Event> {
 
     /// Names the number of nodes in the service: at least so many of a service that is opened,
     /// and so many of one that is created.
+    /// Example: `builder.max_nodes(4)`
     pub fn max_nodes(mut self, value: u64) -> Self
         ensures { result ≡ record self { requirement = record self.requirement { max_nodes = Some value } } }
     {
@@ -32,6 +35,7 @@ impl ServiceBuilder<Event> {
 
     /// Names the number of notifiers of the service: at least so many of a service that is opened,
     /// and so many of one that is created.
+    /// Example: `builder.max_notifiers(2)`
     pub fn max_notifiers(mut self, value: u64) -> Self
         ensures { result ≡ record self { requirement = record self.requirement { max_notifiers = Some value } } }
     {
@@ -41,6 +45,7 @@ impl ServiceBuilder<Event> {
 
     /// Names the number of listeners of the service: at least so many of a service that is opened,
     /// and so many of one that is created.
+    /// Example: `builder.max_listeners(2)`
     pub fn max_listeners(mut self, value: u64) -> Self
         ensures { result ≡ record self { requirement = record self.requirement { max_listeners = Some value } } }
     {
@@ -49,6 +54,7 @@ impl ServiceBuilder<Event> {
     }
 
     /// Names the greatest event id: at least this of a service that is opened, and this of one that is created.
+    /// Example: `builder.event_id_max_value(7)`
     pub fn event_id_max_value(mut self, value: u64) -> Self
         ensures { result ≡ record self { requirement = record self.requirement { event_id_max_value = Some value } } }
     {
@@ -57,6 +63,7 @@ impl ServiceBuilder<Event> {
     }
 
     /// Names the event that tells of a new notifier.
+    /// Example: `builder.notifier_created_event(1)`
     pub fn notifier_created_event(mut self, value: u64) -> Self
         ensures { result ≡ record self { requirement = record self.requirement { notifier_created_event = Some (Some value) } } }
     {
@@ -65,6 +72,7 @@ impl ServiceBuilder<Event> {
     }
 
     /// Names that there is no such number: event that tells of a new notifier.
+    /// Example: `builder.disable_notifier_created_event()`
     pub fn disable_notifier_created_event(mut self) -> Self
         ensures { result ≡ record self { requirement = record self.requirement { notifier_created_event = Some None } } }
     {
@@ -73,6 +81,7 @@ impl ServiceBuilder<Event> {
     }
 
     /// Names the event that tells of a notifier that left.
+    /// Example: `builder.notifier_dropped_event(2)`
     pub fn notifier_dropped_event(mut self, value: u64) -> Self
         ensures { result ≡ record self { requirement = record self.requirement { notifier_dropped_event = Some (Some value) } } }
     {
@@ -81,6 +90,7 @@ impl ServiceBuilder<Event> {
     }
 
     /// Names that there is no such number: event that tells of a notifier that left.
+    /// Example: `builder.disable_notifier_dropped_event()`
     pub fn disable_notifier_dropped_event(mut self) -> Self
         ensures { result ≡ record self { requirement = record self.requirement { notifier_dropped_event = Some None } } }
     {
@@ -89,6 +99,7 @@ impl ServiceBuilder<Event> {
     }
 
     /// Names the event that tells of a notifier that died.
+    /// Example: `builder.notifier_dead_event(3)`
     pub fn notifier_dead_event(mut self, value: u64) -> Self
         ensures { result ≡ record self { requirement = record self.requirement { notifier_dead_event = Some (Some value) } } }
     {
@@ -97,6 +108,7 @@ impl ServiceBuilder<Event> {
     }
 
     /// Names that there is no such number: event that tells of a notifier that died.
+    /// Example: `builder.disable_notifier_dead_event()`
     pub fn disable_notifier_dead_event(mut self) -> Self
         ensures { result ≡ record self { requirement = record self.requirement { notifier_dead_event = Some None } } }
     {

@@ -1,7 +1,7 @@
 //! Setters of a builder of request-response services. Each names one thing, and all else stays.
 ghost use Rattle.std.specs.Prelude.{◌≡◌, Some};
-ghost use Rattle.iox_negotiate_errors.specs.DescribeBase.Detail.{detail};
-ghost use Rattle.iox_negotiate_errors.specs.DescribeBase.declared.type_detail.TypeVariant.TheVariants.{FixedSize};
+ghost use Rattle.iox_negotiate_base.specs.DescribeBase.Detail.{detail};
+ghost use Rattle.iox_negotiate_base.specs.DescribeBase.declared.type_detail.TypeVariant.TheVariants.{FixedSize};
 ghost use Rattle.iox_negotiate.specs.Types.{aligned};
 
 use crate::builder::ServiceBuilder;
@@ -11,6 +11,7 @@ use iox_describe::{TypeDetail, TypeVariant, ZeroCopySend};
 
 impl ServiceBuilder<RequestResponse> {
     /// Asks for this user header of requests.
+    /// Example: `builder.request_user_header::<u64>()`
     pub fn request_user_header<U: ZeroCopySend>(mut self) -> Self
         ensures { result ≡ record self { requirement = record self.requirement { request_types = record self.requirement.request_types { user_header = detail FixedSize U.name U.size U.alignment } } } }
     {
@@ -19,6 +20,7 @@ impl ServiceBuilder<RequestResponse> {
     }
 
     /// Asks for this user header of responses.
+    /// Example: `builder.response_user_header::<u64>()`
     pub fn response_user_header<U: ZeroCopySend>(mut self) -> Self
         ensures { result ≡ record self { requirement = record self.requirement { response_types = record self.requirement.response_types { user_header = detail FixedSize U.name U.size U.alignment } } } }
     {
@@ -27,6 +29,7 @@ impl ServiceBuilder<RequestResponse> {
     }
 
     /// Asks for this alignment of the payload of requests, in bytes, or for that of its type where it is larger.
+    /// Example: `builder.request_payload_alignment(16)`
     pub fn request_payload_alignment(mut self, alignment: u64) -> Self
         ensures { result ≡ record self { requirement = record self.requirement { request_types = record self.requirement.request_types { payload = aligned self.requirement.request_types.payload alignment } } } }
     {
@@ -38,6 +41,7 @@ impl ServiceBuilder<RequestResponse> {
     }
 
     /// Asks for this alignment of the payload of responses, in bytes, or for that of its type where it is larger.
+    /// Example: `builder.response_payload_alignment(16)`
     pub fn response_payload_alignment(mut self, alignment: u64) -> Self
         ensures { result ≡ record self { requirement = record self.requirement { response_types = record self.requirement.response_types { payload = aligned self.requirement.response_types.payload alignment } } } }
     {
@@ -49,6 +53,7 @@ impl ServiceBuilder<RequestResponse> {
     }
 
     /// Asks for this payload of requests, whatever type it is of.
+    /// Example: `builder.internal_set_request_payload_type_details(detail)`
     pub fn internal_set_request_payload_type_details(mut self, value: TypeDetail) -> Self
         ensures { result ≡ record self { requirement = record self.requirement { request_types = record self.requirement.request_types { payload = value } } } }
     {
@@ -57,6 +62,7 @@ impl ServiceBuilder<RequestResponse> {
     }
 
     /// Asks for this payload of responses, whatever type it is of.
+    /// Example: `builder.internal_set_response_payload_type_details(detail)`
     pub fn internal_set_response_payload_type_details(mut self, value: TypeDetail) -> Self
         ensures { result ≡ record self { requirement = record self.requirement { response_types = record self.requirement.response_types { payload = value } } } }
     {
@@ -65,6 +71,7 @@ impl ServiceBuilder<RequestResponse> {
     }
 
     /// Asks for this user header of requests, whatever type it is of.
+    /// Example: `builder.internal_set_request_header_type_details(detail)`
     pub fn internal_set_request_header_type_details(mut self, value: TypeDetail) -> Self
         ensures { result ≡ record self { requirement = record self.requirement { request_types = record self.requirement.request_types { user_header = value } } } }
     {
@@ -73,6 +80,7 @@ impl ServiceBuilder<RequestResponse> {
     }
 
     /// Asks for this user header of responses, whatever type it is of.
+    /// Example: `builder.internal_set_response_header_type_details(detail)`
     pub fn internal_set_response_header_type_details(mut self, value: TypeDetail) -> Self
         ensures { result ≡ record self { requirement = record self.requirement { response_types = record self.requirement.response_types { user_header = value } } } }
     {
@@ -81,6 +89,7 @@ impl ServiceBuilder<RequestResponse> {
     }
 
     /// Names whether a full buffer of requests drops its oldest.
+    /// Example: `builder.enable_safe_overflow_for_requests(false)`
     pub fn enable_safe_overflow_for_requests(mut self, value: bool) -> Self
         ensures { result ≡ record self { requirement = record self.requirement { enable_safe_overflow_for_requests = Some value } } }
     {
@@ -89,6 +98,7 @@ impl ServiceBuilder<RequestResponse> {
     }
 
     /// Names whether a full buffer of responses drops its oldest.
+    /// Example: `builder.enable_safe_overflow_for_responses(false)`
     pub fn enable_safe_overflow_for_responses(mut self, value: bool) -> Self
         ensures { result ≡ record self { requirement = record self.requirement { enable_safe_overflow_for_responses = Some value } } }
     {
@@ -97,6 +107,7 @@ impl ServiceBuilder<RequestResponse> {
     }
 
     /// Names whether a request may be sent of which no response is awaited.
+    /// Example: `builder.enable_fire_and_forget_requests(false)`
     pub fn enable_fire_and_forget_requests(mut self, value: bool) -> Self
         ensures { result ≡ record self { requirement = record self.requirement { enable_fire_and_forget_requests = Some value } } }
     {
@@ -106,6 +117,7 @@ impl ServiceBuilder<RequestResponse> {
 
     /// Names the number of requests of a client that may be answered at once: at least so many of a service that is opened,
     /// and so many of one that is created.
+    /// Example: `builder.max_active_requests_per_client(4)`
     pub fn max_active_requests_per_client(mut self, value: u64) -> Self
         ensures { result ≡ record self { requirement = record self.requirement { max_active_requests_per_client = Some value } } }
     {
@@ -115,6 +127,7 @@ impl ServiceBuilder<RequestResponse> {
 
     /// Names the number of requests that a client may have on loan at once: at least so many of a service that is opened,
     /// and so many of one that is created.
+    /// Example: `builder.max_loaned_requests(2)`
     pub fn max_loaned_requests(mut self, value: u64) -> Self
         ensures { result ≡ record self { requirement = record self.requirement { max_loaned_requests = Some value } } }
     {
@@ -124,6 +137,7 @@ impl ServiceBuilder<RequestResponse> {
 
     /// Names the number of responses that may wait for a client in a connection: at least so many of a service that is opened,
     /// and so many of one that is created.
+    /// Example: `builder.max_response_buffer_size(2)`
     pub fn max_response_buffer_size(mut self, value: u64) -> Self
         ensures { result ≡ record self { requirement = record self.requirement { max_response_buffer_size = Some value } } }
     {
@@ -133,6 +147,7 @@ impl ServiceBuilder<RequestResponse> {
 
     /// Names the number of servers of the service: at least so many of a service that is opened,
     /// and so many of one that is created.
+    /// Example: `builder.max_servers(2)`
     pub fn max_servers(mut self, value: u64) -> Self
         ensures { result ≡ record self { requirement = record self.requirement { max_servers = Some value } } }
     {
@@ -142,6 +157,7 @@ impl ServiceBuilder<RequestResponse> {
 
     /// Names the number of clients of the service: at least so many of a service that is opened,
     /// and so many of one that is created.
+    /// Example: `builder.max_clients(8)`
     pub fn max_clients(mut self, value: u64) -> Self
         ensures { result ≡ record self { requirement = record self.requirement { max_clients = Some value } } }
     {
@@ -151,6 +167,7 @@ impl ServiceBuilder<RequestResponse> {
 
     /// Names the number of responses to a request that a client may hold at once: at least so many of a service that is opened,
     /// and so many of one that is created.
+    /// Example: `builder.max_borrowed_responses_per_pending_response(2)`
     pub fn max_borrowed_responses_per_pending_response(mut self, value: u64) -> Self
         ensures { result ≡ record self { requirement = record self.requirement { max_borrowed_responses_per_pending_response = Some value } } }
     {
@@ -160,6 +177,7 @@ impl ServiceBuilder<RequestResponse> {
 
     /// Names the number of nodes in the service: at least so many of a service that is opened,
     /// and so many of one that is created.
+    /// Example: `builder.max_nodes(4)`
     pub fn max_nodes(mut self, value: u64) -> Self
         ensures { result ≡ record self { requirement = record self.requirement { max_nodes = Some value } } }
     {

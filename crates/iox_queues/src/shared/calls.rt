@@ -1,13 +1,13 @@
 //! Pushes and pops on shared words, each one run of its party value: it makes the accesses that the
 //! value asks for, in that order, and no other.
 ghost use Rattle.std.specs.Prelude.{◌≡◌, ◌+◌, ◌^◌, ◌<◌, ℕ, List, length, true, false, Some};
-ghost use Rattle.iox_queues_bits.specs.QueuesSteps.Runs.{Runs};
-ghost use Rattle.iox_queues_rings.specs.Overflowing as overflowing;
-ghost use Rattle.iox_queues_rings.specs.Refusing as refusing;
-ghost use Rattle.iox_queues_rings.specs.declared.overflowing.push.Push.TheVariants as overflowing_push;
-ghost use Rattle.iox_queues_rings.specs.declared.overflowing.pop.Pop.TheVariants as overflowing_pop;
-ghost use Rattle.iox_queues_rings.specs.declared.refusing.push.Push.TheVariants as refusing_push;
-ghost use Rattle.iox_queues_rings.specs.declared.refusing.pop.Pop.TheVariants as refusing_pop;
+ghost use Rattle.iox_queues.specs.QueuesSteps.Runs.{Runs};
+ghost use Rattle.iox_queues_steps.specs.Overflowing as overflowing;
+ghost use Rattle.iox_queues_steps.specs.Refusing as refusing;
+ghost use Rattle.iox_queues_steps.specs.declared.rings.overflowing.push.Push.TheVariants as overflowing_push;
+ghost use Rattle.iox_queues_steps.specs.declared.rings.overflowing.pop.Pop.TheVariants as overflowing_pop;
+ghost use Rattle.iox_queues_steps.specs.declared.rings.refusing.push.Push.TheVariants as refusing_push;
+ghost use Rattle.iox_queues_steps.specs.declared.rings.refusing.pop.Pop.TheVariants as refusing_pop;
 ghost use Rattle.iox_queues.specs.Calls.{is_kept, left_by, popped, taken};
 ghost use Rattle.iox_queues.specs.Single.{EndsUnmoved, load_is_over, load_next, load_take, store_next, store_take, store_is_over};
 ghost use Rattle.iox_queues.specs.declared.shared.single.Storing.TheVariants as storing;
@@ -15,9 +15,9 @@ ghost use Rattle.iox_queues.specs.declared.shared.single.Loading.TheVariants as 
 
 use super::LOST_TURNS;
 use super::single::{Loading, Storing};
-use iox_queues_rings::overflowing::{Pop as OverflowingPop, Push as OverflowingPush};
-use iox_queues_rings::refusing::{Pop as RefusingPop, Push as RefusingPush};
 use iox_queues_steps::end::run;
+use iox_queues_steps::rings::overflowing::{Pop as OverflowingPop, Push as OverflowingPush};
+use iox_queues_steps::rings::refusing::{Pop as RefusingPop, Push as RefusingPush};
 use iox_queues_steps::{End, Memory, PushAnswer};
 
 /// Puts the number behind the rest, where at most `limit` may wait; false if so many wait. At most

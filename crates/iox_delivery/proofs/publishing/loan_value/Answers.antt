@@ -1,6 +1,6 @@
 use Rattle.std.proofs.Common.{◌∷◌, [], length, refl}
 use Rattle.std.proofs.Math.Dec.{eqb}
-use Rattle.iox_domain_laws.specs.DomainSender.Messages.{write_value}
+use Rattle.iox_domain_laws.specs.DomainPublisher.Messages.{write_value}
 use Rattle.iox_delivery.proofs.Lent.{ready_there}
 use Rattle.iox_delivery.proofs.publishing.loan_value.Goals as goal
 

@@ -1,7 +1,7 @@
 use Rattle.std.proofs.Common.{◌≡◌, drop}
 use Rattle.serde_json.specs.Data.{no_members}
 use Rattle.serde_json.specs.View.{members_view}
-use Rattle.iox_json.specs.Plain.{put_all}
+use Rattle.iox_describe.specs.Plain.{put_all}
 use Rattle.iox_describe.specs.Line.{settings_members}
 use Rattle.iox_describe.proofs.writer.object.Given as goal
 

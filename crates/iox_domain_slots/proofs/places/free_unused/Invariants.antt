@@ -1,5 +1,3 @@
-use Rattle.std.proofs.Common.{◌≡◌, ◌+◌, ◌<◌, ◌≤◌, ℕ, true, false, nat_lt, get_or}
-use Rattle.iox_index_base.specs.Unique.{UniqueSetState, is_held}
 use Rattle.iox_domain_slots.proofs.Freeing.{Freeing}
 use Rattle.iox_domain_slots.proofs.places.free_unused.Given as goal
 

@@ -1,4 +1,4 @@
-use Rattle.iox_domain_publisher.specs.DomainSender.Messages.{Message}
+use Rattle.iox_domain_publisher.specs.Messages.{Message}
 use Rattle.iox_domain_subscriber.proofs.Located.{read_there, read_none}
 use Rattle.iox_domain_subscriber.proofs.reading.payload_at.Goals as goal
 

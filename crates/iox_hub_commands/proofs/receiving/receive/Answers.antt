@@ -1,7 +1,7 @@
 use Rattle.std.proofs.Common.{◌∙◌, Some, Ok, sym}
 use Rattle.iox_hub_commands.proofs.Arrived.{came_is_read, came_is_next, came_is_told}
 use Rattle.iox_hub_commands.specs.Reading.{values_under}
-use Rattle.iox_hub_commands.specs.Numbered.NumberTable.{value_at}
+use Rattle.iox_hub_commands.specs.Maps.NumberTable.{value_at}
 use Rattle.iox_hub_commands.proofs.receiving.receive.Goals as goal
 
 pub arrival-requires : goal.arrival-requires

@@ -9,4 +9,4 @@ pub returns : goal.returns
 returns g c = λ k below. c.loop-word.invariant k (omega (arith, below, c.requires.words, c.loop-word-test.false))
 
 pub loop-word-preserved : goal.loop-word-preserved
-loop-word-preserved g c = below_more (λ k. held_by c.args.table.now (Slot c.args.slot (UserHeader k)) ≡ slice_index (g.U.Words.parts c.args.user_header.now) k) c.loop-word.word c.loop-word.invariant (c.if-not-holds.ensures ∙ c.word-value.ensures.part)
+loop-word-preserved g c = below_more (λ k. held_by c.args.table.now (Slot c.args.slot (UserHeader k)) ≡ slice_index (g.U.Words.parts c.args.user_header.now) k) c.loop-word.word c.loop-word.invariant (c.if-not-holds.ensures ∙ c.word-value.ensures)

@@ -1,5 +1,5 @@
 use Rattle.std.proofs.Common.{ℕ, refl, sym, ap, subst, ◌∙◌}
-use Rattle.iox_lanes_machine.specs.QueuesRings.declared.refusing.pop.Pop.TheVariants as refusing_pop
+use Rattle.iox_lanes_machine.specs.QueuesSteps.declared.rings.refusing.pop.Pop.TheVariants as refusing_pop
 use Rattle.iox_lanes_machine.specs.LanesBase.declared.calls.publisher.PublisherCall.TheVariants as publishing
 use Rattle.iox_lanes_machine.specs.LanesParties.Parties.{PublisherLaneState}
 use Rattle.iox_lanes_threads_rule.specs.Acts.{port_of}

@@ -4,13 +4,13 @@ use Rattle.std.proofs.lemmas.List.{append-nil}
 use Rattle.iox_conversation.proofs.Advancing.{Ends-empty, Ends-answered}
 use Rattle.iox_conversation.proofs.session.Session.finish.Goals as goal
 
-pub returns-then-is_empty : goal.returns-then-is_empty
-returns-then-is_empty g c =
+pub returns-then-is_empty-clause-answers : goal.returns-then-is_empty-clause-answers
+returns-then-is_empty-clause-answers g c =
     let empty : length c.self.inside.line.items ≡ 0 = grind (arith, common_steps, c.self.inside.line.ok.0) in
     rw (← c.self.view_is) ([], sym (append-nil c.args.out.now.items), Ends-empty _ _ empty)
 
-pub returns : goal.returns
-returns g c =
+pub returns-clause-answers : goal.returns-clause-answers
+returns-clause-answers g c =
     let answers = c.in_ok-answer.ensures.answers in
     let some : 0 < length c.self.inside.line.items = grind (arith, common_steps, c.self.inside.line.ok.0) in
     let short : length c.self.inside.line.items ≤ 1025 = omega (arith, c.self.inside.line.ok.0, c.self.invariant.1) in

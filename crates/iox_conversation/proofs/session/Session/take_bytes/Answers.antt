@@ -1,7 +1,7 @@
 use Rattle.std.proofs.Common.{◌++◌, ◌∷◌, ◌∙◌, [], take, sym, ap, arith, append_assoc}
 use Rattle.std.proofs.lemmas.List.{append-nil}
-use Rattle.iox_conversation.proofs.Advancing.{Advances-append, Advances-heard}
-use Rattle.iox_conversation.proofs.LineLemmas.{newline-at, unbroken-before, unbroken-whole}
+use Rattle.iox_conversation.proofs.Advancing.{Advances-append, Advances-heard, OnErr-holds}
+use Rattle.iox_conversation.proofs.LineLemmas.{newline-at, broken-at, unbroken-before, unbroken-whole}
 use Rattle.iox_conversation.proofs.session.Session.take_bytes.Goals as goal
 
 pub end_line-requires-clause-unbroken : goal.end_line-requires-clause-unbroken
@@ -33,4 +33,21 @@ returns-clause-answers g c =
       rw (append-nil before.2) before.3,
       rw before.1 (Advances-append _ _ _ _ _ _ _ _ _ before.4
           (Advances-heard _ _ _ _ c.loop-end.rest.now before.5 (unbroken-whole c.loop-end.rest.now c.in_default.ensures) c.hear.ensures.machine c.hear.ensures.line)),
+    )
+
+pub returns-in_err-end_line-clause-kept : goal.returns-in_err-end_line-clause-kept
+returns-in_err-end_line-clause-kept g c =
+    let before = c.loop-end.invariant in
+    OnErr-holds c.from_residual.result (
+      before.2,
+      c.in_err-end_line.ensures.kept ∙ before.3,
+      record {
+        first = before.0;
+        more = c.loop-end.rest.now;
+        mid = c.loop-end.self;
+        all = before.1;
+        advances = before.4;
+        whole = before.5;
+        due = broken-at c.loop-end.rest.now c.in-Some.end c.in-Some.ensures.0.high c.in-Some.ensures.1;
+      },
     )

@@ -1,4 +1,4 @@
-use Rattle.iox_domain_sender.specs.DomainValues.declared.degradation.DegradationCause.TheVariants as cause
+use Rattle.iox_domain_publisher.specs.DomainValues.declared.degradation.DegradationCause.TheVariants as cause
 use Rattle.iox_domain_publisher.proofs.Following.{Following}
 use Rattle.iox_domain_publisher.proofs.publisher_port.PublisherPort.follow_all.Given as goal
 

@@ -1,5 +1,5 @@
 use Rattle.std.proofs.Common.{◌==◌, ◌∙◌, sym, ap}
-use Rattle.iox_domain_sender.specs.Sending.{is_written_loan}
+use Rattle.iox_domain_publisher.specs.MessagesSending.{is_written_loan}
 use Rattle.iox_domain_publisher.proofs.Finding.{at_place, at_none}
 use Rattle.iox_domain_publisher.proofs.publisher_port.PublisherPort.is_written.Goals as goal
 

@@ -1,5 +1,5 @@
 use Rattle.std.proofs.Common.{rules, ◌≡◌, ◌∙◌, false, true, sym, ap, Some, option_map, refl}
-use Rattle.iox_domain_sender.specs.Sending.{has_loan}
+use Rattle.iox_domain_publisher.specs.MessagesSending.{has_loan}
 use Rattle.iox_domain_publisher.proofs.Finding.{found_loan, no_loan}
 use Rattle.iox_domain_publisher.proofs.publisher_port.PublisherPort.user_header_mut.Goals as goal
 

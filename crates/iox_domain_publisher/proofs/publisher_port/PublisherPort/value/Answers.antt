@@ -1,5 +1,5 @@
 use Rattle.std.proofs.Common.{rules, ◌≡◌, ◌∙◌, false, true, sym, ap}
-use Rattle.iox_domain_sender.specs.Sending.{has_place}
+use Rattle.iox_domain_publisher.specs.MessagesSending.{has_place}
 use Rattle.iox_domain_publisher.specs.Writing.{value_at}
 use Rattle.iox_domain_publisher.proofs.Finding.{found, missing}
 use Rattle.iox_domain_publisher.proofs.publisher_port.PublisherPort.value.Goals as goal

@@ -1,5 +1,5 @@
 use Rattle.std.proofs.Common.{rules, ◌≡◌, ◌∙◌, false, true, sym, ap, get_or, is_some, refl, None}
-use Rattle.iox_domain_sender.specs.Sending.{has_value}
+use Rattle.iox_domain_publisher.specs.MessagesSending.{has_value}
 use Rattle.iox_domain_publisher.specs.Writing.{value_at}
 use Rattle.iox_domain_publisher.proofs.Finding.{found_loan, some_loan, unwritten}
 use Rattle.iox_domain_publisher.proofs.publisher_port.PublisherPort.value_mut.Goals as goal

@@ -1,5 +1,5 @@
 use Rattle.std.proofs.Common.{rules, ◌≡◌, ◌==◌, ◌∙◌, false, true, sym, ap, slice_get, None, Some}
-use Rattle.iox_domain_sender.specs.Sending.{is_written_at}
+use Rattle.iox_domain_publisher.specs.MessagesSending.{is_written_at}
 use Rattle.iox_domain_publisher.specs.Writing.{values_at}
 use Rattle.iox_domain_publisher.proofs.Finding.{at_place, at_none, no_values, loan_values}
 use Rattle.iox_domain_publisher.proofs.publisher_port.PublisherPort.values.Goals as goal

@@ -1,5 +1,5 @@
 use Rattle.std.proofs.Common.{rules, ◌≡◌, true}
-use Rattle.iox_domain_sender.specs.Sending.{has_length}
+use Rattle.iox_domain_publisher.specs.MessagesSending.{has_length}
 use Rattle.iox_domain_publisher.proofs.Finding.{one_place}
 use Rattle.iox_domain_publisher.proofs.publisher_port.PublisherPort.write_payload.Goals as goal
 

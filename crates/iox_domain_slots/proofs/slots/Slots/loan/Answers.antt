@@ -1,15 +1,17 @@
-use Rattle.std.proofs.Common.{◌≡◌, Err, ap, subst}
+use Rattle.std.proofs.Common.{◌≡◌, ◌+◌, ◌<◌, ◌∙◌, ℕ, Err, nat_lt, get_or, ap, subst}
 use Rattle.iox_index_base.specs.Unique.{is_held, answer_of}
 use Rattle.iox_domain_slots.specs.contracts.slots.Slots.{the_view}
-use Rattle.iox_domain_slots.proofs.Full.{all_held, all_used}
+use Rattle.iox_domain_slots.proofs.Full.{all_held, all_used, with_size}
 use Rattle.iox_domain_slots.proofs.slots.Slots.loan.Goals as goal
 
 pub returns-in_default : goal.returns-in_default
 returns-in_default c = rw (← c.self.view_is) (
-  (λ slot current. all_used c.self.inside.references.items c.self.inside.first c.self.inside.places.capacity (λ index. is_held index c.self.inside.places)
-      c.self.invariant.2
-      (all_held c.self.inside.places.free c.self.inside.places.capacity c.in_default.field-0
-      (subst (λ locked. Err c.in_default.field-0 ≡ answer_of locked c.self.inside.places.free) c.self.invariant.1 c.in_default.ensures.answer))
+  (λ slot current. all_used c.self.inside.references.items c.self.inside.first c.self.inside.places.capacity (λ index. is_held index c.settle.new.places)
+      (subst (λ items. (index : ℕ) → index < c.self.inside.places.capacity → is_held index c.settle.new.places ≡ nat_lt 0 (get_or items (c.self.inside.first + index) 0))
+      c.deref.ensures.value c.settle.ensures.held)
+      (λ index below. all_held c.settle.new.places.free c.settle.new.places.capacity c.in_default.field-0
+      (subst (λ locked. Err c.in_default.field-0 ≡ answer_of locked c.settle.new.places.free) c.settle.ensures.unlocked c.in_default.ensures.answer)
+      index (rw c.settle.ensures.capacity below))
       slot current.0 current.1),
-  ap (λ places. the_view (record c.self.inside { places = places })) c.in_default.ensures.err,
+  ap (λ places. with_size (the_view c.self.inside) places.capacity) c.in_default.ensures.err ∙ ap (with_size (the_view c.self.inside)) c.settle.ensures.capacity,
 )

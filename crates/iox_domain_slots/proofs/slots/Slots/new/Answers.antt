@@ -12,9 +12,8 @@ invariant_of-result c =
       omega (arith, size, ap (λ s. s.capacity) same),
       ap (λ s. s.locked) same,
       (λ index below. rw same (rw items (none_held c.args.size index (subst (λ s. index < s.capacity) same below) ∙ sym (none_used c.args.size index)))),
-      (λ slot. rw c.in_ok-with_capacity.ensures.items (rw c.in_ok-with_capacity-2.ensures.items (omega arith))),
+      (λ slot. rw c.in_ok-with_capacity.ensures.items (rw c.in_ok-new-2.ensures.empty (omega arith))),
       rw c.in_ok-with_capacity.ensures.items (omega arith),
       grind (arith, c.in_ok-with_capacity.ensures.capacity),
-      rw c.in_ok-with_capacity-2.ensures.items (omega arith),
-      grind (arith, c.in_ok-with_capacity-2.ensures.capacity),
+      rw c.in_ok-new-2.ensures.empty (omega arith),
     )

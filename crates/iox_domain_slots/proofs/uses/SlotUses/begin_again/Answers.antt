@@ -1,4 +1,4 @@
-use Rattle.std.proofs.Common.{ap, subst, sym, ◌≡◌, None}
+use Rattle.std.proofs.Common.{subst, sym, ◌≡◌, None}
 use Rattle.iox_domain_slots.specs.Links.{IsSmall}
 use Rattle.iox_domain_slots.proofs.Publishing.{countable, tally_claimed}
 use Rattle.iox_domain_slots.proofs.uses.SlotUses.begin_again.Goals as goal

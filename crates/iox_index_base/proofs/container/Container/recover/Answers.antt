@@ -4,8 +4,10 @@ use Rattle.iox_index_base.proofs.container.Container.recover.Goals as goal
 
 pub invariant_of-self : goal.invariant_of-self
 invariant_of-self g c =
-    let removed = c.remove_where.ensures.removed in
-    unheld-emptied (told_of c.args.owner c.self.inside.id) (λ member. member.0.index) removed.0 c.self.inside.members c.remove_where.new.members c.self.inside.locked removed.2 c.self.invariant
+    let removed = c.remove_where.ensures.removed in (
+      unheld-emptied (told_of c.args.owner c.self.inside.id) (λ member. member.0.index) removed.0 c.self.inside.members c.remove_where.new.members c.self.inside.locked removed.2 c.self.invariant.0,
+      c.remove_where.ensures.owned,
+    )
 
 pub returns-clause-after : goal.returns-clause-after
 returns-clause-after g c = rw (← c.self.view_is) (c.remove_where.new.members, c.remove_where.ensures.removed, c.settle.ensures.after)

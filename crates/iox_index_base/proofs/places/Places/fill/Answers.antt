@@ -1,7 +1,17 @@
 use Rattle.std.proofs.Common.{arith, sym, ap, ◌∙◌, ◌≡◌, length, Some, None}
+use Rattle.std.proofs.lemmas.List.{length-set}
 use Rattle.iox_index_base.specs.Places.{lowest_empty}
+use Rattle.iox_index_base.proofs.Locked.{count-lowest}
 use Rattle.iox_index_base.proofs.Padded.{lowest-within, lowest-next, filled-padded, next-padded}
 use Rattle.iox_index_base.proofs.places.Places.fill.Goals as goal
+
+pub invariant_of-self : goal.invariant_of-self
+invariant_of-self g c =
+    let is : lowest_empty c.self.inside.cells.items ≡ Some c.in-Some.index =
+    ap (λ cells. lowest_empty cells) (sym c.as_slice.ensures.value) ∙ sym c.lowest_empty.ensures ∙ c.in-Some.is in
+    let more = count-lowest c.self.inside.cells.items c.in-Some.index c.args.content is in
+    let long = length-set c.self.inside.cells.items c.in-Some.index (Some c.args.content) in
+    (omega (arith, long, c.self.invariant.0), c.self.invariant.1, omega (arith, more.1, c.self.invariant.2))
 
 pub returns-in-Some-clause-answer : goal.returns-in-Some-clause-answer
 returns-in-Some-clause-answer g c =

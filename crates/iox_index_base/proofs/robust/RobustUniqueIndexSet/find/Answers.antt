@@ -1,4 +1,4 @@
 use Rattle.iox_index_base.proofs.robust.RobustUniqueIndexSet.find.Goals as goal
 
 pub returns : goal.returns
-returns g c = rw (← c.self.view_is, ← c.as_slice.ensures.value) c.call_held.ensures
+returns g c = rw (← c.self.view_is) c.call_held.ensures

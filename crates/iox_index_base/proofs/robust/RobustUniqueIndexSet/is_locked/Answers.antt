@@ -11,4 +11,4 @@ nobody (Some owner ∷ holders) zero none = absurd (omega (arith, none, count-co
 nobody (holder ∷ holders) (suc index) none = nobody holders index (omega (arith, none, count-cons holder holders))
 
 pub returns-clause-unheld : goal.returns-clause-unheld
-returns-clause-unheld c = λ locked index. rw (← c.self.view_is) (nobody c.self.inside.cells.items index (c.self.invariant locked))
+returns-clause-unheld c = λ locked index. rw (← c.self.view_is) (nobody c.self.inside.cells index (c.self.invariant.0 locked))

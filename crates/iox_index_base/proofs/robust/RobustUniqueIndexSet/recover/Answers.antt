@@ -4,5 +4,7 @@ use Rattle.iox_index_base.proofs.robust.RobustUniqueIndexSet.recover.Goals as go
 
 pub invariant_of-self : goal.invariant_of-self
 invariant_of-self g c =
-    let freed = c.free_where.ensures.freed in
-    unheld-emptied (index_of c.args.owner) (λ index. index) freed.0 c.self.inside.cells.items c.free_where.new.cells.items c.self.inside.locked freed.2 c.self.invariant
+    let freed = c.free_where.ensures.freed in (
+      unheld-emptied (index_of c.args.owner) (λ index. index) freed.0 c.self.inside.cells c.free_where.new.cells c.self.inside.locked freed.2 c.self.invariant.0,
+      c.free_where.ensures.owned,
+    )

@@ -1,6 +1,6 @@
 use Rattle.std.proofs.Common.{rules, ◌≡◌, sym, subst}
-use Rattle.iox_domain_sender.specs.DomainSlots.Uses.{connection_at, with_connection, offered}
-use Rattle.iox_domain_sender.specs.Sending.{with_uses}
+use Rattle.iox_domain_publisher.specs.DomainSlots.Uses.{connection_at, with_connection, offered}
+use Rattle.iox_domain_publisher.specs.MessagesSending.{with_uses}
 use Rattle.iox_lanes_opening.specs.Leaving.{message_in}
 use Rattle.iox_lanes_opening.specs.Restoring.{AreLeft}
 use Rattle.iox_lanes_opening.proofs.Left.{left_put}

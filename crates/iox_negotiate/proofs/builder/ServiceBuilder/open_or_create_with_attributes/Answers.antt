@@ -1,5 +1,5 @@
-use Rattle.iox_negotiate_errors.specs.DescribeBase.Hash.{service_hash_of}
-use Rattle.iox_negotiate_errors.specs.DescribeSettings.Agreement.{agreement}
+use Rattle.iox_negotiate_base.specs.DescribeBase.Hash.{service_hash_of}
+use Rattle.iox_negotiate_base.specs.DescribeSettings.Agreement.{agreement}
 use Rattle.iox_negotiate.proofs.Moving.{either-of}
 use Rattle.iox_negotiate.proofs.builder.ServiceBuilder.open_or_create_with_attributes.Goals as goal
 

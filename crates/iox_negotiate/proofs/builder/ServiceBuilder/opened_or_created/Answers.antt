@@ -1,6 +1,6 @@
 use Rattle.std.proofs.Common.{rules}
-use Rattle.iox_negotiate_errors.specs.DescribeBase.Hash.{service_hash_of}
-use Rattle.iox_negotiate_errors.specs.DescribeSettings.Agreement.{agreement}
+use Rattle.iox_negotiate_base.specs.DescribeBase.Hash.{service_hash_of}
+use Rattle.iox_negotiate_base.specs.DescribeSettings.Agreement.{agreement}
 use Rattle.iox_negotiate.proofs.Moving.{either-as}
 use Rattle.iox_negotiate.proofs.builder.ServiceBuilder.opened_or_created.Goals as goal
 

@@ -1,5 +1,5 @@
 use borrow.Author.Rules.{rules}
-use Rattle.iox_negotiate_errors.proofs.NegotiateRounds.Doing.{alone, more}
+use Rattle.iox_negotiate_base.proofs.Doing.{alone, more}
 use Rattle.iox_negotiate.proofs.factory.Membership.remove.Goals as goal
 
 pub returns-in-Removed : goal.returns-in-Removed

@@ -1,5 +1,5 @@
 use borrow.Author.Rules.{rules}
-use Rattle.iox_negotiate_errors.proofs.NegotiateRounds.Doing.{alone}
+use Rattle.iox_negotiate_base.proofs.Doing.{alone}
 use Rattle.iox_negotiate.proofs.factory.Membership.remove_segment.Goals as goal
 
 pub returns : goal.returns

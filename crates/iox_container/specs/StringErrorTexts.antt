@@ -1,0 +1,9 @@
+-- The texts of a string's errors.
+use Rattle.std.specs.Prelude.{ℕ, List, codes}
+use Rattle.iox_container.specs.declared.string.error.StringModificationError.{StringModificationError}
+use Rattle.iox_container.specs.declared.string.error.StringModificationError.TheVariants.{InsertWouldExceedCapacity, InvalidCharacter}
+
+-- how a refusal reads: its type's name and its own
+abbrev pub string_error_text : StringModificationError → List ℕ
+string_error_text InsertWouldExceedCapacity = codes "StringModificationError::InsertWouldExceedCapacity"
+string_error_text InvalidCharacter = codes "StringModificationError::InvalidCharacter"

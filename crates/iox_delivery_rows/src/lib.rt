@@ -1,0 +1,19 @@
+//! Tests of ports as values and of a hub by typed calls: what no clause says.
+//!
+//! What the calls come to is said by their clauses. Here each call that makes something succeeds with ample memory, at all
+//! sizes.
+//!
+//! - `services`: services of a hub, and their domains.
+//! - `conversations`: messages of single values go from node to node.
+//! - `slices`: messages of slices do.
+//! - `custom`: ports of a payload that only the description says.
+#![tactic(auto)]
+
+#[cfg(test)]
+mod conversations;
+#[cfg(test)]
+mod custom;
+#[cfg(test)]
+mod services;
+#[cfg(test)]
+mod slices;

@@ -1,0 +1,31 @@
+//! One publisher: its messages and loans by what they hold, over the slots that they are in.
+//!
+//! - [`rows`]: the values of the slots of one segment.
+//! - [`payloads`]: the values of the slots of all segments.
+//! - [`marks`]: which of them are written.
+//! - [`slot_header`]: what is told of a message beside its values.
+//! - [`sender_config`]: how a publisher is made.
+//! - [`laws`]: what the steps of a publisher come to, in other words.
+//! - [`sender`]: all of one publisher together.
+//!
+//! First calls. `PublisherPort` makes them.
+//!
+//! ```
+//! if sender.may_loan() {
+//!     let slot = sender.loan(values, elements);
+//! }
+//! ```
+
+pub mod laws;
+pub mod marks;
+pub mod payloads;
+pub mod rows;
+pub mod sender;
+pub mod sender_config;
+pub mod slot_header;
+
+pub use iox_domain_slots::{Member, Stage};
+pub use payloads::Payloads;
+pub use sender::Sender;
+pub use sender_config::SenderConfig;
+pub use slot_header::SlotHeader;

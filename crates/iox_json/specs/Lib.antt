@@ -1,2 +1,0 @@
--- The definitions that contracts about JSON texts cite.
-pub mod Plain

@@ -1,0 +1,298 @@
+-- In every run a subscriber gets what its service's publishers sent, in the order of sending.
+use Rattle.std.proofs.Common.{◌≡◌, ◌⊎◌, ◌≤◌, ◌+◌, ℕ, Bool, true, false, cond, List, [], ◌∷◌, ◌++◌, Option, None, Some, refl, sym, ap, subst, inl, inr, arith, ◌∙◌, append_assoc, append-nil}
+use Rattle.std.proofs.lemmas.Bool.{ne_eqb}
+use Rattle.std.specs.Global.{Vec}
+use Rattle.std.specs.List.{AllByRecursion}
+use Rattle.std.specs.Prelude.{⊤, ◌==◌, is_some, find, slice_get, option_map}
+use Rattle.std.specs.Vec.{vec_items}
+use Rattle.iox_machine.specs.Message.{Message, Sample}
+use Rattle.iox_machine.specs.MessageLaws.{IsPartOf, with_one, begun_by, received_by, sent_by, received_from, IsOfService, StaysOfService, BeganIn, ReceivedInOrder, ReceivedWasSent}
+use Rattle.iox_machine.specs.Ports.{subscriber_in}
+use Rattle.iox_machine.specs.Receiving.{Receives, has_samples, lasting}
+use Rattle.iox_machine.specs.Run.{Step, Runs}
+use Rattle.iox_machine.specs.RunLaws.{BeginsToSend}
+use Rattle.iox_machine.specs.Service.{Service, Publisher, Subscriber, with_subscriber}
+use Rattle.iox_machine.specs.State.{State, new_state}
+use Rattle.iox_machine.specs.SubscriberUpdate as subscribing
+use Rattle.iox_machine.specs.Table.{at}
+use Rattle.iox_machine.proofs.Cases.{same-some, never-some}
+use Rattle.iox_machine.proofs.Frames.{waiting_in, BySubscriber, soft-both, soft-set, soft-updates, subscriber-stands}
+use Rattle.iox_machine.proofs.Lists.{all-weaker}
+use Rattle.iox_machine.proofs.Moving.{at-one}
+use Rattle.iox_machine.proofs.OrderCommands.{step-ordered}
+use Rattle.iox_machine.proofs.OrderSteps.{noted, Lacks, Fits, IsOfOne, IsOrdered, has_it}
+use Rattle.iox_machine.proofs.Runs.{AnyMessage, AreSound, Numbered, values_in, all-found, runs-numbered, never-told, never-received}
+use Rattle.iox_machine.proofs.Sound.{Sound, SampleFits}
+use Rattle.iox_command.specs.DomainValues.declared.port_error.ReceiveError.TheVariants as receive_error
+use Rattle.iox_command.specs.NegotiateBase.DescribeBase.declared.message_type.MessageTypeDetails.{MessageTypeDetails}
+use Rattle.iox_command.specs.NegotiateBase.DescribeSettings.declared.static_config.publish_subscribe.StaticConfig.{StaticConfig}
+use Rattle.iox_command.specs.declared.command.Command.{Command}
+use Rattle.iox_command.specs.declared.command.Command.TheVariants as command
+use Rattle.iox_command.specs.declared.refusal.Refusal.TheVariants as refusal
+use Rattle.iox_command.specs.declared.reply.Reply.{Reply}
+use Rattle.iox_command.specs.declared.reply.Reply.TheVariants as reply
+
+-- what holds of all of a list holds of what is part of it
+part-all : {X : Type 0} (P : X → Type 0) (part whole : List X) → IsPartOf part whole → AllByRecursion P whole → AllByRecursion P part
+part-all P part [] h all = subst (AllByRecursion P) (sym h) tt
+part-all P part (x ∷ whole) (inl h) all = part-all P part whole h all.1
+part-all P part (x ∷ whole) (inr (rest, e, h)) all =
+    subst (AllByRecursion P) (sym e) (all.0, part-all P rest whole h all.1)
+
+all-behind : {X : Type 0} (P : X → Type 0) (xs ys : List X) → AllByRecursion P (xs ++ ys) → AllByRecursion P ys
+all-behind P [] ys all = all
+all-behind P (x ∷ xs) ys all = all-behind P xs ys all.1
+
+first-all : {X : Type 0} (P : X → Type 0) (xs : List X) (x : X) → slice_get xs 0 ≡ Some x → AllByRecursion P xs → P x
+first-all P [] x e all = never-some x e
+first-all P (y ∷ xs) x e all = subst P (same-some y x e) all.0
+
+noted-more : {X : Type 0} (xs : List X) (o : Option X) (more : List X) → noted xs o ++ more ≡ xs ++ with_one o more
+noted-more xs None more = refl
+noted-more xs (Some x) more = append_assoc xs (x ∷ []) more
+
+none-above : {V : Type 0} (table : List (ℕ × V)) (count number : ℕ) → number ≡ count + 1
+    → AllByRecursion (λ entry. entry.0 ≤ count) table → at number table ≡ None
+none-above [] count number next all = refl
+none-above (entry ∷ table) count number next all =
+    ap (λ (b : Bool). option_map (λ (it : ℕ × _). it.1) (cond b (Some entry) (find (λ (it : ℕ × _). it.0 == number) table)))
+    (ne_eqb entry.0 number (λ same. apart entry.0 count number next all.0 same))
+    ∙ none-above table count number next all.1
+  where
+    apart : (one count number : ℕ) → number ≡ count + 1 → one ≤ count → one ≡ number → ⊥
+    apart one count number next few same = omega (arith, next, few, same)
+
+module _ {T : Type 0} (p s : ℕ) where
+  -- what is good in a service may become better where the publisher is of it
+  one-better : (G H : List ℕ → StaticConfig → Message T → Type 0) (state : State T) (sent received : List (Message T))
+      (services : List (Service T))
+      → ((it : Service T) → find (has_it p s G) services ≡ Some it → (message : Message T) → G it.name it.settings message
+      → H it.name it.settings message)
+      → IsOfOne p s G state.made sent received services → IsOfOne p s H state.made sent received services
+  one-better G H state sent received [] on one = tt
+  one-better G H state sent received (service ∷ more) on (inl (lacks, one)) = inl (
+    lacks,
+    one-better G H state sent received more
+        (λ it e. on it (ap (λ (o : Option (Publisher T)). cond (is_some o) (Some service) (find (has_it p s G) more)) lacks.0 ∙ e)) one,
+  )
+  one-better G H state sent received (service ∷ more) on (inr (fits, all)) = inr (
+    (
+      fits.0,
+      fits.1,
+      all-weaker (G service.name service.settings) (H service.name service.settings)
+          (on service (ap (λ (o : Option (Publisher T)). cond (is_some o) (Some service) (find (has_it p s G) more)) fits.0.1)) sent fits.2,
+    ),
+    all,
+  )
+
+  ordered-better : (G H : List ℕ → StaticConfig → Message T → Type 0) (state : State T) (sent received : List (Message T))
+      → ((it : Service T) → find (has_it p s G) state.services ≡ Some it → (message : Message T) → G it.name it.settings message
+      → H it.name it.settings message)
+      → IsOrdered p s G sent received state → IsOrdered p s H sent received state
+  ordered-better G H state sent received on ordered =
+      (one-better G H state sent received state.services on ordered.0, ordered.1, ordered.2)
+
+  -- the service that is found lacks the publisher, or it is the first that has it
+  one-found : (G : List ℕ → StaticConfig → Message T → Type 0) (state : State T) (sent received : List (Message T))
+      (has : Service T → Bool) (service : Service T) (services : List (Service T)) → find has services ≡ Some service
+      → IsOfOne p s G state.made sent received services
+      → Lacks p s state.made.subscribers service
+      ⊎ (Fits p s G state.made sent received service × (find (has_it p s G) services ≡ Some service))
+  one-found G state sent received has service [] e one = never-some service e
+  one-found G state sent received has service (it ∷ more) e (inl (lacks, one)) =
+      step (one-found G state sent received has service more) (has it) e
+    where
+      step : (find has more ≡ Some service → IsOfOne p s G state.made sent received more
+          → Lacks p s state.made.subscribers service
+          ⊎ (Fits p s G state.made sent received service × (find (has_it p s G) more ≡ Some service))) → (b : Bool)
+          → cond b (Some it) (find has more) ≡ Some service
+          → Lacks p s state.made.subscribers service
+          ⊎ (Fits p s G state.made sent received service × (find (has_it p s G) (it ∷ more) ≡ Some service))
+      step next true same = inl (subst (Lacks p s state.made.subscribers) (same-some it service same) lacks)
+      step next false same = elim (next same one) [
+        | inl is ↦ inl is
+        | inr is ↦ inr (
+          is.0,
+          ap (λ (o : Option (Publisher T)). cond (is_some o) (Some it) (find (has_it p s G) more)) lacks.0 ∙ is.1,
+        )
+      ]
+  one-found G state sent received has service (it ∷ more) e (inr (fits, all)) = step (has it) e
+    where
+      here : find (has_it p s G) (it ∷ more) ≡ Some it
+      here = ap (λ (o : Option (Publisher T)). cond (is_some o) (Some it) (find (has_it p s G) more)) fits.0.1
+
+      step : (b : Bool) → cond b (Some it) (find has more) ≡ Some service
+          → Lacks p s state.made.subscribers service
+          ⊎ (Fits p s G state.made sent received service × (find (has_it p s G) (it ∷ more) ≡ Some service))
+      step true same = inr (subst (Fits p s G state.made sent received) (same-some it service same) fits, here ∙ same)
+      step false same = inl (all-found (Lacks p s state.made.subscribers) has more service same all)
+
+  module _ (types : MessageTypeDetails) (IsDefault : T → Type 0) (buffer : ℕ) where
+    fresh-numbers : (state : State T) → AreSound AnyMessage (Numbered types IsDefault buffer state) state
+        → AllByRecursion (λ (other : Service T). at (state.made.samples + 1) other.samples ≡ None) state.services
+    fresh-numbers state sound =
+        all-weaker (Sound AnyMessage (Numbered types IsDefault buffer state))
+        (λ (other : Service T). at (state.made.samples + 1) other.samples ≡ None)
+        (λ service fits. none-above service.samples state.made.samples (state.made.samples + 1) refl
+        (all-weaker (λ (entry : ℕ × Sample T). SampleFits AnyMessage (Numbered types IsDefault buffer state) entry.0 entry.1)
+        (λ (entry : ℕ × Sample T). entry.0 ≤ state.made.samples) (λ entry it. it.0) service.samples fits.3))
+        state.services sound
+
+    -- what is good after a run: what was good before it, of a publisher that stays of its service, or a message of which the send began
+    abbrev After : (List ℕ → StaticConfig → Message T → Type 0) → (asked : List (Command T)) (old : State T) (answers : List (Reply T))
+        (new : State T) → Runs types IsDefault buffer asked old answers new → List ℕ → StaticConfig → Message T → Type 0
+    After G asked old answers new run name c message =
+        (G name c message × StaysOfService types IsDefault buffer p name c asked old answers new run)
+        ⊎ BeganIn types IsDefault buffer p name c message.values asked old answers new run
+
+    run-ordered : (G : List ℕ → StaticConfig → Message T → Type 0) (sent received : List (Message T)) (asked : List (Command T))
+        (old : State T) (answers : List (Reply T)) (new : State T) (run : Runs types IsDefault buffer asked old answers new)
+        → AreSound AnyMessage (Numbered types IsDefault buffer old) old → IsOrdered p s G sent received old
+        → IsOrdered p s (After G asked old answers new run)
+        (sent ++ sent_by types IsDefault buffer p asked old answers new run)
+        (received ++ received_from types IsDefault buffer p s asked old answers new run) new
+    run-ordered G sent received [] old answers new run sound ordered =
+        subst (λ (l : List (Message T)). IsOrdered p s (After G [] old answers new run) l (received ++ []) new) (sym (append-nil sent))
+        (subst (λ (l : List (Message T)). IsOrdered p s (After G [] old answers new run) sent l new) (sym (append-nil received))
+        (subst (IsOrdered p s (After G [] old answers new run) sent received) (sym run.1)
+        (ordered-better G (After G [] old answers new run) old sent received
+        (λ it first message good. inl (good, (it, first, refl, refl))) ordered)))
+    run-ordered G sent received (one ∷ more) old answers new run sound ordered =
+        let Next : List ℕ → StaticConfig → Message T → Type 0 =
+        λ name c message. (G name c message ⊎ BeginsToSend p message.values one old run.0) × IsOfService p name c old in
+        let before : IsOrdered p s Next sent received old =
+        ordered-better G Next old sent received (λ it first message good. (inl good, (it, first, refl, refl))) ordered in
+        let sending : Option (Message T) = begun_by p one old run.0 in
+        let receiving : Option (Message T) = received_by p s one run.0 run.1 in
+        let mid : IsOrdered p s Next (noted sent sending) (noted received receiving) run.1 =
+        step-ordered p s Next sent received types IsDefault buffer one old run.0 run.1
+        (λ message it begins first. (inr begins, (it, first, refl, refl))) (fresh-numbers old sound) run.3 before in
+        let numbered : AreSound AnyMessage (Numbered types IsDefault buffer run.1) run.1 =
+        runs-numbered types IsDefault buffer (one ∷ []) old (run.0 ∷ []) run.1 (run.0, run.1, [], run.3, (refl, refl), refl) sound in
+        let end : IsOrdered p s (After Next more run.1 run.2 new run.4)
+        (noted sent sending ++ sent_by types IsDefault buffer p more run.1 run.2 new run.4)
+        (noted received receiving ++ received_from types IsDefault buffer p s more run.1 run.2 new run.4) new =
+        run-ordered Next (noted sent sending) (noted received receiving) more run.1 run.2 new run.4 numbered mid in
+        ordered-better (After Next more run.1 run.2 new run.4) (After G (one ∷ more) old answers new run) new
+        (sent ++ sent_by types IsDefault buffer p (one ∷ more) old answers new run)
+        (received ++ received_from types IsDefault buffer p s (one ∷ more) old answers new run)
+        (λ it first message good. elim good [
+          | inl was ↦ elim was.0.0 [
+            | inl good_so ↦ inl (good_so, (was.0.1, was.1))
+            | inr begins ↦ inr (inl (begins, (was.0.1, was.1)))
+          ]
+          | inr began ↦ inr (inr began)
+        ])
+        (subst (λ (l : List (Message T)). IsOrdered p s (After Next more run.1 run.2 new run.4) l
+        (received ++ received_from types IsDefault buffer p s (one ∷ more) old answers new run) new)
+        (noted-more sent sending (sent_by types IsDefault buffer p more run.1 run.2 new run.4))
+        (subst (λ (l : List (Message T)). IsOrdered p s (After Next more run.1 run.2 new run.4)
+        (noted sent sending ++ sent_by types IsDefault buffer p more run.1 run.2 new run.4) l new)
+        (noted-more received receiving (received_from types IsDefault buffer p s more run.1 run.2 new run.4)) end))
+
+    new-ordered : (G : List ℕ → StaticConfig → Message T → Type 0) (asked : List (Command T)) (answers : List (Reply T)) (new : State T)
+        (run : Runs types IsDefault buffer asked new_state answers new)
+        → IsOrdered p s (After G asked new_state answers new run) (sent_by types IsDefault buffer p asked new_state answers new run)
+        (received_from types IsDefault buffer p s asked new_state answers new run) new
+    new-ordered G asked answers new run =
+        run-ordered G [] [] asked new_state answers new run tt (tt, (λ early. (refl, refl)), refl)
+
+pub received-in-order : {T : Type 0} (IsDefault : T → Type 0) → ReceivedInOrder IsDefault
+received-in-order {T} IsDefault types buffer asked answers new run publisher subscriber =
+    (new-ordered publisher subscriber types IsDefault buffer (λ name c message. ⊤) asked answers new run).2
+
+-- What is received waits in the mailbox of a publisher, in the service where the subscriber is.
+module _ {T : Type 0} (types : MessageTypeDetails) (IsDefault : T → Type 0) (buffer : ℕ) where
+  abbrev Waited : ℕ → Vec T → Service T → Type 0
+  Waited subscriber values service =
+      (publisher : ℕ) × (message : Message T) × (slice_get (waiting_in (service.mailboxes publisher subscriber)) 0 ≡ Some message)
+      × (vec_items values ≡ message.values)
+
+  waits-for : (number next : ℕ) (one : Subscriber) (service mid : Service T) (sample : ℕ) (values : Vec T) (after : Service T)
+      → BySubscriber service mid → at number mid.subscribers ≡ Some one
+      → Receives number next one mid (reply.Received sample values) after → Waited number values service
+  waits-for number next one service mid sample values after soft found (None, is, (told, came)) =
+      never-received sample values (has_samples number one mid) (refusal.Receive receive_error.ExceedsMaxBorrows) told
+  waits-for number next one service mid sample values after soft found (Some publisher, is, took) =
+      let now : Subscriber = record one { expired = lasting number mid one.expired } in
+      let swept : Service T = with_subscriber number now mid in
+      let softly : BySubscriber service swept = soft-both service mid swept soft (soft-set number one now mid found refl) in (
+        publisher,
+        took.0,
+        ap (λ (l : List (Message T)). slice_get l 0) (sym (softly.6 publisher number).0) ∙ took.2,
+        ap (λ (answer : Reply T). vec_items (values_in answer values)) took.4 ∙ took.3,
+      )
+
+  received-waited : (subscriber : ℕ) (old : State T) (sample : ℕ) (values : Vec T) (new : State T)
+      → Step types IsDefault buffer (command.Receive subscriber) old (reply.Received sample values) new
+      → (service : Service T) × (find (λ (other : Service T). is_some (subscriber_in subscriber other)) old.services ≡ Some service)
+      × Waited subscriber values service
+  received-waited subscriber old sample values new h =
+      elim (at-one (subscriber_in subscriber)
+      (subscribing.UpdatesFirst buffer subscriber (λ failure. refusal.Receive (receive_error.ConnectionFailure failure))
+      (Receives subscriber (old.made.samples + 1))) old (reply.Received sample values) new h) [
+        | inl w ↦ never-told (reply.Received sample values) reply.Skipped w.0 refl refl
+        | inr w ↦ (w.0, w.3, taken w.0 w.1 w.2 w.4 w.5)
+      ]
+    where
+      taken : (service : Service T) (one : Subscriber) (after : Service T) → subscriber_in subscriber service ≡ Some one
+          → subscribing.UpdatesFirst buffer subscriber (λ failure. refusal.Receive (receive_error.ConnectionFailure failure))
+          (Receives subscriber (old.made.samples + 1)) one service (reply.Received sample values) after
+          → Waited subscriber values service
+      taken service one after found did =
+          soft-updates (Waited subscriber values service) buffer subscriber
+          (λ failure. refusal.Receive (receive_error.ConnectionFailure failure)) (Receives subscriber (old.made.samples + 1)) one service
+          (reply.Received sample values) after (subscriber-stands subscriber service one found).0
+          (λ now mid soft there same took. waits-for subscriber (old.made.samples + 1) now service mid sample values after soft there took)
+          (λ why mid soft refused. never-told (reply.Received sample values) (reply.Refused why) refused.0 refl refl) did
+
+module _ {T : Type 0} (IsDefault : T → Type 0) (types : MessageTypeDetails) (buffer : ℕ) (asked : List (Command T))
+    (answers : List (Reply T)) (old : State T) (run : Runs types IsDefault buffer asked new_state answers old) where
+  abbrev Never : List ℕ → StaticConfig → Message T → Type 0
+  Never name c message = ⊥
+
+  -- What is first in a mailbox was sent, in the service of both, of which the publisher is since.
+  first-sent : (subscriber publisher : ℕ) (service : Service T) (message : Message T)
+      → find (λ (other : Service T). is_some (subscriber_in subscriber other)) old.services ≡ Some service
+      → slice_get (waiting_in (service.mailboxes publisher subscriber)) 0 ≡ Some message
+      → (find (λ (other : Service T). is_some (at publisher other.publishers)) old.services ≡ Some service)
+      × BeganIn types IsDefault buffer publisher service.name service.settings message.values asked new_state answers old run
+  first-sent subscriber publisher service message first waits =
+      let Good : List ℕ → StaticConfig → Message T → Type 0 =
+      After publisher subscriber types IsDefault buffer Never asked new_state answers old run in
+      let sent : List (Message T) = sent_by types IsDefault buffer publisher asked new_state answers old run in
+      let received : List (Message T) = received_from types IsDefault buffer publisher subscriber asked new_state answers old run in
+      elim (one-found publisher subscriber Good old sent received (λ (other : Service T). is_some (subscriber_in subscriber other)) service
+      old.services first (new-ordered publisher subscriber types IsDefault buffer Never asked answers old run).0) [
+        | inl lacks ↦ never-some message (sym (ap (λ (l : List (Message T)). slice_get l 0) lacks.1) ∙ waits)
+        | inr fits ↦ (
+          fits.1,
+          began service message (first-all (Good service.name service.settings)
+              (waiting_in (service.mailboxes publisher subscriber)) message waits
+              (all-behind (Good service.name service.settings) received (waiting_in (service.mailboxes publisher subscriber))
+              (part-all (Good service.name service.settings)
+              (received ++ waiting_in (service.mailboxes publisher subscriber)) sent fits.0.0.2.waits fits.0.2))),
+        )
+      ]
+    where
+      began : (service : Service T) (message : Message T)
+          → (⊥ × StaysOfService types IsDefault buffer publisher service.name service.settings asked new_state answers old run)
+          ⊎ BeganIn types IsDefault buffer publisher service.name service.settings message.values asked new_state answers old run
+          → BeganIn types IsDefault buffer publisher service.name service.settings message.values asked new_state answers old run
+      began service message (inl w) = absurd w.0
+      began service message (inr it) = it
+
+pub received-was-sent : {T : Type 0} (IsDefault : T → Type 0) → ReceivedWasSent IsDefault
+received-was-sent {T} IsDefault types buffer asked answers old run subscriber sample values new h =
+    let it : (service : Service T) × (find (λ (other : Service T). is_some (subscriber_in subscriber other)) old.services ≡ Some service)
+    × Waited types IsDefault buffer subscriber values service = received-waited types IsDefault buffer subscriber old sample values new h in
+    let sent : (find (λ (other : Service T). is_some (at it.2.0 other.publishers)) old.services ≡ Some it.0)
+    × BeganIn types IsDefault buffer it.2.0 it.0.name it.0.settings it.2.1.values asked new_state answers old run =
+    first-sent IsDefault types buffer asked answers old run subscriber it.2.0 it.0 it.2.1 it.1 it.2.2 in (
+      it.2.0,
+      it.0,
+      it.1,
+      sent.0,
+      subst (λ (items : List T). BeganIn types IsDefault buffer it.2.0 it.0.name it.0.settings items asked new_state answers old run)
+          (sym it.2.3) sent.1,
+    )

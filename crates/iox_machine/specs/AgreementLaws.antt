@@ -1,0 +1,148 @@
+-- Laws of agreements: what nodes agree on under a pattern and a name, and what a new life of it starts with.
+use Rattle.std.specs.Prelude.{ℕ, ◌≡◌, ◌⊎◌, ◌<◌, ◌≤◌, ◌&&◌, true, false, List, [], ◌∷◌, Option, None, Some}
+use Rattle.std.specs.List.{AllByRecursion, IsDistinct, list_any}
+use Rattle.iox_machine.specs.Agreement.{Agreement}
+use Rattle.iox_machine.specs.Asked.{settings_of}
+use Rattle.iox_machine.specs.Phase.{Node, Own, Phase, Absent, BeingMade, Published, Emptied, is_in, same_pattern}
+use Rattle.iox_machine.specs.Run.{Step, Runs}
+use Rattle.iox_machine.specs.Service.{Service, new_service}
+use Rattle.iox_machine.specs.State.{State, Made, Factory, new_state, is_service_of, same_name}
+use Rattle.iox_command.specs.NegotiateBase.DescribeBase.declared.attribute.Attribute.{Attribute}
+use Rattle.iox_command.specs.NegotiateBase.DescribeBase.declared.message_type.MessageTypeDetails.{MessageTypeDetails}
+use Rattle.iox_command.specs.NegotiateBase.DescribeBase.declared.pattern.MessagingPattern.{MessagingPattern}
+use Rattle.iox_command.specs.NegotiateBase.DescribeBase.declared.pattern.MessagingPattern.TheVariants as pattern
+use Rattle.iox_command.specs.NegotiateBase.DescribeSettings.declared.static_config.Settings.TheVariants as settings
+use Rattle.iox_command.specs.Patterns.{pattern_of}
+use Rattle.iox_command.specs.declared.command.Command.{Command}
+use Rattle.iox_command.specs.declared.command.Command.TheVariants as command
+use Rattle.iox_command.specs.declared.reply.Reply.{Reply}
+use Rattle.iox_command.specs.declared.reply.Reply.TheVariants as reply
+use Rattle.iox_command.specs.declared.service.ServiceOptions.{ServiceOptions}
+use Rattle.iox_command.specs.declared.step.ForeignStep.{ForeignStep}
+use Rattle.iox_command.specs.declared.step.ForeignStep.TheVariants as step
+use Rattle.iox_command.specs.declared.step.StepBefore.{StepBefore}
+
+-- which life a phase is of, or how many there were where nothing stands
+abbrev pub life_of : Phase → ℕ
+life_of (Absent lives) = lives
+life_of (BeingMade life by) = life
+life_of (Published life agreed nodes) = life
+life_of (Emptied life agreed by) = life
+
+-- what is agreed on in a phase
+abbrev pub agreed_in : Phase → Option Agreement
+agreed_in (Published life agreed nodes) = Some agreed
+agreed_in (Emptied life agreed by) = Some agreed
+agreed_in other = None
+
+-- A service is published, with these nodes in it.
+abbrev pub IsPublished : Phase → (Agreement → List (Node × ℕ) → Type 0) → Type 0
+IsPublished phase So = (life : ℕ) × (agreed : Agreement) × (nodes : List (Node × ℕ)) × (phase ≡ Published life agreed nodes)
+    × So agreed nodes
+
+module _ {T : Type 0} where
+  -- No two services have one name.
+  abbrev pub AreApart : List (Service T) → Type 0
+  AreApart services = IsDistinct (λ (one other : Service T). same_name other.name one.name) services
+
+  -- A service has the settings that are published under its name, and the hub has a factory of it.
+  abbrev pub IsAgreed : State T → Service T → Type 0
+  IsAgreed state service =
+      IsPublished (state.phases pattern.PublishSubscribe service.name)
+      (λ agreed nodes. agreed.settings ≡ settings.PublishSubscribe service.settings)
+      × (list_any (λ entry. is_service_of entry.1 service) state.factories ≡ true)
+
+  -- The service of a factory is published, its node is in it, and its ports stand in the hub if it is of publish-subscribe.
+  abbrev pub IsIn : State T → Factory → Type 0
+  IsIn state factory =
+      IsPublished (state.phases factory.pattern factory.name) (λ agreed nodes. is_in (Own factory.node) nodes ≡ true)
+      × (factory.pattern ≡ pattern.PublishSubscribe → list_any (is_service_of factory) state.services ≡ true)
+
+-- Each of these goes by a number above this one.
+abbrev pub AreAbove : {V : Type 0} → ℕ → List (ℕ × V) → Type 0
+AreAbove number table = AllByRecursion (λ entry. number < entry.0) table
+
+-- Each port, loan and sample of a service came after so many were made.
+abbrev pub IsLaterThan : {T : Type 0} → Made → Service T → Type 0
+IsLaterThan made service =
+    AreAbove made.publishers service.publishers × AreAbove made.subscribers service.subscribers
+    × AreAbove made.loans service.loans × AreAbove made.samples service.samples
+
+-- One of these is so.
+abbrev pub HasOne : {X : Type 0} → (X → Type 0) → List X → Type 0
+HasOne Is [] = ⊥
+HasOne Is (x ∷ more) = Is x ⊎ HasOne Is more
+
+module _ (types : MessageTypeDetails) (pattern : MessagingPattern) (agreed : Agreement) where
+  -- A node outside the hub publishes such a service.
+  abbrev pub IsPublishedBy : ForeignStep → Type 0
+  IsPublishedBy (step.Publish node options) =
+      (pattern_of options ≡ pattern) × (agreed ≡ record { settings = settings_of types options; attributes = [] })
+  IsPublishedBy other = ⊥
+
+  -- A command describes this agreement, under a name: it is to create such a service, or has a node outside the hub publish it.
+  abbrev pub Describes : {T : Type 0} → List ℕ → Command T → Type 0
+  Describes name (command.Create node other options attributes steps) =
+      (other ≡ name) × (pattern_of options ≡ pattern)
+      × ((agreed ≡ record { settings = settings_of types options; attributes = attributes })
+      ⊎ HasOne (λ before. IsPublishedBy before.step) steps)
+  Describes name (command.Open node other options required steps) =
+      (other ≡ name) × (pattern_of options ≡ pattern) × HasOne (λ before. IsPublishedBy before.step) steps
+  Describes name (command.OpenOrCreate node other options required steps) =
+      (other ≡ name) × (pattern_of options ≡ pattern)
+      × ((agreed ≡ record { settings = settings_of types options; attributes = required.pairs })
+      ⊎ HasOne (λ before. IsPublishedBy before.step) steps)
+  Describes name (command.Foreign one other steps) = (other ≡ name) × (one ≡ pattern) × HasOne IsPublishedBy steps
+  Describes name other = ⊥
+
+module _ {T : Type 0} (IsDefault : T → Type 0) where
+  -- In every run of a new machine: no two services have one name; each has the settings that are published under its name; and each
+  -- factory is of a published service, in which its node is.
+  abbrev pub OneAgreement : Type 0
+  OneAgreement = (types : MessageTypeDetails) (buffer : ℕ) (asked : List (Command T)) (answers : List (Reply T)) (new : State T)
+      → Runs types IsDefault buffer asked new_state answers new
+      → AreApart new.services × AllByRecursion (IsAgreed new) new.services × AllByRecursion (λ entry. IsIn new entry.1) new.factories
+
+  -- Through any run lives go on one after the other, and in one life what is agreed on stays as it is.
+  abbrev pub AgreementStays : Type 0
+  AgreementStays = (types : MessageTypeDetails) (buffer : ℕ) (asked : List (Command T)) (old : State T) (answers : List (Reply T))
+      (new : State T)
+      → Runs types IsDefault buffer asked old answers new
+      → (pattern : MessagingPattern) (name : List ℕ) → life_of (old.phases pattern name) ≤ life_of (new.phases pattern name)
+      × ((one other : Agreement) → life_of (new.phases pattern name) ≡ life_of (old.phases pattern name)
+      → agreed_in (old.phases pattern name) ≡ Some one → agreed_in (new.phases pattern name) ≡ Some other → other ≡ one)
+
+  -- What is agreed on under a pattern and a name after a command was so before, or is described by the command.
+  abbrev pub AgreementIsDescribed : Type 0
+  AgreementIsDescribed = (types : MessageTypeDetails) (buffer : ℕ) (asked : Command T) (old : State T) (answer : Reply T) (new : State T)
+      → Step types IsDefault buffer asked old answer new
+      → (pattern : MessagingPattern) (name : List ℕ) (agreed : Agreement) → agreed_in (new.phases pattern name) ≡ Some agreed
+      → (agreed_in (old.phases pattern name) ≡ Some agreed) ⊎ Describes types pattern agreed name asked
+
+  -- A node that creates a service has just what it described: in a new life, with it alone.
+  abbrev pub CreatesAsDescribed : Type 0
+  CreatesAsDescribed = (types : MessageTypeDetails) (buffer node : ℕ) (name : List ℕ) (options : ServiceOptions)
+      (attributes : List Attribute)
+      (steps : List StepBefore) (old : State T) (number : ℕ) (new : State T)
+      → Step types IsDefault buffer (command.Create node name options attributes steps) old (reply.FactoryMade number) new
+      → (life : ℕ) × (life_of (old.phases (pattern_of options) name) < life)
+      × (new.phases (pattern_of options) name
+      ≡ Published life (record { settings = settings_of types options; attributes = attributes }) ((Own node, 1) ∷ []))
+
+  -- A service that stands after a command, and none of its name before, has nothing: no port, no mailbox, no history, no message.
+  abbrev pub ServicesStartEmpty : Type 0
+  ServicesStartEmpty = (types : MessageTypeDetails) (buffer : ℕ) (asked : Command T) (old : State T) (answer : Reply T) (new : State T)
+      → Step types IsDefault buffer asked old answer new
+      → AllByRecursion (λ service. (list_any (λ other. same_name other.name service.name) old.services ≡ true)
+      ⊎ (service ≡ new_service service.name service.settings)) new.services
+
+  -- Once a new machine has no factory of a service, it has no such service. What is later of that name goes by numbers that were not given
+  -- yet: ports, loans and samples.
+  abbrev pub LivesStartAnew : Type 0
+  LivesStartAnew = (types : MessageTypeDetails) (buffer : ℕ) (before : List (Command T)) (told : List (Reply T)) (old : State T)
+      → Runs types IsDefault buffer before new_state told old
+      → (name : List ℕ)
+      → list_any (λ entry. same_pattern entry.1.pattern pattern.PublishSubscribe && same_name name entry.1.name) old.factories ≡ false
+      → (list_any (λ service. same_name service.name name) old.services ≡ false)
+      × ((asked : List (Command T)) (answers : List (Reply T)) (new : State T) → Runs types IsDefault buffer asked old answers new
+      → AllByRecursion (λ service. same_name service.name name ≡ true → IsLaterThan old.made service) new.services)

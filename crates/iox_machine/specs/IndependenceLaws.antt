@@ -1,0 +1,123 @@
+-- Laws of services beside one another.
+use Rattle.std.specs.Prelude.{ℕ, ◌≡◌, ⊤, Bool, true, false, ◌&&◌, List, [], ◌∷◌, find, filter, is_some, MatchBool}
+use Rattle.std.specs.Option.{option_map_or}
+use Rattle.iox_machine.specs.Phase.{same_pattern}
+use Rattle.iox_machine.specs.Ports.{publisher_in, subscriber_in}
+use Rattle.iox_machine.specs.Run.{Step, Runs}
+use Rattle.iox_machine.specs.Service.{Service}
+use Rattle.iox_machine.specs.State.{State, Factory, new_state, same_name}
+use Rattle.iox_machine.specs.Table.{at}
+use Rattle.iox_command.specs.NegotiateBase.DescribeBase.declared.message_type.MessageTypeDetails.{MessageTypeDetails}
+use Rattle.iox_command.specs.NegotiateBase.DescribeBase.declared.pattern.MessagingPattern.{MessagingPattern}
+use Rattle.iox_command.specs.NegotiateBase.DescribeBase.declared.pattern.MessagingPattern.TheVariants.{PublishSubscribe}
+use Rattle.iox_command.specs.Patterns.{pattern_of}
+use Rattle.iox_command.specs.declared.command.Command.{Command}
+use Rattle.iox_command.specs.declared.command.Command.TheVariants as command
+use Rattle.iox_command.specs.declared.port.PortNumber.TheVariants as port
+use Rattle.iox_command.specs.declared.reply.Reply.{Reply}
+
+-- whether a factory is of the service of a pattern and name
+abbrev pub is_factory_of : MessagingPattern → List ℕ → Factory → Bool
+is_factory_of pattern name factory = same_pattern factory.pattern pattern && same_name factory.name name
+
+module _ {T : Type 0} where
+  -- whether a service is that of a pattern and name
+  abbrev pub is_of : MessagingPattern → List ℕ → Service T → Bool
+  is_of pattern name service = same_pattern pattern PublishSubscribe && same_name service.name name
+
+  -- whether the first service that passes a test is that of a pattern and name
+  abbrev pub is_first : MessagingPattern → List ℕ → (Service T → Bool) → State T → Bool
+  is_first pattern name has state = option_map_or (is_of pattern name) (find has state.services) false
+
+  -- whether a command asks something of the service of a pattern and name: by these, by a factory, or by a port, a loan or a sample
+  abbrev pub asks : MessagingPattern → List ℕ → Command T → State T → Bool
+  asks pattern name command.Node state = false
+  asks pattern name (command.Create node other options attributes steps) state =
+      same_pattern (pattern_of options) pattern && same_name other name
+  asks pattern name (command.Open node other options required steps) state =
+      same_pattern (pattern_of options) pattern && same_name other name
+  asks pattern name (command.OpenOrCreate node other options required steps) state =
+      same_pattern (pattern_of options) pattern && same_name other name
+  asks pattern name (command.Foreign one other steps) state = same_pattern one pattern && same_name other name
+  asks pattern name (command.Close factory) state = option_map_or (is_factory_of pattern name) (at factory state.factories) false
+  asks pattern name (command.Publisher factory options) state =
+      option_map_or (is_factory_of pattern name) (at factory state.factories) false
+  asks pattern name (command.Subscriber factory options) state =
+      option_map_or (is_factory_of pattern name) (at factory state.factories) false
+  asks pattern name (command.Loan publisher length) state =
+      is_first pattern name (λ service. is_some (publisher_in publisher service)) state
+  asks pattern name (command.LoanUninit publisher length) state =
+      is_first pattern name (λ service. is_some (publisher_in publisher service)) state
+  asks pattern name (command.Set loan place value) state = is_first pattern name (λ service. is_some (at loan service.loans)) state
+  asks pattern name (command.Fill loan values) state = is_first pattern name (λ service. is_some (at loan service.loans)) state
+  asks pattern name (command.Drop loan) state = is_first pattern name (λ service. is_some (at loan service.loans)) state
+  asks pattern name (command.Send loan) state = is_first pattern name (λ service. is_some (at loan service.loans)) state
+  asks pattern name (command.Put publisher values) state =
+      is_first pattern name (λ service. is_some (publisher_in publisher service)) state
+  asks pattern name (command.Retry publisher nanoseconds) state =
+      is_first pattern name (λ service. is_some (publisher_in publisher service)) state
+  asks pattern name (command.GiveUp publisher) state =
+      is_first pattern name (λ service. is_some (publisher_in publisher service)) state
+  asks pattern name (command.Receive subscriber) state =
+      is_first pattern name (λ service. is_some (subscriber_in subscriber service)) state
+  asks pattern name (command.Read sample) state = is_first pattern name (λ service. is_some (at sample service.samples)) state
+  asks pattern name (command.Release sample) state = is_first pattern name (λ service. is_some (at sample service.samples)) state
+  asks pattern name (command.Update (port.Publisher publisher)) state =
+      is_first pattern name (λ service. is_some (publisher_in publisher service)) state
+  asks pattern name (command.Update (port.Subscriber subscriber)) state =
+      is_first pattern name (λ service. is_some (subscriber_in subscriber service)) state
+  asks pattern name (command.Leave (port.Publisher publisher)) state =
+      is_first pattern name (λ service. is_some (publisher_in publisher service)) state
+  asks pattern name (command.Leave (port.Subscriber subscriber)) state =
+      is_first pattern name (λ service. is_some (subscriber_in subscriber service)) state
+  asks pattern name (command.Has subscriber) state =
+      is_first pattern name (λ service. is_some (subscriber_in subscriber service)) state
+
+  -- All of a service is as it was: its phase, its factories, and its ports with all that is lent, waits, is kept and is borrowed.
+  abbrev pub IsLeft : MessagingPattern → List ℕ → State T → State T → Type 0
+  IsLeft pattern name old new =
+      (new.phases pattern name ≡ old.phases pattern name)
+      × (filter (λ entry. is_factory_of pattern name entry.1) new.factories
+      ≡ filter (λ entry. is_factory_of pattern name entry.1) old.factories)
+      × (filter (is_of pattern name) new.services ≡ filter (is_of pattern name) old.services)
+
+module _ {T : Type 0} where
+  -- whether a command makes a node, or asks something of the service of a pattern and name
+  abbrev pub concerns : MessagingPattern → List ℕ → Command T → State T → Bool
+  concerns pattern name command.Node state = true
+  concerns pattern name asked state = asks pattern name asked state
+
+  module _ (types : MessageTypeDetails) (IsDefault : T → Type 0) (buffer : ℕ) (pattern : MessagingPattern) (name : List ℕ) where
+    -- Nothing is asked of the service in a run.
+    abbrev pub AsksNothing : (asked : List (Command T)) (old : State T) (answers : List (Reply T)) (new : State T)
+        → Runs types IsDefault buffer asked old answers new → Type 0
+    AsksNothing [] old answers new run = ⊤
+    AsksNothing (one ∷ more) old answers new run =
+        (asks pattern name one old ≡ false) × AsksNothing more run.1 run.2 new run.4
+
+    -- Beside a run a machine that knows of no other service goes on alone: what concerns the service is answered there as in the run. In
+    -- the place of each other command the numbers that were given in the run are passed over, and nothing else happens.
+    abbrev pub IsAlone : (asked : List (Command T)) (old : State T) (answers : List (Reply T)) (new : State T)
+        → Runs types IsDefault buffer asked old answers new → State T → Type 0
+    IsAlone [] old answers new run own = ⊤
+    IsAlone (one ∷ more) old answers new run own =
+        MatchBool (concerns pattern name one old)
+        ((mid : State T) × Step types IsDefault buffer one own run.0 mid × IsAlone more run.1 run.2 new run.4 mid)
+        (IsAlone more run.1 run.2 new run.4 (record own { made = run.1.made }))
+
+module _ {T : Type 0} (IsDefault : T → Type 0) where
+  -- As long as nothing is asked of a service in a run of a new machine all of it stays as it was, whatever is asked of others.
+  abbrev pub OthersAreLeft : Type 0
+  OthersAreLeft = (types : MessageTypeDetails) (buffer : ℕ) (before : List (Command T)) (told : List (Reply T)) (old : State T)
+      → Runs types IsDefault buffer before new_state told old
+      → (asked : List (Command T)) (answers : List (Reply T)) (new : State T) (run : Runs types IsDefault buffer asked old answers new)
+      → (pattern : MessagingPattern) (name : List ℕ)
+      → AsksNothing types IsDefault buffer pattern name asked old answers new run → IsLeft pattern name old new
+
+  -- In every run of a new machine, leave out the commands that ask nothing of a service, but for those that make nodes: the others are
+  -- answered just so by a new machine that was asked nothing else.
+  abbrev pub ServicesAreAsIfAlone : Type 0
+  ServicesAreAsIfAlone = (types : MessageTypeDetails) (buffer : ℕ) (asked : List (Command T)) (answers : List (Reply T)) (new : State T)
+      (run : Runs types IsDefault buffer asked new_state answers new)
+      → (pattern : MessagingPattern) (name : List ℕ)
+      → IsAlone types IsDefault buffer pattern name asked new_state answers new run new_state

@@ -1,0 +1,162 @@
+-- Laws of messages in every run of the machine: from whom a subscriber has them, in which order, and how long they are there to be read.
+use Rattle.std.specs.Prelude.{ℕ, ◌≡◌, ◌⊎◌, Bool, false, ◌&&◌, ◌==◌, List, [], ◌∷◌, find, is_some, Option, None, Some, option_map, option_and_then, codes, if◌then◌else◌}
+use Rattle.std.specs.Global.{Vec}
+use Rattle.std.specs.List.{list_any}
+use Rattle.std.specs.Vec.{vec_items}
+use Rattle.iox_machine.specs.Laws.{number_types, plain_publisher, unnamed}
+use Rattle.iox_machine.specs.Message.{Message, sent_as}
+use Rattle.iox_machine.specs.Ports.{publisher_in, subscriber_in}
+use Rattle.iox_machine.specs.Run.{Answers, Step, Runs}
+use Rattle.iox_machine.specs.RunLaws.{BeginsToSend, has_begun}
+use Rattle.iox_machine.specs.Service.{Service, Publisher}
+use Rattle.iox_machine.specs.State.{State, new_state}
+use Rattle.iox_machine.specs.Table.{at}
+use Rattle.iox_command.specs.NegotiateBase.DescribeSettings.declared.static_config.publish_subscribe.StaticConfig.{StaticConfig}
+use Rattle.iox_command.specs.NegotiateBase.DescribeBase.declared.message_type.MessageTypeDetails.{MessageTypeDetails}
+use Rattle.iox_command.specs.declared.command.Command.{Command}
+use Rattle.iox_command.specs.declared.command.Command.TheVariants as command
+use Rattle.iox_command.specs.declared.reply.Reply.{Reply}
+use Rattle.iox_command.specs.declared.reply.Reply.TheVariants as reply
+use Rattle.iox_command.specs.declared.service.ServiceOptions.TheVariants as options
+
+-- A list is part of another: it is that with some left out, in the same order.
+abbrev pub IsPartOf : {X : Type 0} → List X → List X → Type 0
+IsPartOf part [] = part ≡ []
+IsPartOf {X} part (x ∷ whole) = IsPartOf part whole ⊎ ((rest : List X) × (part ≡ x ∷ rest) × IsPartOf rest whole)
+
+-- one more in front, if there is one
+abbrev pub with_one : {X : Type 0} → Option X → List X → List X
+with_one None xs = xs
+with_one (Some x) xs = x ∷ xs
+
+module _ {T : Type 0} where
+  -- what is found at the first service at which it is found
+  abbrev pub first_in : {V : Type 0} → (Service T → Option V) → State T → Option V
+  first_in found state = option_and_then found (find (λ service. is_some (found service)) state.services)
+
+  -- the message that a publisher would put next
+  abbrev pub next_message : List T → Publisher T → Message T
+  next_message values publisher = record { number = publisher.next; values = values }
+
+  -- the message of which a command begins the send, if it is one of this publisher
+  abbrev pub begun_by : ℕ → Command T → State T → Reply T → Option (Message T)
+  begun_by publisher (command.Put number values) old answer =
+      if (number == publisher) && has_begun answer then option_map (next_message values) (first_in (publisher_in number) old) else None
+  begun_by publisher (command.Send loan) old answer = option_and_then
+      (λ one. if (one.publisher == publisher) && has_begun answer then Some (sent_as one) else None)
+      (first_in (λ service. at loan service.loans) old)
+  begun_by publisher other old answer = None
+
+  -- the message that a command receives, if it is one of this publisher at this subscriber
+  abbrev pub received_by : ℕ → ℕ → Command T → Reply T → State T → Option (Message T)
+  received_by publisher subscriber (command.Receive number) (reply.Received sample values) new =
+      option_and_then (λ one. if (number == subscriber) && (one.publisher == publisher) then Some one.message else None)
+      (first_in (λ service. at sample service.samples) new)
+  received_by publisher subscriber other answer new = None
+
+  -- whether a command is to release this sample
+  abbrev pub is_release_of : ℕ → Command T → Bool
+  is_release_of sample (command.Release number) = number == sample
+  is_release_of sample other = false
+
+  -- A publisher is of a service that is open, of this name and with these settings; the publisher itself may have left.
+  abbrev pub IsOfService : ℕ → List ℕ → StaticConfig → State T → Type 0
+  IsOfService publisher name settings state =
+      (service : Service T) × (find (λ other. is_some (at publisher other.publishers)) state.services ≡ Some service)
+      × (service.name ≡ name) × (service.settings ≡ settings)
+
+module _ {T : Type 0} (types : MessageTypeDetails) (IsDefault : T → Type 0) (buffer : ℕ) where
+  -- the messages that a publisher sent in a run, in the order in which their sends began
+  abbrev pub sent_by : ℕ → (asked : List (Command T)) (old : State T) (answers : List (Reply T)) (new : State T)
+      → Runs types IsDefault buffer asked old answers new → List (Message T)
+  sent_by publisher [] old answers new run = []
+  sent_by publisher (one ∷ more) old answers new run =
+      with_one (begun_by publisher one old run.0) (sent_by publisher more run.1 run.2 new run.4)
+
+  -- the messages of a publisher that a subscriber received in a run, in the order in which it did
+  abbrev pub received_from : ℕ → ℕ → (asked : List (Command T)) (old : State T) (answers : List (Reply T)) (new : State T)
+      → Runs types IsDefault buffer asked old answers new → List (Message T)
+  received_from publisher subscriber [] old answers new run = []
+  received_from publisher subscriber (one ∷ more) old answers new run =
+      with_one (received_by publisher subscriber one run.0 run.1) (received_from publisher subscriber more run.1 run.2 new run.4)
+
+  -- All through a run a publisher is of such a service, so that one never ended between.
+  abbrev pub StaysOfService : ℕ → List ℕ → StaticConfig → (asked : List (Command T)) (old : State T) (answers : List (Reply T))
+      (new : State T) → Runs types IsDefault buffer asked old answers new → Type 0
+  StaysOfService publisher name settings [] old answers new run = IsOfService publisher name settings old
+  StaysOfService publisher name settings (one ∷ more) old answers new run =
+      IsOfService publisher name settings old × StaysOfService publisher name settings more run.1 run.2 new run.4
+
+  -- In a run a publisher began the send of a message of these values, and was of such a service from then on.
+  abbrev pub BeganIn : ℕ → List ℕ → StaticConfig → List T → (asked : List (Command T)) (old : State T) (answers : List (Reply T))
+      (new : State T) → Runs types IsDefault buffer asked old answers new → Type 0
+  BeganIn publisher name settings values [] old answers new run = ⊥
+  BeganIn publisher name settings values (one ∷ more) old answers new run =
+      (BeginsToSend publisher values one old run.0 × StaysOfService publisher name settings (one ∷ more) old answers new run)
+      ⊎ BeganIn publisher name settings values more run.1 run.2 new run.4
+
+module _ {T : Type 0} (IsDefault : T → Type 0) where
+  -- What a subscriber receives after a run of a new machine are the values of a message of which the send began in that run. Its
+  -- publisher is of the subscriber's own service, and was so from that send on.
+  abbrev pub ReceivedWasSent : Type 0
+  ReceivedWasSent = (types : MessageTypeDetails) (buffer : ℕ) (asked : List (Command T)) (answers : List (Reply T)) (old : State T)
+      (run : Runs types IsDefault buffer asked new_state answers old)
+      (subscriber sample : ℕ) (values : Vec T) (new : State T)
+      → Step types IsDefault buffer (command.Receive subscriber) old (reply.Received sample values) new
+      → (publisher : ℕ) × (service : Service T)
+      × (find (λ other. is_some (subscriber_in subscriber other)) old.services ≡ Some service)
+      × (find (λ other. is_some (at publisher other.publishers)) old.services ≡ Some service)
+      × BeganIn types IsDefault buffer publisher service.name service.settings (vec_items values) asked new_state answers old run
+
+  -- What a subscriber received of a publisher in a run of a new machine is part of what that sent.
+  abbrev pub ReceivedInOrder : Type 0
+  ReceivedInOrder = (types : MessageTypeDetails) (buffer : ℕ) (asked : List (Command T)) (answers : List (Reply T)) (new : State T)
+      (run : Runs types IsDefault buffer asked new_state answers new) (publisher subscriber : ℕ)
+      → IsPartOf (received_from types IsDefault buffer publisher subscriber asked new_state answers new run)
+      (sent_by types IsDefault buffer publisher asked new_state answers new run)
+
+  -- A sample that was received is read, with the values that were received, until its own release, whatever else was asked meanwhile.
+  abbrev pub HeldIsRead : Type 0
+  HeldIsRead = (types : MessageTypeDetails) (buffer : ℕ) (asked : List (Command T)) (answers : List (Reply T)) (old : State T)
+      → Runs types IsDefault buffer asked new_state answers old
+      → (subscriber sample : ℕ) (values : Vec T) (mid : State T)
+      → Step types IsDefault buffer (command.Receive subscriber) old (reply.Received sample values) mid
+      → (meanwhile : List (Command T)) (told : List (Reply T)) (later : State T) → Runs types IsDefault buffer meanwhile mid told later
+      → list_any (is_release_of sample) meanwhile ≡ false
+      → (answer : Reply T) (new : State T) → Step types IsDefault buffer (command.Read sample) later answer new
+      → (read : Vec T) × (answer ≡ reply.Values read) × (vec_items read ≡ vec_items values)
+
+-- A node, a service, both ports, and two messages of which the first is lent first and sent last.
+abbrev pub swapped_commands : List (Command ℕ)
+swapped_commands =
+    command.Node
+    ∷ command.Create 1 (codes "A") (options.PublishSubscribe unnamed) [] []
+    ∷ command.Subscriber 1 (record { buffer_size = None; degradation_handler = None })
+    ∷ command.Publisher 1 plain_publisher
+    ∷ command.LoanUninit 1 1
+    ∷ command.LoanUninit 1 1
+    ∷ command.Fill 1 (1 ∷ [])
+    ∷ command.Fill 2 (2 ∷ [])
+    ∷ command.Send 2
+    ∷ command.Send 1
+    ∷ command.Receive 1
+    ∷ command.Receive 1
+    ∷ []
+
+-- Of two messages that one is received first which was sent first, not which was lent first.
+abbrev pub OrderIsOfSends : Type 0
+OrderIsOfSends = (buffer : ℕ) (first second : Vec ℕ) → vec_items first ≡ 1 ∷ [] → vec_items second ≡ 2 ∷ []
+    → Answers number_types (λ value. value ≡ 0) buffer swapped_commands false
+    (reply.NodeMade 1
+    ∷ reply.FactoryMade 1
+    ∷ reply.SubscriberMade 1
+    ∷ reply.PublisherMade 1
+    ∷ reply.LoanMade 1
+    ∷ reply.LoanMade 2
+    ∷ reply.Done
+    ∷ reply.Done
+    ∷ reply.Delivered 1
+    ∷ reply.Delivered 1
+    ∷ reply.Received 1 second
+    ∷ reply.Received 2 first
+    ∷ [])

@@ -1,0 +1,54 @@
+-- Laws of updates: who is connected once a port followed the list of the other kind.
+use Rattle.std.specs.Prelude.{ℕ, ◌≡◌, ◌⊎◌, Bool, false, Option, None, Some, find, zip, is_some, MatchOption, Ok, length}
+use Rattle.std.specs.List.{AllByRecursion}
+use Rattle.iox_machine.specs.Ports.{publisher_in, subscriber_in}
+use Rattle.iox_machine.specs.PublisherUpdate.{update_answer}
+use Rattle.iox_machine.specs.Run.{Step}
+use Rattle.iox_machine.specs.Service.{Service, Publisher, Subscriber}
+use Rattle.iox_machine.specs.State.{State}
+use Rattle.iox_machine.specs.SubscriberUpdate.{is_unborrowed}
+use Rattle.iox_command.specs.NegotiateBase.DescribeBase.declared.message_type.MessageTypeDetails.{MessageTypeDetails}
+use Rattle.iox_command.specs.declared.command.Command.TheVariants as command
+use Rattle.iox_command.specs.declared.port.PortNumber.TheVariants as port
+use Rattle.iox_command.specs.declared.reply.Reply.TheVariants as reply
+
+-- At a place where a port is listed it is connected, or none is, and no connection was made: for want of memory they have no mailbox.
+-- Where none is listed none is connected.
+abbrev pub IsFollowed : (ℕ → Bool) → Option ℕ × Option ℕ → Type 0
+IsFollowed has_box place =
+    MatchOption place.0 (place.1 ≡ None)
+    (λ listed. (place.1 ≡ Some listed) ⊎ ((place.1 ≡ None) × (has_box listed ≡ false)))
+
+-- Or another is connected there still, that left, since something is borrowed of its connection.
+abbrev pub IsFollowedOrStays : (ℕ → Bool) → (ℕ → Bool) → Option ℕ × Option ℕ → Type 0
+IsFollowedOrStays has_box is_free place =
+    IsFollowed has_box place ⊎ ((other : ℕ) × (place.1 ≡ Some other) × (is_free other ≡ false))
+
+module _ {T : Type 0} (IsDefault : T → Type 0) where
+  -- After an update of a publisher that went well: it has seen all changes of the list of subscribers, and if there were new ones each
+  -- that is listed is connected, or its connection failed; none did where the publisher is to fail then. If there were none nothing
+  -- changes.
+  abbrev pub PublisherIsUpdated : Type 0
+  PublisherIsUpdated = (types : MessageTypeDetails) (buffer number : ℕ) (old new : State T)
+      → Step types IsDefault buffer (command.Update (port.Publisher number)) old reply.Done new
+      → (service : Service T) × (one : Publisher T)
+      × (find (λ other. is_some (publisher_in number other)) new.services ≡ Some service) × (publisher_in number service ≡ Some one)
+      × (one.seen ≡ service.subscriber_list.changes)
+      × ((new ≡ old)
+      ⊎ ((length one.connected ≡ length service.subscriber_list.places)
+      × AllByRecursion (IsFollowed (λ subscriber. is_some (service.mailboxes number subscriber)))
+      (zip service.subscriber_list.places one.connected)
+      × (update_answer one.degradation service.subscriber_list.places one.connected ≡ Ok tt)))
+
+  -- So it is of a subscriber, and the list of publishers.
+  abbrev pub SubscriberIsUpdated : Type 0
+  SubscriberIsUpdated = (types : MessageTypeDetails) (buffer number : ℕ) (old new : State T)
+      → Step types IsDefault buffer (command.Update (port.Subscriber number)) old reply.Done new
+      → (service : Service T) × (one : Subscriber)
+      × (find (λ other. is_some (subscriber_in number other)) new.services ≡ Some service) × (subscriber_in number service ≡ Some one)
+      × (one.seen ≡ service.publisher_list.changes)
+      × ((new ≡ old)
+      ⊎ (AllByRecursion (IsFollowedOrStays (λ publisher. is_some (service.mailboxes publisher number))
+      (is_unborrowed buffer number service))
+      (zip service.publisher_list.places one.connected)
+      × (update_answer one.degradation service.publisher_list.places one.connected ≡ Ok tt)))

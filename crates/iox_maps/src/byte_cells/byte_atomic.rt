@@ -1,0 +1,52 @@
+//! A value's bytes in a cell.
+ghost use Rattle.std.specs.Prelude.{◌≡◌, ℕ};
+
+use crate::byte_cells::{Coded, MaybeTorn};
+use std::marker::{Model, PhantomData};
+
+/// A cell that holds a value as the `SIZE` bytes of its encoding.
+///
+/// Contracts see it as the list of its bytes.
+///
+/// Ported from `FixedSizeByteAtomic` of the crate `iceoryx2_bb_container`.
+#[derive(Drop)]
+pub struct FixedSizeByteAtomic<T, const SIZE: usize> {
+    bytes: [u8; SIZE],
+    holds: PhantomData<T>,
+}
+
+impl<T, const SIZE: usize> Model for FixedSizeByteAtomic<T, SIZE> {
+    ghost use Rattle.std.specs.Prelude.{ℕ, List};
+
+    ghost Value = { List ℕ };
+
+    ghost view = { λ a. a.bytes };
+}
+
+impl<T: Coded<SIZE>, const SIZE: usize> FixedSizeByteAtomic<T, SIZE> {
+    /// A cell that holds the value.
+    pub fn new(value: T) -> Self
+        ensures bytes { result ≡ T.bytes_of value }
+        ensures value { T.is_value value }
+    {
+        FixedSizeByteAtomic {
+            bytes: value.to_bytes(),
+            holds: PhantomData,
+        }
+    }
+
+    /// The bytes of the cell.
+    pub fn read(&self) -> MaybeTorn<T, SIZE>
+        ensures { result ≡ self.now }
+    {
+        MaybeTorn::new(self.bytes)
+    }
+
+    /// Puts the value in the place of what the cell held.
+    pub fn write(&mut self, value: T)
+        ensures bytes { self.new ≡ T.bytes_of value }
+        ensures value { T.is_value value }
+    {
+        self.bytes = value.to_bytes();
+    }
+}

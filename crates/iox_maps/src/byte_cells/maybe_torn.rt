@@ -1,0 +1,58 @@
+//! Bytes that were read one by one.
+ghost use Rattle.std.specs.Prelude.{◌≡◌, ℕ, ◌↔◌, Some, IfSome};
+
+use crate::byte_cells::Coded;
+use std::marker::{Model, PhantomData};
+
+/// Bytes that were read one by one, and so may be some of one value and some of another.
+///
+/// Contracts see it as the list of its bytes.
+///
+/// Ported from `MaybeTorn` of the crate `iceoryx2_bb_container`.
+#[derive(Drop)]
+pub struct MaybeTorn<T, const SIZE: usize> {
+    bytes: [u8; SIZE],
+    read_as: PhantomData<T>,
+}
+
+impl<T, const SIZE: usize> Model for MaybeTorn<T, SIZE> {
+    ghost use Rattle.std.specs.Prelude.{ℕ, List};
+
+    ghost Value = { List ℕ };
+
+    ghost view = { λ t. t.bytes };
+}
+
+impl<T, const SIZE: usize> MaybeTorn<T, SIZE> {
+    /// These bytes.
+    pub fn new(bytes: [u8; SIZE]) -> Self
+        ensures { result ≡ bytes.entry }
+    {
+        MaybeTorn {
+            bytes,
+            read_as: PhantomData,
+        }
+    }
+
+    /// The bytes.
+    pub fn as_bytes(&self) -> &[u8; SIZE]
+        ensures { result.now ≡ self.now }
+    {
+        &self.bytes
+    }
+
+    /// The value whose encoding the bytes are, or None where they are no value's.
+    pub fn assume_consistent(&self) -> Option<T>
+    where
+        T: Coded<SIZE>,
+        ensures same { (v : T) → T.is_value v → ((result ≡ Some v) ↔ (self.now ≡ T.bytes_of v)) }
+        ensures value { IfSome result (λ v. T.is_value v × (self.now ≡ T.bytes_of v)) }
+    {
+        let value = T::of_bytes(&self.bytes);
+        if value.to_bytes() == self.bytes {
+            Some(value)
+        } else {
+            None
+        }
+    }
+}

@@ -1,0 +1,69 @@
+-- The lives of services: each has a number, a lock, and one description.
+use Rattle.std.specs.Prelude.{◌≡◌, ◌<◌, ℕ, List, Some, None, ◌⊎◌}
+use Rattle.iox_negotiate_table.specs.DescribeBase.declared.hash.ServiceHash.{ServiceHash}
+use Rattle.iox_negotiate_table.specs.Describe.Line.{line}
+use Rattle.iox_negotiate_table.specs.NegotiateBase.Access.{Lock, Publish, OpenSegment}
+use Rattle.iox_negotiate_table.specs.NegotiateBase.declared.answer.LockAnswer.TheVariants.{Taken}
+use Rattle.iox_negotiate_table.specs.NegotiateBase.declared.answer.PublishAnswer.TheVariants.{Published}
+use Rattle.iox_negotiate_table.specs.NegotiateBase.declared.answer.OpenSegmentAnswer.TheVariants.{Registered}
+use Rattle.iox_negotiate_table.specs.declared.node.Node.TheVariants.{Own, Foreign}
+use Rattle.iox_negotiate_table.specs.declared.entry.Entry.{Entry}
+use Rattle.iox_negotiate_table.specs.declared.entry.Entry.TheVariants.{Locked, Described}
+use Rattle.iox_negotiate_table.specs.declared.step.ForeignStep.TheVariants as step
+use Rattle.iox_negotiate_table.specs.Contents.{Contents, entry_at}
+use Rattle.iox_negotiate_table.specs.Foreign.{IsFor}
+use Rattle.iox_negotiate_table.specs.Laws.{HasFew, IsOpenIn}
+use Rattle.iox_negotiate_table.specs.Sights.{Sight}
+use Rattle.iox_negotiate.specs.Histories.{Event, Accesses, Steps, Happens, Ran, IsReached}
+
+-- the number of the life to which a lock or a description belongs
+abbrev pub number_of : Entry → ℕ
+number_of (Locked node number) = number
+number_of (Described number bytes) = number
+
+-- The event takes a lock, and begins the life of this number.
+abbrev pub Begins : Contents → Event → Contents → ℕ → Type 0
+Begins old (Accesses (Lock hash node answer)) new number = answer ≡ Taken number
+Begins old (Steps hash (step.Lock node)) new number = (entry_at hash old ≡ None) × (entry_at hash new ≡ Some (Locked (Foreign node) number))
+Begins old event new number = ⊥
+
+-- a number is never taken twice, whatever happens between two locks: each life's is above those before
+abbrev pub TakenOnce : Type 0
+TakenOnce = (one other : Event) (before after later last : Contents) (events : List Event) (first second : ℕ)
+    → Happens before one after → Begins before one after first → Ran after events later → Happens later other last → Begins later other last second → first < second
+
+-- What a later entry of the same life is: the same lock, or the description that took its place; and a description stays as it is.
+abbrev pub Continues : Entry → Entry → Type 0
+Continues (Locked node number) (Locked by other) = by ≡ node
+Continues (Locked node number) (Described other bytes) = Unit {0}
+Continues (Described number bytes) (Locked by other) = ⊥
+Continues (Described number bytes) (Described other later) = later ≡ bytes
+
+-- A number belongs to one hash for good, and no other description is ever published under it.
+abbrev pub OneLife : Type 0
+OneLife = (old new : Contents) (events : List Event) (hash later_hash : ServiceHash) (entry later : Entry)
+    → IsReached old → Ran old events new → entry_at hash old ≡ Some entry → entry_at later_hash new ≡ Some later → number_of later ≡ number_of entry
+    → (later_hash ≡ hash) × Continues entry later
+
+-- the event publishes these bytes under this number: an own node where an own node has the lock, a foreign node its own service's line
+abbrev pub PublishesAs : ServiceHash → ℕ → List ℕ → Contents → Event → Type 0
+PublishesAs hash number bytes old (Accesses (Publish under of text answer)) =
+    (node : ℕ) × (entry_at hash old ≡ Some (Locked (Own node) number)) × (under ≡ hash) × (of ≡ number) × (text ≡ bytes) × (answer ≡ Published)
+PublishesAs hash number bytes old (Steps under (step.Publish node agreed)) =
+    (entry_at hash old ≡ Some (Locked (Foreign node) number)) × (under ≡ hash) × IsFor hash agreed × (bytes ≡ line agreed)
+PublishesAs hash number bytes old event = ⊥
+
+-- a description that stands after an event stood before it, or this event published it, in place of the lock of its own life
+abbrev pub PublishedByItsLock : Type 0
+PublishedByItsLock = (old new : Contents) (event : Event) (hash : ServiceHash) (number : ℕ) (bytes : List ℕ)
+    → IsReached old → Happens old event new → entry_at hash new ≡ Some (Described number bytes)
+    → (entry_at hash old ≡ Some (Described number bytes)) ⊎ PublishesAs hash number bytes old event
+
+-- no more nodes are in any segment than there is room for
+abbrev pub FewAreIn : Type 0
+FewAreIn = (table : Contents) (hash : ServiceHash) (number : ℕ) → IsReached table → HasFew hash number table
+
+-- What is opened under a number is the service of just this number that stands, and after it the service is open.
+abbrev pub OpenedStands : Type 0
+OpenedStands = (hash : ServiceHash) (number node : ℕ) (old new : Contents) → IsReached old → Sight old (OpenSegment hash number node Registered) new
+    → (bytes : List ℕ) × (entry_at hash old ≡ Some (Described number bytes)) × IsOpenIn hash number node bytes new

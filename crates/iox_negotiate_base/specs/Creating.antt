@@ -1,0 +1,71 @@
+-- Which accesses create a service: a lock, its segment, its description; and which take back what was made.
+use Rattle.std.specs.Prelude.{◌≡◌, ℕ, List, [], ◌∷◌, Option, None, Some, Result, Ok, Err}
+use Rattle.iox_describe.specs.DescribeBase.declared.hash.ServiceHash.{ServiceHash}
+use Rattle.iox_describe.specs.DescribeSettings.Agreement.{Agreement, max_nodes_of}
+use Rattle.iox_describe.specs.Line.{line}
+use Rattle.iox_negotiate_base.specs.Access.{Access, Look, Lock, MakeSegment, Publish, Unlock, RemoveSegment}
+use Rattle.iox_negotiate_base.specs.Failing.{brought_about, refusal_seen, lock_gives, making_failure, publishing_failure, created}
+use Rattle.iox_negotiate_base.specs.Sight.{IsSight}
+use Rattle.iox_negotiate_base.specs.declared.sight.Sight.{Sight}
+use Rattle.iox_negotiate_base.specs.declared.request.Opened.{Opened}
+use Rattle.iox_negotiate_base.specs.declared.creation.Attempt.{Attempt}
+use Rattle.iox_negotiate_base.specs.declared.creation.Attempt.TheVariants.{Made, Failed}
+use Rattle.iox_negotiate_base.specs.declared.failure.CreateFailure.{CreateFailure}
+use Rattle.iox_negotiate_base.specs.declared.failure.CreateFailure.TheVariants.{OutOfMemory}
+
+-- the lock is given back
+abbrev pub Unlocks : ServiceHash → ℕ → List Access → Type 0
+Unlocks hash number (Unlock under of ∷ rest) = (under ≡ hash) × (of ≡ number) × (rest ≡ [])
+Unlocks hash number made = ⊥
+
+-- the segment is removed, whatever is answered, and the lock given back
+abbrev pub Undoes : ServiceHash → ℕ → List Access → Type 0
+Undoes hash number (RemoveSegment under of answer ∷ rest) = (under ≡ hash) × (of ≡ number) × Unlocks hash number rest
+Undoes hash number made = ⊥
+
+-- the description was published, or it failed, and what was made is undone
+abbrev pub PublishGoes : ServiceHash → ℕ → Agreement → Option CreateFailure → List Access → Attempt → Type 0
+PublishGoes hash number agreed None made attempt = (made ≡ []) × (attempt ≡ Made (brought_about number agreed))
+PublishGoes hash number agreed (Some failure) made attempt = Undoes hash number made × (attempt ≡ Failed failure)
+
+-- The description is published; or no memory is found to write it, and what was made is undone.
+abbrev pub Publishes : ServiceHash → ℕ → Agreement → List Access → Attempt → Type 0
+Publishes hash number agreed (Publish under of bytes answer ∷ rest) attempt =
+    (under ≡ hash) × (of ≡ number) × (bytes ≡ line agreed) × PublishGoes hash number agreed (publishing_failure answer) rest attempt
+Publishes hash number agreed (RemoveSegment under of answer ∷ rest) attempt =
+    Undoes hash number (RemoveSegment under of answer ∷ rest) × (attempt ≡ Failed OutOfMemory)
+Publishes hash number agreed made attempt = ⊥
+
+-- the segment was made, or it failed, and the lock is given back
+abbrev pub MakeGoes : ServiceHash → ℕ → Agreement → Option CreateFailure → List Access → Attempt → Type 0
+MakeGoes hash number agreed None made attempt = Publishes hash number agreed made attempt
+MakeGoes hash number agreed (Some failure) made attempt = Unlocks hash number made × (attempt ≡ Failed failure)
+
+-- the segment is made, with room for the agreed nodes, and the node is registered in it
+abbrev pub Makes : ServiceHash → ℕ → ℕ → Agreement → List Access → Attempt → Type 0
+Makes hash node number agreed (MakeSegment under of by room answer ∷ rest) attempt =
+    (under ≡ hash) × (of ≡ number) × (by ≡ node) × (room ≡ max_nodes_of agreed.settings) × MakeGoes hash number agreed (making_failure answer) rest attempt
+Makes hash node number agreed made attempt = ⊥
+
+-- the lock was taken, for a service of this number, or not
+abbrev pub LockGoes : ServiceHash → ℕ → Agreement → Result ℕ Attempt → List Access → Attempt → Type 0
+LockGoes hash node agreed (Ok number) made attempt = Makes hash node number agreed made attempt
+LockGoes hash node agreed (Err came) made attempt = (made ≡ []) × (attempt ≡ came)
+
+-- the hash is locked, and if that goes well the service created
+abbrev pub Locks : ServiceHash → ℕ → Agreement → List Access → Attempt → Type 0
+Locks hash node agreed (Lock under by answer ∷ rest) attempt =
+    (under ≡ hash) × (by ≡ node) × LockGoes hash node agreed (lock_gives answer) rest attempt
+Locks hash node agreed made attempt = ⊥
+
+-- after a look: where nothing speaks against it, the hash is locked
+abbrev pub CreatesSeen : ServiceHash → ℕ → Agreement → Option CreateFailure → List Access → Attempt → Type 0
+CreatesSeen hash node agreed None made attempt = Locks hash node agreed made attempt
+CreatesSeen hash node agreed (Some failure) made attempt = (made ≡ []) × (attempt ≡ Failed failure)
+
+-- A service is created: it is refused for its settings with no access; else there is a look, and what follows.
+abbrev pub CreatesIf : ServiceHash → ℕ → Agreement → Option CreateFailure → List Access → Result Opened CreateFailure → Type 0
+CreatesIf hash node agreed (Some failure) made result = (made ≡ []) × (result ≡ Err failure)
+CreatesIf hash node agreed None (Look under answer ∷ rest) result =
+    (shown : Sight) × (attempt : Attempt) × (under ≡ hash) × IsSight hash answer shown × CreatesSeen hash node agreed (refusal_seen shown) rest attempt × (result ≡ created attempt)
+CreatesIf hash node agreed None made result = ⊥

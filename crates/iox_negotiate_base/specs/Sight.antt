@@ -1,0 +1,35 @@
+-- What a look shows to who asks for a service.
+use Rattle.std.specs.Prelude.{◌≡◌, ℕ, List}
+use Rattle.iox_describe.specs.DescribeBase.declared.hash.ServiceHash.{ServiceHash}
+use Rattle.iox_describe.specs.DescribeSettings.Agreement.{Agreement}
+use Rattle.iox_describe.specs.Line.{line}
+use Rattle.iox_describe.specs.Within.{IsWithinLimits}
+use Rattle.iox_negotiate_base.specs.declared.answer.LookAnswer.{LookAnswer}
+use Rattle.iox_negotiate_base.specs.declared.answer.LookAnswer.TheVariants as look
+use Rattle.iox_negotiate_base.specs.declared.sight.Sight.{Sight}
+use Rattle.iox_negotiate_base.specs.declared.sight.Sight.TheVariants as sight
+use Rattle.iox_negotiate_base.specs.declared.sight.SightFailure.TheVariants.{HangsInCreation, InsufficientPermissions, ServiceInCorruptedState, OutOfMemory}
+
+-- these bytes describe, under this hash, a service with this agreement
+pub record Describes (hash : ServiceHash) (bytes : List ℕ) (agreed : Agreement) : Type 0 where
+  pub within : IsWithinLimits agreed
+  pub spelled : bytes ≡ line agreed
+  pub own : agreed.service_hash ≡ hash
+
+-- What bytes show: the service that they describe; that they describe none; or memory is wanting to read them.
+abbrev pub IsRead : ServiceHash → ℕ → List ℕ → Sight → Type 0
+IsRead hash number bytes sight.Absent = ⊥
+IsRead hash number bytes (sight.Standing shown agreed) = (shown ≡ number) × Describes hash bytes agreed
+IsRead hash number bytes (sight.Failed HangsInCreation) = ⊥
+IsRead hash number bytes (sight.Failed InsufficientPermissions) = ⊥
+IsRead hash number bytes (sight.Failed ServiceInCorruptedState) = (agreed : Agreement) → Describes hash bytes agreed → ⊥
+IsRead hash number bytes (sight.Failed OutOfMemory) = Unit {0}
+
+-- what the answer of a look for a hash shows
+abbrev pub IsSight : ServiceHash → LookAnswer → Sight → Type 0
+IsSight hash look.Absent shown = shown ≡ sight.Absent
+IsSight hash look.Locked shown = shown ≡ sight.Failed HangsInCreation
+IsSight hash (look.Found number bytes) shown = IsRead hash number bytes shown
+IsSight hash look.Denied shown = shown ≡ sight.Failed InsufficientPermissions
+IsSight hash look.Broken shown = shown ≡ sight.Failed ServiceInCorruptedState
+IsSight hash look.OutOfMemory shown = shown ≡ sight.Failed OutOfMemory

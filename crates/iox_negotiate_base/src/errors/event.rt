@@ -1,0 +1,344 @@
+//! Why an event service is neither opened nor created.
+ghost use Rattle.std.specs.Prelude.{◌≡◌};
+ghost use Rattle.iox_negotiate_base.specs.EventTexts.{open_text, create_text, open_or_create_text};
+ghost use Rattle.iox_negotiate_base.specs.EventErrors.{clause_error, open_error, create_error, open_or_create_error};
+ghost use Rattle.iox_negotiate_base.specs.declared.errors.event.EventOpenOrCreateError.TheVariants as either;
+
+use crate::{CreateFailure, OpenFailure, OpenOrCreateFailure};
+use iox_describe_verdict::requirement::event::ClauseError;
+use std::fmt;
+use thiserror::Error;
+
+/// Why an event service isn't opened. The clauses that it may not meet stand first, in the order in which they are
+/// tested.
+///
+/// Ported from `iceoryx2::service::builder::event::EventOpenError`.
+#[derive(Clone, Copy, Debug, PartialEq, Eq, Error)]
+pub enum EventOpenError {
+    /// The service has another messaging pattern.
+    IncompatibleMessagingPattern,
+    /// A required attribute or key is missing.
+    IncompatibleAttributes,
+    /// The option `deadline` differs.
+    IncompatibleDeadline,
+    /// The service has fewer notifiers than asked.
+    DoesNotSupportRequestedAmountOfNotifiers,
+    /// The service has fewer listeners than asked.
+    DoesNotSupportRequestedAmountOfListeners,
+    /// The greatest event id is below the one asked.
+    DoesNotSupportRequestedMaxEventId,
+    /// The option `notifier_created_event` differs.
+    IncompatibleNotifierCreatedEvent,
+    /// The option `notifier_dropped_event` differs.
+    IncompatibleNotifierDroppedEvent,
+    /// The option `notifier_dead_event` differs.
+    IncompatibleNotifierDeadEvent,
+    /// The service has fewer nodes than asked.
+    DoesNotSupportRequestedAmountOfNodes,
+    /// There is none.
+    DoesNotExist,
+    /// It is not permitted.
+    InsufficientPermissions,
+    /// What stands is no description of this service, or its segment was absent in each of five rounds.
+    ServiceInCorruptedState,
+    /// An access failed.
+    InternalFailure,
+    /// Another was about to create it when it was looked for.
+    HangsInCreation,
+    /// As many nodes as the service allows are in it, and this node is none of them.
+    ExceedsMaxNumberOfNodes,
+    /// Its last node left, so it is about to be removed.
+    IsMarkedForDestruction,
+    /// No memory was found.
+    OutOfMemory,
+}
+
+impl EventOpenError {
+    /// What it displays as.
+    pub fn text(&self) -> &'static str
+        ensures { result.now ≡ open_text self.now }
+    {
+        match self {
+            EventOpenError::IncompatibleMessagingPattern =>
+                "EventOpenError::IncompatibleMessagingPattern",
+            EventOpenError::IncompatibleAttributes => "EventOpenError::IncompatibleAttributes",
+            EventOpenError::IncompatibleDeadline => "EventOpenError::IncompatibleDeadline",
+            EventOpenError::DoesNotSupportRequestedAmountOfNotifiers =>
+                "EventOpenError::DoesNotSupportRequestedAmountOfNotifiers",
+            EventOpenError::DoesNotSupportRequestedAmountOfListeners =>
+                "EventOpenError::DoesNotSupportRequestedAmountOfListeners",
+            EventOpenError::DoesNotSupportRequestedMaxEventId =>
+                "EventOpenError::DoesNotSupportRequestedMaxEventId",
+            EventOpenError::IncompatibleNotifierCreatedEvent =>
+                "EventOpenError::IncompatibleNotifierCreatedEvent",
+            EventOpenError::IncompatibleNotifierDroppedEvent =>
+                "EventOpenError::IncompatibleNotifierDroppedEvent",
+            EventOpenError::IncompatibleNotifierDeadEvent =>
+                "EventOpenError::IncompatibleNotifierDeadEvent",
+            EventOpenError::DoesNotSupportRequestedAmountOfNodes =>
+                "EventOpenError::DoesNotSupportRequestedAmountOfNodes",
+            EventOpenError::DoesNotExist => "EventOpenError::DoesNotExist",
+            EventOpenError::InsufficientPermissions => "EventOpenError::InsufficientPermissions",
+            EventOpenError::ServiceInCorruptedState => "EventOpenError::ServiceInCorruptedState",
+            EventOpenError::InternalFailure => "EventOpenError::InternalFailure",
+            EventOpenError::HangsInCreation => "EventOpenError::HangsInCreation",
+            EventOpenError::ExceedsMaxNumberOfNodes => "EventOpenError::ExceedsMaxNumberOfNodes",
+            EventOpenError::IsMarkedForDestruction => "EventOpenError::IsMarkedForDestruction",
+            EventOpenError::OutOfMemory => "EventOpenError::OutOfMemory",
+        }
+    }
+}
+
+impl fmt::Display for EventOpenError {
+    ghost use Rattle.std.specs.Prelude.{Some};
+
+    ghost output = { λ error. Some (open_text error) };
+
+    fn fmt<W: fmt::Write>(&self, f: &mut fmt::Formatter<W>) -> fmt::Result {
+        f.pad(self.text())
+    }
+}
+
+/// Why an event service isn't created.
+///
+/// Ported from `iceoryx2::service::builder::event::EventCreateError`.
+#[derive(Clone, Copy, Debug, PartialEq, Eq, Error)]
+pub enum EventCreateError {
+    /// A service stands.
+    AlreadyExists,
+    /// It is not permitted.
+    InsufficientPermissions,
+    /// A setting is beyond the limits, or an access failed.
+    InternalFailure,
+    /// Another creates it.
+    IsBeingCreatedByAnotherInstance,
+    /// Another was about to create it when it was looked for.
+    HangsInCreation,
+    /// What stands is no description of this service.
+    ServiceInCorruptedState,
+    /// No memory was found.
+    OutOfMemory,
+}
+
+impl EventCreateError {
+    /// What it displays as.
+    pub fn text(&self) -> &'static str
+        ensures { result.now ≡ create_text self.now }
+    {
+        match self {
+            EventCreateError::AlreadyExists => "EventCreateError::AlreadyExists",
+            EventCreateError::InsufficientPermissions =>
+                "EventCreateError::InsufficientPermissions",
+            EventCreateError::InternalFailure => "EventCreateError::InternalFailure",
+            EventCreateError::IsBeingCreatedByAnotherInstance =>
+                "EventCreateError::IsBeingCreatedByAnotherInstance",
+            EventCreateError::HangsInCreation => "EventCreateError::HangsInCreation",
+            EventCreateError::ServiceInCorruptedState =>
+                "EventCreateError::ServiceInCorruptedState",
+            EventCreateError::OutOfMemory => "EventCreateError::OutOfMemory",
+        }
+    }
+}
+
+impl fmt::Display for EventCreateError {
+    ghost use Rattle.std.specs.Prelude.{Some};
+
+    ghost output = { λ error. Some (create_text error) };
+
+    fn fmt<W: fmt::Write>(&self, f: &mut fmt::Formatter<W>) -> fmt::Result {
+        f.pad(self.text())
+    }
+}
+
+/// Why an event service is neither opened nor created.
+///
+/// Ported from `iceoryx2::service::builder::event::EventOpenOrCreateError`.
+#[derive(Clone, Copy, Debug, PartialEq, Eq, Error)]
+pub enum EventOpenOrCreateError {
+    /// There is one, which isn't opened.
+    EventOpenError(EventOpenError),
+    /// There was none, and it isn't created.
+    EventCreateError(EventCreateError),
+    /// It came and went in each of five rounds.
+    SystemInFlux,
+}
+
+impl EventOpenOrCreateError {
+    /// What it displays as.
+    pub fn text(&self) -> &'static str
+        ensures { result.now ≡ open_or_create_text self.now }
+    {
+        match self {
+            EventOpenOrCreateError::EventOpenError(EventOpenError::IncompatibleMessagingPattern) =>
+                "EventOpenOrCreateError::EventOpenError(IncompatibleMessagingPattern)",
+            EventOpenOrCreateError::EventOpenError(EventOpenError::IncompatibleAttributes) =>
+                "EventOpenOrCreateError::EventOpenError(IncompatibleAttributes)",
+            EventOpenOrCreateError::EventOpenError(EventOpenError::IncompatibleDeadline) =>
+                "EventOpenOrCreateError::EventOpenError(IncompatibleDeadline)",
+            EventOpenOrCreateError::EventOpenError(
+                EventOpenError::DoesNotSupportRequestedAmountOfNotifiers,
+            ) => "EventOpenOrCreateError::EventOpenError(DoesNotSupportRequestedAmountOfNotifiers)",
+            EventOpenOrCreateError::EventOpenError(
+                EventOpenError::DoesNotSupportRequestedAmountOfListeners,
+            ) => "EventOpenOrCreateError::EventOpenError(DoesNotSupportRequestedAmountOfListeners)",
+            EventOpenOrCreateError::EventOpenError(
+                EventOpenError::DoesNotSupportRequestedMaxEventId,
+            ) => "EventOpenOrCreateError::EventOpenError(DoesNotSupportRequestedMaxEventId)",
+            EventOpenOrCreateError::EventOpenError(
+                EventOpenError::IncompatibleNotifierCreatedEvent,
+            ) => "EventOpenOrCreateError::EventOpenError(IncompatibleNotifierCreatedEvent)",
+            EventOpenOrCreateError::EventOpenError(
+                EventOpenError::IncompatibleNotifierDroppedEvent,
+            ) => "EventOpenOrCreateError::EventOpenError(IncompatibleNotifierDroppedEvent)",
+            EventOpenOrCreateError::EventOpenError(EventOpenError::IncompatibleNotifierDeadEvent) =>
+                "EventOpenOrCreateError::EventOpenError(IncompatibleNotifierDeadEvent)",
+            EventOpenOrCreateError::EventOpenError(
+                EventOpenError::DoesNotSupportRequestedAmountOfNodes,
+            ) => "EventOpenOrCreateError::EventOpenError(DoesNotSupportRequestedAmountOfNodes)",
+            EventOpenOrCreateError::EventOpenError(EventOpenError::DoesNotExist) =>
+                "EventOpenOrCreateError::EventOpenError(DoesNotExist)",
+            EventOpenOrCreateError::EventOpenError(EventOpenError::InsufficientPermissions) =>
+                "EventOpenOrCreateError::EventOpenError(InsufficientPermissions)",
+            EventOpenOrCreateError::EventOpenError(EventOpenError::ServiceInCorruptedState) =>
+                "EventOpenOrCreateError::EventOpenError(ServiceInCorruptedState)",
+            EventOpenOrCreateError::EventOpenError(EventOpenError::InternalFailure) =>
+                "EventOpenOrCreateError::EventOpenError(InternalFailure)",
+            EventOpenOrCreateError::EventOpenError(EventOpenError::HangsInCreation) =>
+                "EventOpenOrCreateError::EventOpenError(HangsInCreation)",
+            EventOpenOrCreateError::EventOpenError(EventOpenError::ExceedsMaxNumberOfNodes) =>
+                "EventOpenOrCreateError::EventOpenError(ExceedsMaxNumberOfNodes)",
+            EventOpenOrCreateError::EventOpenError(EventOpenError::IsMarkedForDestruction) =>
+                "EventOpenOrCreateError::EventOpenError(IsMarkedForDestruction)",
+            EventOpenOrCreateError::EventOpenError(EventOpenError::OutOfMemory) =>
+                "EventOpenOrCreateError::EventOpenError(OutOfMemory)",
+            EventOpenOrCreateError::EventCreateError(EventCreateError::AlreadyExists) =>
+                "EventOpenOrCreateError::EventCreateError(AlreadyExists)",
+            EventOpenOrCreateError::EventCreateError(EventCreateError::InsufficientPermissions) =>
+                "EventOpenOrCreateError::EventCreateError(InsufficientPermissions)",
+            EventOpenOrCreateError::EventCreateError(EventCreateError::InternalFailure) =>
+                "EventOpenOrCreateError::EventCreateError(InternalFailure)",
+            EventOpenOrCreateError::EventCreateError(
+                EventCreateError::IsBeingCreatedByAnotherInstance,
+            ) => "EventOpenOrCreateError::EventCreateError(IsBeingCreatedByAnotherInstance)",
+            EventOpenOrCreateError::EventCreateError(EventCreateError::HangsInCreation) =>
+                "EventOpenOrCreateError::EventCreateError(HangsInCreation)",
+            EventOpenOrCreateError::EventCreateError(EventCreateError::ServiceInCorruptedState) =>
+                "EventOpenOrCreateError::EventCreateError(ServiceInCorruptedState)",
+            EventOpenOrCreateError::EventCreateError(EventCreateError::OutOfMemory) =>
+                "EventOpenOrCreateError::EventCreateError(OutOfMemory)",
+            EventOpenOrCreateError::SystemInFlux => "EventOpenOrCreateError::SystemInFlux",
+        }
+    }
+}
+
+impl fmt::Display for EventOpenOrCreateError {
+    ghost use Rattle.std.specs.Prelude.{Some};
+
+    ghost output = { λ error. Some (open_or_create_text error) };
+
+    fn fmt<W: fmt::Write>(&self, f: &mut fmt::Formatter<W>) -> fmt::Result {
+        f.pad(self.text())
+    }
+}
+
+/// The error of the clause that is not met, by its name.
+impl From<ClauseError> for EventOpenError {
+    ghost from_gives = { λ unmet error. error ≡ clause_error unmet };
+
+    fn from(unmet: ClauseError) -> Self {
+        match unmet {
+            ClauseError::IncompatibleMessagingPattern =>
+                EventOpenError::IncompatibleMessagingPattern,
+            ClauseError::IncompatibleAttributes => EventOpenError::IncompatibleAttributes,
+            ClauseError::IncompatibleDeadline => EventOpenError::IncompatibleDeadline,
+            ClauseError::DoesNotSupportRequestedAmountOfNotifiers =>
+                EventOpenError::DoesNotSupportRequestedAmountOfNotifiers,
+            ClauseError::DoesNotSupportRequestedAmountOfListeners =>
+                EventOpenError::DoesNotSupportRequestedAmountOfListeners,
+            ClauseError::DoesNotSupportRequestedMaxEventId =>
+                EventOpenError::DoesNotSupportRequestedMaxEventId,
+            ClauseError::IncompatibleNotifierCreatedEvent =>
+                EventOpenError::IncompatibleNotifierCreatedEvent,
+            ClauseError::IncompatibleNotifierDroppedEvent =>
+                EventOpenError::IncompatibleNotifierDroppedEvent,
+            ClauseError::IncompatibleNotifierDeadEvent =>
+                EventOpenError::IncompatibleNotifierDeadEvent,
+            ClauseError::DoesNotSupportRequestedAmountOfNodes =>
+                EventOpenError::DoesNotSupportRequestedAmountOfNodes,
+        }
+    }
+}
+
+/// The error of the same name, and the error of a clause that is not met.
+impl From<OpenFailure<ClauseError>> for EventOpenError {
+    ghost from_gives = { λ failure error. error ≡ open_error failure };
+
+    fn from(failure: OpenFailure<ClauseError>) -> Self {
+        match failure {
+            OpenFailure::Clause(unmet) => EventOpenError::from(unmet),
+            OpenFailure::DoesNotExist => EventOpenError::DoesNotExist,
+            OpenFailure::InsufficientPermissions => EventOpenError::InsufficientPermissions,
+            OpenFailure::ServiceInCorruptedState => EventOpenError::ServiceInCorruptedState,
+            OpenFailure::InternalFailure => EventOpenError::InternalFailure,
+            OpenFailure::HangsInCreation => EventOpenError::HangsInCreation,
+            OpenFailure::ExceedsMaxNumberOfNodes => EventOpenError::ExceedsMaxNumberOfNodes,
+            OpenFailure::IsMarkedForDestruction => EventOpenError::IsMarkedForDestruction,
+            OpenFailure::OutOfMemory => EventOpenError::OutOfMemory,
+        }
+    }
+}
+
+/// The error of the same name. There is no history here, so what a history asks is not met with.
+impl From<CreateFailure> for EventCreateError {
+    ghost from_gives = { λ failure error. error ≡ create_error failure };
+
+    fn from(failure: CreateFailure) -> Self {
+        match failure {
+            CreateFailure::AlreadyExists => EventCreateError::AlreadyExists,
+            CreateFailure::InsufficientPermissions => EventCreateError::InsufficientPermissions,
+            CreateFailure::InternalFailure => EventCreateError::InternalFailure,
+            CreateFailure::IsBeingCreatedByAnotherInstance =>
+                EventCreateError::IsBeingCreatedByAnotherInstance,
+            CreateFailure::HangsInCreation => EventCreateError::HangsInCreation,
+            CreateFailure::ServiceInCorruptedState => EventCreateError::ServiceInCorruptedState,
+            CreateFailure::OutOfMemory => EventCreateError::OutOfMemory,
+            CreateFailure::SubscriberBufferMustBeLargerThanHistorySize =>
+                EventCreateError::InternalFailure,
+        }
+    }
+}
+
+/// The refusal of a service that stands.
+impl From<EventOpenError> for EventOpenOrCreateError {
+    ghost from_gives = { λ error outer. outer ≡ either.EventOpenError error };
+
+    fn from(error: EventOpenError) -> Self {
+        EventOpenOrCreateError::EventOpenError(error)
+    }
+}
+
+/// The refusal of a service that is to be created.
+impl From<EventCreateError> for EventOpenOrCreateError {
+    ghost from_gives = { λ error outer. outer ≡ either.EventCreateError error };
+
+    fn from(error: EventCreateError) -> Self {
+        EventOpenOrCreateError::EventCreateError(error)
+    }
+}
+
+/// The error of the same name, around the error within.
+impl From<OpenOrCreateFailure<ClauseError>> for EventOpenOrCreateError {
+    ghost from_gives = { λ failure error. error ≡ open_or_create_error failure };
+
+    fn from(failure: OpenOrCreateFailure<ClauseError>) -> Self {
+        match failure {
+            OpenOrCreateFailure::Open(failure) => EventOpenOrCreateError::EventOpenError(
+                EventOpenError::from(failure),
+            ),
+            OpenOrCreateFailure::Create(failure) => EventOpenOrCreateError::EventCreateError(
+                EventCreateError::from(failure),
+            ),
+            OpenOrCreateFailure::SystemInFlux => EventOpenOrCreateError::SystemInFlux,
+        }
+    }
+}

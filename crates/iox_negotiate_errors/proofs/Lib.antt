@@ -1,1 +1,0 @@
-pub use Rattle.iox_negotiate_rounds.proofs as NegotiateRounds

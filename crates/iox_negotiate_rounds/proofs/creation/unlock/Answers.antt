@@ -1,6 +1,0 @@
-use borrow.Author.Rules.{rules}
-use Rattle.iox_negotiate_rounds.proofs.Doing.{alone}
-use Rattle.iox_negotiate_rounds.proofs.creation.unlock.Goals as goal
-
-pub returns-clause-done : goal.returns-clause-done
-returns-clause-done g c = alone _ _ _ _ c.unlock.ensures (search rules)

@@ -1,5 +1,0 @@
-use Rattle.iox_negotiate_rounds.proofs.Counting.{creates-service}
-use Rattle.iox_negotiate_rounds.proofs.laws.created_is_published.Goals as goal
-
-pub returns : goal.returns
-returns c = creates-service

@@ -1,5 +1,0 @@
-use Rattle.iox_negotiate_rounds.proofs.Counting.{creates-length}
-use Rattle.iox_negotiate_rounds.proofs.laws.creates_in_six.Goals as goal
-
-pub returns : goal.returns
-returns c = creates-length

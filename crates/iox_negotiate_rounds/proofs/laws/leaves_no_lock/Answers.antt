@@ -1,5 +1,0 @@
-use Rattle.iox_negotiate_rounds.proofs.Counting.{creates-locks}
-use Rattle.iox_negotiate_rounds.proofs.laws.leaves_no_lock.Goals as goal
-
-pub returns : goal.returns
-returns c = creates-locks

@@ -1,5 +1,0 @@
-use Rattle.iox_negotiate_rounds.proofs.RoundLengths.{either-rounds-length}
-use Rattle.iox_negotiate_rounds.proofs.laws.opens_or_creates_in_fourteen.Goals as goal
-
-pub returns : goal.returns
-returns g c = either-rounds-length _

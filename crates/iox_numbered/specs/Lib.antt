@@ -1,4 +1,0 @@
-pub mod NumberLaws
-pub mod NumberTable
-pub mod NumberedLends
-pub mod Places

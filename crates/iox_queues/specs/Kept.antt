@@ -1,0 +1,45 @@
+-- What every step of a set's machine keeps.
+use Rattle.std.specs.Prelude.{ℕ, ◌≡◌, ◌+◌, ◌<◌, ◌≤◌, ◌^◌, Bool, true, false, List, length, drop}
+use Rattle.std.specs.List.{list_any}
+use Rattle.iox_queues.specs.Machine.{SetState, IsBalanced, IsTold, seat_at, stage_at}
+use Rattle.iox_queues.specs.Sums.{taken_out}
+use Rattle.iox_queues.specs.Told.{AddNone, TakeNone, Tells, finds_none, own}
+use Rattle.iox_queues.specs.declared.bits.call.SetCall.{SetCall}
+use Rattle.iox_queues.specs.declared.bits.call.SetCall.TheVariants.{Idle, Add, Adding, Next, Sweep, Taking, Found, Done}
+use Rattle.iox_queues.specs.declared.bits.machine.Event.{Event}
+
+-- place i is none of the `left` places from `place` on, going round
+abbrev pub IsBehind : ℕ → ℕ → ℕ → ℕ → Type 0
+IsBehind n place left i = (place ≤ i → place + left ≤ i) × (i < place → place + left ≤ i + n)
+
+-- a sweep with some places left counted none, found each place behind it at 0 or took it out, and
+-- took none out if it looks for one
+pub record Sweeps (n : ℕ) (events : List Event) (place : ℕ) (left : ℕ) (capacity : ℕ) (all : Bool) : Type 0 where
+  pub whole : capacity ≡ n
+  pub there : place < n
+  pub few : left ≤ n
+  pub adds : AddNone n events
+  pub takes : all ≡ false → TakeNone n events
+  pub passed : (i : ℕ) → i < n → IsBehind n place left i → list_any (finds_none n i) events ≡ true
+
+-- what a call did by its own steps, where it stands now
+abbrev pub Knows : ℕ → ℕ → List Event → SetCall → Type 0
+Knows max n events Idle = Unit {0}
+Knows max n events (Add place top) = (top ≡ max) × (place < n) × AddNone n events × TakeNone n events
+Knows max n events (Adding place top count) =
+    (top ≡ max) × (place < n) × AddNone n events × TakeNone n events × (count < max)
+Knows max n events (Next capacity) = (capacity ≡ n) × AddNone n events × TakeNone n events
+Knows max n events (Sweep place left capacity all) = Sweeps n events place left capacity all
+Knows max n events (Taking place left capacity all count) = Sweeps n events place left capacity all × (0 < count)
+Knows max n events (Found place after) =
+    AddNone n events × (place < n) × (0 < taken_out n place events) × ((i : ℕ) → (place ≡ i → ⊥) → taken_out n i events ≡ 0)
+Knows max n events (Done c answer) = Tells max n c answer events
+
+-- the words balance, each call that ended did what it answered, and each call in hand knows its steps
+pub record IsKept (m : SetState) : Type 0 where
+  pub balanced : IsBalanced m
+  pub told : IsTold m
+  pub few : length m.words.cells < 2 ^ 64
+  pub small : m.max < 2 ^ 64
+  pub knows : (party : ℕ) → Knows m.max (length m.words.cells) (own party (drop (seat_at m.seats party).first m.events)) (stage_at m.seats party)
+  pub began : (party : ℕ) → (seat_at m.seats party).first ≤ length m.events

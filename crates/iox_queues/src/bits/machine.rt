@@ -1,0 +1,152 @@
+//! The machine of a bit set or a counting bit set.
+ghost use Rattle.std.specs.Prelude.{◌≡◌, ◌+◌, ◌<◌, ◌≤◌, ◌^◌, IfOk, length, slice_index};
+
+use crate::bits::call::{Answer, Call, SetCall};
+use crate::bits::state::State;
+use iox_queues_steps::{Access, Stepped};
+use std::alloc::{AllocError, Global};
+use std::marker::Model;
+
+/// One step: a party begins a call, or goes on inside one.
+#[derive(Clone, Copy, Debug, PartialEq, Eq)]
+pub enum Move {
+    Begin(usize, Call),
+    GoOn(usize),
+}
+
+/// A step that was made.
+#[derive(Clone, Copy, Debug, PartialEq, Eq)]
+pub struct Event {
+    pub party: usize,
+    pub access: Access,
+    pub answer: u64,
+}
+
+/// A call that ended: its first and its last step, by their number among the steps made.
+#[derive(Clone, Copy, Debug, PartialEq, Eq)]
+pub struct Finished {
+    pub party: usize,
+    pub call: Call,
+    pub answer: Answer,
+    pub first: u64,
+    pub last: u64,
+}
+
+/// A set whose parties go one step at a time, in any order that the caller wants.
+///
+/// Any party may stop anywhere. For each place, what was counted in is what was taken out and what
+/// is there now; no count passes the largest. What a call that ended did is what it answered.
+#[derive(Debug, Drop)]
+pub struct SetMachine {
+    state: State,
+}
+
+impl Model for SetMachine {
+    ghost use Rattle.iox_queues.specs.Machine.{SetState};
+    ghost use Rattle.iox_queues.specs.Kept.{IsKept};
+
+    ghost Value = { SetState };
+
+    ghost use Rattle.std.specs.Prelude.{◌≡◌, length};
+    ghost use Rattle.iox_queues.specs.State.{machine_of};
+
+    ghost view = { λ m. machine_of m.state };
+
+    ghost invariant = { λ m. IsKept (machine_of m.state) × (length m.state.ring.cells ≡ m.state.capacity) };
+}
+
+impl SetMachine {
+    ghost use Rattle.iox_queues.specs.Machine.{IsBalanced, IsTold, StepsTo, RunsTo, start, stage_at};
+
+    /// An empty set of this capacity, with this many parties. No count passes `max`, which is 1 for
+    /// a bit set.
+    pub fn new(
+        alloc: Global,
+        max: u64,
+        capacity: usize,
+        parties: usize,
+    ) -> Result<SetMachine, AllocError>
+        ensures { IfOk result (λ m. m ≡ start max capacity parties) }
+    {
+        Ok(SetMachine {
+            state: State::new(alloc, max, capacity, parties)?,
+        })
+    }
+
+    /// Begins a call, or goes on inside one.
+    pub fn step(&mut self, step: Move) -> Stepped
+        ensures steps { StepsTo self.old step result self.new }
+        ensures balanced { IsBalanced self.new }
+        ensures told { IsTold self.new }
+    {
+        self.state.step(step)
+    }
+
+    /// Makes these steps one after the other, leaves out those that do not fit, and stops where no
+    /// memory is found. The answer is how many were made.
+    pub fn run(&mut self, schedule: &[Move]) -> usize
+        ensures runs { RunsTo self.old schedule.now result self.new }
+        ensures balanced { IsBalanced self.new }
+        ensures told { IsTold self.new }
+    {
+        self.keeps();
+        let mut made = 0;
+        let mut rest = schedule;
+        while let Some((step, tail)) = rest.split_first() {
+            let stepped = self.step(*step);
+            if stepped.is_stopped() {
+                return made;
+            }
+            made += stepped.count();
+            rest = tail;
+        }
+        made
+    }
+
+    // What every machine keeps.
+    fn keeps(&self)
+        ensures balanced { IsBalanced self.now }
+        ensures told { IsTold self.now }
+    {
+        let _ = &self.state;
+    }
+
+    /// The steps made so far.
+    pub fn events(&self) -> &[Event]
+        ensures value { result.now ≡ self.now.events }
+        ensures balanced { IsBalanced self.now }
+    {
+        self.state.events.as_slice()
+    }
+
+    /// The calls that ended, in their order.
+    pub fn finished(&self) -> &[Finished]
+        ensures value { result.now ≡ self.now.finished }
+        ensures told { IsTold self.now }
+    {
+        self.state.finished.as_slice()
+    }
+
+    /// How many places there are.
+    pub fn capacity(&self) -> u64
+        ensures { result ≡ length self.now.words.cells }
+    {
+        self.state.capacity
+    }
+
+    /// What the place holds.
+    pub fn count(&self, place: usize) -> u64
+        requires { place < length self.now.words.cells }
+        ensures value { result ≡ slice_index self.now.words.cells place }
+        ensures balanced { IsBalanced self.now }
+    {
+        self.state.count(place)
+    }
+
+    /// Where the party stands; one that is not there is idle.
+    pub fn stage(&self, party: usize) -> SetCall
+        ensures { result ≡ stage_at self.now.seats party }
+    {
+        self.state.stage(party)
+    }
+}

@@ -1,3 +1,0 @@
-pub mod Knowing
-pub mod Balance
-pub mod Runs

@@ -1,6 +1,0 @@
--- The fields of a set's machine, as lists and numbers.
-use Rattle.iox_queues_bits.specs.Machine.{SetState}
-use Rattle.iox_queues_bits.specs.declared.state.State.{State}
-
-abbrev pub machine_of : State → SetState
-machine_of s = record { max = s.max; words = s.ring; seats = s.seats.items; events = s.events.items; finished = s.finished.items }

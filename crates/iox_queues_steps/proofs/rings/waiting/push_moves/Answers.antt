@@ -1,0 +1,5 @@
+use Rattle.iox_queues_steps.proofs.EitherStep as either
+use Rattle.iox_queues_steps.proofs.rings.waiting.push_moves.Goals as goal
+
+pub returns : goal.returns
+returns c = either.push_moves

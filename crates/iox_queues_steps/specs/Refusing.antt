@@ -1,0 +1,213 @@
+-- The steps of a push and of a pop on the ring that refuses, by the stage where each stands.
+use Rattle.std.specs.Prelude.{ℕ, ◌+◌, ◌-◌, ◌<◌, ◌≤◌, ◌≡◌, ◌%◌, ◌^◌, Bool, true, false, not, if◌then◌else◌, ◌==◌, nat_lt, Some, None, List, [], ◌∷◌, length, slice_index}
+use Rattle.iox_queues_steps.specs.Access.{RingWords, successor}
+use Rattle.iox_queues_steps.specs.Order.{PutNow}
+use Rattle.iox_queues_steps.specs.Kept.{Held}
+use Rattle.iox_queues_steps.specs.declared.access.Word.TheVariants.{Write, Read, Cell}
+use Rattle.iox_queues_steps.specs.declared.access.Access.{Access}
+use Rattle.iox_queues_steps.specs.declared.access.Access.TheVariants.{Load, Store, Local}
+use Rattle.iox_queues_steps.specs.declared.order.PushAnswer.TheVariants.{Kept, Refused}
+use Rattle.iox_queues_steps.specs.declared.order.PopAnswer.{PopAnswer}
+use Rattle.iox_queues_steps.specs.declared.order.PopAnswer.TheVariants.{Got, Saw}
+use Rattle.iox_queues_steps.specs.declared.order.Act.{Act}
+use Rattle.iox_queues_steps.specs.declared.order.Act.TheVariants.{Put, Take}
+use Rattle.iox_queues_steps.specs.declared.rings.refusing.push.Push.{Push}
+use Rattle.iox_queues_steps.specs.declared.rings.refusing.push.Push.TheVariants as push
+use Rattle.iox_queues_steps.specs.declared.rings.refusing.pop.Pop.{Pop}
+use Rattle.iox_queues_steps.specs.declared.rings.refusing.pop.Pop.TheVariants as pop
+
+-- the access of a push at each stage
+abbrev pub push_next : Push → Access
+push_next push.Idle = Local
+push_next (push.Begun limit value) = Load Write
+push_next (push.SawWrite limit value write next) = Load Read
+push_next (push.SawRoom value write next) = Store (Cell write) value
+push_next (push.Filled value next) = Store Write next
+push_next (push.Pushed value answer) = Local
+
+-- a full ring refuses
+abbrev pub push_measured : ℕ → ℕ → ℕ → ℕ → ℕ → Push
+push_measured limit value write next read =
+    if nat_lt (write - read) limit then push.SawRoom value write next else push.Pushed value Refused
+
+-- the stage after the answer of that access
+abbrev pub push_take : Push → ℕ → Push
+push_take push.Idle answer = push.Idle
+push_take (push.Begun limit value) answer = push.SawWrite limit value answer (successor answer)
+push_take (push.SawWrite limit value write next) answer = push_measured limit value write next answer
+push_take (push.SawRoom value write next) answer = push.Filled value next
+push_take (push.Filled value next) answer = push.Pushed value Kept
+push_take (push.Pushed value answered) answer = push.Idle
+
+-- the access of a pop or a look at each stage
+abbrev pub pop_next : Pop → Access
+pop_next pop.Idle = Local
+pop_next pop.Begun = Load Read
+pop_next (pop.SawRead read) = Load Write
+pop_next (pop.Nonempty read next) = Load (Cell read)
+pop_next (pop.SawCell next value) = Store Read next
+pop_next (pop.Popped got) = Local
+pop_next pop.LookBegun = Load Read
+pop_next (pop.LookRead read) = Load Write
+pop_next (pop.Looked some) = Local
+
+-- equal positions end a pop with nothing
+abbrev pub pop_emptied : Bool → ℕ → Pop
+pop_emptied empty read = if empty then pop.Popped None else pop.Nonempty read (successor read)
+
+-- the stage after the answer of that access
+abbrev pub pop_take : Pop → ℕ → Pop
+pop_take pop.Idle answer = pop.Idle
+pop_take pop.Begun answer = pop.SawRead answer
+pop_take (pop.SawRead read) answer = pop_emptied (answer == read) read
+pop_take (pop.Nonempty read next) answer = pop.SawCell next answer
+pop_take (pop.SawCell next value) answer = pop.Popped (Some value)
+pop_take (pop.Popped got) answer = pop.Idle
+pop_take pop.LookBegun answer = pop.LookRead answer
+pop_take (pop.LookRead read) answer = pop.Looked (not (answer == read))
+pop_take (pop.Looked some) answer = pop.Idle
+
+-- no push is under way
+abbrev pub push_is_idle : Push → Bool
+push_is_idle push.Idle = true
+push_is_idle (push.Begun l value) = false
+push_is_idle (push.SawWrite l value write next) = false
+push_is_idle (push.SawRoom value write next) = false
+push_is_idle (push.Filled value next) = false
+push_is_idle (push.Pushed value answer) = false
+
+-- no pop or look is under way
+abbrev pub pop_is_idle : Pop → Bool
+pop_is_idle pop.Idle = true
+pop_is_idle pop.Begun = false
+pop_is_idle (pop.SawRead seen) = false
+pop_is_idle (pop.Nonempty seen next) = false
+pop_is_idle (pop.SawCell next value) = false
+pop_is_idle (pop.Popped got) = false
+pop_is_idle pop.LookBegun = false
+pop_is_idle (pop.LookRead seen) = false
+pop_is_idle (pop.Looked some) = false
+
+-- the next step of this push is its last
+abbrev pub push_is_over : Push → Bool
+push_is_over push.Idle = false
+push_is_over (push.Begun l value) = false
+push_is_over (push.SawWrite l value write next) = false
+push_is_over (push.SawRoom value write next) = false
+push_is_over (push.Filled value next) = false
+push_is_over (push.Pushed value answer) = true
+
+-- the next step of this pop or look is its last
+abbrev pub pop_is_over : Pop → Bool
+pop_is_over pop.Idle = false
+pop_is_over pop.Begun = false
+pop_is_over (pop.SawRead seen) = false
+pop_is_over (pop.Nonempty seen next) = false
+pop_is_over (pop.SawCell next value) = false
+pop_is_over (pop.Popped got) = true
+pop_is_over pop.LookBegun = false
+pop_is_over (pop.LookRead seen) = false
+pop_is_over (pop.Looked some) = true
+
+-- the number that a push puts
+abbrev pub push_value : Push → ℕ
+push_value push.Idle = 0
+push_value (push.Begun limit value) = value
+push_value (push.SawWrite limit value write next) = value
+push_value (push.SawRoom value write next) = value
+push_value (push.Filled value next) = value
+push_value (push.Pushed value answer) = value
+
+-- the call is a look, and no pop
+abbrev pub pop_looks : Pop → Bool
+pop_looks pop.Idle = false
+pop_looks pop.Begun = false
+pop_looks (pop.SawRead seen) = false
+pop_looks (pop.Nonempty seen next) = false
+pop_looks (pop.SawCell next value) = false
+pop_looks (pop.Popped got) = false
+pop_looks pop.LookBegun = true
+pop_looks (pop.LookRead seen) = true
+pop_looks (pop.Looked some) = true
+
+-- a kept put stands at its position store, a refused one at its load of the read position
+abbrev pub placed_by_push : ℕ → Push → List Act
+placed_by_push read push.Idle = []
+placed_by_push read (push.Begun limit value) = []
+placed_by_push read (push.SawWrite limit value write next) =
+    if nat_lt (write - read) limit then [] else Put value Refused ∷ []
+placed_by_push read (push.SawRoom value write next) = []
+placed_by_push read (push.Filled value next) = Put value Kept ∷ []
+placed_by_push read (push.Pushed value answer) = []
+
+-- a take stands at its position store; what moves nothing, at its load of the write position
+abbrev pub placed_by_pop : ℕ → Pop → List Act
+placed_by_pop write pop.Idle = []
+placed_by_pop write pop.Begun = []
+placed_by_pop write (pop.SawRead seen) = if write == seen then Take (Got None) ∷ [] else []
+placed_by_pop write (pop.Nonempty seen next) = []
+placed_by_pop write (pop.SawCell next value) = Take (Got (Some value)) ∷ []
+placed_by_pop write (pop.Popped got) = []
+placed_by_pop write pop.LookBegun = []
+placed_by_pop write (pop.LookRead seen) = Take (Saw (not (write == seen))) ∷ []
+placed_by_pop write (pop.Looked some) = []
+
+-- a push whose put stands already, and which is not finished; its next step is its last
+abbrev pub push_ended : Push → List PutNow
+push_ended push.Idle = []
+push_ended (push.Begun limit value) = []
+push_ended (push.SawWrite limit value write next) = []
+push_ended (push.SawRoom value write next) = []
+push_ended (push.Filled value next) = []
+push_ended (push.Pushed value answer) = record { value = value; answer = answer } ∷ []
+
+-- a pop or look whose take stands already; its next step is its last
+abbrev pub pop_ended : Pop → List PopAnswer
+pop_ended pop.Idle = []
+pop_ended pop.Begun = []
+pop_ended (pop.SawRead seen) = []
+pop_ended (pop.Nonempty seen next) = []
+pop_ended (pop.SawCell next value) = []
+pop_ended (pop.Popped got) = Got got ∷ []
+pop_ended pop.LookBegun = []
+pop_ended (pop.LookRead seen) = []
+pop_ended (pop.Looked some) = Saw some ∷ []
+
+-- the number of cells of a ring: at least one, which is never used where nothing may wait
+abbrev pub cells_of : ℕ → ℕ
+cells_of limit = if nat_lt 0 limit then limit else 1
+
+-- what a push knows at each stage
+abbrev pub PushKnows : ℕ → RingWords → List ℕ → Push → Type 0
+PushKnows limit words q push.Idle = Unit {0}
+PushKnows limit words q (push.Begun l value) = l ≡ limit
+PushKnows limit words q (push.SawWrite l value write next) = (l ≡ limit) × (write ≡ words.write) × (next ≡ write + 1)
+PushKnows limit words q (push.SawRoom value write next) =
+    (write ≡ words.write) × (next ≡ write + 1) × (length q < limit)
+PushKnows limit words q (push.Filled value next) =
+    (next ≡ words.write + 1) × (length q < limit)
+    × (slice_index words.cells (words.write % length words.cells) ≡ value)
+PushKnows limit words q (push.Pushed value answer) = Unit {0}
+
+-- what a pop knows at each stage
+abbrev pub PopKnows : ℕ → List ℕ → Pop → Type 0
+PopKnows read q pop.Idle = Unit {0}
+PopKnows read q pop.Begun = Unit {0}
+PopKnows read q (pop.SawRead seen) = seen ≡ read
+PopKnows read q (pop.Nonempty seen next) = (seen ≡ read) × (0 < length q) × (next ≡ seen + 1)
+PopKnows read q (pop.SawCell next value) = (next ≡ read + 1) × (0 < length q) × (value ≡ slice_index q 0)
+PopKnows read q (pop.Popped got) = Unit {0}
+PopKnows read q pop.LookBegun = Unit {0}
+PopKnows read q (pop.LookRead seen) = seen ≡ read
+PopKnows read q (pop.Looked some) = Unit {0}
+
+-- the words, the list that waits by the order so far, and the stages fit together
+pub record Shape (limit : ℕ) (words : RingWords) (q : List ℕ) (push : Push) (pop : Pop) : Type 0 where
+  pub small : limit < 2 ^ 62
+  pub some : 0 < length words.cells
+  pub wide : limit ≤ length words.cells
+  pub room : length q ≤ limit
+  pub level : words.read + length q ≡ words.write
+  pub held : Held (length words.cells) words.cells words.read q
+  pub push_knows : PushKnows limit words q push
+  pub pop_knows : PopKnows words.read q pop

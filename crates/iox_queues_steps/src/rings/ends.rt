@@ -1,0 +1,206 @@
+//! A push, and a pop or a look, on a ring of either kind.
+ghost use Rattle.std.specs.Prelude.{◌≡◌, if◌then◌else◌, [], map, length};
+ghost use Rattle.std.specs.Option.{option_to_list};
+ghost use Rattle.iox_queues_steps.specs.Ends.{late_put, placed_by_push, pop_begun, pop_ended, pop_idle, pop_is_idle, pop_is_over, pop_look, pop_moves, pop_next, pop_take, push_begun, push_ended, push_idle, push_is_idle, push_is_over, push_next, push_take, taken_by_pop};
+
+use crate::rings::overflowing::{Pop as OverflowingPop, Push as OverflowingPush};
+use crate::rings::refusing::{Pop as RefusingPop, Push as RefusingPush};
+use crate::{Access, Act, PopAnswer, PushAnswer};
+
+/// What a full ring does with a push.
+#[derive(Clone, Copy, Debug, PartialEq, Eq)]
+pub enum RingKind {
+    /// It hands its oldest number out.
+    Overflowing,
+    /// It refuses the push.
+    Refusing,
+}
+
+/// Where a push stands.
+#[derive(Clone, Copy, Debug, PartialEq, Eq)]
+pub enum Push {
+    Overflowing(OverflowingPush),
+    Refusing(RefusingPush),
+}
+
+impl Push {
+    /// No push is under way.
+    pub fn idle(kind: RingKind) -> Push
+        ensures { result ≡ push_idle kind }
+    {
+        match kind {
+            RingKind::Overflowing => Push::Overflowing(OverflowingPush::Idle),
+            RingKind::Refusing => Push::Refusing(RefusingPush::Idle),
+        }
+    }
+
+    /// A push of the value into a ring where at most `limit` numbers wait.
+    pub fn begin(kind: RingKind, limit: u64, value: u64) -> Push
+        ensures { result ≡ push_begun kind limit value }
+    {
+        match kind {
+            RingKind::Overflowing => Push::Overflowing(OverflowingPush::begin(limit, value)),
+            RingKind::Refusing => Push::Refusing(RefusingPush::begin(limit, value)),
+        }
+    }
+
+    /// The access that comes next.
+    pub fn next(&self) -> Access
+        ensures { result ≡ push_next self.now }
+    {
+        match self {
+            Push::Overflowing(push) => push.next(),
+            Push::Refusing(push) => push.next(),
+        }
+    }
+
+    /// Where the push stands after the answer of that access.
+    pub fn take(self, answer: u64) -> Push
+        ensures { result ≡ push_take self answer }
+    {
+        match self {
+            Push::Overflowing(push) => Push::Overflowing(push.take(answer)),
+            Push::Refusing(push) => Push::Refusing(push.take(answer)),
+        }
+    }
+
+    /// No call is under way.
+    pub fn is_idle(&self) -> bool
+        ensures { result ≡ push_is_idle self.now }
+    {
+        match self {
+            Push::Overflowing(push) => push.is_idle(),
+            Push::Refusing(push) => push.is_idle(),
+        }
+    }
+
+    /// The next step is the last of its call.
+    pub fn is_over(&self) -> bool
+        ensures { result ≡ push_is_over self.now }
+    {
+        match self {
+            Push::Overflowing(push) => push.is_over(),
+            Push::Refusing(push) => push.is_over(),
+        }
+    }
+
+    /// The put that stands at the next step, where the read position is `position`.
+    pub fn placed(&self, limit: u64, position: u64) -> Option<Act>
+        ensures { option_to_list result ≡ placed_by_push limit position self.now }
+    {
+        match self {
+            Push::Overflowing(push) => push.placed(limit, position),
+            Push::Refusing(push) => push.placed(position),
+        }
+    }
+
+    /// The put that waits for the next move of the read position, which is `position`.
+    pub fn late(&self, position: u64) -> Option<Act>
+        ensures { option_to_list result ≡ late_put position self.now }
+    {
+        match self {
+            Push::Overflowing(push) => push.late(position),
+            Push::Refusing(_) => None,
+        }
+    }
+}
+
+/// Where a pop stands, or a look that only asks whether something waits.
+#[derive(Clone, Copy, Debug, PartialEq, Eq)]
+pub enum Pop {
+    Overflowing(OverflowingPop),
+    Refusing(RefusingPop),
+}
+
+impl Pop {
+    /// No pop or look is under way.
+    pub fn idle(kind: RingKind) -> Pop
+        ensures { result ≡ pop_idle kind }
+    {
+        match kind {
+            RingKind::Overflowing => Pop::Overflowing(OverflowingPop::Idle),
+            RingKind::Refusing => Pop::Refusing(RefusingPop::Idle),
+        }
+    }
+
+    /// A pop.
+    pub fn begin(kind: RingKind) -> Pop
+        ensures { result ≡ pop_begun kind }
+    {
+        match kind {
+            RingKind::Overflowing => Pop::Overflowing(OverflowingPop::begin()),
+            RingKind::Refusing => Pop::Refusing(RefusingPop::begin()),
+        }
+    }
+
+    /// A look, which takes nothing.
+    pub fn look(kind: RingKind) -> Pop
+        ensures { result ≡ pop_look kind }
+    {
+        match kind {
+            RingKind::Overflowing => Pop::Overflowing(OverflowingPop::look()),
+            RingKind::Refusing => Pop::Refusing(RefusingPop::look()),
+        }
+    }
+
+    /// The access that comes next.
+    pub fn next(&self) -> Access
+        ensures { result ≡ pop_next self.now }
+    {
+        match self {
+            Pop::Overflowing(pop) => pop.next(),
+            Pop::Refusing(pop) => pop.next(),
+        }
+    }
+
+    /// Where the pop stands after the answer of that access.
+    pub fn take(self, answer: u64) -> Pop
+        ensures { result ≡ pop_take self answer }
+    {
+        match self {
+            Pop::Overflowing(pop) => Pop::Overflowing(pop.take(answer)),
+            Pop::Refusing(pop) => Pop::Refusing(pop.take(answer)),
+        }
+    }
+
+    /// No call is under way.
+    pub fn is_idle(&self) -> bool
+        ensures { result ≡ pop_is_idle self.now }
+    {
+        match self {
+            Pop::Overflowing(pop) => pop.is_idle(),
+            Pop::Refusing(pop) => pop.is_idle(),
+        }
+    }
+
+    /// The next step is the last of its call.
+    pub fn is_over(&self) -> bool
+        ensures { result ≡ pop_is_over self.now }
+    {
+        match self {
+            Pop::Overflowing(pop) => pop.is_over(),
+            Pop::Refusing(pop) => pop.is_over(),
+        }
+    }
+
+    /// The take or look that stands at the next step, where these are the positions.
+    pub fn taken(&self, write: u64, read: u64) -> Option<Act>
+        ensures { option_to_list result ≡ taken_by_pop write read self.now }
+    {
+        match self {
+            Pop::Overflowing(pop) => pop.taken(write, read),
+            Pop::Refusing(pop) => pop.placed(write),
+        }
+    }
+
+    /// The next step moves the read position, which is `position`, from under a push that may wait
+    /// for that.
+    pub fn moves(&self, position: u64) -> bool
+        ensures { result ≡ pop_moves position self.now }
+    {
+        match self {
+            Pop::Overflowing(pop) => pop.moves(position),
+            Pop::Refusing(_) => false,
+        }
+    }
+}

@@ -1,0 +1,174 @@
+//! A pop or a look, one access at a time.
+ghost use Rattle.std.specs.Prelude.{◌≡◌, [], ◌∷◌, if◌then◌else◌};
+ghost use Rattle.std.specs.Option.{option_to_list};
+ghost use Rattle.iox_queues_steps.specs.OverflowingRing.{taken_by_pop, pop_moves};
+ghost use Rattle.iox_queues_steps.specs.Overflowing.{pop_is_idle, pop_is_over, pop_next, pop_take, pop_emptied, pop_swapped};
+
+use crate::{Access, Act, End, PopAnswer, Word};
+
+/// Where a pop stands, or a look that only asks whether something waits. Between `Begun` and
+/// `Popped`, or `LookBegun` and `Looked`, each stage is one access.
+#[derive(Clone, Copy, Debug, PartialEq, Eq)]
+pub enum Pop {
+    Idle,
+    Begun,
+    SawRead { read: u64 },
+    Nonempty { read: u64, next: u64 },
+    SawCell { read: u64, next: u64, value: u64 },
+    Popped { got: Option<u64> },
+    LookBegun,
+    LookRead { read: u64 },
+    Looked { waiting: bool },
+}
+
+impl Pop {
+    /// A pop.
+    pub fn begin() -> Pop
+        ensures { result ≡ Pop.Begun }
+    {
+        Pop::Begun
+    }
+
+    /// A look, which takes nothing.
+    pub fn look() -> Pop
+        ensures { result ≡ Pop.LookBegun }
+    {
+        Pop::LookBegun
+    }
+
+    /// The access that comes next.
+    pub fn next(&self) -> Access
+        ensures { result ≡ pop_next self.now }
+    {
+        match *self {
+            Pop::Idle | Pop::Popped { .. } | Pop::Looked { .. } => Access::Local,
+            Pop::Begun | Pop::LookBegun => Access::Load(Word::Read),
+            Pop::SawRead { .. } | Pop::LookRead { .. } => Access::Load(Word::Write),
+            Pop::Nonempty { read, .. } => Access::Load(Word::Cell(read)),
+            Pop::SawCell { read, next, .. } => Access::Exchange(Word::Read, read, next),
+        }
+    }
+
+    /// Where the pop stands after the answer of that access.
+    pub fn take(self, answer: u64) -> Pop
+        ensures { result ≡ pop_take self answer }
+    {
+        match self {
+            Pop::Idle | Pop::Popped { .. } | Pop::Looked { .. } => Pop::Idle,
+            Pop::Begun => Pop::SawRead { read: answer },
+            Pop::LookBegun => Pop::LookRead { read: answer },
+            Pop::SawRead { read } => emptied(answer == read, read),
+            Pop::LookRead { read } => Pop::Looked {
+                waiting: answer != read,
+            },
+            Pop::Nonempty { read, next } => Pop::SawCell {
+                read,
+                next,
+                value: answer,
+            },
+            Pop::SawCell { read, value, .. } => swapped(answer == read, answer, value),
+        }
+    }
+
+    /// No call is under way.
+    pub fn is_idle(&self) -> bool
+        ensures { result ≡ pop_is_idle self.now }
+    {
+        matches!(*self, Pop::Idle)
+    }
+
+    /// The next step is the last of its call.
+    pub fn is_over(&self) -> bool
+        ensures { result ≡ pop_is_over self.now }
+    {
+        matches!(*self, Pop::Popped { .. } | Pop::Looked { .. })
+    }
+
+    /// The take or look that stands at the next step, where these are the positions.
+    pub fn taken(&self, write: u64, read: u64) -> Option<Act>
+        ensures { option_to_list result ≡ taken_by_pop write read self.now }
+    {
+        match *self {
+            Pop::SawRead { read: seen } => take_if(write == seen, None),
+            Pop::SawCell {
+                read: seen,
+                value,
+                ..
+            } => take_if(read == seen, Some(value)),
+            Pop::LookRead { read: seen } => Some(Act::Take {
+                answer: PopAnswer::Saw(write != seen),
+            }),
+            _ => None,
+        }
+    }
+
+    /// The next step moves the read position, which is `position`.
+    pub fn moves(&self, position: u64) -> bool
+        ensures { result ≡ pop_moves position self.now }
+    {
+        match *self {
+            Pop::SawCell { read, .. } => position == read,
+            _ => false,
+        }
+    }
+}
+
+impl End for Pop {
+    ghost asks = { pop_next };
+
+    ghost takes = { pop_take };
+
+    ghost over = { pop_is_over };
+
+    fn next(&self) -> Access {
+        Pop::next(self)
+    }
+
+    fn take(self, answer: u64) -> Pop {
+        Pop::take(self, answer)
+    }
+
+    fn is_over(&self) -> bool {
+        Pop::is_over(self)
+    }
+}
+
+// A take with this answer, if it stands.
+fn take_if(stands: bool, got: Option<u64>) -> Option<Act>
+    ensures { option_to_list result ≡ (if stands then Act.Take (PopAnswer.Got got) ∷ [] else []) }
+{
+    if !stands {
+        return None;
+    }
+    Some(Act::Take {
+        answer: PopAnswer::Got(got),
+    })
+}
+
+// After the load of the write position: done if nothing waits.
+fn emptied(empty: bool, read: u64) -> Pop
+    ensures { result ≡ pop_emptied empty read }
+{
+    if empty {
+        Pop::Popped { got: None }
+    } else {
+        Pop::Nonempty {
+            read,
+            next: read.saturating_add(1),
+        }
+    }
+}
+
+// After the exchange of the read position: the value, or again from the position found.
+fn swapped(won: bool, found: u64, value: u64) -> Pop
+    ensures { result ≡ pop_swapped won found value }
+{
+    if won {
+        Pop::Popped { got: Some(value) }
+    } else {
+        Pop::Nonempty {
+            read: found,
+            next: found.saturating_add(1),
+        }
+    }
+}

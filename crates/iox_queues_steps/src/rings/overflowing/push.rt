@@ -1,0 +1,256 @@
+//! A push, one access at a time.
+ghost use Rattle.std.specs.Prelude.{◌≡◌, [], ◌∷◌, if◌then◌else◌};
+ghost use Rattle.std.specs.Option.{option_to_list};
+ghost use Rattle.iox_queues_steps.specs.OverflowingRing.{placed_by_push, late_put};
+ghost use Rattle.iox_queues_steps.specs.Overflowing.{push_is_idle, push_is_over, push_next, push_take, push_filled, push_swapped};
+
+use crate::{Access, Act, End, PushAnswer, Word};
+
+/// Where a push stands. Between `Begun` and `Pushed` each stage is one access.
+#[derive(Clone, Copy, Debug, PartialEq, Eq)]
+pub enum Push {
+    Idle,
+    Begun {
+        limit: u64,
+        value: u64,
+    },
+    SawWrite {
+        limit: u64,
+        value: u64,
+        write: u64,
+        next: u64,
+    },
+    SawRead {
+        limit: u64,
+        value: u64,
+        write: u64,
+        next: u64,
+        read: u64,
+    },
+    Filled {
+        limit: u64,
+        value: u64,
+        write: u64,
+        next: u64,
+        read: u64,
+    },
+    Full {
+        value: u64,
+        read: u64,
+        next: u64,
+    },
+    SawOldest {
+        value: u64,
+        read: u64,
+        next: u64,
+        oldest: u64,
+    },
+    Pushed {
+        value: u64,
+        answer: PushAnswer,
+    },
+}
+
+impl Push {
+    /// A push of the value into a ring where at most `limit` numbers wait.
+    pub fn begin(limit: u64, value: u64) -> Push
+        ensures { result ≡ Push.Begun limit value }
+    {
+        Push::Begun { limit, value }
+    }
+
+    /// The access that comes next.
+    pub fn next(&self) -> Access
+        ensures { result ≡ push_next self.now }
+    {
+        match *self {
+            Push::Idle | Push::Pushed { .. } => Access::Local,
+            Push::Begun { .. } => Access::Load(Word::Write),
+            Push::SawWrite { .. } => Access::Load(Word::Read),
+            Push::SawRead { value, write, .. } => Access::Store(Word::Cell(write), value),
+            Push::Filled { next, .. } => Access::Store(Word::Write, next),
+            Push::Full { read, .. } => Access::Load(Word::Cell(read)),
+            Push::SawOldest { read, next, .. } => Access::Exchange(Word::Read, read, next),
+        }
+    }
+
+    /// Where the push stands after the answer of that access.
+    pub fn take(self, answer: u64) -> Push
+        ensures { result ≡ push_take self answer }
+    {
+        match self {
+            Push::Idle | Push::Pushed { .. } => Push::Idle,
+            Push::Begun { limit, value } => Push::SawWrite {
+                limit,
+                value,
+                write: answer,
+                next: answer.saturating_add(1),
+            },
+            Push::SawWrite {
+                limit,
+                value,
+                write,
+                next,
+            } => Push::SawRead {
+                limit,
+                value,
+                write,
+                next,
+                read: answer,
+            },
+            Push::SawRead {
+                limit,
+                value,
+                write,
+                next,
+                read,
+            } => Push::Filled {
+                limit,
+                value,
+                write,
+                next,
+                read,
+            },
+            Push::Filled {
+                limit,
+                value,
+                next,
+                read,
+                ..
+            } => filled(limit, value, next, read),
+            Push::Full { value, read, next } => Push::SawOldest {
+                value,
+                read,
+                next,
+                oldest: answer,
+            },
+            Push::SawOldest {
+                value,
+                read,
+                oldest,
+                ..
+            } => swapped(value, answer == read, oldest),
+        }
+    }
+
+    /// No call is under way.
+    pub fn is_idle(&self) -> bool
+        ensures { result ≡ push_is_idle self.now }
+    {
+        matches!(*self, Push::Idle)
+    }
+
+    /// The next step is the last of its call.
+    pub fn is_over(&self) -> bool
+        ensures { result ≡ push_is_over self.now }
+    {
+        matches!(*self, Push::Pushed { .. })
+    }
+
+    /// The put that stands at the next step, where the read position is `position`.
+    pub fn placed(&self, limit: u64, position: u64) -> Option<Act>
+        ensures { option_to_list result ≡ placed_by_push limit position self.now }
+    {
+        match *self {
+            Push::Filled { value, next, .. } => put_kept(
+                value,
+                limit < next.saturating_sub(position),
+            ),
+            Push::SawOldest {
+                value,
+                read,
+                oldest,
+                ..
+            } => put_swapped(value, oldest, position == read),
+            _ => None,
+        }
+    }
+
+    /// The put that waits for the next move of the read position, which is `position`.
+    pub fn late(&self, position: u64) -> Option<Act>
+        ensures { option_to_list result ≡ late_put position self.now }
+    {
+        match *self {
+            Push::Full { value, read, .. } | Push::SawOldest { value, read, .. } => {
+                put_kept(value, position != read)
+            }
+            _ => None,
+        }
+    }
+}
+
+impl End for Push {
+    ghost asks = { push_next };
+
+    ghost takes = { push_take };
+
+    ghost over = { push_is_over };
+
+    fn next(&self) -> Access {
+        Push::next(self)
+    }
+
+    fn take(self, answer: u64) -> Push {
+        Push::take(self, answer)
+    }
+
+    fn is_over(&self) -> bool {
+        Push::is_over(self)
+    }
+}
+
+// A put for which nothing left, unless it waits.
+fn put_kept(value: u64, waits: bool) -> Option<Act>
+    ensures { option_to_list result ≡ (if waits then [] else Act.Put value PushAnswer.Kept ∷ []) }
+{
+    if waits {
+        return None;
+    }
+    Some(Act::Put {
+        value,
+        answer: PushAnswer::Kept,
+    })
+}
+
+// A put for which the oldest left, if its exchange is won.
+fn put_swapped(value: u64, oldest: u64, won: bool) -> Option<Act>
+    ensures { option_to_list result ≡ (if won then Act.Put value (PushAnswer.LeftOut oldest) ∷ [] else []) }
+{
+    if !won {
+        return None;
+    }
+    Some(Act::Put {
+        value,
+        answer: PushAnswer::LeftOut(oldest),
+    })
+}
+
+// After the store of the write position: done, unless more than the limit may wait now.
+fn filled(limit: u64, value: u64, next: u64, read: u64) -> Push
+    ensures { result ≡ push_filled limit value next read }
+{
+    if limit < next.saturating_sub(read) {
+        Push::Full {
+            value,
+            read,
+            next: read.saturating_add(1),
+        }
+    } else {
+        Push::Pushed {
+            value,
+            answer: PushAnswer::Kept,
+        }
+    }
+}
+
+// After the exchange of the read position: the oldest left by this push, or by a pop before it.
+fn swapped(value: u64, won: bool, oldest: u64) -> Push
+    ensures { result ≡ push_swapped value won oldest }
+{
+    let answer = if won {
+        PushAnswer::LeftOut(oldest)
+    } else {
+        PushAnswer::Kept
+    };
+    Push::Pushed { value, answer }
+}

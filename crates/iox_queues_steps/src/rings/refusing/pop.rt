@@ -1,0 +1,146 @@
+//! A pop or a look, one access at a time.
+ghost use Rattle.std.specs.Prelude.{◌≡◌, [], ◌∷◌, if◌then◌else◌};
+ghost use Rattle.std.specs.Option.{option_to_list};
+ghost use Rattle.iox_queues_steps.specs.Refusing.{pop_is_idle, pop_is_over, pop_next, pop_take, pop_emptied, placed_by_pop};
+
+use crate::{Access, Act, End, PopAnswer, Word};
+
+/// Where a pop stands, or a look that only asks whether something waits. Between `Begun` and
+/// `Popped`, or `LookBegun` and `Looked`, each stage is one access.
+#[derive(Clone, Copy, Debug, PartialEq, Eq)]
+pub enum Pop {
+    Idle,
+    Begun,
+    SawRead { read: u64 },
+    Nonempty { read: u64, next: u64 },
+    SawCell { next: u64, value: u64 },
+    Popped { got: Option<u64> },
+    LookBegun,
+    LookRead { read: u64 },
+    Looked { waiting: bool },
+}
+
+impl Pop {
+    /// A pop.
+    pub fn begin() -> Pop
+        ensures { result ≡ Pop.Begun }
+    {
+        Pop::Begun
+    }
+
+    /// A look, which takes nothing.
+    pub fn look() -> Pop
+        ensures { result ≡ Pop.LookBegun }
+    {
+        Pop::LookBegun
+    }
+
+    /// The access that comes next.
+    pub fn next(&self) -> Access
+        ensures { result ≡ pop_next self.now }
+    {
+        match *self {
+            Pop::Idle | Pop::Popped { .. } | Pop::Looked { .. } => Access::Local,
+            Pop::Begun | Pop::LookBegun => Access::Load(Word::Read),
+            Pop::SawRead { .. } | Pop::LookRead { .. } => Access::Load(Word::Write),
+            Pop::Nonempty { read, .. } => Access::Load(Word::Cell(read)),
+            Pop::SawCell { next, .. } => Access::Store(Word::Read, next),
+        }
+    }
+
+    /// Where the pop stands after the answer of that access.
+    pub fn take(self, answer: u64) -> Pop
+        ensures { result ≡ pop_take self answer }
+    {
+        match self {
+            Pop::Idle | Pop::Popped { .. } | Pop::Looked { .. } => Pop::Idle,
+            Pop::Begun => Pop::SawRead { read: answer },
+            Pop::LookBegun => Pop::LookRead { read: answer },
+            Pop::SawRead { read } => emptied(answer == read, read),
+            Pop::LookRead { read } => Pop::Looked {
+                waiting: answer != read,
+            },
+            Pop::Nonempty { next, .. } => Pop::SawCell {
+                next,
+                value: answer,
+            },
+            Pop::SawCell { value, .. } => Pop::Popped { got: Some(value) },
+        }
+    }
+
+    /// No call is under way.
+    pub fn is_idle(&self) -> bool
+        ensures { result ≡ pop_is_idle self.now }
+    {
+        matches!(*self, Pop::Idle)
+    }
+
+    /// The next step is the last of its call.
+    pub fn is_over(&self) -> bool
+        ensures { result ≡ pop_is_over self.now }
+    {
+        matches!(*self, Pop::Popped { .. } | Pop::Looked { .. })
+    }
+
+    /// The take or look that stands at the next step, where the write position is `position`.
+    pub fn placed(&self, position: u64) -> Option<Act>
+        ensures { option_to_list result ≡ placed_by_pop position self.now }
+    {
+        match *self {
+            Pop::SawRead { read } => none_if(position == read),
+            Pop::SawCell { value, .. } => Some(Act::Take {
+                answer: PopAnswer::Got(Some(value)),
+            }),
+            Pop::LookRead { read } => Some(Act::Take {
+                answer: PopAnswer::Saw(position != read),
+            }),
+            _ => None,
+        }
+    }
+}
+
+impl End for Pop {
+    ghost asks = { pop_next };
+
+    ghost takes = { pop_take };
+
+    ghost over = { pop_is_over };
+
+    fn next(&self) -> Access {
+        Pop::next(self)
+    }
+
+    fn take(self, answer: u64) -> Pop {
+        Pop::take(self, answer)
+    }
+
+    fn is_over(&self) -> bool {
+        Pop::is_over(self)
+    }
+}
+
+// A take that found nothing, if it did.
+fn none_if(empty: bool) -> Option<Act>
+    ensures { option_to_list result ≡ (if empty then Act.Take (PopAnswer.Got None) ∷ [] else []) }
+{
+    if !empty {
+        return None;
+    }
+    Some(Act::Take {
+        answer: PopAnswer::Got(None),
+    })
+}
+
+// After the load of the write position: done if nothing waits.
+fn emptied(empty: bool, read: u64) -> Pop
+    ensures { result ≡ pop_emptied empty read }
+{
+    if empty {
+        Pop::Popped { got: None }
+    } else {
+        Pop::Nonempty {
+            read,
+            next: read.saturating_add(1),
+        }
+    }
+}

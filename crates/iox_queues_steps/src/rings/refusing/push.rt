@@ -1,0 +1,163 @@
+//! A push, one access at a time.
+ghost use Rattle.std.specs.Prelude.{◌≡◌, [], ◌∷◌, if◌then◌else◌, nat_lt, ◌-◌};
+ghost use Rattle.std.specs.Option.{option_to_list};
+ghost use Rattle.iox_queues_steps.specs.Refusing.{push_is_idle, push_is_over, push_next, push_take, push_measured, placed_by_push};
+
+use crate::{Access, Act, End, PushAnswer, Word};
+
+/// Where a push stands. Between `Begun` and `Pushed` each stage is one access.
+#[derive(Clone, Copy, Debug, PartialEq, Eq)]
+pub enum Push {
+    Idle,
+    Begun {
+        limit: u64,
+        value: u64,
+    },
+    SawWrite {
+        limit: u64,
+        value: u64,
+        write: u64,
+        next: u64,
+    },
+    SawRoom {
+        value: u64,
+        write: u64,
+        next: u64,
+    },
+    Filled {
+        value: u64,
+        next: u64,
+    },
+    Pushed {
+        value: u64,
+        answer: PushAnswer,
+    },
+}
+
+impl Push {
+    /// A push of the value into a ring where at most `limit` numbers wait.
+    pub fn begin(limit: u64, value: u64) -> Push
+        ensures { result ≡ Push.Begun limit value }
+    {
+        Push::Begun { limit, value }
+    }
+
+    /// The access that comes next.
+    pub fn next(&self) -> Access
+        ensures { result ≡ push_next self.now }
+    {
+        match *self {
+            Push::Idle | Push::Pushed { .. } => Access::Local,
+            Push::Begun { .. } => Access::Load(Word::Write),
+            Push::SawWrite { .. } => Access::Load(Word::Read),
+            Push::SawRoom { value, write, .. } => Access::Store(Word::Cell(write), value),
+            Push::Filled { next, .. } => Access::Store(Word::Write, next),
+        }
+    }
+
+    /// Where the push stands after the answer of that access.
+    pub fn take(self, answer: u64) -> Push
+        ensures { result ≡ push_take self answer }
+    {
+        match self {
+            Push::Idle | Push::Pushed { .. } => Push::Idle,
+            Push::Begun { limit, value } => Push::SawWrite {
+                limit,
+                value,
+                write: answer,
+                next: answer.saturating_add(1),
+            },
+            Push::SawWrite {
+                limit,
+                value,
+                write,
+                next,
+            } => measured(limit, value, write, next, answer),
+            Push::SawRoom { value, next, .. } => Push::Filled { value, next },
+            Push::Filled { value, .. } => Push::Pushed {
+                value,
+                answer: PushAnswer::Kept,
+            },
+        }
+    }
+
+    /// No call is under way.
+    pub fn is_idle(&self) -> bool
+        ensures { result ≡ push_is_idle self.now }
+    {
+        matches!(*self, Push::Idle)
+    }
+
+    /// The next step is the last of its call.
+    pub fn is_over(&self) -> bool
+        ensures { result ≡ push_is_over self.now }
+    {
+        matches!(*self, Push::Pushed { .. })
+    }
+
+    /// The put that stands at the next step, where the read position is `position`.
+    pub fn placed(&self, position: u64) -> Option<Act>
+        ensures { option_to_list result ≡ placed_by_push position self.now }
+    {
+        match *self {
+            Push::SawWrite {
+                limit,
+                value,
+                write,
+                ..
+            } => refused_unless(value, write.saturating_sub(position) < limit),
+            Push::Filled { value, .. } => Some(Act::Put {
+                value,
+                answer: PushAnswer::Kept,
+            }),
+            _ => None,
+        }
+    }
+}
+
+impl End for Push {
+    ghost asks = { push_next };
+
+    ghost takes = { push_take };
+
+    ghost over = { push_is_over };
+
+    fn next(&self) -> Access {
+        Push::next(self)
+    }
+
+    fn take(self, answer: u64) -> Push {
+        Push::take(self, answer)
+    }
+
+    fn is_over(&self) -> bool {
+        Push::is_over(self)
+    }
+}
+
+// A refused put, unless there is room.
+fn refused_unless(value: u64, room: bool) -> Option<Act>
+    ensures { option_to_list result ≡ (if room then [] else Act.Put value PushAnswer.Refused ∷ []) }
+{
+    if room {
+        return None;
+    }
+    Some(Act::Put {
+        value,
+        answer: PushAnswer::Refused,
+    })
+}
+
+// After the load of the read position: on if there is room, else refused.
+fn measured(limit: u64, value: u64, write: u64, next: u64, read: u64) -> Push
+    ensures { result ≡ push_measured limit value write next read }
+{
+    if write.saturating_sub(read) < limit {
+        Push::SawRoom { value, write, next }
+    } else {
+        Push::Pushed {
+            value,
+            answer: PushAnswer::Refused,
+        }
+    }
+}

@@ -1,3 +1,0 @@
--- The definitions that contracts about semantic strings cite.
-pub mod Accepted
-pub mod Refusals

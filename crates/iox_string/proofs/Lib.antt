@@ -1,3 +1,0 @@
-pub mod Retains
-pub mod TextRows
-pub mod Texts

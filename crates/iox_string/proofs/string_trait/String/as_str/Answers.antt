@@ -1,6 +1,0 @@
-use Rattle.iox_string.proofs.Texts.{IsUtf8-from_string_bytes}
-use Rattle.iox_string.proofs.string_trait.String.as_str.Goals as goal
-
-pub from_utf8_unchecked-requires : goal.from_utf8_unchecked-requires
-from_utf8_unchecked-requires g c =
-    rw c.as_bytes.ensures.value (IsUtf8-from_string_bytes _ c.as_bytes.ensures.valid)

@@ -1,5 +1,0 @@
-use Rattle.iox_string.proofs.Texts.{FindsFirst-from_search}
-use Rattle.iox_string.proofs.string_trait.String.find.Goals as goal
-
-pub returns : goal.returns
-returns g c = rw (← c.as_bytes.ensures.value) (FindsFirst-from_search _ c.args.bytes.now c.find.result c.find.ensures)

@@ -1,5 +1,0 @@
-use Rattle.iox_string.proofs.Texts.{FindsLast-from_search}
-use Rattle.iox_string.proofs.string_trait.String.rfind.Goals as goal
-
-pub returns : goal.returns
-returns g c = rw (← c.as_bytes.ensures.value) (FindsLast-from_search _ c.args.bytes.now c.rfind.result c.rfind.ensures)

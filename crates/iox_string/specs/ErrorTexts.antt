@@ -1,9 +1,0 @@
--- The texts of a string's errors.
-use Rattle.std.specs.Prelude.{ℕ, List, codes}
-use Rattle.iox_string.specs.declared.error.StringModificationError.{StringModificationError}
-use Rattle.iox_string.specs.declared.error.StringModificationError.TheVariants.{InsertWouldExceedCapacity, InvalidCharacter}
-
--- how a refusal reads: its type's name and its own
-abbrev pub string_error_text : StringModificationError → List ℕ
-string_error_text InsertWouldExceedCapacity = codes "StringModificationError::InsertWouldExceedCapacity"
-string_error_text InvalidCharacter = codes "StringModificationError::InvalidCharacter"

@@ -1,0 +1,107 @@
+//! Conversations in which a read or a write fails.
+ghost use Rattle.std.specs.Prelude.{◌≤◌, length};
+
+use iox_script::{HubConfig, Input, Output, ServeError, serve};
+use std::alloc::Global;
+use std::io;
+use std::io::ErrorKind;
+
+/// Gives a line at a time. After so many calls each fails.
+#[derive(Drop)]
+struct LineByLine<'a> {
+    rest: &'a [u8],
+    good_calls: usize,
+}
+
+impl io::Read for LineByLine<'_> {
+    fn read(&mut self, buffer: &mut [u8]) -> io::Result<usize> {
+        if self.good_calls == 0 {
+            return Err(io::Error::from(ErrorKind::ConnectionReset));
+        }
+        self.good_calls -= 1;
+        let line = line_length(self.rest).min(buffer.len());
+        buffer[..line].copy_from_slice(&self.rest[..line]);
+        self.rest = &self.rest[line..];
+        Ok(line)
+    }
+}
+
+/// Keeps what is written. After so many calls each fails.
+#[derive(Drop)]
+struct Kept {
+    bytes: Vec<u8>,
+    good_calls: usize,
+}
+
+impl io::Write for Kept {
+    fn write(&mut self, bytes: &[u8]) -> io::Result<usize> {
+        if self.good_calls == 0 {
+            return Err(io::Error::from(ErrorKind::BrokenPipe));
+        }
+        self.good_calls -= 1;
+        if self.bytes.extend_from_slice(bytes).is_err() {
+            return Err(io::Error::from(ErrorKind::OutOfMemory));
+        }
+        Ok(bytes.len())
+    }
+
+    fn flush(&mut self) -> io::Result<()> {
+        Ok(())
+    }
+}
+
+/// How many bytes the first line has, with its newline.
+fn line_length(bytes: &[u8]) -> usize
+    ensures { result ≤ length bytes.now }
+{
+    let end = bytes.iter().position(|byte| *byte == b'\n');
+    let line = end.unwrap_or(bytes.len()).saturating_add(1);
+    line.min(bytes.len())
+}
+
+/// How a conversation on a new hub ends where so many reads and writes go well, and whether just this was written.
+fn ends(
+    alloc: Global,
+    config: HubConfig,
+    script: &str,
+    (reads, writes): (usize, usize),
+    replies: &[u8],
+) -> (Result<(), ServeError>, bool) {
+    let mut input = Input::new(LineByLine {
+        rest: script.as_bytes(),
+        good_calls: reads,
+    });
+    let mut output = Output::new(Kept {
+        bytes: Vec::new(alloc),
+        good_calls: writes,
+    });
+    let ending = serve(alloc, config, &mut input, &mut output);
+    (ending, output.writer().bytes.as_slice() == replies)
+}
+
+/// A script is said again, once for each read that may fail, also that which would find its end, and once for each write. How
+/// many of both ended it as such a fault does and left just the replies to the lines before them.
+pub fn left_by_faults(
+    alloc: Global,
+    config: HubConfig,
+    script: &str,
+    replies: &str,
+) -> (usize, usize) {
+    let replies = replies.as_bytes();
+    let mut counts = (0usize, 0usize);
+    let mut written = 0usize;
+    for place in 0..=script.lines().count() {
+        let before = &replies[..written.min(replies.len())];
+        let all = usize::MAX;
+        if ends(alloc, config, script, (place, all), before) == (Err(ServeError::ReadFault), true) {
+            counts.0 = counts.0.saturating_add(1);
+        }
+        if ends(alloc, config, script, (all, place), before)
+            == (Err(ServeError::WriteFault), true)
+        {
+            counts.1 = counts.1.saturating_add(1);
+        }
+        written = written.saturating_add(line_length(&replies[before.len()..]));
+    }
+    counts
+}

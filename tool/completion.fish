@@ -1,0 +1,17 @@
+# Completion of ./iox in fish, written by tool/manual.py: `source tool/completion.fish`
+complete -c iox -f
+complete -c iox -a '(__fish_complete_suffix .iox)' -d 'a script'
+complete -c iox -n 'not __fish_contains_opt proved unproved model' -l proved -d 'answer by the proved program, and prove it where it isn\'t yet'
+complete -c iox -n 'not __fish_contains_opt proved unproved model' -l unproved -d 'answer by the build without proofs, even beside a proved one'
+complete -c iox -n 'not __fish_contains_opt proved unproved model' -l model -d 'answer by the plain model in Python: at once, no toolchain'
+complete -c iox -l json -d 'write a line of JSON for each reply'
+complete -c iox -l svg -r -F -d 'draw the conversation as a picture into OUT'
+complete -c iox -l html -r -F -d 'write a page into OUT that plays it step by step'
+complete -c iox -l time -d 'say at the end how long it took'
+complete -c iox -l numbers -d 'show the line itself, too, behind err and skip'
+complete -c iox -n 'not __fish_contains_opt -s q quiet -s v verbose' -s q -l quiet -d 'say nothing about lines on standard error'
+complete -c iox -n 'not __fish_contains_opt -s q quiet -s v verbose' -s v -l verbose -d 'say of each err what it means and what to do, too'
+complete -c iox -l path -d 'print where the program lies, built where it isn\'t yet'
+complete -c iox -l commands -d 'list the commands of a script'
+complete -c iox -l version -d 'print our version, and the toolchain\'s'
+complete -c iox -s h -l help -d 'print this'
